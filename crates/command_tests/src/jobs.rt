@@ -69,6 +69,7 @@ pub fn add(
         name: name_of(name),
         fork: sized_fork(alloc, sizes)?,
         files: Vec::new(alloc),
+        size: None,
         script,
     })?;
     Ok(())

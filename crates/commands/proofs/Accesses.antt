@@ -25,18 +25,18 @@ one_more None xs ys = refl
 one_more (Some zs) xs ys = ap Some (append_assoc zs xs ys)
 
 -- a script's fault stops the reading
-pub script_stop : (path : List ℕ) (read : Result Spelled (ℕ × FaultKind)) (line : ℕ) (kind : FaultKind) (message : Message)
-    → FailsAt line kind read → message ≡ script_message path line kind → IsStop (script_told path read) message
-script_stop path read line kinds.HostMemory message fails is =
-    subst (λ m. IsStop (script_told path read) m) (sym is) tt
-script_stop path read line kinds.UnknownCall message fails is =
-    subst (λ m. IsStop (script_told path read) m) (sym is) (ap (script_told path) fails)
-script_stop path read line kinds.BadArgument message fails is =
-    subst (λ m. IsStop (script_told path read) m) (sym is) (ap (script_told path) fails)
-script_stop path read line kinds.NotAllowed message fails is =
-    subst (λ m. IsStop (script_told path read) m) (sym is) (ap (script_told path) fails)
-script_stop path read line kinds.LongLine message fails is =
-    subst (λ m. IsStop (script_told path read) m) (sym is) (ap (script_told path) fails)
+pub script_stop : (path text : List ℕ) (read : Result Spelled (ℕ × FaultKind)) (line : ℕ) (kind : FaultKind) (message : Message)
+    → FailsAt line kind read → message ≡ script_message path line kind → IsStop (script_told path text read) message
+script_stop path text read line kinds.HostMemory message fails is =
+    subst (λ m. IsStop (script_told path text read) m) (sym is) tt
+script_stop path text read line kinds.UnknownCall message fails is =
+    subst (λ m. IsStop (script_told path text read) m) (sym is) (ap (script_told path text) fails)
+script_stop path text read line kinds.BadArgument message fails is =
+    subst (λ m. IsStop (script_told path text read) m) (sym is) (ap (script_told path text) fails)
+script_stop path text read line kinds.NotAllowed message fails is =
+    subst (λ m. IsStop (script_told path text read) m) (sym is) (ap (script_told path text) fails)
+script_stop path text read line kinds.LongLine message fails is =
+    subst (λ m. IsStop (script_told path text read) m) (sym is) (ap (script_told path text) fails)
 
 -- the host refused to write to a path, as the fault says; or there was no memory to report it
 pub unwritten_so : (path : List ℕ) (error : WriteError) (old new : Option (List Access)) (message : Message)

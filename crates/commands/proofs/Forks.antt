@@ -1,11 +1,10 @@
 -- Forks that were read for the lines of a job.
-use Rattle.std.proofs.Common.{◌≡◌, ◌∷◌, ◌∙◌, ℕ, List, [], Option, Result, Ok, Err, IfErr, sym, ap, subst}
-use Rattle.script_text.specs.Script.{Spelled}
+use Rattle.std.proofs.Common.{◌≡◌, ◌∷◌, ◌∙◌, ℕ, List, [], Option, None, Result, Ok, Err, IfErr, sym, ap, subst}
 use Rattle.fork_commands.specs.Reading.{fork_in}
 use Rattle.commands.specs.Fault.{Message, Usage, CannotRead, Script, Fork, CannotWrite, HostMemory, NotLaunched, Dump, message_of}
 use Rattle.commands.specs.declared.fault.ToolFault.{ToolFault}
 use Rattle.commands.specs.Accesses.{Access, Stops, IsUnread, and_then, reads_at}
-use Rattle.commands.specs.Gathering.{Found, source_of, fork_told, fork_at, script_at, app_of, app_at, GivenApp, IsStop, Reads, IsGiven}
+use Rattle.commands.specs.Gathering.{Found, source_of, fork_told, fork_at, script_at, app_of, app_at, Spoken, FoundApplication, GivenApp, IsStop, Reads, IsGiven}
 use Rattle.commands.specs.Tasks.{IsForkFault}
 use Rattle.commands.proofs.Accesses.{none, stop_then, stops_from, unread_given, unread_stops}
 
@@ -38,7 +37,7 @@ fork_unread path old new result fault is unread =
       unread_given _ path old new (message_of fault) unread,
     )
 
-pub script_unread : {X : Type 0} (view : X → Spelled) (path : List ℕ) (old new : Option (List Access))
+pub script_unread : {X : Type 0} (view : X → Spoken) (path : List ℕ) (old new : Option (List Access))
     (result : Result X ToolFault) (fault : ToolFault) → result ≡ Err fault → IsUnread path old new (message_of fault)
     → Reads (path ∷ []) old new result (λ texts. IsGiven view (script_at path texts) result)
 script_unread view path old new result fault is unread =
@@ -57,11 +56,17 @@ app_stop name fork script file found texts message told stops =
     (stop_then (script_at script texts) _ message stops)
 
 -- an application, with the fork and the script that were read
-pub app_there : (name fork script file : List ℕ) (found : Found (List ℕ)) (texts : List (List ℕ)) (spelled : Spelled)
-    (app : Found GivenApp) → fork_told fork file (fork_in file) ≡ Ok found → script_at script texts ≡ Ok spelled
-    → app_of name (Ok found) (Ok spelled) ≡ Ok app → app_at name fork script (file ∷ texts) ≡ Ok app
-app_there name fork script file found texts spelled app told reads is =
+pub app_there : (name fork script file : List ℕ) (found : Found (List ℕ)) (texts : List (List ℕ)) (read : Spoken)
+    (app : FoundApplication) → fork_told fork file (fork_in file) ≡ Ok found → script_at script texts ≡ Ok read
+    → app_of name (Ok found) (Ok read) ≡ Ok app → app_at name fork script (file ∷ texts) ≡ Ok app
+app_there name fork script file found texts read app told reads is =
     ap (λ r. app_of name r (script_at script texts)) told ∙ ap (λ r. app_of name (Ok found) r) reads ∙ is
+
+-- an application that is made of its fork and its script
+pub app_made : (name fork : List ℕ) (source : Option (List ℕ)) (read : Spoken) (app : GivenApp)
+    → app ≡ record { name = name; fork = fork; files = []; size = None; script = read.0 }
+    → app_of name (Ok (fork, source)) (Ok read) ≡ Ok ((app, source), read.1)
+app_made name fork source read app is = ap (λ a. Ok ((a, source), read.1)) (sym is)
 
 -- an application's fork stops it
 pub app_unread : (name fork script : List ℕ) (old new : Option (List Access)) (message : Message) (texts : List (List ℕ))

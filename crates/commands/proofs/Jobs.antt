@@ -2,9 +2,12 @@
 use Rattle.std.proofs.Common.{◌≡◌, ◌∷◌, ◌∙◌, ℕ, List, [], Option, ap, subst}
 use Rattle.commands.specs.Fault.{Message}
 use Rattle.commands.specs.Accesses.{Access, Read, and_then, Stops}
-use Rattle.commands.specs.Gathering.{nothing_given, with_inputs, reads_of, system_path, IsStop}
+use Rattle.commands.specs.Gathering.{GivenSource, nothing_given, with_inputs, reads_of, system_path, IsStop}
+use Rattle.commands.specs.Outputs.{sources_unless}
+use Rattle.desk.specs.declared.job.Job.{Job}
 use Rattle.commands.specs.declared.running.Errand.{Errand}
-use Rattle.commands.specs.Running.{Stated, Taken, reads_for, sources_for, Leaves, IsUnleft, Runs, IsStopped, Ungathered, Unleft}
+use Rattle.commands.specs.Sizing.{IsSized, IsUnnamed}
+use Rattle.commands.specs.Running.{Stated, Taken, reads_for, sources_for, Leaves, IsUnleft, Runs, IsStopped, Ungathered, Unnamed, Unleft}
 use Rattle.commands.proofs.Accesses.{one_more, stops_from}
 
 -- the job's text was read, and then what its lines name
@@ -26,22 +29,38 @@ pub ungathered : (errand : Errand) (h k : Option (List ℕ)) (stated : Stated) (
 ungathered errand h k stated texts a b d message silent first second stops =
     Ungathered stated texts silent (stops_from _ _ d message (both_read errand.job.now stated texts a b first) second) stops
 
-pub unleft : (errand : Errand) (system : List ℕ) (h k : Option (List ℕ)) (t : Taken) (a b d e : Option (List Access))
-    (message : Message) → system ≡ system_path t.stated.lines.inputs
+pub unleft : (errand : Errand) (system : List ℕ) (h k : Option (List ℕ)) (t : Taken) (job : Job) (scripts : List (List ℕ))
+    (sources : List GivenSource) (a b d e : Option (List Access)) (message : Message)
+    → IsSized errand.sizes.items t.job job → scripts ≡ t.scripts → sources ≡ t.sources
+    → system ≡ system_path t.stated.lines.inputs
     → b ≡ and_then a (Read errand.job.now t.stated.text ∷ []) → d ≡ and_then b (reads_of t.stated.lines.inputs t.texts)
-    → IsUnleft system errand.out.now errand.watched t.job (sources_for errand t) h k d e message
+    → IsUnleft system errand job scripts (sources_unless errand.bare sources) h k d e message
     → IsStopped errand h k a e message
-unleft errand system h k t a b d e message is first second u =
+unleft errand system h k t job scripts sources a b d e message sized told from is first second u =
     let before : Option (List Access) = and_then a (reads_for errand.job.now t.stated t.texts) in
-    Unleft t (subst (λ s. IsUnleft s errand.out.now errand.watched t.job (sources_for errand t) h k before e message) is
-    (subst (λ x. IsUnleft system errand.out.now errand.watched t.job (sources_for errand t) h k x e message)
-    (all_read errand.job.now t.stated t.texts a b d first second) u))
+    Unleft t job sized (subst (λ s. IsUnleft s errand job t.scripts (sources_for errand t) h k before e message) is
+    (subst (λ x. IsUnleft system errand job t.scripts (sources_for errand t) h k x e message)
+    (all_read errand.job.now t.stated t.texts a b d first second)
+    (subst (λ ts. IsUnleft system errand job ts (sources_for errand t) h k d e message) told
+    (subst (λ ss. IsUnleft system errand job scripts (sources_unless errand.bare ss) h k d e message) from u))))
 
-pub runs : (errand : Errand) (h k : Option (List ℕ)) (t : Taken) (a b d e : Option (List Access))
-    → b ≡ and_then a (Read errand.job.now t.stated.text ∷ []) → d ≡ and_then b (reads_of t.stated.lines.inputs t.texts)
-    → Leaves errand.out.now errand.watched t.job (sources_for errand t) h k d e → Runs errand h k a e
-runs errand h k t a b d e first second left = (
+pub unnamed : (errand : Errand) (h k : Option (List ℕ)) (t : Taken) (a b d : Option (List Access)) (message : Message)
+    → k ≡ h → b ≡ and_then a (Read errand.job.now t.stated.text ∷ []) → d ≡ and_then b (reads_of t.stated.lines.inputs t.texts)
+    → IsUnnamed errand.job.now errand.sizes.items t.job message → IsStopped errand h k a d message
+unnamed errand h k t a b d message silent first second u =
+    Unnamed t silent (all_read errand.job.now t.stated t.texts a b d first second) u
+
+pub runs : (errand : Errand) (h k : Option (List ℕ)) (t : Taken) (job : Job) (scripts : List (List ℕ))
+    (sources : List GivenSource) (a b d e : Option (List Access)) → IsSized errand.sizes.items t.job job
+    → scripts ≡ t.scripts → sources ≡ t.sources → b ≡ and_then a (Read errand.job.now t.stated.text ∷ [])
+    → d ≡ and_then b (reads_of t.stated.lines.inputs t.texts)
+    → Leaves errand job scripts (sources_unless errand.bare sources) h k d e → Runs errand h k a e
+runs errand h k t job scripts sources a b d e sized told from first second left = (
   t,
-  subst (λ x. Leaves errand.out.now errand.watched t.job (sources_for errand t) h k x e)
-      (all_read errand.job.now t.stated t.texts a b d first second) left,
+  job,
+  sized,
+  subst (λ x. Leaves errand job t.scripts (sources_for errand t) h k x e)
+      (all_read errand.job.now t.stated t.texts a b d first second)
+      (subst (λ ts. Leaves errand job ts (sources_for errand t) h k d e) told
+      (subst (λ ss. Leaves errand job scripts (sources_unless errand.bare ss) h k d e) from left)),
 )

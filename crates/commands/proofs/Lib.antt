@@ -25,3 +25,6 @@ mod Dumped
 mod Checked
 mod Opened
 mod Packed
+mod Loaded
+mod Played
+mod Spoken

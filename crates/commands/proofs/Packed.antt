@@ -59,7 +59,7 @@ next_unread x rest old new (CannotWrite named) unread = unread
 next_unread x rest old new (NotLaunched named app) unread = unread
 next_unread x rest old new (Dump named why) unread = unread
 
-no_memory : (rest : List (List ℕ)) (old new : Option (List Access)) → new ≡ old → IsNextUnread rest old new HostMemory
+pub no_memory : (rest : List (List ℕ)) (old new : Option (List Access)) → new ≡ old → IsNextUnread rest old new HostMemory
 no_memory [] old new same = same
 no_memory (x ∷ rest) old new same = same
 

@@ -10,16 +10,24 @@ use Rattle.commands.specs.declared.delivering.Target.{Target}
 use Rattle.commands.specs.declared.delivering.Target.TheVariants.{Printed, NewFile}
 use Rattle.commands.specs.declared.extracting.Pieces.{Pieces}
 use Rattle.commands.specs.declared.extracting.Pieces.TheVariants.{Resources, Forks}
+use Rattle.commands.specs.declared.linting.TextKind.{TextKind}
+use Rattle.commands.specs.declared.linting.TextKind.TheVariants as kind
 use Rattle.commands.specs.declared.source_printing.Part.{Part}
 use Rattle.commands.specs.declared.source_printing.Part.TheVariants.{Whole, Selected}
+use Rattle.commands.specs.declared.playing.PlayWork.{PlayWork}
+use Rattle.commands.specs.declared.playing.PlayWork.TheVariants.{Transcript, Words, Leavings, Zone}
 use Rattle.commands.specs.Linting as linting
+use Rattle.commands.specs.Loading.{AppFork, Own, System, Other}
+use Rattle.commands.specs.Playing.{parts_of}
 use Rattle.commands.specs.SourcePrinting as printing
 use Rattle.commands.specs.Assembling as assembling
 use Rattle.commands.specs.declared.tasks.Work.{Work}
 use Rattle.commands.specs.declared.tasks.Work.TheVariants as work
+use Rattle.commands.specs.declared.work.ToldLines.{ToldLines}
+use Rattle.commands.specs.declared.work.ToldLines.TheVariants as told
 use Rattle.commands.specs.Surveying.{paths_of}
 use Rattle.commands.specs.declared.request.Request.{Request}
-use Rattle.commands.specs.declared.request.Request.TheVariants.{Look, Check, Lint, Run, Show, Convert, Combine, Extract, Pack, Print, Assemble}
+use Rattle.commands.specs.declared.request.Request.TheVariants.{Look, Check, Lint, Run, Show, Play, Convert, Combine, Extract, Pack, Print, Assemble}
 
 -- Which words of a command line ask for a request. The first word is the program's name, and the second the command's.
 
@@ -72,12 +80,23 @@ abbrev pub part_word : Part → List ℕ
 part_word Whole = codes "derez"
 part_word (Selected selection) = codes "show"
 
+abbrev pub told_word : ToldLines → List ℕ
+told_word told.All = codes "script"
+told_word (told.Each from to) = codes "heap"
+
+abbrev pub play_word : PlayWork → List ℕ
+play_word Transcript = codes "script"
+play_word (Words lines) = told_word lines
+play_word (Leavings folder) = codes "script"
+play_word (Zone lines) = codes "heap"
+
 abbrev pub command_of : Request → Option (List ℕ)
 command_of (Look task) = Some (look_word task.work)
 command_of (Check survey) = Some (codes "check")
 command_of (Lint l) = Some (codes "lint")
 command_of (Run errand) = Some (codes "run")
 command_of (Show zone) = Some (codes "heap")
+command_of (Play playing) = Some (play_word playing.work)
 command_of (Convert c) = convert_word c.work c.target
 command_of (Combine c) = combine_word c.work c.target
 command_of (Extract e) = Some (extract_word e.pieces)
@@ -124,13 +143,39 @@ abbrev pub path_in : Target → List (List ℕ)
 path_in Printed = []
 path_in (NewFile path) = path.now ∷ []
 
+-- A file is given by the value of its option: its path, or its name and its path with `=` between them.
+abbrev pub IsPart : List (List ℕ) → AppFork → Type 0
+IsPart words (Own path) = HasValue words (codes "--fork") path
+IsPart words (System path) = HasValue words (codes "--system") path
+IsPart words (Other name path) = HasValue words (codes "--file") (name ++ codes "=" ++ path)
+
+abbrev pub AreParts : List (List ℕ) → List AppFork → Type 0
+AreParts words [] = Unit {0}
+AreParts words (part ∷ parts) = IsPart words part × AreParts words parts
+
+-- The folder that is made, if one is, is the value of its option.
+abbrev pub IsPlayFolder : List (List ℕ) → PlayWork → Type 0
+IsPlayFolder words Transcript = Unit {0}
+IsPlayFolder words (Words lines) = Unit {0}
+IsPlayFolder words (Leavings folder) = HasValue words (codes "--write") folder.now
+IsPlayFolder words (Zone lines) = Unit {0}
+
+-- The words ask for what the files of `lint` are read as, if something is asked for.
+abbrev pub IsKindAsked : List (List ℕ) → Option TextKind → Type 0
+IsKindAsked words None = Unit {0}
+IsKindAsked words (Some kind.Job) = StandIn words (codes "--job" ∷ [])
+IsKindAsked words (Some kind.Source) = StandIn words (codes "--rez" ∷ [])
+IsKindAsked words (Some kind.Script) = ⊥
+
 -- The words after the command's name all that the request names, in the order of the command's arguments.
 abbrev pub Names : Request → List (List ℕ) → Type 0
 Names (Look task) words = StandIn words (task.path.now ∷ [])
 Names (Check survey) words = StandIn words (paths_of survey)
-Names (Lint l) words = StandIn words (linting.paths_of l)
+Names (Lint l) words = IsKindAsked words l.asked × HasValues words (codes "--types") (linting.types_read l)
+    × StandIn words (linting.paths_of l)
 Names (Run errand) words = StandIn words (errand.job.now ∷ errand.out.now ∷ [])
 Names (Show zone) words = HasValue words (codes "--job") zone.job.now × HasValue words (codes "--app") zone.app.now
+Names (Play r) words = AreParts words (parts_of r) × IsPlayFolder words r.work × StandIn words (r.script.now ∷ [])
 Names (Convert c) words = StandIn words (c.path.now ∷ path_in c.target)
 Names (Combine c) words = StandIn words (c.first.now ∷ c.second.now ∷ path_in c.target)
 Names (Extract e) words = StandIn words (e.fork.now ∷ e.out.now ∷ [])

@@ -3,7 +3,7 @@ use Rattle.commands.specs.declared.ending.Ending.{Ending}
 use Rattle.commands.specs.declared.ending.Ending.TheVariants.{Done}
 use Rattle.commands.specs.declared.tasks.Task.{Task}
 use Rattle.commands.specs.declared.request.Request.{Request}
-use Rattle.commands.specs.declared.request.Request.TheVariants.{Look, Check, Lint, Run, Show, Convert, Combine, Extract, Pack, Print, Assemble}
+use Rattle.commands.specs.declared.request.Request.TheVariants.{Look, Check, Lint, Run, Show, Play, Convert, Combine, Extract, Pack, Print, Assemble}
 use Rattle.commands.specs.Fault.{Message, IsUsage}
 use Rattle.commands.specs.Accesses.{Access, Read, and_then, IsUnread}
 use Rattle.commands.specs.Asking.{IsAskedBy}
@@ -14,6 +14,7 @@ use Rattle.commands.specs.Linting.{Lints, IsUnlinted}
 use Rattle.commands.specs.Tasks.{Prints, IsRefusal, ending_for}
 use Rattle.commands.specs.Running.{Runs, IsStopped}
 use Rattle.commands.specs.JobZones.{Shows, IsUnshown}
+use Rattle.commands.specs.Playing.{Plays, IsUnplayed}
 use Rattle.commands.specs.Converting.{Converts, IsUnconverted}
 use Rattle.commands.specs.Combining.{Combines, IsUncombined}
 use Rattle.commands.specs.Extracting.{Extracts, IsUnextracted}
@@ -80,8 +81,8 @@ IsUnchecked survey p q old new message = IsUncheckedFor (lone_path survey) surve
 
 -- In what follows `h` and `k` are the reports that the watch has heard before and after; they are said of a job.
 
--- What the request asks for was done: a task or a survey, the faulty lines of scripts were printed, a job was run to its end,
--- the zone of one of its applications was printed, what was made of one file or of two was delivered, what is in a file was
+-- What the request asks for was done: a task or a survey, the faulty lines of texts were printed, a job was run to its end,
+-- the zone of one of its applications was printed, a script was run with files, what was made of one file or of two was delivered, what is in a file was
 -- written into a folder, the fork that a folder states was written, a fork was printed as source, or the fork that a source
 -- states was written.
 abbrev pub IsDone : Request → Ending → Option (List ℕ) → Option (List ℕ) → Option (List ℕ) → Option (List ℕ)
@@ -92,6 +93,7 @@ IsDone (Lint linting) ending h k p q old new = Lints linting ending p q old new
 IsDone (Run errand) ending h k p q old new =
     (ending ≡ Done) × (q ≡ p) × Runs errand h k old new
 IsDone (Show zone) ending h k p q old new = (ending ≡ Done) × Shows zone p q old new
+IsDone (Play playing) ending h k p q old new = (ending ≡ Done) × Plays playing p q old new
 IsDone (Convert conversion) ending h k p q old new = (ending ≡ Done) × Converts conversion p q old new
 IsDone (Combine combination) ending h k p q old new = Combines combination ending p q old new
 IsDone (Extract extraction) ending h k p q old new = (ending ≡ Done) × (q ≡ p) × Extracts extraction old new
@@ -108,6 +110,7 @@ IsUndone (Lint linting) h k p q old new message = IsUnlinted linting p q old new
 IsUndone (Run errand) h k p q old new message =
     (q ≡ p) × IsStopped errand h k old new message
 IsUndone (Show zone) h k p q old new message = IsUnshown zone p q old new message
+IsUndone (Play playing) h k p q old new message = IsUnplayed playing p q old new message
 IsUndone (Convert conversion) h k p q old new message = IsUnconverted conversion p q old new message
 IsUndone (Combine combination) h k p q old new message = IsUncombined combination p q old new message
 IsUndone (Extract extraction) h k p q old new message = (q ≡ p) × IsUnextracted extraction old new message

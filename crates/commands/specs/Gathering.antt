@@ -13,6 +13,7 @@ use Rattle.commands.specs.declared.fault.ToolFault.{ToolFault}
 use Rattle.commands.specs.declared.gathering.FoundApp.{FoundApp}
 use Rattle.commands.specs.declared.gathering.FoundFile.{FoundFile}
 use Rattle.commands.specs.declared.gathering.FoundFork.{FoundFork}
+use Rattle.commands.specs.declared.gathering.FoundScript.{FoundScript}
 use Rattle.commands.specs.declared.gathering.Gathered.{Gathered}
 use Rattle.commands.specs.declared.gathering.Source.{Source}
 use Rattle.commands.specs.Fault.{Message, CannotRead, Script, Fork, HostMemory, message_of}
@@ -44,11 +45,13 @@ pub record GivenFile : Type 0 where
   pub name : List ℕ
   pub fork : List ℕ
 
--- An application: its name, its fork, its other files in the order of their lines, and its script.
+-- An application: its name, its fork, its other files in the order of their lines, the size of its partition where one is asked
+-- for, and its script.
 pub record GivenApp : Type 0 where
   pub name : List ℕ
   pub fork : List ℕ
   pub files : List GivenFile
+  pub size : Option ℕ
   pub script : Spelled
 
 -- The source of a fork: the bytes of the file in which it was read, unless they are a fork themselves.
@@ -60,16 +63,17 @@ pub record GivenSource : Type 0 where
   pub app : ℕ
   pub file : Option (List ℕ)
 
--- The System file's fork, if a line names it; the applications in the order of their lines; and the sources of their forks,
--- an application's own and those of its other files, in the order of all these lines.
+-- The System file's fork, if a line names it; the applications in the order of their lines; the texts of their scripts; and the
+-- sources of their forks, an application's own and those of its other files, in the order of all these lines.
 pub record Given : Type 0 where
   pub system : Option (List ℕ)
   pub apps : List GivenApp
+  pub scripts : List (List ℕ)
   pub sources : List GivenSource
 
 -- What is given before the first line.
 abbrev pub nothing_given : Given
-nothing_given = record { system = None; apps = []; sources = [] }
+nothing_given = record { system = None; apps = []; scripts = []; sources = [] }
 
 -- A further file of the `n`-th application, from 0.
 abbrev pub with_file : ℕ → GivenFile → List GivenApp → List GivenApp
@@ -96,24 +100,32 @@ abbrev pub fork_at : List ℕ → List (List ℕ) → Result (Found (List ℕ)) 
 fork_at path [] = Err (CannotRead path)
 fork_at path (bytes ∷ texts) = fork_told path bytes (fork_in bytes)
 
+-- A script with its text.
+abbrev pub Spoken : Type 0
+Spoken = Spelled × List ℕ
+
 -- A script that was read, or its first faulty line.
-abbrev pub script_told : List ℕ → Result Spelled (ℕ × FaultKind) → Result Spelled Message
-script_told path (Ok script) = Ok script
-script_told path (Err (line, kind)) = Err (Script path line kind)
+abbrev pub script_told : List ℕ → List ℕ → Result Spelled (ℕ × FaultKind) → Result Spoken Message
+script_told path text (Ok script) = Ok (script, text)
+script_told path text (Err (line, kind)) = Err (Script path line kind)
 
 -- The first of these texts is a script. Without a text the path can't be read.
-abbrev pub script_at : List ℕ → List (List ℕ) → Result Spelled Message
+abbrev pub script_at : List ℕ → List (List ℕ) → Result Spoken Message
 script_at path [] = Err (CannotRead path)
-script_at path (text ∷ texts) = script_told path (script_of text)
+script_at path (text ∷ texts) = script_told path text (script_of text)
+
+-- An application with the source of its fork and the text of its script.
+abbrev pub FoundApplication : Type 0
+FoundApplication = Found GivenApp × List ℕ
 
 -- An application, with its fork and its script.
-abbrev pub app_of : List ℕ → Result (Found (List ℕ)) Message → Result Spelled Message → Result (Found GivenApp) Message
+abbrev pub app_of : List ℕ → Result (Found (List ℕ)) Message → Result Spoken Message → Result FoundApplication Message
 app_of name fork script =
-    given_then fork (λ found. given_then script (λ spelled.
-    Ok (record { name = name; fork = found.0; files = []; script = spelled }, found.1)))
+    given_then fork (λ found. given_then script (λ read.
+    Ok ((record { name = name; fork = found.0; files = []; size = None; script = read.0 }, found.1), read.1)))
 
 -- An application, from the texts at the paths of its fork and its script.
-abbrev pub app_at : List ℕ → List ℕ → List ℕ → List (List ℕ) → Result (Found GivenApp) Message
+abbrev pub app_at : List ℕ → List ℕ → List ℕ → List (List ℕ) → Result FoundApplication Message
 app_at name fork script texts = app_of name (fork_at fork texts) (script_at script (drop 1 texts))
 
 -- A file of an application, from the text at its path.
@@ -129,10 +141,11 @@ with_source n file sources = sources ++ record { app = n; file = file } ∷ []
 abbrev pub with_system : Found (List ℕ) → Given → Given
 with_system found given = record given { system = Some found.0 }
 
-abbrev pub with_app : Found GivenApp → Given → Given
+abbrev pub with_app : FoundApplication → Given → Given
 with_app found given = record given {
-  apps = given.apps ++ found.0 ∷ [];
-  sources = with_source (length given.apps) found.1 given.sources;
+  apps = given.apps ++ found.0.0 ∷ [];
+  scripts = given.scripts ++ found.1 ∷ [];
+  sources = with_source (length given.apps) found.0.1 given.sources;
 }
 
 abbrev pub with_app_file : ℕ → Found GivenFile → Given → Given
@@ -200,14 +213,18 @@ app_given app = record {
   name = app.name.0.items;
   fork = app.fork.items;
   files = map file_given app.files.items;
+  size = app.size;
   script = spelled app.script;
 }
 
 abbrev pub fork_found : FoundFork → Found (List ℕ)
 fork_found f = (f.fork.items, option_map (λ bytes. bytes.items) f.source)
 
-abbrev pub app_found : FoundApp → Found GivenApp
-app_found f = (app_given f.app, option_map (λ bytes. bytes.items) f.source)
+abbrev pub script_found : FoundScript → Spoken
+script_found f = (spelled f.script, f.text.items)
+
+abbrev pub app_found : FoundApp → FoundApplication
+app_found f = ((app_given f.app, option_map (λ bytes. bytes.items) f.source), f.text.items)
 
 abbrev pub file_found : FoundFile → Found GivenFile
 file_found f = (file_given f.file, option_map (λ bytes. bytes.items) f.source)
@@ -219,12 +236,14 @@ abbrev pub gathered : Gathered → Given
 gathered g = record {
   system = option_map (λ fork. fork.items) g.system;
   apps = map app_given g.apps.items;
+  scripts = map (λ text. text.items) g.scripts.items;
   sources = map source_given g.sources.items;
 }
 
-abbrev pub job_given : Job → List GivenSource → Given
-job_given job sources = record {
+abbrev pub job_given : Job → List (List ℕ) → List GivenSource → Given
+job_given job scripts sources = record {
   system = option_map (λ fork. fork.items) job.system;
   apps = map app_given job.apps.items;
+  scripts = scripts;
   sources = sources;
 }

@@ -8,12 +8,16 @@ pub mod Dumping
 pub mod Tasks
 pub mod Outputs
 pub mod Gathering
+pub mod Sizing
+pub mod Speaking
 pub mod Running
+pub mod Loading
 pub mod Ending
 pub mod Delivering
 pub mod Converting
 pub mod Combining
 pub mod JobZones
+pub mod Playing
 pub mod Extracting
 pub mod Packing
 pub mod Surveying

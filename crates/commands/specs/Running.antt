@@ -11,6 +11,8 @@ use Rattle.commands.specs.Accesses.{Access, Read, Folder, Write, and_then, IsUnr
 use Rattle.commands.specs.declared.running.Errand.{Errand}
 use Rattle.commands.specs.Gathering.{GivenSource, nothing_given, with_inputs, reads_of, system_path, job_given, IsStop}
 use Rattle.commands.specs.Outputs.{Written, sources_unless, left_by}
+use Rattle.commands.specs.Sizing.{IsSized, IsUnnamed}
+use Rattle.commands.specs.Speaking.{written_of}
 
 -- A job is read and run, and what it leaves is written.
 
@@ -20,16 +22,17 @@ pub record Stated : Type 0 where
   pub lines : TextJob
   pub states : job_of text ≡ Ok lines
 
--- A job with all that its lines name: the texts at the paths of each line, and the job and the sources of its forks that they
--- give.
+-- A job with all that its lines name: the texts at the paths of each line, and the job, the texts of its scripts and the sources of
+-- its forks that they give.
 pub record Taken : Type 0 where
   pub stated : Stated
   pub texts : List (List (List ℕ))
   pub job : Job
+  pub scripts : List (List ℕ)
   pub sources : List GivenSource
   pub memory : job.memory ≡ stated.lines.memory
   pub events : job.events.items ≡ stated.lines.events
-  pub given : with_inputs nothing_given stated.lines.inputs texts ≡ Ok (job_given job sources)
+  pub given : with_inputs nothing_given stated.lines.inputs texts ≡ Ok (job_given job scripts sources)
 
 -- The files that are read for a job: its own, at its path, and those that its lines name, in their order.
 abbrev pub reads_for : List ℕ → Stated → List (List (List ℕ)) → List Access
@@ -63,12 +66,13 @@ Hears false job done h k = k ≡ h
 -- In what follows `h` and `k` are the reports that the watch has heard before and after, `old` and `new` the accesses to
 -- files.
 
--- What a run leaves that did not stop was written into a folder.
-abbrev pub Leaves : List ℕ → Bool → Job → List GivenSource → Option (List ℕ) → Option (List ℕ)
+-- What a run leaves that did not stop was written into the folder of an errand. `scripts` are the texts of the applications'
+-- scripts.
+abbrev pub Leaves : Errand → Job → List (List ℕ) → List GivenSource → Option (List ℕ) → Option (List ℕ)
     → Option (List Access) → Option (List Access) → Type 0
-Leaves folder watched job sources h k old new =
-    (outcome : Outcome) × (outcome.stopped ≡ false) × LeftByRun job outcome × Hears watched job outcome.done h k
-    × (new ≡ and_then old (writes_for folder sources outcome))
+Leaves errand job scripts sources h k old new =
+    (outcome : Outcome) × (outcome.stopped ≡ false) × LeftByRun job outcome × Hears errand.watched job outcome.done h k
+    × (new ≡ and_then old (writes_for errand.out.now sources (written_of errand.in_words job scripts outcome)))
 
 -- All that a run leaves was written, and the run stopped, which is a fault of the host's memory; or what it leaves was not
 -- written to its end.
@@ -79,24 +83,28 @@ pub data IsUnwell (folder : List ℕ) (sources : List GivenSource) (outcome : Ou
   NotWritten : StopsAmong (writes_for folder sources outcome) old new message
       → IsUnwell folder sources outcome old new message
 
--- A run did not begin, and the watch has heard nothing; or it stopped, and what it leaves was written all the same; or
--- what it leaves was not written to its end.
-pub data IsUnleft (system folder : List ℕ) (watched : Bool) (job : Job) (sources : List GivenSource)
+-- A run did not begin, and the watch has heard nothing; or the host was out of memory for the transcripts in words, and nothing
+-- was written; or the run stopped, and what it leaves was written all the same; or what it leaves was not written to its end.
+pub data IsUnleft (system : List ℕ) (errand : Errand) (job : Job) (scripts : List (List ℕ)) (sources : List GivenSource)
     (h k : Option (List ℕ)) (old new : Option (List Access)) (message : Message) : Type 0 where
   NotRun : k ≡ h → new ≡ old → IsRunFault system job message
-      → IsUnleft system folder watched job sources h k old new message
-  Run : (outcome : Outcome) → LeftByRun job outcome → Hears watched job outcome.done h k
-      → IsUnwell folder sources outcome old new message → IsUnleft system folder watched job sources h k old new message
+      → IsUnleft system errand job scripts sources h k old new message
+  Unspoken : (outcome : Outcome) → LeftByRun job outcome → Hears errand.watched job outcome.done h k → new ≡ old
+      → message ≡ HostMemory → IsUnleft system errand job scripts sources h k old new message
+  Run : (outcome : Outcome) → LeftByRun job outcome → Hears errand.watched job outcome.done h k
+      → IsUnwell errand.out.now sources (written_of errand.in_words job scripts outcome) old new message
+      → IsUnleft system errand job scripts sources h k old new message
 
 -- The files that the forks of a job are put into, as the words ask.
 abbrev pub sources_for : Errand → Taken → List GivenSource
 sources_for errand t = sources_unless errand.bare t.sources
 
--- A job was run to its end: all input was read, then all that it leaves was written, and no other file was read or
--- written.
+-- A job was run to its end, with the sizes that are asked for: all input was read, then all that it leaves was written, and no
+-- other file was read or written.
 abbrev pub Runs : Errand → Option (List ℕ) → Option (List ℕ) → Option (List Access) → Option (List Access) → Type 0
 Runs errand h k old new =
-    (t : Taken) × Leaves errand.out.now errand.watched t.job (sources_for errand t) h k
+    (t : Taken) × (job : Job) × IsSized errand.sizes.items t.job job
+    × Leaves errand job t.scripts (sources_for errand t) h k
     (and_then old (reads_for errand.job.now t.stated t.texts)) new
 
 -- Why a job was not run to its end, and what was read and written before. If the host is out of memory, the job may
@@ -112,9 +120,12 @@ pub data IsStopped (errand : Errand) (h k : Option (List ℕ)) (old new : Option
   Ungathered : (stated : Stated) (texts : List (List (List ℕ))) → k ≡ h
       → Stops (and_then old (reads_for errand.job.now stated texts)) new message
       → IsStop (with_inputs nothing_given stated.lines.inputs texts) message → IsStopped errand h k old new message
+  -- all input was read, and a size is asked for an application that the job doesn't have
+  Unnamed : (t : Taken) → k ≡ h → new ≡ and_then old (reads_for errand.job.now t.stated t.texts)
+      → IsUnnamed errand.job.now errand.sizes.items t.job message → IsStopped errand h k old new message
   -- all input was read, and the System file's fork is no fork, or the run stopped and all that it leaves was written, or
   -- the folder can't be made, or a file can't be written
-  Unleft : (t : Taken)
-      → IsUnleft (system_path t.stated.lines.inputs) errand.out.now errand.watched t.job (sources_for errand t) h k
+  Unleft : (t : Taken) (job : Job) → IsSized errand.sizes.items t.job job
+      → IsUnleft (system_path t.stated.lines.inputs) errand job t.scripts (sources_for errand t) h k
       (and_then old (reads_for errand.job.now t.stated t.texts)) new message
       → IsStopped errand h k old new message

@@ -1,4 +1,4 @@
-use Rattle.std.specs.Prelude.{◌≡◌, ℕ, Bool, true, Result, Ok, Err, Some, List, [], ◌++◌, IsTrue, codes}
+use Rattle.std.specs.Prelude.{◌≡◌, ℕ, ◌+◌, ◌-◌, Bool, true, false, Result, Ok, Err, Some, List, [], ◌++◌, length, IsTrue, codes}
 use Rattle.script_text.specs.Script.{ScriptParts, script_of, spelled}
 use Rattle.applications.specs.Alone.{script_alone}
 use Rattle.applications.specs.Trying.{own_resources}
@@ -13,11 +13,15 @@ use Rattle.zone_view.specs.Behind.{steps_at}
 use Rattle.zone_view.specs.Sight.{sight_text}
 use Rattle.zone_view.specs.declared.sight.Sight.{Sight}
 use Rattle.zone_view.specs.declared.sight.Sight.TheVariants as sight
+use Rattle.zone_view.specs.declared.words.Telling.{Telling}
+use Rattle.zone_view.specs.declared.words.Telling.TheVariants as telling
 use Rattle.commands.specs.Listing.{listing}
 use Rattle.commands.specs.declared.listing.Spelling.{Spelling}
 use Rattle.commands.specs.declared.work.Form.{Form}
 use Rattle.commands.specs.declared.work.Lines.{Lines}
 use Rattle.commands.specs.declared.work.Lines.TheVariants as lines
+use Rattle.commands.specs.declared.work.ToldLines.{ToldLines}
+use Rattle.commands.specs.declared.work.ToldLines.TheVariants as told
 use Rattle.commands.specs.declared.work.ZoneView.{ZoneView}
 use Rattle.commands.specs.declared.work.Form.TheVariants.{Canonical, Accepted}
 
@@ -32,6 +36,12 @@ IsTranscriptOf n text out =
 abbrev pub sight_of : Lines → List Line → Sight
 sight_of (lines.One line form) steps = sight.Zone (steps_at line steps) form
 sight_of (lines.Each from to) steps = sight.Moments (steps_at (Some from) steps) (steps_at (Some to) steps)
+
+-- How much of the transcript of an application with these steps is told in words: all of it, to the end of the script; or the
+-- steps from one line to another.
+abbrev pub telling_of : ToldLines → List Line → Telling
+telling_of told.All steps = telling.Whole (length steps + 1) false
+telling_of (told.Each from to) steps = telling.Steps (steps_at (Some (from - 1)) steps) (steps_at (Some to) steps)
 
 -- What is shown of a script's application, by the steps of the script's text.
 abbrev pub IsZoneOf : ZoneView → List ℕ → List ℕ → Type 0

@@ -2,12 +2,14 @@
 
 ghost use Rattle.std.specs.Prelude.{◌≡◌, ◌≤◌, ◌++◌, ◌∷◌, [], ℕ, List, map, drop, length, option_map, codes, IsTrue};
 ghost use Rattle.commands.specs.Asking.{look_word, print_word, edit_word, write_word, convert_word, combine_word, extract_word, part_word, command_of, word_into};
-ghost use Rattle.commands.specs.declared.request.Request.TheVariants.{Print, Assemble};
-ghost use Rattle.commands.specs.Asking.{StandIn, HasValue, IsGiven, HasValues, MayHaveValue, Names, IsAskedBy, path_in};
+ghost use Rattle.commands.specs.declared.request.Request.TheVariants.{Lint, Print, Assemble};
+ghost use Rattle.commands.specs.Asking.{StandIn, HasValue, IsGiven, HasValues, MayHaveValue, IsKindAsked, Names, IsAskedBy, path_in};
 
 use crate::assembling::Assembly;
 use crate::delivering::Target;
 use crate::extracting::Pieces;
+use crate::linting::{Linting, TextKind};
+use crate::play_asking::{name_played, play_word};
 use crate::request::Request;
 use crate::source_printing::{Part, Printing};
 use crate::tasks::Work;
@@ -123,6 +125,7 @@ fn command_of(request: &Request<'_>) -> Option<&'static str>
         Request::Lint(_) => Some("lint"),
         Request::Run(_) => Some("run"),
         Request::Show(_) => Some("heap"),
+        Request::Play(playing) => Some(play_word(playing.work)),
         Request::Convert(conversion) => convert_word(conversion.work, conversion.target),
         Request::Combine(combination) => combine_word(combination.work, combination.target),
         Request::Extract(extraction) => Some(extract_word(extraction.pieces)),
@@ -146,7 +149,7 @@ fn found_with(word: &str, texts: &[&str], found: usize) -> usize
 }
 
 /// Reports whether texts are words, in their order.
-fn stand_in(words: &[&str], texts: &[&str]) -> bool
+pub(crate) fn stand_in(words: &[&str], texts: &[&str]) -> bool
     ensures { IsTrue result → StandIn (map (λ w. w.now) words.entry.now) (map (λ t. t.now) texts.entry.now) }
 {
     let mut found = 0;
@@ -167,7 +170,7 @@ fn ends_in(word: &str, begin: &str, value: &str) -> bool
 }
 
 /// Reports whether an option has a value; `begin` is the option with `=` after it.
-fn has_value(words: &[&str], option: &str, begin: &str, value: &str) -> bool
+pub(crate) fn has_value(words: &[&str], option: &str, begin: &str, value: &str) -> bool
     requires { begin.now ≡ option.now ++ codes "=" }
     ensures { IsTrue result → HasValue (map (λ w. w.now) words.entry.now) option.now value.now }
 {
@@ -241,6 +244,27 @@ fn may_have_value(words: &[&str], option: &str, begin: &str, value: Option<&str>
     }
 }
 
+/// Reports whether words ask for what the files of `lint` are read as.
+fn ask_kind(words: &[&str], asked: Option<TextKind>) -> bool
+    ensures { IsTrue result → IsKindAsked (map (λ w. w.now) words.entry.now) asked }
+{
+    match asked {
+        Some(TextKind::Job) => stand_in(words, &["--job"]),
+        Some(TextKind::Source) => stand_in(words, &["--rez"]),
+        Some(TextKind::Script) => false,
+        None => true,
+    }
+}
+
+/// Reports whether words name the paths of the texts whose faulty lines are printed, and what these are read as.
+fn name_linted(words: &[&str], linting: &Linting<'_>) -> bool
+    ensures { IsTrue result → Names (Lint linting.now) (map (λ w. w.now) words.entry.now) }
+{
+    ask_kind(words, linting.asked)
+        && has_values(words, "--types", "--types=", linting.types.as_slice())
+        && stand_in(words, linting.paths.as_slice())
+}
+
 /// Reports whether words name the paths of what a request prints.
 fn name_printed(words: &[&str], printing: &Printing<'_>) -> bool
     ensures { IsTrue result → Names (Print printing.now) (map (λ w. w.now) words.entry.now) }
@@ -286,12 +310,13 @@ fn names(words: &[&str], request: &Request<'_>) -> bool
     match request {
         Request::Look(task) => stand_in(words, &[task.path]),
         Request::Check(survey) => stand_in(words, survey.paths.as_slice()),
-        Request::Lint(linting) => stand_in(words, linting.paths.as_slice()),
+        Request::Lint(linting) => name_linted(words, linting),
         Request::Run(errand) => stand_in(words, &[errand.job, errand.out]),
         Request::Show(zone) => {
             has_value(words, "--job", "--job=", zone.job)
                 && has_value(words, "--app", "--app=", zone.app)
         }
+        Request::Play(playing) => name_played(words, playing),
         Request::Convert(conversion) => stand_with(words, conversion.path, conversion.target),
         Request::Combine(combination) => both_stand_with(
             words,

@@ -1,5 +1,5 @@
 //! From the words of the command line to what is printed or written: the words name a task, whose file is read and
-//! whose bytes are worked on, a survey of several files, scripts whose faulty lines are printed, or a job to be run or shown;
+//! whose bytes are worked on, a survey of several files, texts whose faulty lines are printed, or a job to be run or shown;
 //! or something is made of one file or of two, what is in a file is written into a folder, a folder is packed into a fork, a
 //! fork is printed as source, or the fork of a source is written. Between the words and the host stand only `tasks::do_task`, `surveying::print_survey`,
 //! `surveying::print_folder`, `linting::print_faults`, `running::run_job`, `job_zones::show_in_job`, `converting::convert`,
@@ -27,6 +27,7 @@ use crate::input::read_input;
 use crate::job_zones::show_in_job;
 use crate::linting::print_faults;
 use crate::packing::{Packing, pack};
+use crate::playing::play;
 use crate::request::Request;
 use crate::running::{Errand, run_job};
 use crate::source_printing::print_source;
@@ -57,13 +58,13 @@ fn look<H: Host, W: Watch>(
 fn run<H: Host, W: Watch>(
     alloc: Global,
     host: &mut H,
-    errand: Errand<'_>,
+    errand: &Errand<'_>,
     watch: &mut W,
 ) -> Result<Ending, ToolFault>
     ensures done { IfOk result (λ ending. (ending ≡ Done) × (H.printed host.new ≡ H.printed host.old)
-        × Runs errand.entry (W.heard watch.old) (W.heard watch.new) (H.accesses host.old) (H.accesses host.new)) }
+        × Runs errand.now (W.heard watch.old) (W.heard watch.new) (H.accesses host.old) (H.accesses host.new)) }
     ensures undone { IfErr result (λ fault. (H.printed host.new ≡ H.printed host.old)
-        × IsStopped errand.entry (W.heard watch.old) (W.heard watch.new)
+        × IsStopped errand.now (W.heard watch.old) (W.heard watch.new)
         (H.accesses host.old) (H.accesses host.new) (message_of fault)) }
     ensures quiet { IfErr result (λ fault. IsQuiet (H.printed host.old) (H.printed host.new) (message_of fault)) }
 {
@@ -161,8 +162,9 @@ fn perform<H: Host, W: Watch>(
 {
     match request {
         Request::Look(task) => look(alloc, host, task, watch),
-        Request::Run(errand) => run(alloc, host, errand, watch),
+        Request::Run(errand) => run(alloc, host, &errand, watch),
         Request::Show(zone) => show_in_job(alloc, host, zone),
+        Request::Play(playing) => play(alloc, host, &playing, watch),
         Request::Convert(conversion) => convert(alloc, host, conversion),
         Request::Combine(combination) => combine(alloc, host, combination),
         Request::Check(survey) => check(alloc, host, &survey, watch),

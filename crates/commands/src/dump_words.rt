@@ -21,7 +21,7 @@ prints the zones in the dump, first those that the globals SysZone (at 2A6) and
 ApplZone (at 2AA) name:
   address       size bits global
   00000400       200   24 SysZone
-  00000600       376   24 ApplZone
+  00000600       448   24 ApplZone
 
   macmem zone examples/memory.dump 0x400
 
@@ -53,7 +53,8 @@ pmemsave, MAME's save or a monitor wrote. Addresses are decimal, or hexadecimal
 after 0x or $ ('$2A6' in quotes, since shells read $2).
 'address' is that of the block's header; 'size' is the physical size with the
 header, 'logical' the size of the content; 'master' is the address of the master
-pointer; 'purgeable' in the totals are the blocks that are not locked. With
+pointer; 'resource' is the type and the ID, where a resource map in the zone has
+the handle; 'purgeable' in the totals are the blocks that are not locked. With
 --plain a tab stands between fields, there are no titles, and a line begins with
 'zone', 'block' or 'total'.
 Without --24 and --32 the form is the one in which the zone is whole, or else

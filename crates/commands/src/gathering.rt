@@ -11,7 +11,7 @@ ghost use Rattle.commands.specs.Tasks.{IsForkFault};
 ghost use Rattle.commands.specs.Gathering.{name_of, owner_is_in, system_path, nothing_given, with_file, source_of, with_source};
 ghost use Rattle.commands.specs.Gathering.{fork_at, script_at, IsStop, app_at, file_at, with_input, with_inputs, paths_of, Reads, ReadsOf};
 ghost use Rattle.commands.specs.Gathering.{IsGiven, file_given, app_given, gathered, job_given, fork_told};
-ghost use Rattle.commands.specs.Gathering.{fork_found, app_found, file_found, source_given};
+ghost use Rattle.commands.specs.Gathering.{fork_found, script_found, app_found, file_found, source_given};
 
 use crate::fault::ToolFault;
 use crate::host::Host;
@@ -26,10 +26,17 @@ use std::alloc::{AllocError, Global};
 
 /// A fork that was found in a file.
 #[derive(Drop)]
-struct FoundFork {
-    fork: Vec<u8>,
+pub struct FoundFork {
+    pub(crate) fork: Vec<u8>,
     /// The bytes of the file, unless they are the fork.
-    source: Option<Vec<u8>>,
+    pub(crate) source: Option<Vec<u8>>,
+}
+
+/// A script that was read, with its text.
+#[derive(Drop)]
+struct FoundScript {
+    script: Script,
+    text: Vec<u8>,
 }
 
 /// An application that was read.
@@ -38,6 +45,8 @@ struct FoundApp {
     app: App,
     /// The bytes of the file in which its fork was found, unless they are the fork.
     source: Option<Vec<u8>>,
+    /// The text of its script.
+    text: Vec<u8>,
 }
 
 /// A file of an application that was read.
@@ -69,7 +78,7 @@ fn source_of(alloc: Global, bytes: &[u8]) -> Result<Option<Vec<u8>>, AllocError>
 
 /// Returns the fork in the bytes of a file, and the bytes themselves, unless they are the fork.
 #[tactic(auto, using(crate::proofs::Faults::fork_stopped, crate::proofs::Forks::told_found))]
-fn fork_of(alloc: Global, path: &str, bytes: Vec<u8>) -> Result<FoundFork, ToolFault>
+pub(crate) fn fork_of(alloc: Global, path: &str, bytes: Vec<u8>) -> Result<FoundFork, ToolFault>
     ensures fork { IfOk result (λ found. fork_told path.now bytes.items (fork_in bytes.items) ≡ Ok (fork_found found)) }
     ensures fault { IfErr result (λ fault. IsForkFault path.now (fork_in bytes.items) (message_of fault)) }
 {
@@ -97,14 +106,14 @@ fn fork_at<H: Host>(alloc: Global, host: &mut H, path: &str) -> Result<FoundFork
 }
 
 /// Reads the script at a path.
-fn script_at<H: Host>(alloc: Global, host: &mut H, path: &str) -> Result<Script, ToolFault>
+fn script_at<H: Host>(alloc: Global, host: &mut H, path: &str) -> Result<FoundScript, ToolFault>
     ensures silent { H.printed host.new ≡ H.printed host.old }
     ensures script { Reads (path.now ∷ []) (H.accesses host.old) (H.accesses host.new) result (λ texts.
-        IsGiven spelled (script_at path.now texts) result) }
+        IsGiven script_found (script_at path.now texts) result) }
 {
     let text = read_input(alloc, host, path)?;
     match read_script(alloc, &text) {
-        Ok(script) => Ok(script),
+        Ok(script) => Ok(FoundScript { script, text }),
         Err(fault) => Err(script_fault(alloc, path, fault)?),
     }
 }
@@ -117,7 +126,7 @@ fn label_copy(name: &Label) -> Result<Label, AllocError>
 }
 
 /// Returns a copy of a file's name.
-fn name_copy(name: &FileName) -> Result<FileName, AllocError>
+pub(crate) fn name_copy(name: &FileName) -> Result<FileName, AllocError>
     ensures { IfOk result (λ copy. copy.0.items ≡ name.now.0.items) }
 {
     name.clone()
@@ -142,11 +151,13 @@ fn app_at<H: Host>(
         name: label_copy(name)?,
         fork: bytes.fork,
         files: Vec::new(alloc),
-        script,
+        size: None,
+        script: script.script,
     };
     Ok(FoundApp {
         app,
         source: bytes.source,
+        text: script.text,
     })
 }
 
@@ -192,7 +203,7 @@ fn push_file(apps: &mut Vec<App>, i: usize, file: AppFile) -> Result<(), AllocEr
 }
 
 /// Adds the source of a fork of application `app`.
-fn push_source(
+pub(crate) fn push_source(
     sources: &mut Vec<Source>,
     app: usize,
     file: Option<Vec<u8>>,
@@ -204,6 +215,14 @@ fn push_source(
     Ok(())
 }
 
+/// Adds the text of an application's script.
+fn push_text(scripts: &mut Vec<Vec<u8>>, text: Vec<u8>) -> Result<(), AllocError>
+    ensures { OnOk result (map (λ t. t.items) scripts.new.items ≡ map (λ t. t.items) scripts.old.items ++ text.items ∷ []) }
+{
+    scripts.push(text)?;
+    Ok(())
+}
+
 /// The inputs that the lines of a job name.
 #[derive(Drop)]
 struct Gathered {
@@ -211,6 +230,8 @@ struct Gathered {
     system: Option<Vec<u8>>,
     /// The applications, each with its files.
     apps: Vec<App>,
+    /// The texts of the scripts of the applications.
+    scripts: Vec<Vec<u8>>,
     /// The sources of the forks of the applications, in the order of the lines.
     sources: Vec<Source>,
 }
@@ -251,6 +272,7 @@ fn add_app<H: Host>(
     let place = inputs.apps.len();
     let found = app_at(alloc, host, name, fork, script)?;
     push_app(&mut inputs.apps, found.app)?;
+    push_text(&mut inputs.scripts, found.text)?;
     push_source(&mut inputs.sources, place, found.source)?;
     Ok(())
 }
@@ -317,6 +339,7 @@ fn read_inputs<H: Host>(
     let mut all = Gathered {
         system: None,
         apps: Vec::new(alloc),
+        scripts: Vec::new(alloc),
         sources: Vec::new(alloc),
     };
     for input in inputs {
@@ -341,6 +364,8 @@ pub fn system_path<'t>(inputs: &[Input<'t>]) -> &'t str
 #[derive(Drop)]
 pub struct GatheredJob {
     pub job: Job,
+    /// The texts of the scripts of the applications, in their order.
+    pub scripts: Vec<Vec<u8>>,
     /// One for the own fork of each application, and one for each of its other files, in the order of their lines.
     pub sources: Vec<Source>,
 }
@@ -362,15 +387,16 @@ pub fn gather<H: Host>(
     ensures events { IfOk result (λ g. g.job.events.items ≡ text.entry.events.items) }
     ensures names { IfOk result (λ g. map name_of g.job.apps.items ≡ app_names (map input_seen text.entry.inputs.items)) }
 
-    // The job and its sources are what the lines give, with the bytes at their paths, which are read in the order of the
+    // The job, the texts of its scripts and its sources are what the lines give, with the bytes at their paths, which are read in the order of the
     // lines; or the first path that can't be read, or the first script that is faulty, stops it. No other file is read.
     ensures given { ReadsOf (map input_seen text.entry.inputs.items) (H.accesses host.old) (H.accesses host.new)
-        result (λ texts. IsGiven (λ g. job_given g.job (map source_given g.sources.items))
+        result (λ texts. IsGiven (λ g. job_given g.job (map (λ t. t.items) g.scripts.items) (map source_given g.sources.items))
         (with_inputs nothing_given (map input_seen text.entry.inputs.items) texts) result) }
 {
     let Gathered {
         system,
         apps,
+        scripts,
         sources,
     } = read_inputs(alloc, host, &text.inputs)?;
     let job = Job {
@@ -379,5 +405,9 @@ pub fn gather<H: Host>(
         apps,
         events: text.events,
     };
-    Ok(GatheredJob { job, sources })
+    Ok(GatheredJob {
+        job,
+        scripts,
+        sources,
+    })
 }

@@ -7,7 +7,7 @@ ghost use Rattle.desk.specs.View.{outcome_seen};
 ghost use Rattle.desk.specs.Whole.{system_of, start_with, EachLaunched, IsAlone};
 ghost use Rattle.zone_view.specs.Behind.{zone_behind};
 ghost use Rattle.commands.specs.declared.ending.Ending.TheVariants.{Done};
-ghost use Rattle.commands.specs.Fault.{message_of, NotLaunched};
+ghost use Rattle.commands.specs.Fault.{message_of};
 ghost use Rattle.commands.specs.Gathering.{name_of};
 ghost use Rattle.commands.specs.Tasks.{IsQuiet};
 ghost use Rattle.commands.specs.JobZones.{number_of, launched_at, steps_shown, IsShown, IsZoneLeft, IsJobZone};
@@ -22,6 +22,7 @@ use crate::input::read_input;
 use crate::running::{job_text, outcome_of};
 use crate::showing::show_in_region;
 use crate::size::PartitionSize;
+use crate::sizing::not_launched;
 use applications::Unwatched;
 use desk::{App, Job, Launched, Outcome, open_resources};
 use heap_calls::Refusal;
@@ -44,7 +45,7 @@ pub struct JobZone<'a> {
 }
 
 /// Reports whether an application has this name.
-fn is_named(app: &App, name: &[u8]) -> bool
+pub(crate) fn is_named(app: &App, name: &[u8]) -> bool
     ensures { result ≡ bytes_eq name.now (name_of app.now) }
 {
     name == app.name.0.as_slice()
@@ -76,7 +77,7 @@ fn launched_at(outcome: &Outcome, number: usize) -> Option<&Launched>
 }
 
 /// Returns the size of the partition in which an application ran.
-fn size_of(launched: &Launched) -> PartitionSize
+pub(crate) fn size_of(launched: &Launched) -> PartitionSize
     ensures { result.bytes ≡ launched.now.size }
 {
     PartitionSize {
@@ -148,16 +149,6 @@ fn show_app(
     )
 }
 
-/// Returns the fault that no application of the name was launched.
-fn not_launched(alloc: Global, asked: JobZone<'_>) -> Result<ToolFault, AllocError>
-    ensures { IfOk result (λ fault. message_of fault ≡ NotLaunched asked.entry.job.now asked.entry.app.now) }
-{
-    Ok(ToolFault::NotLaunched {
-        path: String::from_str(alloc, asked.job)?,
-        app: String::from_str(alloc, asked.app)?,
-    })
-}
-
 /// Returns the zone of the request, by what a run of the job leaves.
 fn zone_left(
     alloc: Global,
@@ -171,10 +162,10 @@ fn zone_left(
         (message_of fault)) }
 {
     let Some(number) = number_of(&job.apps, asked.app.as_bytes()) else {
-        return Err(not_launched(alloc, asked)?);
+        return Err(not_launched(alloc, asked.job, asked.app)?);
     };
     let Some(launched) = launched_at(outcome, number) else {
-        return Err(not_launched(alloc, asked)?);
+        return Err(not_launched(alloc, asked.job, asked.app)?);
     };
     Ok(show_app(alloc, job, &job.apps[number], launched, asked)?)
 }

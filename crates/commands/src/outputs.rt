@@ -107,12 +107,12 @@ fn write_kept<H: Host>(
 
 /// An application whose forks are written.
 #[derive(Clone, Copy)]
-struct Owner<'a> {
-    name: &'a Label,
+pub struct Owner<'a> {
+    pub(crate) name: &'a Label,
     /// Its place among the applications, from 0.
-    place: usize,
+    pub(crate) place: usize,
     /// Where the forks of the applications were read.
-    sources: &'a [Source],
+    pub(crate) sources: &'a [Source],
 }
 
 /// Writes the fork of an application's `k`-th file, if the fork was written.
@@ -145,7 +145,7 @@ fn write_fork<H: Host>(
 }
 
 /// Writes the forks of an application's files that were written.
-fn write_forks_within<H: Host>(
+pub(crate) fn write_forks_within<H: Host>(
     alloc: Global,
     host: &mut H,
     folder: &str,

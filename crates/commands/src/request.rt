@@ -7,6 +7,7 @@ use crate::extracting::Extraction;
 use crate::job_zones::JobZone;
 use crate::linting::Linting;
 use crate::packing::Packing;
+use crate::playing::Playing;
 use crate::running::Errand;
 use crate::source_printing::Printing;
 use crate::surveying::Survey;
@@ -19,12 +20,14 @@ pub enum Request<'a> {
     Look(Task<'a>),
     /// Files are read, and the state of each is printed.
     Check(Survey<'a>),
-    /// Scripts are read, and a line is printed for each of their faulty lines.
+    /// Scripts, jobs and sources of Rez are read, and a line is printed for each of their faulty lines.
     Lint(Linting<'a>),
     /// A job is run, and what it leaves is written.
     Run(Errand<'a>),
     /// A job is run, and the zone of one of its applications is printed.
     Show(JobZone<'a>),
+    /// A script is run with files, and its transcript or its zone is printed, or what it leaves is written.
+    Play(Playing<'a>),
     /// A file is read, and what is made of its bytes is printed or written.
     Convert(Conversion<'a>),
     /// Two files are read, and what is made of their bytes is printed or written.

@@ -9,6 +9,7 @@ ghost use Rattle.commands.specs.Fault.{message_of};
 ghost use Rattle.commands.specs.Accesses.{and_then, StopsAmong};
 ghost use Rattle.commands.specs.Gathering.{source_given};
 ghost use Rattle.commands.specs.Outputs.{sources_unless, HasRoom};
+ghost use Rattle.commands.specs.Sizing.{IsSized, IsUnnamed};
 ghost use Rattle.commands.specs.Running.{writes_for, IsJobFault, IsRunFault, Hears, Leaves, IsUnwell, IsUnleft, Runs, IsStopped};
 
 use crate::fault::ToolFault;
@@ -17,6 +18,8 @@ use crate::host::Host;
 use crate::input::read_input;
 use crate::outputs::{sources_unless, write_outcome};
 use crate::paths::room_for_paths;
+use crate::sizing::{AskedSize, size_apps};
+use crate::speaking::written_of;
 use crate::tasks::{script_fault, write_fault};
 use applications::{Unwatched, Watch};
 use desk::{Job, Outcome, RunFault, run};
@@ -26,13 +29,16 @@ use script_text::{JobText, read_job};
 use std::alloc::Global;
 
 /// A request to run a job: its path and the folder for what it leaves, as they were given, whether forks are to be written
-/// alone, and whether the progress of the job is to be reported.
-#[derive(Clone, Copy)]
+/// alone, whether transcripts are to be written in words, whether the progress of the job is to be reported, and the sizes of
+/// partitions that are asked for.
+#[derive(Drop)]
 pub struct Errand<'a> {
     pub job: &'a str,
     pub out: &'a str,
     pub bare: bool,
+    pub in_words: bool,
     pub watched: bool,
+    pub sizes: Vec<AskedSize<'a>>,
 }
 
 /// Reads the text of a job.
@@ -184,39 +190,73 @@ fn leave<H: Host, W: Watch>(
     host: &mut H,
     gathered: &GatheredJob,
     system: &str,
-    errand: Errand<'_>,
+    errand: &Errand<'_>,
     watch: &mut W,
 ) -> Result<(), ToolFault>
     requires memory { IsMemory gathered.now.job.memory }
     requires few { length gathered.now.job.apps.items ≤ 64 }
     ensures silent { H.printed host.new ≡ H.printed host.old }
-    ensures left { OnOk result (Leaves errand.entry.out.now errand.entry.watched gathered.now.job
-        (sources_unless errand.entry.bare (map source_given gathered.now.sources.items))
+    ensures left { OnOk result (Leaves errand.now gathered.now.job (map (λ t. t.items) gathered.now.scripts.items)
+        (sources_unless errand.now.bare (map source_given gathered.now.sources.items))
         (W.heard watch.old) (W.heard watch.new) (H.accesses host.old) (H.accesses host.new)) }
-    ensures unleft { IfErr result (λ fault. IsUnleft system.now errand.entry.out.now errand.entry.watched gathered.now.job
-        (sources_unless errand.entry.bare (map source_given gathered.now.sources.items))
+    ensures unleft { IfErr result (λ fault. IsUnleft system.now errand.now gathered.now.job (map (λ t. t.items) gathered.now.scripts.items)
+        (sources_unless errand.now.bare (map source_given gathered.now.sources.items))
         (W.heard watch.old) (W.heard watch.new) (H.accesses host.old) (H.accesses host.new) (message_of fault)) }
 {
     let room = room_for_paths(alloc, errand.out)?;
     let outcome = outcome_of(alloc, &gathered.job, system, errand.watched, watch)?;
+    let told = written_of(
+        alloc,
+        errand.in_words,
+        &gathered.job,
+        &gathered.scripts,
+        outcome,
+    )?;
     let sources = sources_unless(errand.bare, &gathered.sources);
-    written(alloc, host, errand.out, sources, &outcome, room)?;
+    written(alloc, host, errand.out, sources, &told, room)?;
     Ok(())
 }
 
-/// Runs a job: reads the job, and what its lines name, in their order; performs its events; and writes what it leaves
-/// into a new folder.
+/// Gives the applications of a job the sizes that an errand asks for.
+fn with_sizes(
+    alloc: Global,
+    errand: &Errand<'_>,
+    gathered: GatheredJob,
+) -> Result<GatheredJob, ToolFault>
+    ensures sized { IfOk result (λ sized. IsSized errand.now.sizes.items gathered.job sized.job) }
+    ensures few { IfOk result (λ sized. length sized.job.apps.items ≡ length gathered.job.apps.items) }
+    ensures scripts { IfOk result (λ sized. sized.scripts ≡ gathered.scripts) }
+    ensures sources { IfOk result (λ sized. sized.sources ≡ gathered.sources) }
+    ensures fault { IfErr result (λ fault. IsUnnamed errand.now.job.now errand.now.sizes.items gathered.job (message_of fault)) }
+{
+    let GatheredJob {
+        job,
+        scripts,
+        sources,
+    } = gathered;
+    match size_apps(alloc, errand.job, &errand.sizes, job) {
+        Ok(job) => Ok(GatheredJob {
+            job,
+            scripts,
+            sources,
+        }),
+        Err(fault) => Err(fault),
+    }
+}
+
+/// Runs a job: reads the job, and what its lines name, in their order; performs its events, where an application is launched
+/// in a partition of the size that is asked for it, if one is; and writes what it leaves into a new folder.
 ///
 /// # Errors
 ///
-/// A file that can't be read, the first faulty line of the job or of a script, or a System file that is no resource
-/// fork: then nothing is written. A folder that exists already, or a file that can't be written: then no other file is
+/// A file that can't be read, the first faulty line of the job or of a script, a size for an application that the job doesn't
+/// have, or a System file that is no resource fork: then nothing is written. A folder that exists already, or a file that can't be written: then no other file is
 /// written after it. Or the host is out of memory: before the first event nothing is written; within an event the run
 /// stops, and what was completed is written; where a fork is put into a file, no other file is written after it.
 pub fn run_job<H: Host, W: Watch>(
     alloc: Global,
     host: &mut H,
-    errand: Errand<'_>,
+    errand: &Errand<'_>,
     watch: &mut W,
 ) -> Result<(), ToolFault>
     // Nothing is printed.
@@ -224,19 +264,20 @@ pub fn run_job<H: Host, W: Watch>(
 
     // The job and all that its lines name are read; then the folder is made, and the files that the run leaves, by the
     // definition of the desk, are written, in their order. No other file is read or written.
-    ensures runs { OnOk result (Runs errand.entry (W.heard watch.old) (W.heard watch.new)
+    ensures runs { OnOk result (Runs errand.now (W.heard watch.old) (W.heard watch.new)
         (H.accesses host.old) (H.accesses host.new)) }
 
     // The fault is the first in that order, and nothing is read or written after it; but a run that stops, since the host
     // is out of memory, has its fault after all that it leaves is written. The watch has heard nothing of a run that did
     // not begin.
-    ensures stopped { IfErr result (λ fault. IsStopped errand.entry (W.heard watch.old) (W.heard watch.new)
+    ensures stopped { IfErr result (λ fault. IsStopped errand.now (W.heard watch.old) (W.heard watch.new)
         (H.accesses host.old) (H.accesses host.new) (message_of fault)) }
 {
     let bytes = read_input(alloc, host, errand.job)?;
     let text = job_text(alloc, errand.job, &bytes)?;
     let system = system_path(&text.inputs);
     let gathered = gather(alloc, host, text)?;
-    leave(alloc, host, &gathered, system, errand, watch)?;
+    let sized = with_sizes(alloc, errand, gathered)?;
+    leave(alloc, host, &sized, system, errand, watch)?;
     Ok(())
 }

@@ -4,6 +4,7 @@ ghost use Rattle.std.specs.Prelude.{◌≡◌, ◌%◌, ◌≤◌, [], length, I
 ghost use Rattle.block_store.specs.declared.measures.TheConstants.{GREATEST_ZONE, LEAST_ZONE};
 ghost use Rattle.applications.specs.Trying.{own_resources as own};
 ghost use Rattle.zone_view.specs.Sight.{sight_text};
+ghost use Rattle.zone_view.specs.Words.{telling_text};
 
 use applications::own_resources;
 use raw_region::Region;
@@ -11,7 +12,7 @@ use raw_zone::RawZone;
 use res_calls::Resources;
 use script_text::Script;
 use std::alloc::{AllocError, Global};
-use zone_view::{Sight, show};
+use zone_view::{Sight, Telling, show, tell};
 
 /// Runs a script as far as is to be shown, as `show` does, in a partition that fills a region, whatever the region's
 /// bytes were. Returns what is shown, and the region.
@@ -71,4 +72,34 @@ pub fn show_script(
         Ok(text) => (Ok(text), region),
         Err(fault) => (Err(fault), region),
     }
+}
+
+/// Runs an application with these resources alone, as `tell` does, in a partition that fills a region, whatever the
+/// region's bytes were. Returns so much of its transcript in words, and the region. `text` is the text of the script.
+///
+/// # Errors
+///
+/// The host is out of memory.
+pub fn tell_in_region(
+    alloc: Global,
+    region: Region,
+    resources: Resources,
+    script: &Script,
+    text: &[u8],
+    telling: Telling,
+) -> (Result<Vec<u8>, AllocError>, Region)
+    requires home { region.out ≡ [] }
+    requires even { length region.bytes % 16 ≡ 0 }
+    requires low { LEAST_ZONE ≤ length region.bytes }
+    requires high { length region.bytes ≤ GREATEST_ZONE }
+    ensures told { IfOk result.0 (λ out. out.items
+        ≡ telling_text telling resources (length region.bytes) script.now text.now) }
+    ensures home { result.1.out ≡ [] }
+{
+    let mut region = region;
+    let len = region.len();
+    let zone = RawZone::new(alloc, region.cut(0, len));
+    let (told, zone) = tell(alloc, zone, resources, script, text, telling);
+    region.join(zone.into_part());
+    (told, region)
 }

@@ -1,5 +1,5 @@
-//! The words of the command line. Only this module, `dump_words`, `fork_words`, `zone_words` and `parsing` use the
-//! parser.
+//! The words of the command line. Only this module, `dump_words`, `fork_words`, `zone_words`,
+//! `play_words`, `lint_words` and `parsing` use the parser.
 
 ghost use Rattle.std.specs.Prelude.{map, IfOk, IfErr};
 ghost use Rattle.commands.specs.Asking.{IsAskedBy};
@@ -11,15 +11,20 @@ use crate::fault::ToolFault;
 use crate::fork_words::{
     BARE, FORK_HELP, UTF8, UTF8_HELP, charset_in, fork_request, with_fork_commands,
 };
-use crate::linting::Linting;
+use crate::lint_words::{lint_command, linting_in};
 use crate::listing::Spelling;
 use crate::parsing::{
-    SCRIPT_HELP, SIZE_HELP, SIZE_RULE, Spoken, Word, bad_value, mistake, usage, value,
+    SCRIPT_HELP, SIZE_HELP, SIZE_RULE, Spoken, Word, bad_value, flag, mistake, usage, value,
     with_commands, with_words,
 };
+use crate::play_words::{
+    FILE_WORD, OWN_WORD, SYSTEM_WORD, WRITE, WRITE_WORD, gives_files, parts_in, script_work,
+};
+use crate::playing::Playing;
 use crate::request::Request;
 use crate::running::Errand;
 use crate::size::PartitionSize;
+use crate::size_words::{SIZE_WORD, sizes_in};
 use crate::surveying::Survey;
 use crate::tasks::{Task, Work};
 use crate::zone_words::{heap_command, heap_request};
@@ -77,6 +82,22 @@ line.
 The lines of a grow-zone script stand before the line of the call that found no
 room, and begin with '+'.
 
+With --text each line has the call as it was written, its result code by Apple's
+name, and what the call moved and purged, as
+
+  8 NewHandle list 500 -> noErr; moved text 400 -> 272; purged picture
+
+With --fork, --system and --file the application, which is named 'script', has a
+fork of its own, a System file and further files, each alone or in a wrapper, as
+in 'macmem run':
+
+  macmem script --file Letter=Letter.rsrc --write OUT 1024 letter.script
+
+makes the folder OUT, in place of printing: app-script-K.rsrc is a fork that was
+written, K its file's place (0 is the application's own), and app-script.log the
+transcript. A fork that cannot be opened is reported as
+'macmem: FORK: fork CODE'.
+
 The calls with their arguments are listed below the options, and below them the
 result codes.";
 
@@ -102,7 +123,8 @@ The lines of a job, in this order (a line that begins with '#' is skipped):
                              255: its name, and the path of its fork
                              'system', 'app' and 'file' stand in any order
   launch NAME                launches the application, in a partition of the
-                             size that its 'SIZE' -1 asks for
+                             size that its 'SIZE' -1 asks for, or that --size
+                             gives for it
   step NAME                  runs its next call
   turn NAME                  runs its calls up to and including the next
                              WaitNextEvent
@@ -116,7 +138,8 @@ The folder OUT then holds:
   desk.log                   the launches and the ends with their result codes,
                              and the forks that were written
   app-NAME.log               the transcript of each application that was
-                             launched
+                             launched; with --text in words, as 'macmem script
+                             --text' prints it
   app-NAME-K.rsrc            each fork that was written; K is the file's place
                              among the application's files, from 0. A fork
                              that was read in AppleSingle, AppleDouble,
@@ -125,7 +148,8 @@ The folder OUT then holds:
                              where the run stopped with 'no host memory'
 
 Nothing is written before all input is read. A faulty line of the job or of a
-script is reported as 'macmem: PATH: line N: fault K', as by 'macmem script'; a
+script is reported as 'macmem: PATH: line N: fault K', as by 'macmem script'
+('macmem lint --job JOB' says in words what is wrong, of every faulty line); a
 System file whose fork cannot be read as 'macmem: PATH: fork CODE'; a folder
 that exists already as 'macmem: OUT: cannot write'.";
 
@@ -156,25 +180,6 @@ const WHY: &str = "why";
 const WHY_HELP: &str = "Print what differs from the canonical fork, and what is damaged";
 
 const FORKS_HELP: &str = "Files, or folders whose files are checked; they are only read";
-
-const LINT_ABOUT: &str = "Says in words what is wrong with each faulty line of scripts";
-
-const LINT_EXAMPLES: &str = "Example:
-  macmem lint note.script
-
-prints a line for each faulty line of the script: its path, line and column, and
-what is wrong:
-  note.script:1:13: argument 2 of NewHandle: expected a size in decimal digits, found '4K'; 4K is 4096
-  note.script:2:1: unknown call DisposHandle: did you mean DisposeHandle?
-
-Lines and columns are counted from 1, columns in bytes. A faulty line is taken
-to say nothing, and the lines after it are judged as if it were not there. A
-'grow' without 'end' and a SetGrowZone whose script is nowhere come last. Of a
-file that cannot be read the line is 'FILE: cannot read'.
-Nothing is run. The status is 0 if all files are read and no line is faulty,
-else 1. 'macmem script --help' lists the calls with their arguments.";
-
-const SCRIPTS_HELP: &str = "Files with one toolbox call a line, or /dev/stdin; they are only read";
 
 const MAP_ABOUT: &str = "Lists the resources of a fork, a line each";
 
@@ -232,7 +237,16 @@ The status is 0 if all are canonical or accepted, else 1.
 A single fork that cannot be read is reported as 'macmem: FORK: fork CODE': -39
 (eofErr) no bytes, -199 (mapReadErr) damaged.";
 
-const SCRIPT_WORDS: [Word; 3] = [
+/// The name of the option for a transcript in words, without its two hyphens.
+const WORDS: &str = TEXT;
+
+const WORDS_HELP: &str = "Print calls as written, codes by name, and what moved and was purged";
+
+const SCRIPT_WORDS: [Word; 7] = [
+    OWN_WORD,
+    SYSTEM_WORD,
+    FILE_WORD,
+    WRITE_WORD,
     Word::Flag(PROGRESS, PROGRESS_HELP),
     Word::Required("SIZE", SIZE_HELP),
     Word::Required("SCRIPT", SCRIPT_HELP),
@@ -243,12 +257,17 @@ fn script_command<'a>(alloc: Global) -> Result<Command<'a>, AllocError> {
         .about(SCRIPT_ABOUT)
         .long_about(SCRIPT_LONG_ABOUT)
         .after_help(CALLS);
-    with_words(alloc, command, &SCRIPT_WORDS)
+    let in_words = flag(alloc, WORDS, WORDS_HELP)
+        .conflicts_with(WRITE)?
+        .conflicts_with(PROGRESS)?;
+    with_words(alloc, command, &SCRIPT_WORDS)?.arg(in_words)
 }
 
-const RUN_WORDS: [Word; 4] = [
+const RUN_WORDS: [Word; 6] = [
     Word::Flag(BARE, RUN_BARE_HELP),
+    Word::Flag(WORDS, WORDS_HELP),
     Word::Flag(PROGRESS, PROGRESS_HELP),
+    SIZE_WORD,
     Word::Required("JOB", JOB_HELP),
     Word::Required("OUT", OUT_HELP),
 ];
@@ -272,13 +291,6 @@ const MAP: Spoken = Spoken {
     ],
 };
 
-const LINT: Spoken = Spoken {
-    name: "lint",
-    about: LINT_ABOUT,
-    examples: LINT_EXAMPLES,
-    words: &[Word::Several("FILE", SCRIPTS_HELP)],
-};
-
 const CHECK: Spoken = Spoken {
     name: "check",
     about: CHECK_ABOUT,
@@ -286,8 +298,8 @@ const CHECK: Spoken = Spoken {
     words: &[Word::Flag(WHY, WHY_HELP), Word::Several("FORK", FORKS_HELP)],
 };
 
-/// The commands that read files and print what is in them, in the order in which the help of the program has them.
-const READING_COMMANDS: [Spoken; 3] = [LINT, MAP, CHECK];
+/// The commands that read forks and print what is in them, in the order in which the help of the program has them.
+const READING_COMMANDS: [Spoken; 2] = [MAP, CHECK];
 
 /// Returns a command with those that run calls.
 fn with_running_commands<'a>(
@@ -305,6 +317,7 @@ fn with_reading_commands<'a>(
     alloc: Global,
     command: Command<'a>,
 ) -> Result<Command<'a>, AllocError> {
+    let command = command.subcommand(lint_command(alloc)?)?;
     with_commands(alloc, command, &READING_COMMANDS)?.subcommand(zone_command(alloc)?)
 }
 
@@ -344,17 +357,45 @@ pub fn not_utf8(alloc: Global) -> ToolFault
     }
 }
 
-fn script_task<'a>(alloc: Global, matches: &ArgMatches<'a>) -> Result<Task<'a>, ToolFault>
+/// Returns the request to run a script alone, in a partition of this size.
+fn script_task<'a>(matches: &ArgMatches<'a>, size: PartitionSize) -> Task<'a> {
+    Task {
+        work: Work::Script(size),
+        path: value(matches, "SCRIPT"),
+        watched: matches.get_flag(PROGRESS),
+    }
+}
+
+/// Returns the request to run a script with files, in a partition of this size.
+fn script_play<'a>(
+    alloc: Global,
+    matches: &ArgMatches<'a>,
+    size: PartitionSize,
+) -> Result<Playing<'a>, ToolFault>
+    ensures { IfErr result (λ fault. IsUsage (message_of fault)) }
+{
+    let command = script_command(alloc)?.bin_name("macmem script")?;
+    Ok(Playing {
+        size,
+        parts: parts_in(alloc, matches, command)?,
+        script: value(matches, "SCRIPT"),
+        work: script_work(matches, matches.get_flag(WORDS)),
+        watched: matches.get_flag(PROGRESS),
+    })
+}
+
+/// Returns the request that the words after `script` make.
+fn script_request<'a>(alloc: Global, matches: &ArgMatches<'a>) -> Result<Request<'a>, ToolFault>
     ensures { IfErr result (λ fault. IsUsage (message_of fault)) }
 {
     let text = value(matches, "SIZE");
-    match PartitionSize::read(text) {
-        Some(size) => Ok(Task {
-            work: Work::Script(size),
-            path: value(matches, "SCRIPT"),
-            watched: matches.get_flag(PROGRESS),
-        }),
-        None => Err(bad_size(alloc, text)?),
+    let Some(size) = PartitionSize::read(text) else {
+        return Err(bad_size(alloc, text)?);
+    };
+    if gives_files(matches) || matches.get_str(WRITE).is_some() || matches.get_flag(WORDS) {
+        Ok(Request::Play(script_play(alloc, matches, size)?))
+    } else {
+        Ok(Request::Look(script_task(matches, size)))
     }
 }
 
@@ -392,10 +433,18 @@ fn survey_in<'a>(alloc: Global, matches: &ArgMatches<'a>) -> Result<Survey<'a>, 
     })
 }
 
-/// Returns the request for faulty lines that the words after `lint` ask for.
-fn linting_in<'a>(alloc: Global, matches: &ArgMatches<'a>) -> Result<Linting<'a>, AllocError> {
-    Ok(Linting {
-        paths: Vec::from_slice(alloc, matches.get_strs("FILE").unwrap_or(&[]))?,
+/// Returns the errand that the words after `run` make.
+fn errand_in<'a>(alloc: Global, matches: &ArgMatches<'a>) -> Result<Errand<'a>, ToolFault>
+    ensures { IfErr result (λ fault. IsUsage (message_of fault)) }
+{
+    let command = run_command(alloc)?.bin_name("macmem run")?;
+    Ok(Errand {
+        job: value(matches, "JOB"),
+        out: value(matches, "OUT"),
+        bare: matches.get_flag(BARE),
+        in_words: matches.get_flag(WORDS),
+        watched: matches.get_flag(PROGRESS),
+        sizes: sizes_in(alloc, matches, command)?,
     })
 }
 
@@ -404,15 +453,10 @@ fn asked<'a>(alloc: Global, matches: &ArgMatches<'a>) -> Result<Request<'a>, Too
     ensures { IfErr result (λ fault. IsUsage (message_of fault)) }
 {
     match matches.subcommand() {
-        Some(("script", inner)) => Ok(Request::Look(script_task(alloc, inner)?)),
+        Some(("script", inner)) => script_request(alloc, inner),
         Some(("heap", inner)) => heap_request(alloc, inner),
         Some(("zone", inner)) => zone_request(alloc, inner),
-        Some(("run", inner)) => Ok(Request::Run(Errand {
-            job: value(inner, "JOB"),
-            out: value(inner, "OUT"),
-            bare: inner.get_flag(BARE),
-            watched: inner.get_flag(PROGRESS),
-        })),
+        Some(("run", inner)) => Ok(Request::Run(errand_in(alloc, inner)?)),
         Some(("map", inner)) => Ok(Request::Look(fork_task(listing_in(inner), inner))),
         Some(("check", inner)) => Ok(Request::Check(survey_in(alloc, inner)?)),
         Some(("lint", inner)) => Ok(Request::Lint(linting_in(alloc, inner)?)),

@@ -9,7 +9,7 @@ ghost use Rattle.fork_commands.specs.Faults.{Stops};
 ghost use Rattle.fork_commands.specs.Opening.{bytes_of, IsOpen};
 ghost use Rattle.fork_commands.specs.Reading.{content_of_fork, content_in};
 ghost use Rattle.commands.specs.Work.{IsTranscriptOf, IsZoneOf, IsForkForm, IsFormOf, TellsForm, text_of};
-ghost use Rattle.commands.specs.Work.{sight_of};
+ghost use Rattle.commands.specs.Work.{sight_of, telling_of};
 
 use crate::showing::show_script;
 use crate::size::PartitionSize;
@@ -20,7 +20,7 @@ use fork_format::{Content, WriteFault, write_fork};
 use raw_region::Region;
 use script_text::{FaultKind, Script, ScriptFault, read_script};
 use std::alloc::{AllocError, Global};
-use zone_view::{Form as ZoneForm, Sight, steps_at};
+use zone_view::{Form as ZoneForm, Sight, Telling, steps_at};
 
 /// The form of a resource fork: what its bytes are to its content.
 #[derive(Clone, Copy)]
@@ -84,6 +84,28 @@ pub enum Lines {
     Each(usize, usize),
 }
 
+/// The lines of its script that are told in words.
+#[derive(Clone, Copy)]
+pub enum ToldLines {
+    /// All, with the launch and the end.
+    All,
+    /// Those from the first number to the second.
+    Each(usize, usize),
+}
+
+/// Returns how much of the transcript of a script's application is told.
+pub(crate) fn telling_of(lines: ToldLines, script: &Script) -> Telling
+    ensures { result ≡ telling_of lines script.now.steps }
+{
+    match lines {
+        ToldLines::All => Telling::Whole(script.steps().len() + 1, false),
+        ToldLines::Each(from, to) => {
+            let before = from.saturating_sub(1);
+            Telling::Steps(steps_at(Some(before), script), steps_at(Some(to), script))
+        }
+    }
+}
+
 /// A request for the zone of a script in a partition of this size.
 #[derive(Clone, Copy)]
 pub struct ZoneView {
@@ -92,7 +114,7 @@ pub struct ZoneView {
 }
 
 /// Returns what is shown of a script's application.
-fn sight_of(lines: Lines, script: &Script) -> Sight
+pub(crate) fn sight_of(lines: Lines, script: &Script) -> Sight
     ensures { result ≡ sight_of lines script.now.steps }
 {
     match lines {

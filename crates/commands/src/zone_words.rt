@@ -6,11 +6,15 @@ ghost use Rattle.commands.specs.Fault.{message_of, IsUsage};
 use crate::fault::ToolFault;
 use crate::job_zones::JobZone;
 use crate::parsing::{SCRIPT_HELP, SIZE_HELP, SIZE_RULE, bad_value, flag, option, value};
+use crate::play_words::{
+    FILE, FILE_HELP, FILE_VALUE, FORK, OWN_HELP, SYSTEM, SYSTEM_HELP, gives_files, parts_in,
+};
+use crate::playing::{PlayWork, Playing};
 use crate::request::Request;
 use crate::size::PartitionSize;
 use crate::tasks::{Task, Work};
-use crate::work::{Lines, ZoneView};
-use clap::{Arg, ArgAction, ArgMatches, Command};
+use crate::work::{Lines, ToldLines, ZoneView};
+use clap::{Arg, ArgAction, ArgGroup, ArgMatches, Command};
 use std::alloc::{AllocError, Global};
 use zone_view::Form;
 
@@ -51,9 +55,11 @@ is the launch. With --plain a tab stands between fields, there are no titles,
 and each line begins with 'block', 'total', 'largest' or 'after'. With --steps
 the picture has a strip for the zone after line FROM and one after each further
 call up to line TO, with an arrow for each block that moved from one to the
-next.
+next; with --text in place of --svg, each call from line FROM to line TO is
+printed in words, as 'macmem script --text' prints it.
 Faults are reported as 'macmem script' reports them; 'macmem lint SCRIPT' says
-in words what is wrong with each faulty line.
+in words what is wrong with each faulty line. The script has files by --fork,
+--system and --file, as by 'macmem script'.
 
   macmem heap --at 2 --job examples/job/job --app editor
 
@@ -107,33 +113,65 @@ fn unless_job<'a>(alloc: Global, name: &'a str, help: &'a str) -> Result<Arg<'a>
 /// The name of the option for several moments, without its two hyphens.
 const STEPS: &str = "steps";
 
-const STEPS_HELP: &str = "Draw a strip for each call of these lines; with --svg";
+const STEPS_HELP: &str = "Draw each call of these lines, with --svg, or print it, with --text";
+
+/// The name of the flag for calls in words, without its two hyphens.
+const TEXT: &str = "text";
+
+const TEXT_HELP: &str = "Print calls as written, and what moved and was purged; with --steps";
+
+/// The name of the two flags of which one says what is made of several moments.
+const STRIPS: &str = "strips";
 
 /// The rule for two lines, which is printed where the word is no two lines.
 const STEPS_RULE: &str = "FROM and TO must be decimal numbers, FROM at most TO";
 
+/// Returns the command with the options that give files to a script, which are not allowed with a job.
+fn with_files<'a>(alloc: Global, command: Command<'a>) -> Result<Command<'a>, AllocError> {
+    let files = option(alloc, FILE, FILE_VALUE, FILE_HELP).action(ArgAction::Append);
+    command
+        .arg(option(alloc, FORK, "FORK", OWN_HELP).conflicts_with(JOB)?)?
+        .arg(option(alloc, SYSTEM, "FORK", SYSTEM_HELP).conflicts_with(JOB)?)?
+        .arg(files.conflicts_with(JOB)?)
+}
+
 /// Returns the command that shows a zone.
 pub fn heap_command<'a>(alloc: Global) -> Result<Command<'a>, AllocError> {
-    Command::new(alloc, "heap")
+    let command = Command::new(alloc, "heap")
         .about(HEAP_ABOUT)
         .after_help(HEAP_EXAMPLES)
-        .override_usage(HEAP_USAGE)
+        .override_usage(HEAP_USAGE);
+    with_files(alloc, command)?
         .arg(option(alloc, AT, "LINE", AT_HELP))?
         .arg(flag(alloc, PLAIN, PLAIN_HELP).conflicts_with(SVG)?)?
         .arg(flag(alloc, SVG, SVG_HELP))?
         .arg(steps_option(alloc)?)?
+        .arg(text_flag(alloc)?)?
+        .group(strips(alloc)?)?
         .arg(option(alloc, JOB, "JOB", JOB_HELP).requires_arg(APP)?)?
         .arg(option(alloc, APP, "NAME", APP_HELP).requires_arg(JOB)?)?
         .arg(unless_job(alloc, "SIZE", SIZE_HELP)?)?
         .arg(unless_job(alloc, "SCRIPT", SCRIPT_HELP)?)
 }
 
+/// Returns the two flags of which one says what is made of several moments.
+fn strips<'a>(alloc: Global) -> Result<ArgGroup<'a>, AllocError> {
+    ArgGroup::new(alloc, STRIPS).arg(SVG)?.arg(TEXT)
+}
+
 /// Returns the option for several moments.
 fn steps_option<'a>(alloc: Global) -> Result<Arg<'a>, AllocError> {
     option(alloc, STEPS, "FROM..TO", STEPS_HELP)
-        .requires_arg(SVG)?
+        .requires_arg(STRIPS)?
         .conflicts_with(AT)?
         .conflicts_with(JOB)
+}
+
+/// Returns the flag for calls in words.
+fn text_flag<'a>(alloc: Global) -> Result<Arg<'a>, AllocError> {
+    flag(alloc, TEXT, TEXT_HELP)
+        .requires_arg(STEPS)?
+        .conflicts_with(PLAIN)
 }
 
 /// Returns the fault of a value, with the rule that the value breaks.
@@ -193,20 +231,50 @@ fn lines_in(alloc: Global, matches: &ArgMatches<'_>) -> Result<Lines, ToolFault>
     }
 }
 
-/// Returns the request for the zone of a script alone.
-fn script_zone<'a>(alloc: Global, matches: &ArgMatches<'a>) -> Result<Task<'a>, ToolFault>
+/// Returns what is asked for of these lines: the zone, or the calls in words.
+fn zone_work<'a>(lines: Lines, in_words: bool) -> PlayWork<'a> {
+    match lines {
+        Lines::Each(from, to) if in_words => PlayWork::Words(ToldLines::Each(from, to)),
+        lines => PlayWork::Zone(lines),
+    }
+}
+
+/// Returns the request for the zone of a script with files, or for calls of it in words.
+fn zone_play<'a>(
+    alloc: Global,
+    matches: &ArgMatches<'a>,
+    asked: ZoneView,
+) -> Result<Playing<'a>, ToolFault>
+    ensures { IfErr result (λ fault. IsUsage (message_of fault)) }
+{
+    let command = heap_command(alloc)?.bin_name("macmem heap")?;
+    Ok(Playing {
+        size: asked.size,
+        parts: parts_in(alloc, matches, command)?,
+        script: value(matches, "SCRIPT"),
+        work: zone_work(asked.lines, matches.get_flag(TEXT)),
+        watched: false,
+    })
+}
+
+/// Returns the request for the zone of a script alone, or with files.
+fn script_zone<'a>(alloc: Global, matches: &ArgMatches<'a>) -> Result<Request<'a>, ToolFault>
     ensures { IfErr result (λ fault. IsUsage (message_of fault)) }
 {
     let lines = lines_in(alloc, matches)?;
     let text = value(matches, "SIZE");
-    match PartitionSize::read(text) {
-        Some(size) => Ok(Task {
-            work: Work::Heap(ZoneView { size, lines }),
-            path: value(matches, "SCRIPT"),
-            watched: false,
-        }),
-        None => Err(bad(alloc, "SIZE", text, SIZE_RULE)?),
+    let Some(size) = PartitionSize::read(text) else {
+        return Err(bad(alloc, "SIZE", text, SIZE_RULE)?);
+    };
+    let asked = ZoneView { size, lines };
+    if gives_files(matches) || matches.get_flag(TEXT) {
+        return Ok(Request::Play(zone_play(alloc, matches, asked)?));
     }
+    Ok(Request::Look(Task {
+        work: Work::Heap(asked),
+        path: value(matches, "SCRIPT"),
+        watched: false,
+    }))
 }
 
 /// Returns the request for the zone of an application of a job.
@@ -231,6 +299,6 @@ pub fn heap_request<'a>(alloc: Global, matches: &ArgMatches<'a>) -> Result<Reque
 {
     match matches.get_str(JOB) {
         Some(job) => Ok(Request::Show(job_zone(alloc, matches, job)?)),
-        None => Ok(Request::Look(script_zone(alloc, matches)?)),
+        None => script_zone(alloc, matches),
     }
 }

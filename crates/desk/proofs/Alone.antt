@@ -25,7 +25,7 @@ use Rattle.desk.specs.Outcome.{Launched}
 use Rattle.desk.specs.Phase.{Live, Phase, Waiting, Running, Ended, Next, GoesOn, Ends, begun, leaves, ends, after_course}
 use Rattle.desk.specs.Phase.{called, run_out, step_of, stepped, quitted, and_then, turn_through, acted, acted_by, come_by, told_of}
 use Rattle.partitions.specs.Grant.{grant}
-use Rattle.desk.specs.Sizes.{sizes_of}
+use Rattle.desk.specs.Sizes.{sizes_asked}
 use Rattle.desk.specs.Desk.{Place, State, coming, place_come, ready, begun_in, begun_if, launch_answer, acted_at, after_event, after_events, told}
 use Rattle.desk.specs.Job.{place_given, opening, start_of}
 use Rattle.desk.specs.Alone.{launched_alone, RunsAsAlone, LeftAsAlone, IsAsAlone, IsPlaceOf}
@@ -250,26 +250,28 @@ acted-place system act app p so = record {
 }
 
 -- one that is launched waited
-launched-alone : (start : Result Resources OsErr) (script : ScriptParts) (phase : Phase) (s : State) (live : Live)
-    → begun_if (ready phase) s ≡ Ok live → IsAsAlone start script phase → IsAsAlone start script (Running live)
-launched-alone start script (Waiting (Err code)) s live is so = cc
-launched-alone start script (Waiting (Ok resources)) s live is so =
-    by_window (grant s.memory s.windows (sizes_of resources).preferred (sizes_of resources).minimum) is
+launched-alone : (start : Result Resources OsErr) (script : ScriptParts) (size : Option ℕ) (phase : Phase) (s : State)
+    (live : Live) → begun_if size (ready phase) s ≡ Ok live → IsAsAlone start script phase
+    → IsAsAlone start script (Running live)
+launched-alone start script size (Waiting (Err code)) s live is so = cc
+launched-alone start script size (Waiting (Ok resources)) s live is so =
+    by_window
+    (grant s.memory s.windows (sizes_asked size resources).preferred (sizes_asked size resources).minimum) is
   where
     by_window : (o : Option Window) → begun_in resources o ≡ Ok live → IsAsAlone start script (Running live)
     by_window None none = cc
     by_window (Some w) some =
         let same : begun resources w ≡ live = cc in
         (resources, sym so, subst (RunsAsAlone resources script) same (begun-alone resources script w))
-launched-alone start script (Running other) s live is so = cc
-launched-alone start script (Ended l) s live is so = cc
+launched-alone start script size (Running other) s live is so = cc
+launched-alone start script size (Ended l) s live is so = cc
 
 launched-place : (system : Content) (app : App) (p : Place) (s : State) (live : Live) → launch_answer p s ≡ Ok live
     → IsPlaceOf system app p → IsPlaceOf system app (record p { phase = Running live })
 launched-place system app p s live is so = record {
   name = so.name;
   script = so.script;
-  phase = launched-alone (start_of system app) app.script p.phase s live is so.phase;
+  phase = launched-alone (start_of system app) app.script p.size p.phase s live is so.phase;
 }
 
 pub given-alone : (system : Content) (apps : List App) → Pairs (IsPlaceOf system) apps (map (place_given system) apps)

@@ -17,7 +17,7 @@ use Rattle.heap_calls.specs.declared.refusal.Refusal.TheVariants.{Code}
 use Rattle.partitions.specs.Grant.{grant}
 use Rattle.script_text.specs.DeskLog.{launch_of, refusal_of}
 use Rattle.desk.specs.Phase.{Phase, Waiting, Running, Ended, begun, waits}
-use Rattle.desk.specs.Sizes.{Sizes, sizes_of}
+use Rattle.desk.specs.Sizes.{Sizes, sizes_asked}
 use Rattle.desk.specs.Ready.{IsReady}
 use Rattle.desk.specs.Desk.{Place, State}
 use Rattle.desk.specs.Free.{IsFree}
@@ -42,18 +42,18 @@ module _ (i : ℕ) (s : State) (p : Place) (here : slice_get s.places i ≡ Some
       → text ≡ s.log ++ refusal_of p.name code.0
       → let t : State = record { memory = m; windows = ws; places = ps; log = text } in t ≡ launched_at i s
   launched-refused code m ws ps text e hm hw hp ht =
-      stands (launched_by (begun_if (Err code) s) i p s) m ws ps text hm hw hp ht
-      ∙ sym (ap (λ o. launched_in i o s) here ∙ ap (λ r. launched_by (begun_if r s) i p s) e)
+      stands (launched_by (begun_if p.size (Err code) s) i p s) m ws ps text hm hw hp ht
+      ∙ sym (ap (λ o. launched_in i o s) here ∙ ap (λ r. launched_by (begun_if p.size r s) i p s) e)
 
-  pub answered : (r : Resources) (sizes : Sizes) (o : Option Window) → ready p.phase ≡ Ok r → sizes ≡ sizes_of r
-      → o ≡ grant s.memory s.windows sizes.preferred sizes.minimum → launched_at i s ≡ launched_by (begun_in r o) i p s
+  pub answered : (r : Resources) (sizes : Sizes) (o : Option Window) → ready p.phase ≡ Ok r
+      → sizes ≡ sizes_asked p.size r → o ≡ grant s.memory s.windows sizes.preferred sizes.minimum → launched_at i s ≡ launched_by (begun_in r o) i p s
   answered r sizes o e hs ho =
-      ap (λ q. launched_in i q s) here ∙ ap (λ q. launched_by (begun_if q s) i p s) e
+      ap (λ q. launched_in i q s) here ∙ ap (λ q. launched_by (begun_if p.size q s) i p s) e
       ∙ ap (λ (z : Sizes). launched_by (begun_with r z s) i p s) (sym hs)
       ∙ ap (λ q. launched_by (begun_in r q) i p s) (sym ho)
 
   -- a place that is free after the launch is outside the window that the launch is granted
-  pub out_granted : (place : ℕ) (r : Resources) (sizes : Sizes) → ready p.phase ≡ Ok r → sizes ≡ sizes_of r
+  pub out_granted : (place : ℕ) (r : Resources) (sizes : Sizes) → ready p.phase ≡ Ok r → sizes ≡ sizes_asked p.size r
       → IsFree place (launched_at i s)
       → IfSome (grant s.memory s.windows sizes.preferred sizes.minimum) (λ w. IsOutside place w)
   out_granted place r sizes e hs f =
@@ -68,7 +68,7 @@ module _ (i : ℕ) (s : State) (p : Place) (here : slice_get s.places i ≡ Some
 
   -- there is no room for it
   pub launched-full : (r : Resources) (sizes : Sizes) (m : ℕ) (ws : List Window) (ps : List Place) (text : List ℕ)
-      → ready p.phase ≡ Ok r → sizes ≡ sizes_of r
+      → ready p.phase ≡ Ok r → sizes ≡ sizes_asked p.size r
       → None ≡ grant s.memory s.windows sizes.preferred sizes.minimum → m ≡ s.memory → ws ≡ s.windows → ps ≡ s.places
       → (code : OsErr) → Err code ≡ begun_in r None → text ≡ s.log ++ refusal_of p.name code.0
       → let t : State = record { memory = m; windows = ws; places = ps; log = text } in t ≡ launched_at i s
@@ -78,7 +78,7 @@ module _ (i : ℕ) (s : State) (p : Place) (here : slice_get s.places i ≡ Some
 
   -- it is launched
   pub launched-begins : (r : Resources) (sizes : Sizes) (w : Window) (m : ℕ) (ws : List Window) (ps : List Place)
-      (text : List ℕ) → ready p.phase ≡ Ok r → sizes ≡ sizes_of r
+      (text : List ℕ) → ready p.phase ≡ Ok r → sizes ≡ sizes_asked p.size r
       → Some w ≡ grant s.memory s.windows sizes.preferred sizes.minimum → m ≡ s.memory → ws ≡ put_in w s.windows
       → ps ≡ slice_set s.places i (record p { phase = Running (begun r w) }) → text ≡ s.log ++ launch_of p.name w.len
       → let t : State = record { memory = m; windows = ws; places = ps; log = text } in t ≡ launched_at i s
@@ -87,12 +87,12 @@ module _ (i : ℕ) (s : State) (p : Place) (here : slice_get s.places i ≡ Some
 
   -- what it is told
   pub replied-refused : (code : OsErr) → ready p.phase ≡ Err code → Err code ≡ reply_at i s
-  replied-refused code e = sym (ap (λ o. launch_reply o s) here ∙ ap (λ r. size_granted (begun_if r s)) e)
+  replied-refused code e = sym (ap (λ o. launch_reply o s) here ∙ ap (λ r. size_granted (begun_if p.size r s)) e)
 
-  pub replied-begun : (r : Resources) (sizes : Sizes) (o : Option Window) → ready p.phase ≡ Ok r → sizes ≡ sizes_of r
-      → o ≡ grant s.memory s.windows sizes.preferred sizes.minimum → size_granted (begun_in r o) ≡ reply_at i s
+  pub replied-begun : (r : Resources) (sizes : Sizes) (o : Option Window) → ready p.phase ≡ Ok r
+      → sizes ≡ sizes_asked p.size r → o ≡ grant s.memory s.windows sizes.preferred sizes.minimum → size_granted (begun_in r o) ≡ reply_at i s
   replied-begun r sizes o e hs ho =
-      sym (ap (λ q. launch_reply q s) here ∙ ap (λ q. size_granted (begun_if q s)) e
+      sym (ap (λ q. launch_reply q s) here ∙ ap (λ q. size_granted (begun_if p.size q s)) e
       ∙ ap (λ (z : Sizes). size_granted (begun_with r z s)) (sym hs)
       ∙ ap (λ q. size_granted (begun_in r q)) (sym ho))
 

@@ -13,16 +13,18 @@ use Rattle.script_text.specs.declared.job.Event.TheVariants as event
 use Rattle.res_calls.specs.Files.{Resources}
 use Rattle.desk.specs.declared.act.Act.{Act}
 use Rattle.desk.specs.declared.act.Act.TheVariants.{Step, Turn, Quit}
-use Rattle.desk.specs.Sizes.{Sizes, sizes_of}
+use Rattle.desk.specs.Sizes.{Sizes, sizes_asked}
 use Rattle.desk.specs.Phase.{Phase, Waiting, Running, Ended, Live, Left, Coming, begun, acted_by, runs, told_of}
 use Rattle.desk.specs.Outcome.{AppResult, Outcome, outcome_told}
 
 -- The desk: several applications in one memory, each in a window of its own. Inside Macintosh: Processes, chapter 1,
 -- "Partitions" and "Scheduling of Processes".
 
--- An application's place at the desk: its name; its script; and the application as it waits, runs or has ended.
+-- An application's place at the desk: its name; the size of the partition that its launch asks for, if one was given;
+-- its script; and the application as it waits, runs or has ended.
 pub record Place : Type 0 where
   pub name : List ℕ
+  pub size : Option ℕ
   pub script : ScriptParts
   pub phase : Phase
 
@@ -83,9 +85,10 @@ begun_in resources (Some w) = Ok (begun resources w)
 abbrev pub begun_with : Resources → Sizes → State → Result Live OsErr
 begun_with resources sizes s = begun_in resources (grant s.memory s.windows sizes.preferred sizes.minimum)
 
-abbrev pub begun_if : Result Resources OsErr → State → Result Live OsErr
-begun_if (Err code) s = Err code
-begun_if (Ok resources) s = begun_with resources (sizes_of resources) s
+-- The application in a partition of the size that was given for it, or of the sizes of its 'SIZE' -1.
+abbrev pub begun_if : Option ℕ → Result Resources OsErr → State → Result Live OsErr
+begun_if size (Err code) s = Err code
+begun_if size (Ok resources) s = begun_with resources (sizes_asked size resources) s
 
 -- The resources with which a waiting application is launched; -30001 (profileErr) for one that runs or has ended.
 abbrev pub ready : Phase → Result Resources OsErr
@@ -97,7 +100,7 @@ ready (Ended launched) = Err PROFILE
 -- can't be opened, or there is no room.
 -- See decision 106 (a launch is refused in a fixed order).
 abbrev pub launch_answer : Place → State → Result Live OsErr
-launch_answer p s = begun_if (ready p.phase) s
+launch_answer p s = begun_if p.size (ready p.phase) s
 
 abbrev pub launched_by : Result Live OsErr → ℕ → Place → State → State
 launched_by (Err code) i p s = record s { log = s.log ++ refusal_of p.name code.0 }

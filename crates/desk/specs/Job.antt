@@ -27,6 +27,7 @@ start_of system app = launched_resources (files_given app) system
 abbrev pub place_given : Content → App → Place
 place_given system app = record {
   name = app.name.0.items;
+  size = app.size;
   script = app.script;
   phase = Waiting (start_of system app);
 }

@@ -3,8 +3,7 @@ use Rattle.fork_format.specs.Fork.{number}
 use Rattle.res_calls.specs.Files.{Resources}
 use Rattle.res_calls.specs.Own.{own_datum}
 
--- The sizes of the partition that an application asks for. Macintosh Toolbox Essentials, chapter 2, "The Size
--- Resource".
+-- The sizes of the partition that a launch asks for. Macintosh Toolbox Essentials, chapter 2, "The Size Resource".
 
 pub record Sizes : Type 0 where
   pub preferred : ℕ
@@ -41,3 +40,13 @@ sizes_in (Some datum) = if nat_lt (length datum) 10 then usual_sizes else sizes_
 -- The sizes that an application asks for: those of its 'SIZE' -1.
 abbrev pub sizes_of : Resources → Sizes
 sizes_of resources = sizes_in (own_datum size_type (negsuc 0) resources)
+
+-- The sizes of a partition for which just one size is given.
+abbrev pub just : ℕ → Sizes
+just size = record { preferred = rounded size; minimum = rounded size }
+
+-- The sizes that a launch asks for: just the size that is given for the application; if none is given, those of its
+-- 'SIZE' -1.
+abbrev pub sizes_asked : Option ℕ → Resources → Sizes
+sizes_asked None resources = sizes_of resources
+sizes_asked (Some size) resources = just size

@@ -30,6 +30,7 @@ is_waiting (phase.Ended l) = false
 abbrev pub place_seen : {S : Type 0} → Placed S → Place
 place_seen seat = record {
   name = seat.app.now.name.0.items;
+  size = seat.app.now.size;
   script = seat.app.now.script;
   phase = phase_seen (start_of (view seat.system.now) seat.app.now) seat.phase;
 }

@@ -9,7 +9,7 @@ ghost use Rattle.res_calls.specs.Given.{IsReply};
 ghost use Rattle.res_calls.specs.View.{view_file};
 ghost use Rattle.desk.specs.Desk.{ready};
 ghost use Rattle.desk.specs.Job.{file_given, files_given, start_of};
-ghost use Rattle.desk.specs.Sizes.{sizes_of};
+ghost use Rattle.desk.specs.Sizes.{sizes_asked};
 ghost use Rattle.desk.specs.Whole.{system_of, start_with};
 ghost use Rattle.desk.specs.Ready.{IsReady, sizes_seen};
 ghost use Rattle.desk.specs.View.{place_seen};
@@ -27,7 +27,7 @@ use mac_words::{FileName, OsErr};
 use res_calls::{File, Resources};
 use std::alloc::{AllocError, Global};
 
-/// What an application is launched with: its resources, and the sizes of the partition that it asks for.
+/// What an application is launched with: its resources, and the sizes of the partition that its launch asks for.
 pub struct Ready {
     pub(crate) resources: Resources,
     pub(crate) sizes: PartitionSizes,
@@ -100,15 +100,15 @@ pub fn open_resources(alloc: Global, job: &Job, app: &App) -> Result<Resources, 
     }
 }
 
-/// Opens the resources with which an application is launched, and reads the sizes of its partition.
+/// Opens the resources with which an application is launched, and returns them with the sizes that its launch asks for.
 fn launched_with(alloc: Global, app: &App, system: &Content<'_>) -> Result<Ready, Refusal>
     requires types { IsTrue (are_distinct (map (λ (g : GroupValue). g.kind) (view system.now).groups)) }
     requires references { IsTrue (list_all has_refs (view system.now).groups) }
     ensures answer { IsReady (start_of (view system.now) app.now) result }
-    ensures sizes { IfOk result (λ r. sizes_seen r.sizes ≡ sizes_of r.resources) }
+    ensures sizes { IfOk result (λ r. sizes_seen r.sizes ≡ sizes_asked app.now.size r.resources) }
 {
     let resources = opened(alloc, app, system)?;
-    let sizes = PartitionSizes::of(&resources);
+    let sizes = PartitionSizes::asked(app.size, &resources);
     Ok(Ready { resources, sizes })
 }
 
@@ -116,7 +116,7 @@ fn launched_with(alloc: Global, app: &App, system: &Content<'_>) -> Result<Ready
 /// has ended, and with the result code of its fork if the fork can't be opened.
 pub(crate) fn prepared<S: BlockStore>(alloc: Global, seat: &Seat<'_, S>) -> Result<Ready, Refusal>
     ensures answer { IsReady (ready (place_seen seat.now).phase) result }
-    ensures sizes { IfOk result (λ r. sizes_seen r.sizes ≡ sizes_of r.resources) }
+    ensures sizes { IfOk result (λ r. sizes_seen r.sizes ≡ sizes_asked (place_seen seat.now).size r.resources) }
 {
     match seat.phase {
         Phase::Waiting => launched_with(alloc, seat.app, seat.system),

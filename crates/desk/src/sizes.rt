@@ -2,7 +2,7 @@
 
 ghost use Rattle.std.specs.Prelude.{◌≡◌, ◌≤◌, ◌%◌};
 
-/// The sizes of the partition that an application asks for, in bytes.
+/// The sizes of the partition that a launch asks for, in bytes.
 ///
 /// *Macintosh Toolbox Essentials*, chapter 2, "The Size Resource".
 #[derive(Clone, Copy)]

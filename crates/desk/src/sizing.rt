@@ -1,4 +1,4 @@
-//! The sizes of the partition that an application asks for.
+//! The sizes of the partition that a launch asks for.
 
 ghost use Rattle.std.specs.Prelude.{◌≡◌, ◌≤◌, ◌%◌, length, option_map};
 ghost use Rattle.desk.specs.Sizes as sizes;
@@ -64,9 +64,31 @@ fn sizes_in(datum: Option<&[u8]>) -> PartitionSizes
 
 impl PartitionSizes {
     /// Returns the sizes that an application asks for: those of its 'SIZE' -1.
-    pub(crate) fn of(resources: &Resources) -> PartitionSizes
+    fn of(resources: &Resources) -> PartitionSizes
         ensures { sizes_seen result ≡ sizes.sizes_of resources.now }
     {
         sizes_in(resources.own_datum(SIZE, SIZE_ID))
+    }
+
+    /// Returns the sizes of a partition for which just one size is given.
+    fn just(size: u32) -> PartitionSizes
+        ensures { sizes_seen result ≡ sizes.just size }
+    {
+        let size = rounded(size);
+        PartitionSizes {
+            preferred: size,
+            minimum: size,
+        }
+    }
+
+    /// Returns the sizes that a launch asks for: just the size that is given for the application, or else those of its
+    /// 'SIZE' -1.
+    pub(crate) fn asked(size: Option<u32>, resources: &Resources) -> PartitionSizes
+        ensures { sizes_seen result ≡ sizes.sizes_asked size resources.now }
+    {
+        match size {
+            Some(size) => PartitionSizes::just(size),
+            None => PartitionSizes::of(resources),
+        }
     }
 }

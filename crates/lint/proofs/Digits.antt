@@ -1,6 +1,6 @@
 -- Hexadecimal digits, counted by two.
-use Rattle.std.proofs.Common.{◌≡◌, ℕ, ◌+◌, ◌-◌, ◌≤◌, true, List, [], ◌∷◌, Option, Some, None, refl}
-use Rattle.std.proofs.Common.{ap, length, get_or, take, drop, arith}
+use Rattle.std.proofs.Common.{◌≡◌, ℕ, ◌+◌, ◌-◌, ◌≤◌, true, List, [], ◌∷◌, ◌++◌, Option, Some, None, refl}
+use Rattle.std.proofs.Common.{sym, ap, ◌∙◌, append_assoc, length, get_or, take, drop, arith}
 use Rattle.std.proofs.lemmas.Grind.{common_steps}
 use Rattle.std.specs.Option.{option_map}
 use Rattle.std.specs.Prelude.{is_some, option_and_then, false}
@@ -46,6 +46,24 @@ byte_refused n (a ∷ b ∷ more) two h = cases (byte_at a b) h
         → None ≡ counted n (option_and_then (λ byte. option_map (λ bytes. byte ∷ bytes) (hex_bytes more)) found)
     cases None k = refl
     cases (Some byte) k = absurd (cc)
+
+-- the bytes that were read, before those that are still to be read
+abbrev pub with_front : List ℕ → Option (List ℕ) → Option (List ℕ)
+with_front front read = option_map (λ bytes. front ++ bytes) read
+
+-- a byte moves over to those that were read
+byte_first : (front : List ℕ) (byte : ℕ) (read : Option (List ℕ))
+    → with_front (front ++ byte ∷ []) read ≡ with_front front (option_map (λ bytes. byte ∷ bytes) read)
+byte_first front byte None = refl
+byte_first front byte (Some bytes) = ap (λ bs. Some bs) (simp append_assoc)
+
+-- two hexadecimal digits are read
+pub byte_read : (front rest : List ℕ) (byte : ℕ) → 2 ≤ length rest
+    → Some byte ≡ byte_at (get_or rest 0 0) (get_or rest 1 0)
+    → with_front (front ++ byte ∷ []) (hex_bytes (drop 2 rest)) ≡ with_front front (hex_bytes rest)
+byte_read front [] byte two h = absurd (omega arith)
+byte_read front (a ∷ []) byte two h = absurd (omega arith)
+byte_read front (a ∷ b ∷ more) byte two h = byte_first front byte (hex_bytes more) ∙ rw (sym h) refl
 
 -- what is left behind n of the bytes
 pub all_behind : (n : ℕ) (rest : List ℕ) → take (length rest - n) (drop n rest) ≡ drop n rest

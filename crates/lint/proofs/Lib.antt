@@ -5,3 +5,6 @@ mod Judged
 mod Firsts
 mod Stepping
 mod Lengths
+mod JobInputs
+mod JobKnown
+mod Jobs

@@ -2,3 +2,4 @@ pub mod Faults
 pub mod Roles
 pub mod Judging
 pub mod Seen
+pub mod Reading

@@ -1,15 +1,18 @@
 //! Whether a token is an argument of a kind.
 
-ghost use Rattle.std.specs.Prelude.{◌≡◌, ◌&&◌, is_some, length, nat_le};
+ghost use Rattle.std.specs.Prelude.{◌≡◌, ◌&&◌, is_some, length, nat_le, IfOk};
 ghost use Rattle.std.specs.Option.{option_map};
-ghost use Rattle.script_text.specs.Argument.{byte_at, bytes as bytes_of, hex_bytes, label, res_type, switch, value};
+ghost use Rattle.script_text.specs.Argument.{byte_at, bytes as bytes_of, hex_bytes, label, number, res_type, switch, value};
+ghost use Rattle.script_text.specs.Argument.{File as FileKind, Raw};
+ghost use Rattle.script_text.specs.Reading.{Finds};
 ghost use Rattle.lint.specs.Roles.{kind};
 ghost use Rattle.lint.specs.declared.role.Role.TheVariants as role;
 
 use crate::role::Role;
 use arrayvec::ArrayVec;
-use mac_words::Label;
+use mac_words::{FileName, Label};
 use script_text::{GREATEST_SIZE, byte_of, id_in, is_label, number_in, path_in};
+use std::alloc::{AllocError, Global};
 
 /// Returns a token as a name, where it is one.
 pub fn label_of(token: &[u8]) -> Option<Label>
@@ -20,6 +23,13 @@ pub fn label_of(token: &[u8]) -> Option<Label>
     } else {
         None
     }
+}
+
+/// Returns the size that a token writes.
+pub fn size_in(token: &[u8]) -> Option<u32>
+    ensures { result ≡ number 10 2147483647 token.now }
+{
+    number_in(token, 10, GREATEST_SIZE)
 }
 
 fn is_hex_byte(high: u8, low: u8) -> bool
@@ -124,6 +134,44 @@ fn is_switch(token: &[u8]) -> bool
     }
 }
 
+/// Returns the bytes that hexadecimal digits write, two for each byte.
+fn hex_in(alloc: Global, digits: &[u8]) -> Result<Option<Vec<u8>>, AllocError>
+    ensures { IfOk result (λ found. Finds (λ v. v.items) found (hex_bytes digits.now)) }
+{
+    let mut found = Vec::new(alloc);
+    let mut rest = digits;
+    while let [high, low, more @ ..] = rest {
+        match byte_of(*high, *low) {
+            Some(byte) => found.push(byte)?,
+            None => return Ok(None),
+        }
+        rest = more;
+    }
+    Ok(if rest.is_empty() { Some(found) } else { None })
+}
+
+fn bytes_in(alloc: Global, token: &[u8]) -> Result<Option<Vec<u8>>, AllocError>
+    ensures { IfOk result (λ found. Finds (λ v. v.items) found (bytes_of token.now)) }
+{
+    match token {
+        [b'"', inside @ .., _] => Ok(Some(Vec::from_slice(alloc, inside)?)),
+        [b'$', digits @ ..] => hex_in(alloc, digits),
+        _ => Ok(None),
+    }
+}
+
+/// Returns the file's name that a token writes.
+pub fn file_name_of(alloc: Global, token: &[u8]) -> Result<Option<FileName>, AllocError>
+    ensures { IfOk result (λ found. Finds (λ file. Raw file.0.items) found (value FileKind token.now)) }
+{
+    match bytes_in(alloc, token)? {
+        Some(bytes) if !bytes.is_empty() => Ok(
+            ArrayVec::try_from(bytes.as_slice()).ok().map(FileName),
+        ),
+        _ => Ok(None),
+    }
+}
+
 /// Reports whether a token is an argument that stands for this.
 pub fn is_value(role: Role, token: &[u8]) -> bool
     ensures { result ≡ is_some (value (kind role) token.now) }
@@ -137,7 +185,7 @@ pub fn is_value(role: Role, token: &[u8]) -> bool
         | Role::GrowZone
         | Role::Application => is_label(token),
         Role::Size | Role::Offset | Role::Count | Role::Number | Role::Memory => {
-            number_in(token, 10, GREATEST_SIZE).is_some()
+            size_in(token).is_some()
         }
         Role::Id => id_in(token).is_some(),
         Role::Byte => number_in(token, 3, 255).is_some(),

@@ -1,7 +1,7 @@
 //! Judging the arguments of a line.
 
-ghost use Rattle.std.specs.Prelude.{◌≡◌, [], ◌∷◌, map};
-ghost use Rattle.script_text.specs.declared.fault.FaultKind.TheVariants.{BadArgument};
+ghost use Rattle.std.specs.Prelude.{◌≡◌, ◌≤◌, [], ◌∷◌, length, map};
+ghost use Rattle.script_text.specs.declared.fault.FaultKind.TheVariants.{BadArgument, LongLine};
 ghost use Rattle.script_text.specs.Argument.{Label as LabelKind, Letters, argument, arguments};
 ghost use Rattle.lint.specs.Judging.{Judges, argument_token, checked, kind_of, said};
 ghost use Rattle.lint.specs.Roles.{kind};
@@ -12,7 +12,7 @@ use crate::role::Role;
 use crate::token::token;
 use crate::wrong::{Found, Wrong};
 use mac_words::Label;
-use script_text::{first_blank, trim};
+use script_text::{LONGEST_LINE, first_blank, trim};
 
 /// A name in a line.
 #[derive(Drop)]
@@ -46,7 +46,7 @@ fn found_in(text: &[u8]) -> &[u8] {
 }
 
 /// Says that an argument is missing or wrong; the text begins where the argument should.
-fn bad_argument<'t>(form: Form, number: usize, role: Role, text: &'t [u8]) -> Found<'t>
+pub(crate) fn bad_argument<'t>(form: Form, number: usize, role: Role, text: &'t [u8]) -> Found<'t>
     ensures { kind_of result.wrong ≡ BadArgument }
 {
     Found {
@@ -134,4 +134,15 @@ pub fn only_name<'t>(form: Form, role: Role, text: &'t [u8]) -> Result<Name<'t>,
     let (name, rest) = first_name(form, role, text)?;
     judge_end(form, rest)?;
     Ok(name)
+}
+
+/// Says that a line is too long; what is too much stands at its end.
+pub(crate) fn long_line<'t>(line: &'t [u8]) -> Found<'t>
+    requires { 65535 ≤ length line.now }
+    ensures { kind_of result.wrong ≡ LongLine }
+{
+    Found {
+        left: line.len() - LONGEST_LINE,
+        wrong: Wrong::LongLine { length: line.len() },
+    }
 }

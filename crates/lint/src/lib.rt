@@ -2,12 +2,19 @@
 //! exactly what the readers of `script_text` say.
 #![tactic(auto)]
 
+mod absent;
 mod argument;
+mod arguments;
 mod form;
+mod halt;
 mod hint;
+mod inputs;
+mod job;
+mod job_word;
 mod judging;
 mod names;
 mod nearest;
+mod owners;
 mod role;
 mod script;
 mod shown;
@@ -17,6 +24,7 @@ mod words;
 mod wrong;
 
 pub use form::Form;
+pub use job::{first_is_the_job_readers, job_faults};
 pub use role::Role;
 pub use script::{first_is_the_readers, script_faults};
 pub use wrong::{Fault, Wrong};

@@ -12,7 +12,7 @@ ghost use Rattle.lint.specs.Judging.{said, checked, begun_kept, unfinished_kept,
 ghost use Rattle.lint.specs.Seen.{deed_seen, name_seen, seen};
 
 use crate::form::Form;
-use crate::judging::{Name, judge_arguments, judge_end, only_name};
+use crate::judging::{Name, judge_arguments, judge_end, long_line, only_name};
 use crate::names::Names;
 use crate::role::Role;
 use crate::table::form_of;
@@ -252,10 +252,7 @@ impl<'t> KeptLines<'t> {
         ensures { Judges deed_seen result (line_judged self.now line.now) }
     {
         if line.len() > LONGEST_LINE {
-            return Err(Found {
-                left: line.len() - LONGEST_LINE,
-                wrong: Wrong::LongLine { length: line.len() },
-            });
+            return Err(long_line(line));
         }
         let text = trim(line);
         match text {

@@ -1,5 +1,6 @@
 //! What is wrong with a line, in words.
 
+use crate::absent::instead_of;
 use crate::form::Form;
 use crate::hint::hint_of;
 use crate::nearest::{nearest_call, nearest_word};
@@ -57,6 +58,14 @@ fn write_unknown<W: fmt::Write>(
             write!(f, "unknown {kind} {}", Bare(word))?;
             write_meant(f, word, near)
         }
+    }
+}
+
+/// Writes that a first word is no call, and what stands in its place where it is one of the Macintosh.
+fn write_unknown_call<W: fmt::Write>(f: &mut fmt::Formatter<W>, word: &[u8]) -> fmt::Result {
+    match instead_of(word) {
+        Some(instead) => write!(f, "{} is not here: {instead}", Bare(word)),
+        None => write_unknown(f, word, "call", nearest_call(word)),
     }
 }
 
@@ -161,7 +170,7 @@ fn write_not_allowed<W: fmt::Write>(f: &mut fmt::Formatter<W>, word: &[u8]) -> f
 /// Writes what is wrong with a line of a script as a whole, or with a grow-zone script.
 fn write_script<W: fmt::Write>(f: &mut fmt::Formatter<W>, wrong: &Wrong<'_>) -> fmt::Result {
     match wrong {
-        Wrong::UnknownCall { word } => write_unknown(f, word, "call", nearest_call(word)),
+        Wrong::UnknownCall { word } => write_unknown_call(f, word),
         Wrong::EndOutside => f.write_str("'end' outside a grow-zone script"),
         Wrong::NotAllowed { word } => write_not_allowed(f, word),
         Wrong::LongLine { length } => {

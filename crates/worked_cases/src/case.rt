@@ -49,8 +49,19 @@ pub struct Piece {
     pub bytes: Vec<u8>,
 }
 
+/// What the rows of a case are.
+#[derive(Clone, Copy)]
+pub enum Kind {
+    /// The calls of a script, which is run.
+    Run,
+    /// Scripts that are only read.
+    Read,
+    /// Sizes that are given for an application, which is launched in a memory of so many bytes.
+    Launch(u32),
+}
+
 /// A worked case: a script, the files of its application, and the expected rows; or texts of scripts that are only
-/// read.
+/// read; or sizes with which the application is launched.
 #[derive(Drop)]
 pub struct Case {
     pub title: String,
@@ -72,9 +83,9 @@ pub struct Case {
     pub written: Vec<Row>,
     /// The bytes that are expected in the zone at the end.
     pub zone: Vec<Piece>,
-    /// Whether each row is a script of its own, which is only read.
-    pub is_read: bool,
-    /// The scripts that are only read, with ` / ` between two lines of a script.
+    /// What the rows are.
+    pub kind: Kind,
+    /// The scripts that are only read, with ` / ` between two lines of a script; or the sizes of the launches.
     pub texts: Vec<String>,
 }
 
@@ -96,7 +107,7 @@ impl Case {
             },
             written: Vec::new(alloc),
             zone: Vec::new(alloc),
-            is_read: false,
+            kind: Kind::Run,
             texts: Vec::new(alloc),
         })
     }

@@ -90,7 +90,7 @@ fn fork_holding(alloc: Global, resources: &[Resource]) -> Result<Vec<u8>> {
 }
 
 /// Returns the bytes of a file's fork.
-fn fork_bytes(alloc: Global, fork: &Fork) -> Result<Vec<u8>> {
+pub fn fork_bytes(alloc: Global, fork: &Fork) -> Result<Vec<u8>> {
     match &fork.bytes {
         Some(bytes) => Ok(Vec::from_slice(alloc, bytes)?),
         None => fork_holding(alloc, &fork.resources),

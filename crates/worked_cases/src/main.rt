@@ -1,10 +1,11 @@
 //! Worked cases, kept as data: each script is run over lists and in the bytes of a region, and its transcript is
-//! compared, row by row, with the expected rows.
+//! compared, row by row, with the expected rows. So are launches, whose answers the desk's log has.
 #![tactic(auto)]
 
 mod case;
 mod folder;
 mod forks;
+mod launching;
 mod reading;
 mod running;
 mod telling;

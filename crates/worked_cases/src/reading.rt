@@ -15,13 +15,14 @@
 //! | `writes NAME 'TYPE' ..` | a resource of that file, in order |
 //! | `zone AT BYTES ..` | bytes that are expected in the zone at the end, from the offset AT on |
 //! | `reads` | each row below is a script, with ` / ` between two lines, that is only read: the answer is `read`, or the line and kind of the fault |
+//! | `launches SIZE` | each row below is a size that is given for the application, or `none`: the answer is that of its launch in a memory of SIZE bytes |
 //!
 //! Other lines are lines of the script without an expected answer, such as those of a grow-zone script. BYTES are `$`
 //! and hexadecimal digits, a text in quotes without blanks, or a number, which has two bytes. `N times LINE` stands for
 //! N lines, in which `#` is the number of the line, counted from 0; `{N*TEXT}` stands for N repetitions of the text,
 //! `{TAB}` for a tab, and `{CR}` for a carriage return.
 
-use crate::case::{Case, Fork, Piece, Row};
+use crate::case::{Case, Fork, Kind, Piece, Row};
 use crate::forks::{bytes_of, resource_of};
 use crate::writing_out::{numbered, times, written_out};
 use anyhow::{Context, Result, bail};
@@ -35,7 +36,8 @@ fn row_of(alloc: Global, line: usize, call: &str, answer: &str) -> Result<Row, A
     })
 }
 
-/// Takes a row with its answer: a call of the script, a call of the grow-zone script, or a script that is only read.
+/// Takes a row with its answer: a call of the script, a call of the grow-zone script, a script that is only read, or
+/// the size of a launch.
 fn take_row(
     alloc: Global,
     case: &mut Case,
@@ -43,10 +45,10 @@ fn take_row(
     call: &str,
     answer: &str,
 ) -> Result<(), AllocError> {
-    if case.is_read {
-        case.texts.push(String::from_str(alloc, call)?)?;
-    } else if !call.starts_with("+ ") {
-        case.say(call)?;
+    match case.kind {
+        Kind::Run if call.starts_with("+ ") => {}
+        Kind::Run => case.say(call)?,
+        Kind::Read | Kind::Launch(_) => case.texts.push(String::from_str(alloc, call)?)?,
     }
     case.tell(row_of(alloc, line, call, answer)?)
 }
@@ -102,7 +104,8 @@ fn take_word(alloc: Global, case: &mut Case, line: usize, word: &str, rest: &str
             text: String::from_str(alloc, rest)?,
         })?,
         "zone" => case.zone.push(piece_of(alloc, line, rest)?)?,
-        "reads" => case.is_read = true,
+        "reads" => case.kind = Kind::Read,
+        "launches" => case.kind = Kind::Launch(rest.parse::<u32>()?),
         _ => return Ok(false),
     }
     Ok(true)

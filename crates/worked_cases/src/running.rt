@@ -23,7 +23,7 @@ pub struct Runs {
 }
 
 /// Returns a region of `len` bytes, none of which is 0.
-fn used_region(alloc: Global, len: u32) -> Result<Region, AllocError>
+pub fn used_region(alloc: Global, len: u32) -> Result<Region, AllocError>
     requires even { len % 16 ≡ 0 }
     requires low { LEAST_ZONE ≤ len }
     requires high { len ≤ GREATEST_ZONE }

@@ -1,7 +1,8 @@
 //! Trying cases, and printing what differs.
 
-use crate::case::{Case, Piece, Row};
+use crate::case::{Case, Kind, Piece, Row};
 use crate::forks::written_rows;
+use crate::launching::launch_case;
 use crate::running::{Runs, run_case};
 use crate::telling::rows_of;
 use anyhow::{Context, Result, bail};
@@ -44,18 +45,26 @@ fn push_rows(alloc: Global, to: &mut Vec<(usize, String)>, rows: &[Row]) -> Resu
     Ok(())
 }
 
-/// Returns the rows that a case expects. Those of a script that is run include the launch and the end.
-fn expected(alloc: Global, case: &Case) -> Result<Vec<(usize, String)>, AllocError> {
+/// Returns the rows that a case expects of a script that is run, with the launch and the end.
+fn rows_of_run(alloc: Global, case: &Case) -> Result<Vec<(usize, String)>, AllocError> {
     let mut rows = Vec::new(alloc);
-    if case.is_read {
-        push_rows(alloc, &mut rows, &case.rows)?;
-        return Ok(rows);
-    }
     rows.push((case.line, format!(in alloc; "launch 0 {}", case.size)?))?;
     push_rows(alloc, &mut rows, &case.rows)?;
     rows.push((case.end.line, String::from_str(alloc, &case.end.text)?))?;
     push_rows(alloc, &mut rows, &case.written)?;
     Ok(rows)
+}
+
+/// Returns the rows that a case expects.
+fn expected(alloc: Global, case: &Case) -> Result<Vec<(usize, String)>, AllocError> {
+    match case.kind {
+        Kind::Run => rows_of_run(alloc, case),
+        Kind::Read | Kind::Launch(_) => {
+            let mut rows = Vec::new(alloc);
+            push_rows(alloc, &mut rows, &case.rows)?;
+            Ok(rows)
+        }
+    }
 }
 
 /// Returns the first row that differs: the number of its line in the file of cases, the expected row, and the row that
@@ -172,14 +181,41 @@ fn try_texts(alloc: Global, name: &str, case: &Case, text: &mut String) -> Resul
     Ok(is_as_expected(alloc, name, case, "as it is read", &came, text)?)
 }
 
-/// Tries a case, and reports whether all its rows are as expected.
-fn try_case(alloc: Global, name: &str, case: &Case, text: &mut String) -> Result<bool> {
-    if case.is_read {
-        return try_texts(alloc, name, case, text);
+/// Launches the application of a case with each of its sizes, over each maker of zones, and reports whether all answers
+/// are as expected.
+fn try_launches(
+    alloc: Global,
+    name: &str,
+    case: &Case,
+    memory: u32,
+    text: &mut String,
+) -> Result<bool> {
+    let mut in_lists = Vec::new(alloc);
+    let mut in_bytes = Vec::new(alloc);
+    for size in &case.texts {
+        let answers = launch_case(alloc, case, memory, size)?;
+        in_lists.push(format!(in alloc; "{size} | {}", answers.in_lists)?)?;
+        in_bytes.push(format!(in alloc; "{size} | {}", answers.in_bytes)?)?;
     }
+    let lists = is_as_expected(alloc, name, case, "in lists", &in_lists, text)?;
+    let bytes = is_as_expected(alloc, name, case, "in bytes", &in_bytes, text)?;
+    Ok(lists && bytes)
+}
+
+/// Runs the script of a case, and reports whether all rows of the case are as expected.
+fn try_run(alloc: Global, name: &str, case: &Case, text: &mut String) -> Result<bool> {
     match read_script(alloc, case.script.as_bytes()) {
         Ok(script) => try_script(alloc, name, case, &script, text),
         Err(fault) => bail!("line {} of the script is faulty", fault.line),
+    }
+}
+
+/// Tries a case, and reports whether all its rows are as expected.
+fn try_case(alloc: Global, name: &str, case: &Case, text: &mut String) -> Result<bool> {
+    match case.kind {
+        Kind::Run => try_run(alloc, name, case, text),
+        Kind::Read => try_texts(alloc, name, case, text),
+        Kind::Launch(memory) => try_launches(alloc, name, case, memory, text),
     }
 }
 

@@ -126,9 +126,14 @@ fn sources_unless(alone: bool, sources: &[Source]) -> &[Source] {
     &sources[..count]
 }
 
+/// Reports whether a word changes how a job is run, or what is written of it.
+fn changes_run(word: &str) -> bool {
+    word.starts_with("--size") || word == "--text"
+}
+
 /// Runs the job of a command line once more over each maker of zones, and appends the differences between the outcomes,
-/// and between the files that they leave and those that the command is to write, where it is done. The paths of the job
-/// and of the folder are the last two words that are no options.
+/// and between the files that they leave and those that the command is to write, where it is done; but not where words ask for
+/// other sizes or for words. The paths of the job and of the folder are the last two words that are no options.
 pub fn compare_in_lists(
     alloc: Global,
     text: &mut String,
@@ -137,6 +142,9 @@ pub fn compare_in_lists(
     words: &[&str],
     is_done: bool,
 ) -> Result<(), AllocError> {
+    if words.iter().any(|word| changes_run(*word)) {
+        return Ok(());
+    }
     let mut last = words.iter().rev().filter(|word| !word.starts_with("--"));
     let (Some(out), Some(path)) = (last.next(), last.next()) else {
         return Ok(());

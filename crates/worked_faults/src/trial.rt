@@ -2,7 +2,7 @@
 
 use crate::case::Case;
 use anyhow::Result;
-use lint::{Fault, script_faults};
+use lint::{Fault, job_faults, script_faults};
 use std::alloc::Global;
 
 /// How many cases were tried, and of how many just the expected faults were found.
@@ -51,11 +51,34 @@ fn are_expected(
     Ok(false)
 }
 
+/// What the texts of a file are.
+#[derive(Clone, Copy)]
+pub enum Kind {
+    Scripts,
+    Jobs,
+}
+
+impl Kind {
+    /// Returns the faulty lines of a text.
+    fn faults<'t>(self, alloc: Global, text: &'t [u8]) -> Result<Vec<Fault<'t>>> {
+        let faults = match self {
+            Kind::Scripts => script_faults(alloc, text)?,
+            Kind::Jobs => job_faults(alloc, text)?,
+        };
+        Ok(faults)
+    }
+}
+
 /// Tries the cases of a file.
-pub fn try_cases(alloc: Global, cases: &[Case], differences: &mut String) -> Result<Count> {
+pub fn try_cases(
+    alloc: Global,
+    kind: Kind,
+    cases: &[Case],
+    differences: &mut String,
+) -> Result<Count> {
     let mut count = Count { well: 0, tried: 0 };
     for case in cases {
-        let faults = script_faults(alloc, &case.text)?;
+        let faults = kind.faults(alloc, &case.text)?;
         count.tried = count.tried.saturating_add(1);
         if are_expected(alloc, case, &faults, differences)? {
             count.well = count.well.saturating_add(1);

@@ -2,5 +2,6 @@ pub mod Entering
 pub mod Numbered
 pub mod Forms
 pub mod Following
+pub mod InWords
 mod Rows
 mod MomentRows

@@ -2,4 +2,5 @@ pub mod Known
 pub mod Shown
 pub mod Behind
 pub mod Moments
+pub mod Words
 pub mod Sight

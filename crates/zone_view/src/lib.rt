@@ -8,9 +8,11 @@ mod moments;
 mod places;
 mod shown;
 mod sight;
+mod words;
 
 pub use behind::{show_behind, steps_at};
 pub use form::Form;
 pub use moments::show_moments;
 pub use shown::show_zone;
 pub use sight::{Sight, show};
+pub use words::{Telling, tell};

@@ -126,7 +126,7 @@ fn after(lines: &[Line], n: usize) -> &[Line]
 }
 
 /// Returns the steps of a script after the first `from`, up to the number `to`.
-fn between(script: &Script, from: usize, to: usize) -> &[Line]
+pub(crate) fn between(script: &Script, from: usize, to: usize) -> &[Line]
     ensures { result.now ≡ take (to - from) (drop from script.now.steps) }
 {
     first(after(script.steps(), from), to.saturating_sub(from))

@@ -1,11 +1,10 @@
 use Rattle.std.proofs.Common.{◌≡◌, ◌∷◌, ◌∙◌, [], Option, List, ℕ, Err, ap, rules}
-use Rattle.script_text.specs.Script.{spelled}
 use Rattle.commands.specs.declared.fault.ToolFault.TheVariants.{HostMemory}
 use Rattle.commands.specs.Fault.{message_of}
 use Rattle.commands.specs.Accesses.{Access, Read, and_then, reads_at}
-use Rattle.commands.specs.Gathering.{fork_found, app_found}
+use Rattle.commands.specs.Gathering.{fork_found, script_found, app_found}
 use Rattle.commands.proofs.Accesses.{one_more, ends_err, stops_from, stop_given}
-use Rattle.commands.proofs.Forks.{app_unread, app_stop, app_there}
+use Rattle.commands.proofs.Forks.{app_unread, app_stop, app_there, app_made}
 use Rattle.commands.proofs.gathering.app_at.Goals as goal
 
 -- the fork was read, and then the script
@@ -49,5 +48,6 @@ returns-clause-app g c =
       found.0 ∷ h.0,
       h.1 ∙ both _ _ c.args.fork.now c.args.script.now found.0 h.0 found.1,
       app_there c.args.name.now.0.items c.args.fork.now c.args.script.now found.0 (fork_found c.in_ok-bytes.bytes) h.0
-          (spelled c.in_ok-script.script) _ found.2 h.2 (search rules),
+          (script_found c.in_ok-script.script) _ found.2 h.2
+          (app_made _ _ _ (script_found c.in_ok-script.script) _ (search rules)),
     )

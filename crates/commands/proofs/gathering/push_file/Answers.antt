@@ -23,5 +23,6 @@ returns-clause-file c =
       name = x.name.0.items;
       fork = x.fork.items;
       files = files;
+      size = x.size;
       script = spelled x.script;
     }) more)

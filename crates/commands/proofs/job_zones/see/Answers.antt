@@ -35,6 +35,7 @@ returns-clause-unseen g c =
       stated = record { text = c.in_ok-bytes.bytes.items; lines = job_seen c.in_ok-text.text; states = states };
       texts = h.0;
       job = c.in_ok-gathered.gathered.job;
+      scripts = map (λ t. t.items) c.in_ok-gathered.gathered.scripts.items;
       sources = map source_given c.in_ok-gathered.gathered.sources.items;
       memory = c.in_ok-gathered.ensures.memory;
       events = c.in_ok-gathered.ensures.events;
@@ -51,6 +52,7 @@ returns-in-Ok-clause-sees g c =
       stated = record { text = c.in_ok-bytes.bytes.items; lines = job_seen c.in_ok-text.text; states = states };
       texts = h.0;
       job = c.in_ok-gathered.gathered.job;
+      scripts = map (λ t. t.items) c.in_ok-gathered.gathered.scripts.items;
       sources = map source_given c.in_ok-gathered.gathered.sources.items;
       memory = c.in_ok-gathered.ensures.memory;
       events = c.in_ok-gathered.ensures.events;

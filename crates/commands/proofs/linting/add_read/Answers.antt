@@ -1,13 +1,29 @@
+use Rattle.rez_statements.specs.View.{types_of}
+use Rattle.commands.specs.declared.linting.TextKind.TheVariants as kind
 use Rattle.commands.proofs.Accesses.{also_on}
-use Rattle.commands.proofs.Linted.{script_linted, script_clean}
+use Rattle.commands.proofs.Linted.{text_linted, text_clean}
 use Rattle.commands.proofs.linting.add_read.Goals as goal
 
-pub returns-clause-text : goal.returns-clause-text
-returns-clause-text c =
-    also_on _ _ c.add_faults.result (λ h. script_linted c.args.path.now c.args.bytes.now _ _ c.in_ok-faults.faults.items
-    c.as_slice.result.now c.in_ok-faults.ensures c.as_slice.ensures.value h) c.add_faults.ensures.text
+pub returns-in-Script-clause-text : goal.returns-in-Script-clause-text
+returns-in-Script-clause-text c = also_on _ _ c.add_script.result (λ h. text_linted c.args.asked (types_of c.args.types.now) kind.Script
+    c.args.path.now c.args.bytes.now _ _ c.in-Script.ensures h) c.add_script.ensures.text
 
-pub returns-clause-clean : goal.returns-clause-clean
-returns-clause-clean c =
-    also_on _ _ c.add_faults.result (λ h. script_clean c.args.path.now c.args.bytes.now c.in_ok-faults.faults.items
-    c.as_slice.result.now _ _ c.in_ok-faults.ensures c.as_slice.ensures.value h) c.add_faults.ensures.clean
+pub returns-in-Script-clause-clean : goal.returns-in-Script-clause-clean
+returns-in-Script-clause-clean c = also_on _ _ c.add_script.result (λ h. text_clean c.args.asked (types_of c.args.types.now) kind.Script
+    c.args.path.now c.args.bytes.now _ _ c.in-Script.ensures h) c.add_script.ensures.clean
+
+pub returns-in-Job-clause-text : goal.returns-in-Job-clause-text
+returns-in-Job-clause-text c = also_on _ _ c.add_job.result (λ h. text_linted c.args.asked (types_of c.args.types.now) kind.Job
+    c.args.path.now c.args.bytes.now _ _ c.in-Job.ensures h) c.add_job.ensures.text
+
+pub returns-in-Job-clause-clean : goal.returns-in-Job-clause-clean
+returns-in-Job-clause-clean c = also_on _ _ c.add_job.result (λ h. text_clean c.args.asked (types_of c.args.types.now) kind.Job
+    c.args.path.now c.args.bytes.now _ _ c.in-Job.ensures h) c.add_job.ensures.clean
+
+pub returns-in-Source-clause-text : goal.returns-in-Source-clause-text
+returns-in-Source-clause-text c = also_on _ _ c.add_source.result (λ h. text_linted c.args.asked (types_of c.args.types.now) kind.Source
+    c.args.path.now c.args.bytes.now _ _ c.in-Source.ensures h) c.add_source.ensures.text
+
+pub returns-in-Source-clause-clean : goal.returns-in-Source-clause-clean
+returns-in-Source-clause-clean c = also_on _ _ c.add_source.result (λ h. text_clean c.args.asked (types_of c.args.types.now) kind.Source
+    c.args.path.now c.args.bytes.now _ _ c.in-Source.ensures h) c.add_source.ensures.clean

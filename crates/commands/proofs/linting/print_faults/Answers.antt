@@ -1,14 +1,34 @@
-use Rattle.std.proofs.Common.{◌≡◌, [], Err, map, rules, subst, sym}
-use Rattle.commands.proofs.Accesses.{told_err}
-use Rattle.commands.specs.Linting.{Adds, AreLinted}
-use Rattle.commands.specs.Surveying.{AreSeen}
-use Rattle.commands.proofs.Linted.{unlinted}
+use Rattle.std.proofs.Common.{◌≡◌, Err, rules}
+use Rattle.rez_statements.specs.View.{types_of}
+use Rattle.fork_commands.proofs.Pairs.{also_ok}
+use Rattle.commands.specs.Fault.{message_of}
+use Rattle.commands.specs.Linting.{Unknown}
+use Rattle.commands.proofs.Accesses.{also_err, told_err}
+use Rattle.commands.proofs.Faults.{quiet_silent}
+use Rattle.commands.proofs.Linted.{lints, quiet_from, same_paths, unlinted}
 use Rattle.commands.proofs.linting.print_faults.Goals as goal
 
-pub returns-in_err-deliver-clause-undone : goal.returns-in_err-deliver-clause-undone
-returns-in_err-deliver-clause-undone g c =
-    let same : c.from_residual-in_err-deliver.result ≡ Err c.in_err-deliver.field-0.0 = search rules in
-    let seen = c.in_ok-lines.ensures.seen in
-    told_err _ _ _ same (unlinted c.args.linting.now seen.0 _ _ _ _ _ _ _ _ c.in_ok-lines.ensures.silent
-    (subst (λ l. AreSeen (map (λ path. path.now) l) seen.0) c.as_slice.ensures.value seen.1) seen.2.made
-    (subst (λ t. Adds (AreLinted seen.0) [] t) (sym c.as_slice-2.ensures.value) seen.2.lines) c.in_err-deliver.ensures.undelivered)
+pub returns-in_err-types-clause-undone : goal.returns-in_err-types-clause-undone
+returns-in_err-types-clause-undone g c =
+    let same : c.from_residual.result ≡ Err c.in_err-types.field-0.0 = search rules in
+    told_err _ _ _ same (Unknown c.in_err-types.ensures.silent c.in_err-types.ensures.stopped)
+
+pub returns-in_err-types-clause-quiet : goal.returns-in_err-types-clause-quiet
+returns-in_err-types-clause-quiet g c =
+    let same : c.from_residual.result ≡ Err c.in_err-types.field-0.0 = search rules in
+    told_err _ _ _ same (quiet_silent _ _ _ c.in_err-types.ensures.silent)
+
+pub returns-clause-done : goal.returns-clause-done
+returns-clause-done g c = also_ok _ _ c.print_lines.result
+    (λ ending h. lints c.args.linting.now _ (types_of c.in_ok-types.types) ending _ _ _ _ _ _ c.in_ok-types.ensures.silent
+    (same_paths _ _ c.as_slice.ensures.value) c.in_ok-types.ensures.known h) c.print_lines.ensures.done
+
+pub returns-clause-undone : goal.returns-clause-undone
+returns-clause-undone g c = also_err _ _ c.print_lines.result
+    (λ fault h. unlinted c.args.linting.now _ (types_of c.in_ok-types.types) _ _ _ _ _ _ (message_of fault)
+    c.in_ok-types.ensures.silent (same_paths _ _ c.as_slice.ensures.value) c.in_ok-types.ensures.known h)
+    c.print_lines.ensures.undone
+
+pub returns-clause-quiet : goal.returns-clause-quiet
+returns-clause-quiet g c = also_err _ _ c.print_lines.result
+    (λ fault h. quiet_from _ _ _ (message_of fault) c.in_ok-types.ensures.silent h) c.print_lines.ensures.quiet

@@ -1,0 +1,13 @@
+use Rattle.std.proofs.Common.{◌≡◌, ap, refl, sym, ◌∙◌, false, rules}
+use Rattle.std.specs.Prelude.{bytes_eq, ◌||◌}
+use Rattle.script_text.specs.Job.{has_name}
+use Rattle.lint.proofs.JobKnown.{has_file}
+use Rattle.lint.proofs.owners.Owner.has.Goals as goal
+
+pub returns-else-is_named : goal.returns-else-is_named
+returns-else-is_named c =
+    let name = c.args.name.now.0.items in
+    let other : bytes_eq name c.args.self.now.name ≡ false = search rules in
+    c.contains.ensures ∙ has_file _ (λ a b. refl) c.args.name.now c.self.inside.files.keys
+    ∙ ap (λ k. has_name name k.files) c.self.view_is
+    ∙ ap (λ t. t || has_name name c.args.self.now.files) (sym other)

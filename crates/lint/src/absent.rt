@@ -1,0 +1,128 @@
+//! Calls of the Macintosh that stand in logs and are not here.
+
+/// A call that is not here, and what stands in its place.
+#[derive(Clone, Copy)]
+struct AbsentCall {
+    word: &'static str,
+    instead: &'static str,
+}
+
+const NEW_HANDLE: &str = "use NewHandle, whose new bytes are 0";
+
+const NEW_POINTER: &str = "use NewPtr, whose new bytes are 0";
+
+const NO_ADDRESS: &str = "an address is an offset, and has no flags: leave the line out";
+
+const NO_STACK: &str = "a partition has no stack: leave the line out";
+
+const ONE_ZONE: &str = "the partition is the one zone: leave the line out";
+
+/// The calls that are not here.
+const ABSENT: [AbsentCall; 24] = [
+    AbsentCall {
+        word: "ApplicationZone",
+        instead: ONE_ZONE,
+    },
+    AbsentCall {
+        word: "BlockMove",
+        instead: "use Put or PutPtr with the bytes",
+    },
+    AbsentCall {
+        word: "BlockMoveData",
+        instead: "use Put or PutPtr with the bytes",
+    },
+    AbsentCall {
+        word: "CountResources",
+        instead: "use Count1Resources, of the current file",
+    },
+    AbsentCall {
+        word: "CountTypes",
+        instead: "use Count1Types, of the current file",
+    },
+    AbsentCall {
+        word: "GetApplLimit",
+        instead: ONE_ZONE,
+    },
+    AbsentCall {
+        word: "GetIndResource",
+        instead: "use Get1IndResource, of the current file",
+    },
+    AbsentCall {
+        word: "GetIndType",
+        instead: "use Get1IndType, of the current file",
+    },
+    AbsentCall {
+        word: "GetZone",
+        instead: ONE_ZONE,
+    },
+    AbsentCall {
+        word: "HandleZone",
+        instead: ONE_ZONE,
+    },
+    AbsentCall {
+        word: "InitApplZone",
+        instead: ONE_ZONE,
+    },
+    AbsentCall {
+        word: "InlineGetHandleSize",
+        instead: "use GetHandleSize",
+    },
+    AbsentCall {
+        word: "MaxApplZone",
+        instead: ONE_ZONE,
+    },
+    AbsentCall {
+        word: "NewHandleClear",
+        instead: NEW_HANDLE,
+    },
+    AbsentCall {
+        word: "NewPtrClear",
+        instead: NEW_POINTER,
+    },
+    AbsentCall {
+        word: "PtrZone",
+        instead: ONE_ZONE,
+    },
+    AbsentCall {
+        word: "RecoverHandle",
+        instead: "a handle is known by its name: leave the line out",
+    },
+    AbsentCall {
+        word: "SetApplLimit",
+        instead: ONE_ZONE,
+    },
+    AbsentCall {
+        word: "SetZone",
+        instead: ONE_ZONE,
+    },
+    AbsentCall {
+        word: "SizeResource",
+        instead: "use GetResourceSizeOnDisk",
+    },
+    AbsentCall {
+        word: "StackSpace",
+        instead: NO_STACK,
+    },
+    AbsentCall {
+        word: "StripAddress",
+        instead: NO_ADDRESS,
+    },
+    AbsentCall {
+        word: "SystemZone",
+        instead: ONE_ZONE,
+    },
+    AbsentCall {
+        word: "TempNewHandle",
+        instead: "there is no temporary memory: use NewHandle",
+    },
+];
+
+/// Returns what stands in place of a call, if it is one of those that are not here.
+pub(crate) fn instead_of(word: &[u8]) -> Option<&'static str> {
+    for call in &ABSENT {
+        if call.word.as_bytes() == word {
+            return Some(call.instead);
+        }
+    }
+    None
+}

@@ -1,0 +1,2 @@
+pub mod Moving
+mod Rows

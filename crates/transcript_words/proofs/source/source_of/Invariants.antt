@@ -1,0 +1,10 @@
+use Rattle.std.proofs.Common.{◌≡◌, ◌++◌, ℕ, List, map, length}
+use Rattle.transcript_words.specs.Source.{source}
+use Rattle.transcript_words.proofs.source.source_of.Given as goal
+
+-- the lines so far, before those of the text that is left
+abbrev pub invariant-loop-rest : goal.invariant-loop-rest
+invariant-loop-rest l = map (λ line. line.now) l.lines.items ++ source l.rest ≡ source l.text
+
+abbrev pub decreases-loop-rest : goal.decreases-loop-rest
+decreases-loop-rest l = length l.rest

@@ -1,0 +1,5 @@
+pub mod Code
+pub mod Source
+pub mod Changes
+pub mod View
+pub mod Words
