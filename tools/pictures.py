@@ -11,21 +11,22 @@ import sys
 
 FOLDER = "docs/pictures"
 
-# Each picture, and the words after 'macmem heap --svg' that draw it.
+# Each picture, and the words after 'macmem' that draw it.
 PICTURES = {
-    "first.svg": "1024 examples/first.script",
-    "kept_pointer.svg": "--steps 7..8 1024 examples/kept_pointer.script",
-    "kept_pointer_blocks.svg": "1024 examples/kept_pointer.script",
-    "kept_pointer_locked.svg": "--steps 9..10 1024 examples/kept_pointer_locked.script",
-    "compaction.svg": "--steps 6..7 1024 examples/compaction.script",
-    "purging.svg": "--steps 4..5 1024 examples/purging.script",
-    "grow_zone.svg": "1024 examples/grow_zone.script",
+    "first.svg": "heap --svg 1024 examples/first.script",
+    "kept_pointer.svg": "heap --svg --steps 7..8 1024 examples/kept_pointer.script",
+    "kept_pointer_blocks.svg": "heap --svg 1024 examples/kept_pointer.script",
+    "kept_pointer_locked.svg": "heap --svg --steps 9..10 1024 examples/kept_pointer_locked.script",
+    "compaction.svg": "heap --svg --steps 6..7 1024 examples/compaction.script",
+    "purging.svg": "heap --svg --steps 4..5 1024 examples/purging.script",
+    "grow_zone.svg": "heap --svg 1024 examples/grow_zone.script",
+    "zone.svg": "zone --svg examples/memory.dump 0x600",
 }
 
 
 def drawn(program, words):
     """What the program draws."""
-    return subprocess.run([program, "heap", "--svg", *words.split()], stdout=subprocess.PIPE, check=True).stdout
+    return subprocess.run([program, *words.split()], stdout=subprocess.PIPE, check=True).stdout
 
 
 def kept(name):
@@ -48,7 +49,7 @@ def main(words):
                 file.write(picture)
         elif picture != kept(name):
             failed += 1
-            print(f"{FOLDER}/{name} is not what 'macmem heap --svg {how}' draws")
+            print(f"{FOLDER}/{name} is not what 'macmem {how}' draws")
     for name in sorted(set(os.listdir(FOLDER)) - set(PICTURES)):
         failed += 1
         print(f"{FOLDER}/{name}: nothing draws it")

@@ -5,11 +5,10 @@ usage: tools/real_zones.py [--seed N] [--count N] FOLDER
        tools/real_zones.py --examples
        tools/real_zones.py --large FILE
 
-Writes FOLDER/stdin, a line for each dump: the form (24 or 32), the addresses of its first byte and of the zone, and its bytes, in
-hexadecimal; and
-FOLDER/stdout, what the program worked_zones is to print of them. Half of the zones are sound, and one rule is broken in each of the
-others. The layout is that of Inside Macintosh: Memory, chapter 2, and of resource maps that of More Macintosh Toolbox, chapter 1;
-nothing of it is taken from the reader.
+Writes FOLDER/stdin, a line for each dump: list or draw, the form (24 or 32), the addresses of its first byte and of the zone, and its
+bytes, in hexadecimal; and FOLDER/stdout, what the program worked_zones is to print of them: the blocks, and the rule that is broken. Half of the
+zones are sound, and one rule is broken in each of the others. The layout is that of Inside Macintosh: Memory, chapter 2, and of
+resource maps that of More Macintosh Toolbox, chapter 1; nothing of it is taken from the reader.
 
 With --examples writes examples/memory.dump, the memory of a Macintosh with a system zone and an application zone, and
 examples/overrun.dump, in which a text was written past the end of a block of the application zone; and prints what macmem zone is to
@@ -22,7 +21,8 @@ import os
 import random
 
 FREE, NONRELOCATABLE, RELOCATABLE = 0, 1, 2
-NAMES = {FREE: "free", NONRELOCATABLE: "nonrelocatable", RELOCATABLE: "relocatable"}
+UNKNOWN = 3
+NAMES = {FREE: "free", NONRELOCATABLE: "nonrelocatable", RELOCATABLE: "relocatable", UNKNOWN: "unknown"}
 RECORD = 52
 
 
@@ -156,7 +156,7 @@ class Zone:
 
 def line_of(zone, block):
     """The line that is printed of a block."""
-    logical = "-" if block.kind == FREE else str(block.logical)
+    logical = "-" if block.kind in (FREE, UNKNOWN) else str(block.logical)
     master = "%08X" % (zone.address + block.master) if block.kind == RELOCATABLE else "-       "
     flags = block.flags if block.kind == RELOCATABLE else 0
     return "%08X%10d%10s %-15s%s %-7s%-10s%s\n" % (
@@ -168,13 +168,17 @@ def total_of(name, blocks):
     return "%-15s%8d%11d\n" % (name, len(blocks), sum(b.size for b in blocks))
 
 
+def title_of(zone):
+    return "zone %08X: %d bits, %d bytes\n\n" % (zone.address, zone.form, zone.length)
+
+
 def text_of(zone):
-    """What is printed of a sound zone."""
+    """What is printed of a zone: of one that is damaged, of the blocks before the first whose physical size is wrong."""
     blocks = zone.blocks
     kinds = {k: [b for b in blocks if b.kind == k] for k in NAMES}
     moving = kinds[RELOCATABLE]
     return (
-        "%08X: %d bits\n" % (zone.address, zone.form)
+        title_of(zone)
         + "address       size   logical what           master   locked purgeable resource\n"
         + "".join(line_of(zone, b) for b in blocks)
         + "\nwhat             blocks      bytes\n"
@@ -183,6 +187,80 @@ def text_of(zone):
         + total_of("locked", [b for b in moving if b.flags & 0x80])
         + total_of("purgeable", [b for b in moving if b.flags & 0xC0 == 0x40])
         + total_of("all", blocks))
+
+
+def escaped(text):
+    return text.replace("&", "&amp;").replace("<", "&lt;").replace(">", "&gt;")
+
+
+def bins_of(blocks):
+    """The bins of a picture: of more than 800 blocks neighbours are one bin until they have a 400th of the bytes, and a block that has
+    as many stands alone."""
+    if len(blocks) <= 800:
+        return [[b] for b in blocks]
+    least = sum(b.size for b in blocks) // 400 + 1
+    bins, begun = [], []
+    for block in blocks:
+        if begun and (sum(b.size for b in begun) >= least or block.size >= least):
+            bins.append(begun)
+            begun = []
+        begun.append(block)
+    return bins + [begun]
+
+
+def classes_of(bin):
+    """The kind that most bytes of a bin have, and what most of them are marked as."""
+    def most(holds):
+        return 2 * sum(b.size for b in bin if holds(b)) > sum(b.size for b in bin)
+
+    moving = [b for b in bin if b.kind == RELOCATABLE]
+    return ("s" + " f" * most(lambda b: b.kind == FREE) + " n" * most(lambda b: b.kind == NONRELOCATABLE)
+            + " r" * most(lambda b: b in moving) + " l" * most(lambda b: b in moving and b.flags & 0x80)
+            + " p" * most(lambda b: b in moving and b.flags & 0xC0 == 0x40))
+
+
+def box_of(zone, bin):
+    """What is drawn of a bin."""
+    if len(bin) == 1:
+        title = line_of(zone, bin[0])
+    else:
+        title = "%08X\n" % (zone.address + bin[0].place) + "".join(
+            total_of(NAMES[kind], [b for b in bin if b.kind == kind]) for kind in (FREE, NONRELOCATABLE, RELOCATABLE))
+    return '<rect class="%s" x="%d" width="%d" height="1"><title>%s</title></rect>\n' % (
+        classes_of(bin), bin[0].place, sum(b.size for b in bin), escaped(title))
+
+
+def sample(x, name, text):
+    return '<rect class="%s" x="%d" y="46" width="16" height="12"/><text x="%d" y="56">%s</text>' % (name, x, x + 22, text)
+
+
+LIGHT = ("text{fill:#222}rect{stroke:#555;stroke-width:.5;vector-effect:non-scaling-stroke}.b{fill:#fff}.u{fill:#777}.s{fill:#ddd29a}"
+         ".f{fill:#f4f4f4}.n{fill:#f2b27a}.r{fill:#9cc8ea}.l{fill:#f0a0a0}.p{fill-opacity:.5}.d{fill:#c22}.b,.d{stroke:none}")
+DARK = ("text{fill:#eee}rect{stroke:#aaa}.b{fill:#161616}.s{fill:#6b6236}.f{fill:#2c2c2c}.n{fill:#8a5524}.r{fill:#2b5f86}.l{fill:#8a3030}"
+        ".d{fill:#f66}")
+LEGEND = ((12, "f", "free"), (84, "n", "nonrelocatable"), (226, "r", "relocatable"), (346, "r l", "locked"), (434, "r p", "purgeable"),
+          (542, "s", "mixed or unknown"), (696, "u", "no block"), (798, "d", "damaged"))
+
+
+def picture_of(zone, fault):
+    """The picture of a zone, of which the fault is the line below the totals, if it has one."""
+    rows = min(64, len(zone.blocks) // 12 + 1)
+    width = zone.length // rows + 1
+    height = 84 + 24 * rows
+    text = ('<svg xmlns="http://www.w3.org/2000/svg" width="972" height="%d" viewBox="0 0 972 %d" font-family="monospace" font-size="11">\n'
+            '<style>%s@media(prefers-color-scheme:dark){%s}</style>\n<rect class="b" width="100%%" height="100%%"/>\n'
+            '<text x="12" y="18" font-size="13">%s</text>\n<text x="12" y="36">%s</text>\n%s\n' % (
+                height, height, LIGHT, DARK, title_of(zone), fault, "".join(sample(*one) for one in LEGEND)))
+    text += ('<defs><g id="z"><rect class="u" height="1" width="%d"><title>no block</title></rect>\n' % zone.length
+             + "".join(box_of(zone, bin) for bin in bins_of(zone.blocks)))
+    if fault:
+        place = max(0, int(fault.split()[2].rstrip(":"), 16) - zone.address)
+        text += '<rect class="d" x="%d" width="%d" height="1"><title>%s</title></rect>\n' % (place, width // 200 + 1, fault)
+    text += "</g></defs>\n"
+    for row in range(rows):
+        text += ('<text x="12" y="%d">%08X</text><svg x="84" width="876" height="18" y="%d" viewBox="%d 0 %d 1" preserveAspectRatio="none">'
+                 '<use href="#z"/></svg>\n' % (85 + 24 * row, zone.address + row * width, 72 + 24 * row, row * width, width))
+    return text + "</svg>\n"
 
 
 KINDS = (b"ICN#", b"CODE", b"snd ", b"\0\0\0\1", b"it's", b"a<b&", b"caf\x8E")
@@ -227,16 +305,32 @@ def random_zone(draw):
     return Zone(form, grain, 4 * draw.randint(0x400, 0x3F0000), blocks)
 
 
+def large_zone(draw):
+    """A zone with more blocks than are drawn one by one, of which some are large."""
+    blocks = [Block(NONRELOCATABLE, 4 * 200, masters=200)]
+    for number in range(805):
+        kind = draw.choice((FREE, NONRELOCATABLE)) if number % 5 else RELOCATABLE
+        size = 400 if draw.randrange(100) == 0 else 4
+        blocks.append(Block(kind, size, draw.choice((0, 0x80, 0x40)) if kind == RELOCATABLE else 0))
+    return Zone(24, 4, 0x10000, blocks)
+
+
 def broken(zone, draw):
-    """Breaks one rule of a zone, and returns the line that is printed of it."""
+    """Breaks one rule of a zone, and returns its address and words. The blocks of the zone are then as they are listed."""
     moving = draw.choice([b for b in zone.blocks if b.kind == RELOCATABLE])
     where = zone.address + moving.place
     which = draw.randrange(8)
     if which == 0:
         zone.bytes[moving.place] |= 0xC0
+        moving.kind = UNKNOWN
         return "%08X: block type is bad\n" % where
     if which == 1:
         zone.long(zone.owner_place(moving), 40)
+        for block in zone.blocks:
+            for _, references in block.map.types if block.map is not None else ():
+                references[:] = [(number, None if named is moving else named) for number, named in references]
+        moving.master = 40
+        moving.flags = 0 if zone.form == 24 else moving.flags
         return "%08X: relative handle is bad\n" % where
     if which == 2:
         zone.bytes[moving.master + 3] ^= 4
@@ -253,9 +347,9 @@ def broken(zone, draw):
     if which == 6:
         zone.long(zone.free_masters[-1], zone.address + zone.free_masters[-1])
         return "%08X: free master pointer list has no end\n" % (zone.address + zone.free_masters[-1])
-    size = zone.blocks[-1].place + (3 if zone.form == 24 else 7)
-    zone.bytes[size] ^= 1
-    return "%08X: block length is bad\n" % (zone.address + zone.blocks[-1].place)
+    last = zone.blocks.pop()
+    zone.bytes[last.place + (3 if zone.form == 24 else 7)] ^= 1
+    return "%08X: block length is bad\n" % (zone.address + last.place)
 
 
 SYS_ZONE, APPL_ZONE = 0x2A6, 0x2AA
@@ -282,7 +376,6 @@ def write_examples():
     dump = bytearray(0x800)
     for zone in (system, application):
         dump[zone.address:zone.address + zone.length] = zone.lay(draw)
-        print("%08X: %d bytes" % (zone.address, zone.length))
         print(text_of(zone))
     for at, zone in ((SYS_ZONE, system), (APPL_ZONE, application)):
         dump[at:at + 4] = zone.address.to_bytes(4, "big")
@@ -321,13 +414,16 @@ def main():
         return write_large(words.large)
     draw = random.Random(words.seed)
     dumps, texts = [], []
-    for number in range(words.count):
-        zone = random_zone(draw)
+    for number in range(words.count + 3):
+        is_drawn = number >= words.count
+        zone = large_zone(draw) if number == words.count + 2 else random_zone(draw)
         zone.lay(draw)
-        texts.append(text_of(zone) if number % 2 == 0 else broken(zone, draw))
+        fault = "" if number % 2 == 0 else "\ndamaged at " + broken(zone, draw)
+        texts.append(picture_of(zone, fault) if is_drawn else text_of(zone) + fault)
         below, above = 4 * draw.randint(0, 8), draw.randint(0, 20)
         dump = bytes(below) + bytes(zone.bytes) + bytes(above)
-        dumps.append("%d %X %X %s\n" % (zone.form, zone.address - below, zone.address, dump.hex().upper()))
+        dumps.append("%s %d %X %X %s\n" % (
+            "draw" if is_drawn else "list", zone.form, zone.address - below, zone.address, dump.hex().upper()))
     with open(os.path.join(words.folder, "stdin"), "w") as file:
         file.writelines(dumps)
     with open(os.path.join(words.folder, "stdout"), "w") as file:

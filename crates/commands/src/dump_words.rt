@@ -48,6 +48,12 @@ prints a line for each rule that a zone breaks, as MacsBug's HC does:
   000006EC: BkLim does not agree with heap length
   000006EC: nonrelocatable block: pointer to zone is bad
 
+  macmem zone --svg examples/memory.dump 0x600 > zone.svg
+
+draws the zone: rows of its bytes, lowest first, each with the address where it
+begins, in which each block has the bytes that it has in the zone. Of more than
+800 blocks neighbours that are small are drawn as one.
+
 The dump holds the bytes of memory, from the address BASE on: a file that QEMU's
 pmemsave, MAME's save or a monitor wrote. Addresses are decimal, or hexadecimal
 after 0x or $ ('$2A6' in quotes, since shells read $2).
@@ -56,12 +62,15 @@ header, 'logical' the size of the content; 'master' is the address of the master
 pointer; 'resource' is the type and the ID, where a resource map in the zone has
 the handle; 'purgeable' in the totals are the blocks that are not locked. With
 --plain a tab stands between fields, there are no titles, and a line begins with
-'zone', 'block' or 'total'.
+'zone', 'block', 'total' or 'damaged'.
+Of a damaged zone the blocks before the first whose size is wrong are listed, and
+a line below the totals has the first rule that is broken, as
+'damaged at 000006EC: BkLim does not agree with heap length'.
 Without --24 and --32 the form is the one in which the zone is whole, or else
 the one in which more blocks stand one after the other.
 Status: 0 done; 1 with a line on the standard error where the dump has no such
-zone, as 'macmem: DUMP: no zone: 00000600: BkLim is bad'; 1 also where --check
-prints a line or --find finds no zone.";
+zone, as 'macmem: DUMP: no zone: 00000600: BkLim is bad'; 1 also where the zone
+breaks a rule or --find finds no zone.";
 
 /// The ways in which the command is used.
 const ZONE_USAGE: &str = "macmem zone [OPTIONS] <DUMP> <ADDRESS>
@@ -99,6 +108,11 @@ const HEX: &str = "hex";
 
 const HEX_HELP: &str = "Print sizes in hexadecimal";
 
+/// The name of the flag for a picture, without its two hyphens.
+const SVG: &str = "svg";
+
+const SVG_HELP: &str = "Print the zone as a picture, in SVG";
+
 /// The name of the flag for all that is wrong, without its two hyphens.
 const CHECK: &str = "check";
 
@@ -114,6 +128,15 @@ fn check_flag<'a>(alloc: Global) -> Result<Arg<'a>, AllocError> {
     flag(alloc, CHECK, CHECK_HELP)
         .conflicts_with(PLAIN)?
         .conflicts_with(HEX)?
+        .conflicts_with(FIND)
+}
+
+/// Returns the flag for a picture.
+fn svg_flag<'a>(alloc: Global) -> Result<Arg<'a>, AllocError> {
+    flag(alloc, SVG, SVG_HELP)
+        .conflicts_with(PLAIN)?
+        .conflicts_with(HEX)?
+        .conflicts_with(CHECK)?
         .conflicts_with(FIND)
 }
 
@@ -149,6 +172,7 @@ pub fn zone_command<'a>(alloc: Global) -> Result<Command<'a>, AllocError> {
         .arg(option(alloc, BASE, "BASE", BASE_HELP))?
         .arg(flag(alloc, PLAIN, PLAIN_HELP))?
         .arg(flag(alloc, HEX, HEX_HELP))?
+        .arg(svg_flag(alloc)?)?
         .arg(check_flag(alloc)?)?
         .arg(flag(alloc, FIND, FIND_HELP))?
         .arg(argument(alloc, "DUMP", DUMP_HELP))?
@@ -231,6 +255,8 @@ fn style_in(matches: &ArgMatches<'_>) -> Style {
 fn question_in(matches: &ArgMatches<'_>, place: Place) -> Question {
     if matches.get_flag(CHECK) {
         Question::Check(place)
+    } else if matches.get_flag(SVG) {
+        Question::Draw(place)
     } else {
         Question::List(place, style_in(matches))
     }

@@ -1,16 +1,25 @@
-use Rattle.std.proofs.Common.{◌≡◌, ℕ, ◌+◌, ◌∷◌, List, map, true, sym, ◌∙◌, ap}
+use Rattle.std.proofs.Common.{◌≡◌, ℕ, ◌+◌, ◌≤◌, ◌∷◌, List, length, map, true, sym, ◌∙◌, ap}
+use Rattle.std.proofs.lemmas.List.{drop_all}
+use Rattle.byteorder.specs.Endian.{big_number}
+use Rattle.real_zone.specs.Numbers.{number}
 use Rattle.real_zone.specs.Header.{size_at}
-use Rattle.real_zone.specs.Blocks.{is_passable, places_from}
+use Rattle.real_zone.specs.Blocks.{is_passable, passed_from}
 use Rattle.real_zone.specs.Seen.{block_at}
 use Rattle.real_zone.specs.declared.form.Form.{Form}
 use Rattle.real_zone.specs.declared.block.Block.{Block}
-use Rattle.real_zone.proofs.Walking.{next, next_places}
+use Rattle.real_zone.proofs.Walking.{next}
+use Rattle.real_zone.proofs.Passed.{passed_next}
 
 -- a block that is given, before those that are still to come
 pub given : (f : Form) (zone : ℕ) (bytes : List ℕ) (at to : ℕ) (block : Block) → to ≡ at + size_at f bytes at
     → block ≡ block_at f zone bytes at → is_passable f bytes at ≡ true
-    → map (block_at f zone bytes) (places_from f bytes at) ≡ block ∷ map (block_at f zone bytes) (places_from f bytes to)
+    → map (block_at f zone bytes) (passed_from f bytes at) ≡ block ∷ map (block_at f zone bytes) (passed_from f bytes to)
 given f zone bytes at to block e is p =
-    ap (map (block_at f zone bytes)) (next_places f bytes at p)
-    ∙ ap (λ x. x ∷ map (block_at f zone bytes) (places_from f bytes (next f bytes at))) (sym is)
-    ∙ ap (λ n. block ∷ map (block_at f zone bytes) (places_from f bytes n)) (sym e)
+    ap (map (block_at f zone bytes)) (passed_next f bytes at p)
+    ∙ ap (λ x. x ∷ map (block_at f zone bytes) (passed_from f bytes (next f bytes at))) (sym is)
+    ∙ ap (λ n. block ∷ map (block_at f zone bytes) (passed_from f bytes n)) (sym e)
+
+-- past the end a byte counts as 0
+pub past_end : (bytes : List ℕ) (at : ℕ) → length bytes ≤ at → 0 ≡ number 1 at bytes
+unfolding number
+past_end bytes at h = ap (big_number 1) (sym (drop_all at bytes h))

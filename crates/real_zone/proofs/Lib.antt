@@ -9,6 +9,7 @@ pub mod Giving
 pub mod AllFound
 pub mod Fourths
 pub mod Judged
+pub mod Passed
 pub mod Naming
 pub mod Worked
 pub mod WorkedMaps

@@ -1,12 +1,12 @@
-use Rattle.std.proofs.Common.{◌≡◌, ℕ, zero, suc, ◌+◌, ◌*◌, ◌-◌, ◌<◌, ◌≤◌, Bool, true, false, ◌&&◌, cond, List, [], ◌∷◌, length}
-use Rattle.std.proofs.Common.{Option, Some, None, refl, sym, ◌∙◌, ap, arith, sum_by, filter}
+use Rattle.std.proofs.Common.{◌≡◌, ℕ, zero, suc, ◌+◌, ◌*◌, ◌-◌, ◌<◌, ◌≤◌, Bool, true, false, ◌&&◌, List, [], ◌∷◌, length}
+use Rattle.std.proofs.Common.{Option, Some, None, refl, sym, ◌∙◌, ap, arith, sum_by}
 use Rattle.std.specs.Prelude.{nat_le}
 use Rattle.std.specs.List.{list_all}
 use Rattle.std.specs.Option.{option_or}
 use Rattle.std.proofs.lemmas.Bool.{and_parts, leb-true}
 use Rattle.std.proofs.lemmas.List.Sums.{sum_by-cons}
 use Rattle.real_zone.specs.Form.{header_size}
-use Rattle.real_zone.specs.Blocks.{is_passable, passed_from}
+use Rattle.real_zone.specs.Blocks.{is_passable}
 use Rattle.real_zone.specs.Lists.{first_found}
 use Rattle.real_zone.specs.Numbers.{number}
 use Rattle.real_zone.specs.Resources.{spaced, entries, type_list, types_end, has_types, has_references, has_room}
@@ -15,8 +15,7 @@ use Rattle.real_zone.specs.Seen.{logical_size}
 use Rattle.real_zone.specs.declared.form.Form.{Form}
 use Rattle.real_zone.specs.declared.resource_map.Resource.{Resource}
 use Rattle.real_zone.specs.declared.form.Form.TheVariants as form
-use Rattle.real_zone.proofs.Walking.{passes, next, next_places, no_places}
-use Rattle.real_zone.proofs.AllFound.{last_place}
+use Rattle.real_zone.proofs.Walking.{passes}
 
 -- The resources that the maps in a zone name.
 
@@ -145,18 +144,3 @@ pub found_end : {A B : Type 0} (find : A → Option B) (there : Option B) (rest 
     → rest ≡ [] → option_or there (first_found find rest) ≡ whole → there ≡ whole
 found_end find there rest whole e before =
     no_more there ∙ ap (λ l. option_or there (first_found find l)) (sym e) ∙ before
-
--- the passable blocks from a place on: one of them before the others, one that ends the walk, and none
-pub passed_next : (f : Form) (bytes : List ℕ) (at : ℕ) → is_passable f bytes at ≡ true
-    → passed_from f bytes at ≡ at ∷ passed_from f bytes (next f bytes at)
-passed_next f bytes at p =
-    ap (filter (is_passable f bytes)) (next_places f bytes at p)
-    ∙ ap (λ t. cond t (at ∷ passed_from f bytes (next f bytes at)) (passed_from f bytes (next f bytes at))) p
-
-pub passed_stop : (f : Form) (bytes : List ℕ) (at : ℕ) → at < length bytes → is_passable f bytes at ≡ false
-    → passed_from f bytes at ≡ []
-passed_stop f bytes at h stuck =
-    ap (filter (is_passable f bytes)) (last_place f bytes at h stuck) ∙ ap (λ t. cond t (at ∷ []) []) stuck
-
-pub passed_end : (f : Form) (bytes : List ℕ) (at : ℕ) → length bytes ≤ at → passed_from f bytes at ≡ []
-passed_end f bytes at h = ap (filter (is_passable f bytes)) (no_places f bytes at h)

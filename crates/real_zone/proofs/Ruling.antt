@@ -1,17 +1,15 @@
 use Rattle.std.proofs.Common.{◌≡◌, ℕ, ◌+◌, ◌<◌, ◌≤◌, Bool, true, false, ◌&&◌, cond, not, List, [], ◌∷◌, ◌++◌, length, Option, Some, None}
 use Rattle.std.proofs.Common.{refl, sym, ◌∙◌, ap}
-use Rattle.std.specs.Prelude.{◌%◌, ◌==◌, nat_le, nat_lt}
+use Rattle.std.specs.Prelude.{nat_le, nat_lt}
 use Rattle.std.specs.List.{flat_map}
 use Rattle.std.specs.Option.{option_to_list, option_or}
-use Rattle.std.proofs.lemmas.Bool.{lt-leb, le-leb, leb-true, ltb-false, and_parts}
-use Rattle.real_zone.specs.Form.{header_size, alignment}
-use Rattle.real_zone.specs.Header.{tag_at, size_at, owner_at}
+use Rattle.std.proofs.lemmas.Bool.{lt-leb, le-leb, ltb-false}
+use Rattle.real_zone.specs.Header.{tag_at, size_at}
 use Rattle.real_zone.specs.Lists.{first}
 use Rattle.real_zone.specs.Blocks.{has_room, is_size, is_passable, places_from}
-use Rattle.real_zone.specs.Rules.{is_master_place, master_at, length_rule, kind_rule, owner_rule, handle_rule, block_rules}
+use Rattle.real_zone.specs.Rules.{length_rule, kind_rule, owner_rule, block_rules}
 use Rattle.real_zone.specs.Rules.{keeps_rules, broken, block_damages}
 use Rattle.real_zone.specs.declared.form.Form.{Form}
-use Rattle.real_zone.specs.declared.form.Tag.TheVariants as tag
 use Rattle.real_zone.specs.declared.fault.Rule.{Rule}
 use Rattle.real_zone.specs.declared.fault.Rule.TheVariants as rule
 use Rattle.real_zone.specs.declared.fault.Damage.{Damage}
@@ -83,52 +81,11 @@ unfolding block_damages
 passable_if_whole f zone bytes at h =
     sound f zone bytes at (map-nothing (broken (zone + at)) (block_rules f zone bytes at) h)
 
--- a block that keeps all rules is passable, and its master pointer lies in the zone
+-- a block that keeps all rules is passable
 pub keeps_passable : (f : Form) (zone : ℕ) (bytes : List ℕ) (at : ℕ) → keeps_rules f zone bytes at ≡ true
     → is_passable f bytes at ≡ true
 unfolding keeps_rules
 keeps_passable f zone bytes at h = sound f zone bytes at (empty (block_rules f zone bytes at) h)
-
-owner_sound : (f : Form) (zone : ℕ) (bytes : List ℕ) (at : ℕ) → block_rules f zone bytes at ≡ []
-    → owner_rule (tag_at bytes at) f zone bytes at ≡ None
-unfolding block_rules
-owner_sound f zone bytes at h =
-    cases (has_room bytes at) (length_rule f bytes at) (kind_rule (tag_at bytes at) f bytes at)
-    (owner_rule (tag_at bytes at) f zone bytes at) h
-  where
-    cases : (a : Bool) (l k o : Option Rule)
-        → cond (not a) (rule.HeapLength ∷ []) (option_to_list l ++ option_to_list k ++ option_to_list o) ≡ [] → o ≡ None
-    cases false l k o h = cc
-    cases true (Some x) k o h = cc
-    cases true None (Some x) o h = cc
-    cases true None None (Some x) h = cc
-    cases true None None None h = refl
-
-handle_inside : (f : Form) (zone : ℕ) (bytes : List ℕ) (at : ℕ) → handle_rule f zone bytes at ≡ None
-    → is_master_place f bytes (owner_at f bytes at) ≡ true
-unfolding handle_rule
-handle_inside f zone bytes at h =
-    cases (is_master_place f bytes (owner_at f bytes at))
-    (master_at f bytes (owner_at f bytes at) == zone + at + header_size f) h
-  where
-    cases : (a b : Bool)
-        → cond (not a) (Some rule.RelativeHandle) (cond (not b) (Some rule.MasterPointer) None) ≡ None → a ≡ true
-    cases true b h = refl
-    cases false b h = cc
-
-place_inside : (f : Form) (bytes : List ℕ) (at : ℕ) → is_master_place f bytes at ≡ true → at + 4 ≤ length bytes
-unfolding is_master_place
-place_inside f bytes at h =
-    leb-true (at + 4) (length bytes) (and_parts (nat_le 52 at) (nat_le (at + 4) (length bytes))
-    (and_parts (nat_le 52 at && nat_le (at + 4) (length bytes)) (at % alignment f == 0) h).0).1
-
-pub master_inside : (f : Form) (zone : ℕ) (bytes : List ℕ) (at : ℕ) → keeps_rules f zone bytes at ≡ true
-    → tag_at bytes at ≡ Some tag.Relocatable → owner_at f bytes at + 4 ≤ length bytes
-unfolding keeps_rules owner_rule
-master_inside f zone bytes at h is =
-    place_inside f bytes (owner_at f bytes at) (handle_inside f zone bytes at
-    (ap (λ t. owner_rule t f zone bytes at) (sym is)
-    ∙ owner_sound f zone bytes at (empty (block_rules f zone bytes at) h)))
 
 -- what is wrong from a place on
 abbrev pub damages_past : Form → ℕ → List ℕ → ℕ → List Damage

@@ -7,7 +7,7 @@ use Rattle.real_zone.specs.Rules.{is_master_place, length_rule, correction_rule,
 use Rattle.real_zone.specs.Rules.{block_rules, block_damages, broken}
 use Rattle.real_zone.specs.Masters.{covers, is_covered, may_be_free, list_damages}
 use Rattle.real_zone.specs.Zone.{damages, damages_of_zone}
-use Rattle.real_zone.specs.Seen.{flags_at, master_of, kind_of, logical_size, block_at, blocks_of}
+use Rattle.real_zone.specs.Seen.{flags_at, master_of, kind_of, logical_size, block_at, blocks_of, blocks_passed}
 use Rattle.real_zone.specs.declared.form.Form.TheVariants as form
 use Rattle.real_zone.specs.declared.block.Block.{Block}
 use Rattle.real_zone.specs.declared.block.Kind.TheVariants as kind
@@ -187,3 +187,11 @@ seen32 : blocks_of form.Bits32 0x2000 zone32 ≡ fixed 0x2034 28 16 ∷ movable 
     ∷ free 0x2070 16 4 ∷ movable 0x2080 16 4 0x2044 false true true ∷ []
 unfolding number is_passable places flags_at master_of kind_of logical_size block_at
 seen32 = refl
+
+-- of a damaged zone those that are passed: one of no kind too, and one whose relative handle leads past bkLim; not one whose size is bad
+damaged24 : (blocks_passed form.Bits24 0x1000 (with 76 (0xC2 ∷ []) (with 114 (0x10 ∷ []) zone24))
+    ≡ fixed 0x1034 24 16 ∷ record { address = 0x104C; physical_size = 16; logical_size = 6; kind = kind.Unknown }
+    ∷ free 0x105C 16 8 ∷ movable 0x106C 12 4 0x2040 false false false ∷ [])
+    × (blocks_passed form.Bits24 0x1000 (with 79 (17 ∷ []) zone24) ≡ fixed 0x1034 24 16 ∷ [])
+unfolding number is_passable places flags_at master_of kind_of logical_size block_at
+damaged24 = (refl, refl)

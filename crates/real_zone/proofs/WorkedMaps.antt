@@ -1,4 +1,4 @@
-use Rattle.std.proofs.Common.{◌≡◌, ℕ, List, [], ◌∷◌, ◌++◌, take, drop, length, ◌+◌, replicate, refl, true, false, Option, Some, None}
+use Rattle.std.proofs.Common.{◌≡◌, ℕ, List, [], ◌∷◌, ◌++◌, take, drop, length, ◌+◌, replicate, refl, true, false, Some, None}
 use Rattle.std.proofs.Common.{pos, ◌-ℤ◌}
 use Rattle.real_zone.specs.Numbers.{number}
 use Rattle.real_zone.specs.Blocks.{is_passable, places}
@@ -6,7 +6,6 @@ use Rattle.real_zone.specs.Seen.{logical_size, content_at}
 use Rattle.real_zone.specs.Resources.{spaced, has_types, has_references, is_resource_map, named_in_type, named_in_map}
 use Rattle.real_zone.specs.Resources.{named_in_block, resource_of}
 use Rattle.real_zone.specs.declared.form.Form.TheVariants as form
-use Rattle.real_zone.specs.declared.resource_map.Resource.{Resource}
 
 -- Worked resource maps, laid by hand from the figures of Inside Macintosh: More Macintosh Toolbox, chapter 1, "Resource File Format".
 

@@ -1,8 +1,8 @@
-use Rattle.std.specs.Prelude.{ℕ, ◌+◌, ◌-◌, ◌==◌, Bool, not, bit_and, List, map, take, drop, Option, Some, None}
+use Rattle.std.specs.Prelude.{ℕ, ◌+◌, ◌-◌, ◌%◌, ◌==◌, Bool, not, bit_and, List, map, take, drop, Option, Some, None}
 use Rattle.real_zone.specs.Numbers.{number}
 use Rattle.real_zone.specs.Form.{header_size}
 use Rattle.real_zone.specs.Header.{tag_at, size_at, correction_at, owner_at}
-use Rattle.real_zone.specs.Blocks.{block_places}
+use Rattle.real_zone.specs.Blocks.{block_places, passed_places}
 use Rattle.real_zone.specs.declared.form.Form.{Form}
 use Rattle.real_zone.specs.declared.form.Form.TheVariants as form
 use Rattle.real_zone.specs.declared.form.Tag.{Tag}
@@ -24,18 +24,19 @@ flags_at form.Bits32 bytes at = number 1 (at + 1) bytes
 abbrev pub has_flag : ℕ → ℕ → Bool
 has_flag flag flags = not (bit_and flags flag == 0)
 
--- The master pointer of a relocatable block, with the flags of the block.
+-- The master pointer of a relocatable block, with the flags of the block. Of a damaged zone it may lie anywhere: addresses begin again
+-- after the last one, and past bkLim no flag is set.
 unfoldable pub master_of : Form → ℕ → List ℕ → ℕ → Master
 master_of form zone bytes at = record {
-  address = zone + owner_at form bytes at;
+  address = (zone + owner_at form bytes at) % 0x100000000;
   is_locked = has_flag 0x80 (flags_at form bytes at);
   is_purgeable = has_flag 0x40 (flags_at form bytes at);
   is_resource = has_flag 0x20 (flags_at form bytes at);
 }
 
--- The kind of a block with a tag. No block of a zone has another tag than these three.
+-- The kind of a block with a tag. No block of a zone that keeps all rules has another tag than these three.
 unfoldable pub kind_of : Option Tag → Form → ℕ → List ℕ → ℕ → Kind
-kind_of None form zone bytes at = kind.Free
+kind_of None form zone bytes at = kind.Unknown
 kind_of (Some tag.Free) form zone bytes at = kind.Free
 kind_of (Some tag.Nonrelocatable) form zone bytes at = kind.Nonrelocatable
 kind_of (Some tag.Relocatable) form zone bytes at = kind.Relocatable (master_of form zone bytes at)
@@ -60,3 +61,7 @@ block_at form zone bytes at = record {
 -- The blocks of a zone, in their order.
 abbrev pub blocks_of : Form → ℕ → List ℕ → List Block
 blocks_of form zone bytes = map (block_at form zone bytes) (block_places form bytes)
+
+-- The blocks of a zone that may be damaged: those that are passed.
+abbrev pub blocks_passed : Form → ℕ → List ℕ → List Block
+blocks_passed form zone bytes = map (block_at form zone bytes) (passed_places form bytes)

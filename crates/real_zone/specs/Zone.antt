@@ -62,6 +62,10 @@ zone_part form zone bytes = take (limit_of form bytes - zone) bytes
 abbrev pub zone_bytes : Form → List ℕ → ℕ → ℕ → List ℕ
 zone_bytes form dump base zone = zone_part form zone (from_zone dump base zone)
 
+-- A zone record lies in a dump, and its bkLim is one, so that blocks can be looked for; they may be damaged.
+abbrev pub is_laid : Form → List ℕ → ℕ → ℕ → Bool
+is_laid form dump base zone = has_record dump base zone && has_limit form zone (from_zone dump base zone)
+
 -- What is wrong with a zone in the bytes from its address on.
 abbrev pub damages_from : Form → ℕ → List ℕ → List Damage
 damages_from form zone bytes =

@@ -2,13 +2,12 @@
 
 ghost use Rattle.std.specs.Prelude.{◌≡◌, ◌+◌, ◌≤◌, ◌<◌, ◌^◌, length, IsTrue};
 ghost use Rattle.real_zone.specs.Blocks.{is_passable};
-ghost use Rattle.real_zone.specs.Header.{owner_at, tag_at};
-ghost use Rattle.real_zone.specs.Rules.{keeps_rules};
+ghost use Rattle.real_zone.specs.Header.{tag_at};
 ghost use Rattle.real_zone.specs.Seen as spec;
 
 use crate::form::{Form, Tag};
 use crate::header::{kind, owner, physical_size, size_correction};
-use crate::numbers::byte;
+use crate::numbers::{byte, byte_or_zero};
 
 /// The master pointer of a relocatable block, and the flags that the block has.
 #[derive(Clone, Copy, Debug, PartialEq, Eq)]
@@ -25,6 +24,8 @@ pub enum Kind {
     Free,
     Nonrelocatable,
     Relocatable(Master),
+    /// None of the three: only in a zone that is damaged.
+    Unknown,
 }
 
 /// A block of a zone.
@@ -42,12 +43,11 @@ pub struct Block {
 /// Returns the flags of the relocatable block at an offset.
 #[tactic(auto, unfolding(crate::specs::Seen::flags_at))]
 fn flags_of(form: Form, bytes: &[u8], at: usize) -> usize
-    requires room { at + 12 ≤ length bytes.now }
-    requires master { owner_at form bytes.now at + 4 ≤ length bytes.now }
+    requires { at + 12 ≤ length bytes.now }
     ensures { result ≡ spec.flags_at form bytes.now at }
 {
     match form {
-        Form::Bits24 => byte(bytes, owner(form, bytes, at)),
+        Form::Bits24 => byte_or_zero(bytes, owner(form, bytes, at)),
         Form::Bits32 => byte(bytes, at + 1),
     }
 }
@@ -55,14 +55,12 @@ fn flags_of(form: Form, bytes: &[u8], at: usize) -> usize
 /// Returns the master pointer of the relocatable block at an offset.
 #[tactic(auto, unfolding(crate::specs::Seen::master_of))]
 fn master_at(form: Form, zone: u32, bytes: &[u8], at: usize) -> Master
-    requires room { at + 12 ≤ length bytes.now }
-    requires master { owner_at form bytes.now at + 4 ≤ length bytes.now }
-    requires fits { zone + length bytes.now ≤ 2 ^ 32 }
+    requires { at + 12 ≤ length bytes.now }
     ensures { result ≡ spec.master_of form zone bytes.now at }
 {
     let flags = flags_of(form, bytes, at);
     Master {
-        address: zone + owner(form, bytes, at) as u32,
+        address: zone.wrapping_add(owner(form, bytes, at) as u32),
         is_locked: flags & 0x80 != 0,
         is_purgeable: flags & 0x40 != 0,
         is_resource: flags & 0x20 != 0,
@@ -70,18 +68,16 @@ fn master_at(form: Form, zone: u32, bytes: &[u8], at: usize) -> Master
 }
 
 /// Returns the kind of the block at an offset.
-#[tactic(auto, using(crate::proofs::Ruling::master_inside), unfolding(crate::specs::Seen::kind_of))]
+#[tactic(auto, unfolding(crate::specs::Seen::kind_of))]
 fn kind_at(form: Form, zone: u32, bytes: &[u8], at: usize) -> Kind
-    requires room { at + 12 ≤ length bytes.now }
-    requires sound { IsTrue (keeps_rules form zone bytes.now at) }
-    requires fits { zone + length bytes.now ≤ 2 ^ 32 }
+    requires { at + 12 ≤ length bytes.now }
     ensures { result ≡ spec.kind_of (tag_at bytes.now at) form zone bytes.now at }
 {
     match kind(bytes, at) {
         Some(Tag::Relocatable) => Kind::Relocatable(master_at(form, zone, bytes, at)),
         Some(Tag::Nonrelocatable) => Kind::Nonrelocatable,
         Some(Tag::Free) => Kind::Free,
-        None => Kind::Free,
+        None => Kind::Unknown,
     }
 }
 
@@ -109,7 +105,6 @@ pub fn content<'b>(form: Form, bytes: &'b [u8], at: usize) -> &'b [u8]
 #[tactic(auto, unfolding(crate::specs::Seen::block_at))]
 pub fn block_of(form: Form, zone: u32, bytes: &[u8], at: usize) -> Block
     requires room { at + 12 ≤ length bytes.now }
-    requires sound { IsTrue (keeps_rules form zone bytes.now at) }
     requires fits { zone + length bytes.now ≤ 2 ^ 32 }
     ensures { result ≡ spec.block_at form zone bytes.now at }
 {

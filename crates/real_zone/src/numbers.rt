@@ -53,3 +53,12 @@ pub fn byte(bytes: &[u8], at: usize) -> usize
 {
     bytes[at] as usize
 }
+
+/// Returns the byte at an offset, and 0 past the end.
+#[tactic(auto, using(crate::proofs::Giving::past_end))]
+pub fn byte_or_zero(bytes: &[u8], at: usize) -> usize
+    ensures value { result ≡ number 1 at bytes.now }
+    ensures small { result < 2 ^ 8 }
+{
+    if at < bytes.len() { byte(bytes, at) } else { 0 }
+}

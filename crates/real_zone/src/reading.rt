@@ -10,7 +10,7 @@ use crate::fault::{Damage, Rule, ZoneFault};
 use crate::form::Form;
 use crate::masters::damage_of_list;
 use crate::numbers::long;
-use crate::zone::RealZone;
+use crate::zone::{LaidZone, RealZone};
 use std::alloc::{AllocError, Global};
 
 /// Returns what is wrong with the number of free bytes in the zone record.
@@ -89,6 +89,27 @@ pub fn bytes_to_limit<'b>(form: Form, address: u32, bytes: &'b [u8]) -> Option<&
         Some(&bytes[..len])
     } else {
         None
+    }
+}
+
+/// Returns the zone at an address in the bytes of a dump, whose first byte stands at the address `base`, though it may be damaged; `None`
+/// where no zone record with a bkLim stands there.
+pub fn laid_zone<'b>(bytes: &'b [u8], base: u32, address: u32, form: Form) -> Option<LaidZone<'b>>
+    ensures which { is_some result ≡ spec.is_laid form bytes.now base address }
+    ensures bytes { IfSome result (λ zone. zone.bytes.now ≡ spec.zone_bytes form bytes.now base address) }
+    ensures form { IfSome result (λ zone. zone.form ≡ form) }
+    ensures address { IfSome result (λ zone. zone.address ≡ address) }
+{
+    let Some(rest) = bytes_from(bytes, base, address) else {
+        return None;
+    };
+    match bytes_to_limit(form, address, rest) {
+        Some(part) => Some(LaidZone {
+            form,
+            address,
+            bytes: part,
+        }),
+        None => None,
     }
 }
 

@@ -18,7 +18,7 @@ use crate::resource_map::{
     type_list,
 };
 use crate::rules::can_pass;
-use crate::zone::RealZone;
+use crate::zone::LaidZone;
 use std::alloc::{AllocError, Global};
 use std::collections::BTreeMap;
 
@@ -168,7 +168,7 @@ fn resources_in(
 /// That the host is out of memory.
 pub fn resources_of(
     alloc: Global,
-    zone: &RealZone<'_>,
+    zone: &LaidZone<'_>,
 ) -> Result<BTreeMap<u32, Resource>, AllocError>
     ensures { IfOk result (λ resources. (handle : ℕ) → get nat_cmp resources handle
         ≡ spec.resource_of zone.now.form zone.now.bytes.now handle) }

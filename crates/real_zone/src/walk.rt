@@ -1,15 +1,13 @@
 //! The blocks of a zone, given one after the other.
 
-ghost use Rattle.std.specs.Prelude.{◌≡◌, ◌+◌, ◌≤◌, ◌^◌, length, IsTrue};
-ghost use Rattle.std.specs.List.{list_all};
-ghost use Rattle.real_zone.specs.Blocks.{places_from};
-ghost use Rattle.real_zone.specs.Rules.{keeps_rules};
+ghost use Rattle.std.specs.Prelude.{◌≡◌, ◌+◌, ◌≤◌, ◌^◌, length};
 
 use crate::block::{Block, block_of};
 use crate::blocks::after;
 use crate::form::Form;
+use crate::rules::can_pass;
 
-/// The blocks of a zone in the order of their addresses.
+/// The blocks of a zone in the order of their addresses; where it is damaged, those up to the first whose physical size is wrong.
 #[derive(Clone, Copy)]
 pub struct Blocks<'b> {
     pub form: Form,
@@ -21,7 +19,6 @@ pub struct Blocks<'b> {
     pub at: usize,
     pub ghost inside: { at ≤ length bytes.now },
     pub ghost fits: { address + length bytes.now ≤ 2 ^ 32 },
-    pub ghost sound: { IsTrue (list_all (keeps_rules form address bytes.now) (places_from form bytes.now at)) },
 }
 
 impl<'b> Iterator for Blocks<'b> {
@@ -34,9 +31,9 @@ impl<'b> Iterator for Blocks<'b> {
 
     ghost remaining = { item_count blocks_left };
 
-    #[tactic(auto, using(crate::proofs::Walking::next_places, crate::proofs::Walking::no_places, crate::proofs::Ruling::keeps_passable))]
+    #[tactic(auto, using(crate::proofs::Walking::room, crate::proofs::Passed::passed_stop))]
     fn next(&mut self) -> Option<Block> {
-        if self.bytes.len() <= self.at {
+        if !can_pass(self.form, self.bytes, self.at) {
             return None;
         }
         let block = block_of(self.form, self.address, self.bytes, self.at);

@@ -1,26 +1,26 @@
-use Rattle.std.specs.Prelude.{◌≡◌, ℕ, ◌+◌, nat_lt, not, Bool, true, if◌then◌else◌, Option, Some, None, option_map}
-use Rattle.std.specs.Prelude.{List, ◌++◌, length, codes}
-use Rattle.real_zone.specs.Lists.{first, is_empty}
-use Rattle.real_zone.specs.Zone.{has_record, zone_bytes, damages, is_zone_at}
+use Rattle.std.specs.Prelude.{◌≡◌, ℕ, ◌+◌, nat_lt, not, Bool, if◌then◌else◌, Option, Some, None}
+use Rattle.std.specs.Prelude.{List, ◌++◌, length}
+use Rattle.real_zone.specs.Lists.{is_empty}
+use Rattle.real_zone.specs.Rules.{broken}
+use Rattle.real_zone.specs.Zone.{has_record, is_laid, zone_bytes, damages}
 use Rattle.real_zone.specs.Finding.{zones_in, zone_size}
 use Rattle.real_zone.specs.Judging.{judged_form}
+use Rattle.real_zone.specs.declared.fault.Rule.TheVariants as rule
 use Rattle.real_zone.specs.declared.form.Form.{Form}
-use Rattle.real_zone_view.specs.declared.style.Fields.{Fields}
-use Rattle.real_zone_view.specs.declared.style.Fields.TheVariants as fields
 use Rattle.real_zone_view.specs.declared.style.Style.{Style}
 use Rattle.real_zone_view.specs.declared.dump.Place.{Place}
 use Rattle.real_zone_view.specs.declared.dump.Question.{Question}
-use Rattle.real_zone_view.specs.declared.dump.Question.TheVariants.{List as Lists, Check, Find}
+use Rattle.real_zone_view.specs.declared.dump.Question.TheVariants.{List as Lists, Draw, Check, Find}
 use Rattle.real_zone_view.specs.declared.dump.DumpView.{DumpView}
 use Rattle.real_zone_view.specs.declared.dump.DumpFault.{DumpFault}
 use Rattle.real_zone_view.specs.declared.dump.DumpFault.TheVariants.{TooLong, Outside, Damaged}
 use Rattle.real_zone_view.specs.declared.dump.ViewFault.{ViewFault}
 use Rattle.real_zone_view.specs.declared.dump.ViewFault.TheVariants.{Dump, HostMemory}
-use Rattle.real_zone_view.specs.Fields.{hex_text, size_field}
-use Rattle.real_zone_view.specs.Text.{bits_text}
+use Rattle.real_zone_view.specs.Text.{title_text}
 use Rattle.real_zone_view.specs.Totals.{zone_text}
-use Rattle.real_zone_view.specs.Damages.{damages_text}
+use Rattle.real_zone_view.specs.Damages.{damages_text, damaged_text}
 use Rattle.real_zone_view.specs.Finds.{finds_text}
+use Rattle.real_zone_view.specs.Picture.{zone_picture}
 
 -- What is answered to a question about a dump, and when there is no answer.
 
@@ -32,25 +32,22 @@ given_or (Some form) judged = form
 abbrev pub form_for : Place → List ℕ → ℕ → Form
 form_for place dump base = given_or place.form (judged_form dump base place.address)
 
--- The line above the list: the address of the zone, the bits of its addresses, and its size.
-unfoldable pub title_in : Fields → Style → Form → ℕ → ℕ → List ℕ
-title_in fields.Columns style form zone size =
-    codes "zone " ++ hex_text zone ++ codes ": " ++ bits_text form ++ codes " bits, " ++ size_field style 0 size
-    ++ codes " bytes\n\n"
-title_in fields.Tabs style form zone size =
-    codes "zone\t" ++ hex_text zone ++ codes "\t" ++ bits_text form ++ size_field style 0 size ++ codes "\n"
-
-abbrev pub title_text : Style → Form → ℕ → ℕ → List ℕ
-title_text style form zone size = title_in style.fields style form zone size
-
--- The text of the answer: the blocks of the zone and their totals; a line for each rule that is broken; or the zones that stand in the
--- dump.
+-- The list of a zone: its blocks, if it is damaged those that are passed, and their totals; and the first rule that it breaks, if it
+-- breaks one.
 abbrev pub list_text : Style → Form → List ℕ → ℕ → ℕ → List ℕ
 list_text style form dump base zone =
     title_text style form zone (zone_size form dump base zone) ++ zone_text style form zone (zone_bytes form dump base zone)
+    ++ damaged_text style.fields (damages form dump base zone)
 
+-- The picture of a zone.
+abbrev pub drawn : Form → List ℕ → ℕ → ℕ → List ℕ
+drawn form dump base zone =
+    zone_picture form zone (zone_size form dump base zone) (zone_bytes form dump base zone) (damages form dump base zone)
+
+-- The text of the answer: the list of the zone, or its picture; a line for each rule that is broken; or the zones that stand in the dump.
 abbrev pub answer_to : Question → ℕ → List ℕ → List ℕ
 answer_to (Lists place style) base dump = list_text style (form_for place dump base) dump base place.address
+answer_to (Draw place) base dump = drawn (form_for place dump base) dump base place.address
 answer_to (Check place) base dump = damages_text (damages (form_for place dump base) dump base place.address)
 answer_to (Find style) base dump = finds_text style dump base (zones_in dump base)
 
@@ -59,7 +56,8 @@ answer_text asked dump = answer_to asked.question asked.base dump
 
 -- Nothing is wrong with the zone, or one was found.
 abbrev pub is_good_to : Question → ℕ → List ℕ → Bool
-is_good_to (Lists place style) base dump = true
+is_good_to (Lists place style) base dump = is_empty (damages (form_for place dump base) dump base place.address)
+is_good_to (Draw place) base dump = is_empty (damages (form_for place dump base) dump base place.address)
 is_good_to (Check place) base dump = is_empty (damages (form_for place dump base) dump base place.address)
 is_good_to (Find style) base dump = not (is_empty (zones_in dump base))
 
@@ -67,18 +65,19 @@ abbrev pub is_good : DumpView → List ℕ → Bool
 is_good asked dump = is_good_to asked.question asked.base dump
 
 -- Why there is no answer: the dump goes past the last address; the zone record would not lie in the dump; or, where blocks are to be
--- listed, no zone stands there.
+-- listed or drawn, its bkLim is bad, so that no block can be looked for.
 abbrev pub record_fault : List ℕ → ℕ → ℕ → Option DumpFault
 record_fault dump base zone = if has_record dump base zone then None else Some (Outside zone)
 
 abbrev pub zone_fault : Form → List ℕ → ℕ → ℕ → Option DumpFault
 zone_fault form dump base zone =
     if not (has_record dump base zone) then Some (Outside zone)
-    else if is_zone_at form dump base zone then None
-    else option_map Damaged (first (damages form dump base zone))
+    else if is_laid form dump base zone then None
+    else Some (Damaged (broken zone rule.Limit))
 
 abbrev pub fault_to : Question → ℕ → List ℕ → Option DumpFault
 fault_to (Lists place style) base dump = zone_fault (form_for place dump base) dump base place.address
+fault_to (Draw place) base dump = zone_fault (form_for place dump base) dump base place.address
 fault_to (Check place) base dump = record_fault dump base place.address
 fault_to (Find style) base dump = None
 

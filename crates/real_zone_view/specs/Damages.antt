@@ -1,8 +1,10 @@
-use Rattle.std.specs.Prelude.{List, ◌++◌, ℕ, codes}
+use Rattle.std.specs.Prelude.{List, [], ◌∷◌, ◌++◌, ℕ, codes}
 use Rattle.std.specs.List.{flat_map}
 use Rattle.real_zone.specs.declared.fault.Rule.{Rule}
 use Rattle.real_zone.specs.declared.fault.Rule.TheVariants as rule
 use Rattle.real_zone.specs.declared.fault.Damage.{Damage}
+use Rattle.real_zone_view.specs.declared.style.Fields.{Fields}
+use Rattle.real_zone_view.specs.declared.style.Fields.TheVariants as fields
 use Rattle.real_zone_view.specs.Fields.{hex_text}
 
 -- What is wrong with a zone, as MacsBug's heap check says it.
@@ -29,3 +31,21 @@ damage_text damage = hex_text damage.address ++ codes ": " ++ rule_text damage.r
 -- The lines of all.
 abbrev pub damages_text : List Damage → List ℕ
 damages_text damages = flat_map damage_text damages
+
+-- What the list of a zone ends with: where the zone is damaged, the line of the first rule that is broken. In columns it stands below an
+-- empty line.
+abbrev pub before_address : Fields → List ℕ
+before_address fields.Columns = codes "\ndamaged at "
+before_address fields.Tabs = codes "damaged\t"
+
+abbrev pub after_address : Fields → List ℕ
+after_address fields.Columns = codes ": "
+after_address fields.Tabs = codes "\t"
+
+abbrev pub damaged_line : Fields → Damage → List ℕ
+damaged_line f damage =
+    before_address f ++ hex_text damage.address ++ after_address f ++ rule_text damage.rule ++ codes "\n"
+
+unfoldable pub damaged_text : Fields → List Damage → List ℕ
+damaged_text f [] = []
+damaged_text f (damage ∷ damages) = damaged_line f damage

@@ -20,29 +20,34 @@ abbrev pub kind_text : Kind → List ℕ
 kind_text kind.Free = codes "free"
 kind_text kind.Nonrelocatable = codes "nonrelocatable"
 kind_text (kind.Relocatable master) = codes "relocatable"
+kind_text kind.Unknown = codes "unknown"
 
--- The field of the logical size, of which a free block has none.
+-- The field of the logical size, which a free block has not, nor one of an unknown kind.
 unfoldable pub logical_field : Style → Kind → ℕ → List ℕ
 logical_field style kind.Free size = right_field style.fields 10 (codes "-")
 logical_field style kind.Nonrelocatable size = size_field style 10 size
 logical_field style (kind.Relocatable master) size = size_field style 10 size
+logical_field style kind.Unknown size = right_field style.fields 10 (codes "-")
 
 -- The field of the master pointer's address.
 unfoldable pub master_field : Fields → Kind → List ℕ
 master_field f kind.Free = left_field f 8 (codes "-")
 master_field f kind.Nonrelocatable = left_field f 8 (codes "-")
 master_field f (kind.Relocatable master) = left_field f 8 (hex_text master.address)
+master_field f kind.Unknown = left_field f 8 (codes "-")
 
 -- What a relocatable block is marked as.
 abbrev pub is_locked : Kind → Bool
 is_locked kind.Free = false
 is_locked kind.Nonrelocatable = false
 is_locked (kind.Relocatable master) = master.is_locked
+is_locked kind.Unknown = false
 
 abbrev pub is_purgeable : Kind → Bool
 is_purgeable kind.Free = false
 is_purgeable kind.Nonrelocatable = false
 is_purgeable (kind.Relocatable master) = master.is_purgeable
+is_purgeable kind.Unknown = false
 
 -- A word where something holds, else `-`.
 abbrev pub marked : Bool → List ℕ → List ℕ
@@ -70,6 +75,7 @@ unfoldable pub owner_text : (ℕ → Option Resource) → Kind → List ℕ
 owner_text named kind.Free = codes "-"
 owner_text named kind.Nonrelocatable = codes "-"
 owner_text named (kind.Relocatable master) = if master.is_resource then resource_text (named master.address) else codes "-"
+owner_text named kind.Unknown = codes "-"
 
 -- What a line begins with where tabs stand between its fields.
 abbrev pub begin : Fields → List ℕ → List ℕ
@@ -114,3 +120,14 @@ head_text f = titled f (codes "address       size   logical what           maste
 abbrev pub bits_text : Form → List ℕ
 bits_text form.Bits24 = codes "24"
 bits_text form.Bits32 = codes "32"
+
+-- The line above the list: the address of the zone, the bits of its addresses, and its size.
+unfoldable pub title_in : Fields → Style → Form → ℕ → ℕ → List ℕ
+title_in fields.Columns style form zone size =
+    codes "zone " ++ hex_text zone ++ codes ": " ++ bits_text form ++ codes " bits, " ++ size_field style 0 size
+    ++ codes " bytes\n\n"
+title_in fields.Tabs style form zone size =
+    codes "zone\t" ++ hex_text zone ++ codes "\t" ++ bits_text form ++ size_field style 0 size ++ codes "\n"
+
+abbrev pub title_text : Style → Form → ℕ → ℕ → List ℕ
+title_text style form zone size = title_in style.fields style form zone size

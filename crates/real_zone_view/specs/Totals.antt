@@ -1,6 +1,6 @@
 use Rattle.std.specs.Prelude.{ℕ, ◌+◌, Bool, true, false, ◌&&◌, not, List, [], ◌∷◌, ◌++◌, codes, decimal, Option, if◌then◌else◌}
 use Rattle.real_zone.specs.declared.form.Form.{Form}
-use Rattle.real_zone.specs.Seen.{blocks_of}
+use Rattle.real_zone.specs.Seen.{blocks_passed}
 use Rattle.real_zone.specs.Resources.{resource_of}
 use Rattle.real_zone.specs.declared.resource_map.Resource.{Resource}
 use Rattle.real_zone.specs.declared.block.Block.{Block}
@@ -19,16 +19,19 @@ abbrev pub is_free : Kind → Bool
 is_free kind.Free = true
 is_free kind.Nonrelocatable = false
 is_free (kind.Relocatable master) = false
+is_free kind.Unknown = false
 
 abbrev pub is_nonrelocatable : Kind → Bool
 is_nonrelocatable kind.Free = false
 is_nonrelocatable kind.Nonrelocatable = true
 is_nonrelocatable (kind.Relocatable master) = false
+is_nonrelocatable kind.Unknown = false
 
 abbrev pub is_relocatable : Kind → Bool
 is_relocatable kind.Free = false
 is_relocatable kind.Nonrelocatable = false
 is_relocatable (kind.Relocatable master) = true
+is_relocatable kind.Unknown = false
 
 -- The blocks of a class: of a kind; of the relocatable ones those that are locked, and those that may be purged; or all.
 unfoldable pub in_class : Class → Kind → Bool
@@ -84,6 +87,6 @@ totals_text style blocks = totals_head style.fields ++ kinds_text style blocks +
 unfoldable pub blocks_text : Style → (ℕ → Option Resource) → List Block → List ℕ
 blocks_text style named blocks = head_text style.fields ++ lines_text style named blocks ++ totals_text style blocks
 
--- The text of a zone, whose resources are those that the resource maps in it name.
+-- The text of a zone: of its blocks, if it is damaged of those that are passed, with the resources that the resource maps in it name.
 abbrev pub zone_text : Style → Form → ℕ → List ℕ → List ℕ
-zone_text style form zone bytes = blocks_text style (resource_of form bytes) (blocks_of form zone bytes)
+zone_text style form zone bytes = blocks_text style (resource_of form bytes) (blocks_passed form zone bytes)

@@ -1,20 +1,22 @@
 //! What is answered to a question about a dump.
 
-ghost use Rattle.std.specs.Prelude.{◌≡◌, ◌+◌, ◌≤◌, ◌^◌, ◌++◌, length, true, IsTrue, IfOk, IfErr, OnOk, None};
-ghost use Rattle.real_zone.specs.Zone.{has_record, zone_bytes, damages, is_zone_at};
+ghost use Rattle.std.specs.Prelude.{◌≡◌, ◌+◌, ◌≤◌, ◌^◌, ◌++◌, length, IsTrue, IfOk, IfErr, OnOk, None};
+ghost use Rattle.real_zone.specs.Zone.{has_record};
+ghost use Rattle.real_zone.specs.Zone as laid;
 ghost use Rattle.real_zone_view.specs.Answers as spec;
+ghost use Rattle.real_zone_view.specs.Damages.{damaged_text};
+ghost use Rattle.real_zone_view.specs.Text.{title_text};
 ghost use Rattle.real_zone_view.specs.Totals.{zone_text};
 ghost use Rattle.real_zone_view.specs.declared.dump.Question.TheVariants as question;
 
-use crate::damages::push_damages;
+use crate::damages::{push_damaged, push_damages};
 use crate::dump::{Answer, DumpFault, DumpView, Place, Question, ViewFault};
-use crate::fields::{push_hex, push_size, put};
 use crate::finds::push_finds;
-use crate::style::{Fields, Style};
-use crate::text::bits_text;
-use crate::view::push_zone;
+use crate::style::Style;
+use crate::text::push_title;
+use crate::view::{push_drawn, push_zone};
 use real_zone::{
-    Form, RealZone, ZoneFault, check_zone, find_zones, judged_form, read_zone, zone_size,
+    Damage, Form, LaidZone, Rule, check_zone, find_zones, judged_form, laid_zone, zone_size,
 };
 use std::alloc::{AllocError, Global};
 
@@ -38,55 +40,25 @@ fn has_record(dump: &[u8], base: u32, zone: u32) -> bool
     (zone - base) as usize + 52 <= dump.len()
 }
 
-/// Appends the line above the list, its fields in columns or with tabs between them.
-#[tactic(auto, unfolding(crate::specs::Answers::title_in))]
-fn push_title(
-    text: &mut Vec<u8>,
-    style: Style,
-    form: Form,
-    zone: u32,
-    size: usize,
-) -> Result<(), AllocError>
-    ensures { OnOk result (text.new.items ≡ text.old.items ++ spec.title_text style form zone size) }
-{
-    match style.fields {
-        Fields::Columns => {
-            put(text, b"zone ")?;
-            push_hex(text, zone as u128)?;
-            put(text, b": ")?;
-            put(text, bits_text(form))?;
-            put(text, b" bits, ")?;
-            push_size(text, style, 0, size as u128)?;
-            put(text, b" bytes\n\n")
-        }
-        Fields::Tabs => {
-            put(text, b"zone\t")?;
-            push_hex(text, zone as u128)?;
-            put(text, b"\t")?;
-            put(text, bits_text(form))?;
-            push_size(text, style, 0, size as u128)?;
-            put(text, b"\n")
-        }
-    }
-}
-
-/// Returns the list of the blocks of a zone that was read at an address.
+/// Returns the list of the blocks of a zone that breaks these rules.
 fn list_of(
     alloc: Global,
     style: Style,
-    zone: &RealZone<'_>,
+    zone: &LaidZone<'_>,
     size: usize,
+    damages: &[Damage],
 ) -> Result<Vec<u8>, AllocError>
-    ensures { IfOk result (λ text. text.items ≡ spec.title_text style zone.now.form zone.now.address size
-        ++ zone_text style zone.now.form zone.now.address zone.now.bytes.now) }
+    ensures { IfOk result (λ text. text.items ≡ title_text style zone.now.form zone.now.address size
+        ++ zone_text style zone.now.form zone.now.address zone.now.bytes.now ++ damaged_text style.fields damages.now) }
 {
     let mut text = Vec::new(alloc);
     push_title(&mut text, style, zone.form, zone.address, size)?;
     push_zone(alloc, &mut text, style, zone)?;
+    push_damaged(&mut text, style.fields, damages)?;
     Ok(text)
 }
 
-/// Returns the list of the blocks of the zone at an address.
+/// Returns the list of the blocks of the zone at an address, which breaks these rules.
 fn listed_in(
     alloc: Global,
     style: Style,
@@ -94,18 +66,43 @@ fn listed_in(
     dump: &[u8],
     base: u32,
     zone: u32,
+    damages: &[Damage],
 ) -> Result<Vec<u8>, ViewFault>
-    requires { IsTrue (has_record dump.now base zone) }
+    requires record { IsTrue (has_record dump.now base zone) }
+    requires damages { damages.now ≡ laid.damages form dump.now base zone }
     ensures text { IfOk result (λ text. text.items ≡ spec.list_text style form dump.now base zone) }
     ensures allowed { IfOk result (λ text. spec.zone_fault form dump.now base zone ≡ None) }
     ensures fault { IfErr result (λ fault. spec.Tells fault (spec.zone_fault form dump.now base zone)) }
 {
     let size = zone_size(dump, base, zone, form);
-    match read_zone(alloc, dump, base, zone, form) {
-        Ok(read) => Ok(list_of(alloc, style, &read, size)?),
-        Err(ZoneFault::Damaged(damage)) => Err(ViewFault::Dump(DumpFault::Damaged { damage })),
-        Err(ZoneFault::HostMemory) => Err(ViewFault::HostMemory),
+    match laid_zone(dump, base, zone, form) {
+        Some(zone) => Ok(list_of(alloc, style, &zone, size, damages)?),
+        None => Err(no_zone(zone)),
     }
+}
+
+/// Returns the picture of the zone at an address, which breaks these rules.
+fn drawn_in(
+    alloc: Global,
+    form: Form,
+    dump: &[u8],
+    base: u32,
+    zone: u32,
+    damages: &[Damage],
+) -> Result<Vec<u8>, ViewFault>
+    requires record { IsTrue (has_record dump.now base zone) }
+    requires damages { damages.now ≡ laid.damages form dump.now base zone }
+    ensures text { IfOk result (λ text. text.items ≡ spec.drawn form dump.now base zone) }
+    ensures allowed { IfOk result (λ text. spec.zone_fault form dump.now base zone ≡ None) }
+    ensures fault { IfErr result (λ fault. spec.Tells fault (spec.zone_fault form dump.now base zone)) }
+{
+    let size = zone_size(dump, base, zone, form);
+    let Some(laid) = laid_zone(dump, base, zone, form) else {
+        return Err(no_zone(zone));
+    };
+    let mut text = Vec::new(alloc);
+    push_drawn(alloc, &mut text, &laid, size, damages)?;
+    Ok(text)
 }
 
 /// Returns the fault that a zone record would not lie in a dump.
@@ -113,6 +110,18 @@ fn outside(address: u32) -> ViewFault
     ensures { result ≡ ViewFault.Dump (DumpFault.Outside address) }
 {
     ViewFault::Dump(DumpFault::Outside { address })
+}
+
+/// Returns the fault that no block can be looked for at an address, since bkLim is bad.
+fn no_zone(address: u32) -> ViewFault
+    ensures { result ≡ ViewFault.Dump (DumpFault.Damaged (record { rule = Rule.Limit; address = address })) }
+{
+    ViewFault::Dump(DumpFault::Damaged {
+        damage: Damage {
+            rule: Rule::Limit,
+            address,
+        },
+    })
 }
 
 /// Lists the blocks of a zone.
@@ -132,10 +141,38 @@ fn list(
         return Err(outside(place.address));
     }
     let form = form_for(alloc, place, dump, base)?;
-    let text = listed_in(alloc, style, form, dump, base, place.address)?;
+    let damages = check_zone(alloc, dump, base, place.address, form)?;
+    let text = listed_in(
+        alloc,
+        style,
+        form,
+        dump,
+        base,
+        place.address,
+        damages.as_slice(),
+    )?;
     Ok(Answer {
         text,
-        is_good: true,
+        is_good: damages.is_empty(),
+    })
+}
+
+/// Draws a zone.
+fn draw(alloc: Global, place: Place, dump: &[u8], base: u32) -> Result<Answer, ViewFault>
+    ensures text { IfOk result (λ answer. answer.text.items ≡ spec.answer_to (question.Draw place) base dump.now) }
+    ensures good { IfOk result (λ answer. answer.is_good ≡ spec.is_good_to (question.Draw place) base dump.now) }
+    ensures allowed { IfOk result (λ answer. spec.fault_to (question.Draw place) base dump.now ≡ None) }
+    ensures fault { IfErr result (λ fault. spec.Tells fault (spec.fault_to (question.Draw place) base dump.now)) }
+{
+    if !has_record(dump, base, place.address) {
+        return Err(outside(place.address));
+    }
+    let form = form_for(alloc, place, dump, base)?;
+    let damages = check_zone(alloc, dump, base, place.address, form)?;
+    let text = drawn_in(alloc, form, dump, base, place.address, damages.as_slice())?;
+    Ok(Answer {
+        text,
+        is_good: damages.is_empty(),
     })
 }
 
@@ -185,18 +222,22 @@ fn answer_to(alloc: Global, asked: DumpView, dump: &[u8]) -> Result<Answer, View
 {
     match asked.question {
         Question::List(place, style) => list(alloc, place, style, dump, asked.base),
+        Question::Draw(place) => draw(alloc, place, dump, asked.base),
         Question::Check(place) => check(alloc, place, dump, asked.base),
         Question::Find(style) => find(alloc, style, dump, asked.base),
     }
 }
 
-/// Answers a question about the bytes of a dump: lists the blocks of a zone with their totals, a line for each rule that a zone
-/// breaks, or the zones that stand in the dump.
+/// Answers a question about the bytes of a dump: lists the blocks of a zone with their totals, or draws them; a line for each rule that a
+/// zone breaks; or the zones that stand in the dump.
+///
+/// Of a damaged zone the blocks are listed or drawn that are passed: all, or those before the first whose physical size is wrong. After the totals
+/// stands the first rule that is broken.
 ///
 /// # Errors
 ///
-/// The dump goes past the last address, the zone record would not lie in it, or no zone stands there whose blocks could be listed; or
-/// the host is out of memory.
+/// The dump goes past the last address, the zone record would not lie in it, or its bkLim is bad, so that no block could be listed; or the
+/// host is out of memory.
 #[tactic(auto, unfolding(crate::specs::Answers::dump_fault))]
 pub fn answer(alloc: Global, asked: DumpView, dump: &[u8]) -> Result<Answer, ViewFault>
     ensures text { IfOk result (λ answer. answer.text.items ≡ spec.answer_text asked dump.now) }

@@ -22,6 +22,8 @@ pub struct Place {
 pub enum Question {
     /// The blocks of the zone at an address, and their totals.
     List(Place, Style),
+    /// The zone at an address as a picture, in SVG.
+    Draw(Place),
     /// All that is wrong with the zone at an address.
     Check(Place),
     /// The zones that stand in the dump.
@@ -40,7 +42,7 @@ pub struct DumpView {
 #[derive(Drop)]
 pub struct Answer {
     pub text: Vec<u8>,
-    /// Whether nothing is wrong with the zone that was checked, or a zone was found.
+    /// Whether nothing is wrong with the zone, or a zone was found.
     pub is_good: bool,
 }
 
@@ -56,7 +58,7 @@ pub enum DumpFault {
         /// The address.
         address: u32,
     },
-    /// No zone stands there, and this is the first rule that is broken.
+    /// No zone stands there of which blocks could be listed, and this is the rule that is broken.
     #[error("no zone: {damage}")]
     Damaged {
         /// The rule, and where it is broken.

@@ -3,9 +3,11 @@
 
 mod answers;
 mod damages;
+mod drawing;
 mod dump;
 mod fields;
 mod finds;
+mod picture;
 mod style;
 mod text;
 mod totals;
@@ -15,4 +17,3 @@ pub use answers::answer;
 pub use dump::{Answer, DumpFault, DumpView, Place, Question, ViewFault};
 pub use style::{Digits, Fields, Style};
 pub use totals::Class;
-pub use view::write_zone;

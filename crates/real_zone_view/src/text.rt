@@ -23,6 +23,7 @@ fn kind_text(kind: Kind) -> &'static [u8]
         Kind::Free => b"free",
         Kind::Nonrelocatable => b"nonrelocatable",
         Kind::Relocatable(_) => b"relocatable",
+        Kind::Unknown => b"unknown",
     }
 }
 
@@ -32,7 +33,7 @@ pub fn is_locked(kind: Kind) -> bool
 {
     match kind {
         Kind::Relocatable(master) => master.is_locked,
-        Kind::Free | Kind::Nonrelocatable => false,
+        Kind::Free | Kind::Nonrelocatable | Kind::Unknown => false,
     }
 }
 
@@ -42,7 +43,7 @@ pub fn is_purgeable(kind: Kind) -> bool
 {
     match kind {
         Kind::Relocatable(master) => master.is_purgeable,
-        Kind::Free | Kind::Nonrelocatable => false,
+        Kind::Free | Kind::Nonrelocatable | Kind::Unknown => false,
     }
 }
 
@@ -92,7 +93,7 @@ fn push_logical(text: &mut Vec<u8>, style: Style, kind: Kind, size: u32) -> Resu
     ensures { OnOk result (text.new.items ≡ text.old.items ++ spec.logical_field style kind size) }
 {
     match kind {
-        Kind::Free => push_right_field(text, style.fields, 10, b"-"),
+        Kind::Free | Kind::Unknown => push_right_field(text, style.fields, 10, b"-"),
         Kind::Nonrelocatable | Kind::Relocatable(_) => push_size(text, style, 10, size as u128),
     }
 }
@@ -108,7 +109,7 @@ fn push_master(
     ensures { OnOk result (text.new.items ≡ text.old.items ++ spec.master_field fields kind) }
 {
     match kind {
-        Kind::Free | Kind::Nonrelocatable => push_left_field(text, fields, 8, b"-"),
+        Kind::Free | Kind::Nonrelocatable | Kind::Unknown => push_left_field(text, fields, 8, b"-"),
         Kind::Relocatable(master) => {
             let mut address = Vec::new(alloc);
             push_hex(&mut address, master.address as u128)?;
@@ -204,7 +205,7 @@ fn push_owner(
     ensures { OnOk result (text.new.items ≡ text.old.items ++ spec.owner_text (get nat_cmp resources.now) kind) }
 {
     match kind {
-        Kind::Free | Kind::Nonrelocatable => put(text, b"-"),
+        Kind::Free | Kind::Nonrelocatable | Kind::Unknown => put(text, b"-"),
         Kind::Relocatable(master) => {
             if master.is_resource {
                 push_resource(text, resources.get(&master.address).copied())
@@ -276,4 +277,36 @@ pub fn push_head(text: &mut Vec<u8>, fields: Fields) -> Result<(), AllocError>
     ensures { OnOk result (text.new.items ≡ text.old.items ++ spec.head_text fields) }
 {
     push_titles(text, fields, TITLES)
+}
+
+/// Appends the line above the list, its fields in columns or with tabs between them.
+#[tactic(auto, unfolding(crate::specs::Text::title_in))]
+pub fn push_title(
+    text: &mut Vec<u8>,
+    style: Style,
+    form: Form,
+    zone: u32,
+    size: usize,
+) -> Result<(), AllocError>
+    ensures { OnOk result (text.new.items ≡ text.old.items ++ spec.title_text style form zone size) }
+{
+    match style.fields {
+        Fields::Columns => {
+            put(text, b"zone ")?;
+            push_hex(text, zone as u128)?;
+            put(text, b": ")?;
+            put(text, bits_text(form))?;
+            put(text, b" bits, ")?;
+            push_size(text, style, 0, size as u128)?;
+            put(text, b" bytes\n\n")
+        }
+        Fields::Tabs => {
+            put(text, b"zone\t")?;
+            push_hex(text, zone as u128)?;
+            put(text, b"\t")?;
+            put(text, bits_text(form))?;
+            push_size(text, style, 0, size as u128)?;
+            put(text, b"\n")
+        }
+    }
 }

@@ -1,6 +1,6 @@
 //! The totals of a zone.
 
-ghost use Rattle.std.specs.Prelude.{◌≡◌, ◌++◌, OnOk};
+ghost use Rattle.std.specs.Prelude.{◌≡◌, ◌<◌, ◌^◌, ◌++◌, OnOk};
 ghost use Rattle.real_zone_view.specs.Totals as spec;
 
 use crate::fields::{push_first, push_number, push_size, put};
@@ -51,8 +51,9 @@ fn count(class: Class, blocks: &[Block]) -> usize
 }
 
 /// Returns the physical sizes of the blocks of a class, summed.
-fn bytes(class: Class, blocks: &[Block]) -> u128
-    ensures { result ≡ spec.sized class blocks.now }
+pub fn bytes(class: Class, blocks: &[Block]) -> u128
+    ensures sum { result ≡ spec.sized class blocks.now }
+    ensures small { result < 2 ^ 96 }
 {
     let mut bytes: u128 = 0;
     for block in blocks {
@@ -96,7 +97,7 @@ fn push_total(
 
 /// Appends the lines of the kinds.
 #[tactic(auto, unfolding(crate::specs::Totals::kinds_text))]
-fn push_kinds(text: &mut Vec<u8>, style: Style, blocks: &[Block]) -> Result<(), AllocError>
+pub fn push_kinds(text: &mut Vec<u8>, style: Style, blocks: &[Block]) -> Result<(), AllocError>
     ensures { OnOk result (text.new.items ≡ text.old.items ++ spec.kinds_text style blocks.now) }
 {
     push_total(text, style, Class::Free, blocks)?;

@@ -2,13 +2,15 @@
 #![tactic(auto)]
 
 use anyhow::{Context, Result, bail, ensure};
-use real_zone::{Form, FoundZone, find_zones, read_zone};
-use real_zone_view::{Digits, Fields, Style, write_zone};
+use real_zone::{Form, FoundZone, find_zones};
+use real_zone_view::{Digits, DumpView, Fields, Place, Question, Style, answer};
 use std::alloc::Global;
 
 /// A dump, and a zone in it.
 #[derive(Drop)]
 struct Dump {
+    /// Whether the zone is drawn, and not listed.
+    is_drawn: bool,
     form: Form,
     /// The address of the first byte.
     base: u32,
@@ -25,14 +27,16 @@ fn form_in(word: &str) -> Result<Form> {
     }
 }
 
-/// Reads the line of a dump: the form and the addresses, and the bytes in hexadecimal.
+/// Reads the line of a dump: `list` or `draw`, the form and the addresses, and the bytes in hexadecimal.
 fn dump_in(alloc: Global, line: &str) -> Result<Dump> {
     let mut words = line.split_whitespace();
+    let is_drawn = words.next().context("list or draw")? == "draw";
     let form = form_in(words.next().context("a form")?)?;
     let base = u32::from_str_radix(words.next().context("a base")?, 16)?;
     let zone = u32::from_str_radix(words.next().context("a zone")?, 16)?;
     let bytes = hex::decode(alloc, words.next().context("bytes")?)?;
     Ok(Dump {
+        is_drawn,
         form,
         base,
         zone,
@@ -46,44 +50,26 @@ const STYLE: Style = Style {
     digits: Digits::Decimal,
 };
 
-/// Returns the text of a zone that was found.
+/// Returns the list of a zone, though it may be damaged, or its picture.
 fn text_of(alloc: Global, dump: &Dump, found: FoundZone) -> Result<String> {
-    let bits = match found.form {
-        Form::Bits24 => 24,
-        Form::Bits32 => 32,
+    let place = Place {
+        address: found.address,
+        form: Some(found.form),
     };
-    let mut text = format!(in alloc; "{:08X}: {bits} bits\n", found.address)?;
-    match read_zone(
-        alloc,
-        dump.bytes.as_slice(),
-        dump.base,
-        found.address,
-        found.form,
-    ) {
-        Ok(zone) => {
-            let listed = String::from_utf8(write_zone(alloc, STYLE, &zone)?)?;
-            text.push_str(listed.as_str())?;
-            Ok(text)
-        }
-        Err(fault) => bail!("{fault}"),
-    }
+    let question = if dump.is_drawn {
+        Question::Draw(place)
+    } else {
+        Question::List(place, STYLE)
+    };
+    let asked = DumpView {
+        base: dump.base,
+        question,
+    };
+    let answer = answer(alloc, asked, dump.bytes.as_slice())?;
+    Ok(String::from_utf8(answer.text)?)
 }
 
-/// Returns what is wrong with the zone in a dump.
-fn fault_of(alloc: Global, dump: &Dump) -> Result<String> {
-    match read_zone(
-        alloc,
-        dump.bytes.as_slice(),
-        dump.base,
-        dump.zone,
-        dump.form,
-    ) {
-        Ok(_) => bail!("a zone that is not found"),
-        Err(fault) => Ok(format!(in alloc; "{fault}\n")?),
-    }
-}
-
-/// Returns the zones in a dump, or what is wrong with the one that should be there.
+/// Returns the lists or the pictures of the zones in a dump, or of the damaged one that it has.
 fn described(alloc: Global, line: &str) -> Result<String> {
     let dump = dump_in(alloc, line)?;
     let len = dump.bytes.len();
@@ -93,7 +79,11 @@ fn described(alloc: Global, line: &str) -> Result<String> {
     );
     let zones = find_zones(alloc, dump.bytes.as_slice(), dump.base)?;
     if zones.is_empty() {
-        return fault_of(alloc, &dump);
+        let place = FoundZone {
+            address: dump.zone,
+            form: dump.form,
+        };
+        return text_of(alloc, &dump, place);
     }
     let mut text = String::new(alloc);
     for found in &zones {

@@ -2,13 +2,14 @@ use Rattle.std.proofs.Common.{sym}
 use Rattle.std.specs.BTreeMap.{get}
 use Rattle.std.specs.Ordering.{nat_cmp}
 use Rattle.real_zone.specs.Resources.{named_in_block}
-use Rattle.real_zone.proofs.Naming.{passed_next, passed_stop, passed_end, found_more, found_end}
+use Rattle.real_zone.proofs.Naming.{found_more, found_end}
+use Rattle.real_zone.proofs.Passed.{passed_next, passed_stop, passed_end}
 use Rattle.real_zone.proofs.resources.resources_in.Goals as goal
 
 pub returns-then-not-can_pass : goal.returns-then-not-can_pass
 returns-then-not-can_pass c = λ handle.
     found_end (named_in_block c.args.form c.args.bytes.now handle) (get nat_cmp c.loop-at.resources handle) _ _
-    (passed_stop c.args.form c.args.bytes.now c.loop-at.at c.loop-at-test.true (sym c.if-not-can_pass.ensures))
+    (passed_stop c.args.form c.args.bytes.now c.loop-at.at (sym c.if-not-can_pass.ensures))
     (c.loop-at.invariant.entered handle)
 
 pub loop-at-preserved : goal.loop-at-preserved

@@ -1,7 +1,9 @@
-use Rattle.real_zone.proofs.Zones.{zone_keeps}
+use Rattle.std.proofs.Common.{ap, map}
+use Rattle.real_zone.specs.Seen.{block_at}
+use Rattle.real_zone.proofs.Passed.{all_passed}
 use Rattle.real_zone.proofs.zone.RealZone.blocks.Goals as goal
 
-pub invariant_of-result : goal.invariant_of-result
-invariant_of-result c =
+pub returns : goal.returns
+returns c =
     let zone = c.args.self.now in
-    record { inside = zone.long; fits = zone.fits; sound = zone_keeps zone.form zone.address zone.bytes.now zone.sound }
+    ap (map (block_at zone.form zone.address zone.bytes.now)) (all_passed zone.form zone.address zone.bytes.now zone.sound)

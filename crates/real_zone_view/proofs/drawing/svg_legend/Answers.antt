@@ -1,0 +1,7 @@
+use Rattle.std.proofs.Common.{refl}
+use Rattle.real_zone_view.specs.Drawing.{svg_legend}
+use Rattle.real_zone_view.proofs.drawing.svg_legend.Goals as goal
+
+pub returns : goal.returns
+unfolding svg_legend
+returns c = refl
