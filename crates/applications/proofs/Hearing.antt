@@ -1,7 +1,6 @@
 -- What a sink of resources hears of a try, and what is stored of it.
-use Rattle.std.proofs.Common.{◌≡◌, Bool, true, false, List, [], Result, Ok, Err, refl, sym, ap, subst, ◌∙◌}
+use Rattle.std.proofs.Common.{◌≡◌, Bool, true, false, List, [], Result, Ok, Err, refl, ap, ◌∙◌}
 use Rattle.std.specs.Prelude.{OnOk, OnErr, IsOk}
-use Rattle.std.proofs.lemmas.List.{append-nil}
 use Rattle.heap_calls.specs.Gone.{Gone, Tells, IsIdle, Hears}
 use Rattle.heap_calls.proofs.Hearing.{hears-none}
 use Rattle.res_calls.specs.Files.{Resources}

@@ -2,6 +2,7 @@ mod Binding
 mod Rounds
 mod Saying
 mod Arms
+mod GivenCalls
 mod FoundCalls
 mod JumpCalls
 mod OwnFork

@@ -28,7 +28,7 @@ use Rattle.block_store.specs.Rest.{Rest}
 use Rattle.heap_calls.specs.declared.log.Log.{Log}
 use Rattle.heap_calls.specs.State.{State, Memory, used_slots, all_slots}
 use Rattle.heap_calls.specs.Answer.{nothing}
-use Rattle.heap_calls.specs.Gone.{Gone, gone, room_gone, new_pointer_gone, slot_gone}
+use Rattle.heap_calls.specs.Gone.{Gone, gone, room_gone, slot_gone}
 use Rattle.heap_calls.specs.Searches.{room_searches}
 use Rattle.heap_calls.specs.Inner.Base.{base, base_searches}
 use Rattle.mac_words.specs.Size.{phys, padded}
@@ -40,6 +40,7 @@ use Rattle.heap_calls.proofs.NewBlocks.NewHandles.{base-is, base_searches-is, no
 use Rattle.block_store.specs.Block.{count, is_masters}
 use Rattle.heap_calls.specs.Inner.Numbered.{number_from, handle_number, pointer_number, leads_to, name_of, memory_of, state_of, Agrees}
 use Rattle.heap_calls.specs.Inner.Telling.{IsNumberOf, gone_named, gone_from, from_spot, blocks_from, base_gone, pointer_gone, zone_slot_gone}
+use Rattle.heap_calls.proofs.Tables.Gone.{new_pointer_gone}
 
 -- What a sink is told of blocks that are purged.
 

@@ -1,19 +1,25 @@
-use Rattle.std.proofs.Common.{◌≡◌, ℕ, ◌*◌, List, refl, sym, ◌∙◌, ap, Option, Some, None, Ok, Err, [], ◌<◌, Bool, slice_get}
+use Rattle.std.proofs.Common.{◌≡◌, ℕ, ◌*◌, List, refl, sym, ◌∙◌, ap, Option, Some, None, Ok, Err, [], ◌<◌, ◌++◌, Bool}
+use Rattle.std.proofs.Common.{true, slice_get}
+use Rattle.std.proofs.Common.{arith, cond, length, is_some}
+use Rattle.std.proofs.lemmas.Bool.{le-leb}
+use Rattle.mac_words.specs.Size.{phys, padded}
 use Rattle.mac_words.specs.declared.code.OsErr.{OsErr}
 use Rattle.mac_words.specs.declared.code.TheConstants.OsErr.{NIL_HANDLE}
 use Rattle.block_store.specs.Room.{spot}
 use Rattle.heap_calls.specs.declared.anchor.Anchor.TheVariants as entry
 use Rattle.heap_calls.specs.declared.log.Log.{Log}
 use Rattle.heap_calls.specs.Inner.Given.{slot_of}
-use Rattle.block_store.specs.Room.{rename_spot}
-use Rattle.block_store.specs.Block.{Block, count, is_masters, is_relocatable, content_of, rename, rename_block}
+use Rattle.block_store.specs.Room.{rename_spot, put_in_place}
+use Rattle.block_store.specs.Block.{Block, Relocatable, no_flags, count, is_masters, is_relocatable, content_of, rename}
+use Rattle.block_store.specs.Block.{rename_block}
 use Rattle.block_store.specs.Rest.{Rest}
 use Rattle.block_store.specs.declared.sparing.Sparing.TheVariants as sparing
 use Rattle.heap_calls.specs.declared.anchor.Anchor.{Anchor}
 use Rattle.heap_calls.specs.declared.anchor.Found.{Found}
 use Rattle.heap_calls.specs.State.{State, Memory}
 use Rattle.heap_calls.specs.Answer.{look_up}
-use Rattle.heap_calls.specs.Gone.{hand_to_hand_gone, copy_slot_gone, found_gone, made_gone, slot_gone}
+use Rattle.heap_calls.specs.Gone.{copy_slot_gone, found_gone, made_gone, slot_gone, ready_gone, room_gone}
+use Rattle.heap_calls.specs.Slots.{slotted}
 use Rattle.heap_calls.specs.Copying.{copying_zone}
 use Rattle.heap_calls.specs.Inner.NewSlot.{zone_slotted}
 use Rattle.heap_calls.specs.Inner.Numbered.{state_of, memory_of, handle_number, pointer_number, no_number, Agrees}
@@ -23,6 +29,7 @@ use Rattle.heap_calls.proofs.GonePlaces.{new_gone-is, slotted_zone-is}
 use Rattle.heap_calls.proofs.NewBlocks.CopiedHandles.{same, found, copy-nil}
 use Rattle.heap_calls.proofs.NewBlocks.Naming.{Copied}
 use Rattle.heap_calls.proofs.Numbering.Answering.{held, look_up-refused, content_of-rename}
+use Rattle.heap_calls.proofs.Tables.Gone.{hand_to_hand_gone, copied_gone}
 
 -- What a sink is told of blocks that are purged for the copy of a handle's block.
 
@@ -40,12 +47,25 @@ module _ (zone : List Block) (rest : Rest) (es : List Anchor) (masters : rest.al
         ≡ is_relocatable f.slot b
     spares = same zone rest es masters agrees handle f.number f.slot n k.is k.at k.small k.a k.block k.long k.few
 
+    -- a block has a size that blocks can have
+    fits : is_some (phys (length (content_of k.a.here))) ≡ true
+    fits = ap (λ t. is_some (cond t (Some (padded (length (content_of k.a.here)))) None))
+        (le-leb (length (content_of k.a.here)) 2147483616 (omega (arith, k.few, k.long)))
+
+    copied-made : copied_gone (is_relocatable f.number) (content_of k.a.here) old
+        ≡ made_gone (is_relocatable f.number) (content_of k.a.here) old
+    copied-made = sym (ap (λ t. slot_gone (is_relocatable f.number) old ++ ready_gone
+        (slotted (is_relocatable f.number) old) (λ ready. cond t (room_gone (length ready.names) (put_in_place
+        (Relocatable (length ready.names) no_flags (content_of k.a.here))) (is_relocatable f.number) ready.zone) []))
+        fits)
+
     -- those for the master pointer and for the block
     pub copy_gone-is : new_gone es (sparing.One f.slot) n rest.unused zone ≡ hand_to_hand_gone handle old
     copy_gone-is =
-        sym (ap (λ r. found_gone r (λ h. made_gone (is_relocatable h.number) (content_of h.at.here) old)) found_as
-        ∙ ap (λ x. made_gone (is_relocatable f.number) x old)
+        sym (ap (λ r. found_gone r (λ h. copied_gone (is_relocatable h.number) (content_of h.at.here) old)) found_as
+        ∙ ap (λ x. copied_gone (is_relocatable f.number) x old)
         (content_of-rename (handle_number es) (pointer_number es) k.a.here)
+        ∙ copied-made
         ∙ sym (new_gone-is zone rest es masters agrees (is_relocatable f.number) (sparing.One f.slot) spares
         (λ z. refl) (λ b. refl) (content_of k.a.here))
         ∙ ap (λ m. new_gone es (sparing.One f.slot) m rest.unused zone) k.long)
@@ -70,7 +90,7 @@ copy_gone-refused : (value : Memory) (zone : List Block) (rest : Rest) (es : Lis
     → look_up handle (state_of zone rest.slots es) ≡ Err code → hand_to_hand_gone handle value.heap ≡ []
 copy_gone-refused value zone rest es log handle code is none =
     ap (λ (m : Memory). hand_to_hand_gone handle m.heap) (sym is)
-    ∙ ap (λ r. found_gone r (λ h. made_gone (is_relocatable h.number) (content_of h.at.here)
+    ∙ ap (λ r. found_gone r (λ h. copied_gone (is_relocatable h.number) (content_of h.at.here)
     (state_of zone rest.slots es))) none
 
 pub copy_gone-none : (value : Memory) (zone : List Block) (rest : Rest) (es copy : List Anchor) (log : Log)

@@ -25,8 +25,9 @@ use Rattle.heap_calls.specs.declared.anchor.Target.{Target}
 use Rattle.heap_calls.specs.declared.log.Log.{Log}
 use Rattle.heap_calls.specs.State.{State, Memory}
 use Rattle.heap_calls.specs.Answer.{Held, look_up, nothing}
-use Rattle.heap_calls.specs.Gone.{Gone, Tells, gone, room_gone, in_place_gone, growth_gone, size_gone, found_gone}
-use Rattle.heap_calls.specs.Gone.{set_handle_size_gone, set_pointer_size_gone, hand_and_hand_gone, pointer_and_hand_gone}
+use Rattle.heap_calls.specs.Gone.{Gone, Tells, gone, room_gone, found_gone}
+use Rattle.heap_calls.proofs.Tables.Gone.{in_place_gone, growth_gone, size_gone, set_handle_size_gone}
+use Rattle.heap_calls.proofs.Tables.Gone.{set_pointer_size_gone, hand_and_hand_gone, pointer_and_hand_gone}
 use Rattle.heap_calls.specs.Searches.{room_searches, resized_at}
 use Rattle.heap_calls.specs.Inner.Search.{tries}
 use Rattle.heap_calls.specs.Inner.Growing.{Stays, grown, growing, growing_searches}

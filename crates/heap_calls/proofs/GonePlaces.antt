@@ -25,7 +25,7 @@ use Rattle.heap_calls.specs.declared.log.Log.{Log}
 use Rattle.heap_calls.specs.State.{State, Memory}
 use Rattle.heap_calls.specs.Answer.{Known, handle_at, nothing}
 use Rattle.heap_calls.specs.Purging.{is_loose}
-use Rattle.heap_calls.specs.Gone.{Gone, gone, gone_of, room_gone, found_gone, reallocate_handle_gone, refill_gone}
+use Rattle.heap_calls.specs.Gone.{Gone, gone, gone_of, room_gone, found_gone, refill_gone}
 use Rattle.heap_calls.specs.Inside.{has_block}
 use Rattle.heap_calls.specs.Inner.Filling.{IsSizeOf}
 use Rattle.heap_calls.specs.Inner.Given.{slot_of}
@@ -58,6 +58,7 @@ use Rattle.heap_calls.specs.Inner.Numbered.{state_of, Agrees}
 use Rattle.heap_calls.specs.Inner.Telling.{fresh_gone, after_slot_gone, new_gone}
 use Rattle.heap_calls.proofs.GoneBlocks.{slot_gone-is}
 use Rattle.heap_calls.proofs.NewBlocks.NewHandles.{slotted-is}
+use Rattle.heap_calls.proofs.Tables.Gone.{reallocate_handle_gone}
 
 -- What a sink is told of blocks that are purged for the place of a relocatable block.
 

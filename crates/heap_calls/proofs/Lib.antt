@@ -13,5 +13,7 @@ pub mod GoneForSizes
 pub mod GonePlaces
 pub mod GoneCopies
 pub mod Hearing
+pub mod Tables
 mod Worked
 mod Same
+pub mod Rows

@@ -2,4 +2,5 @@ pub mod Agreeing
 pub mod NewBlocks
 pub mod Growing
 pub mod Resizing
-pub mod Even
+pub mod Methods
+pub mod Silent

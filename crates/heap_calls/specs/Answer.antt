@@ -1,5 +1,5 @@
 use Rattle.std.specs.Prelude.{ℕ, ◌+◌, ◌-◌, Bool, true, false, Option, Some, None, Result, Ok, Err, List, [], ◌∷◌, ◌++◌}
-use Rattle.std.specs.Prelude.{length, slice_get, slice_set, is_some, unwrap_or, nat_le, if◌then◌else◌}
+use Rattle.std.specs.Prelude.{length, slice_get, slice_set, unwrap_or, nat_le, if◌then◌else◌}
 use Rattle.std.specs.Option.{option_map, ok_or}
 use Rattle.mac_words.specs.Size.{phys}
 use Rattle.mac_words.specs.declared.code.OsErr.{OsErr}
@@ -10,7 +10,7 @@ use Rattle.block_store.specs.Block.{content_of, with_content, tidy}
 use Rattle.windows.specs.Writes.{written}
 use Rattle.block_store.specs.Run.{change_run, has, high}
 use Rattle.block_store.specs.Room.{Spot, spot}
-use Rattle.block_store.specs.Grow.{freed, grow}
+use Rattle.block_store.specs.Grow.{freed}
 use Rattle.block_store.specs.Compact.{largest_free, largest_run, compacted}
 use Rattle.block_store.specs.Rest.{counted}
 use Rattle.heap_calls.specs.State.{Role, Plain, Resource, SystemResource, Meaning, Handle, Pointer, Disposed, State}
@@ -121,13 +121,6 @@ put handle i x s = on_block handle s (λ held. written_at i x held.at s)
 abbrev pub rebuilt : Option (List Block) → State → Answer (Unit {0})
 rebuilt None s = refused MEM_FULL s
 rebuilt (Some zone) s = (Ok tt, record s { zone = zone })
-
--- SetHandleSize: the handle's block grows or is cut to n bytes, and is not purged for the room that it needs; -108
--- (memFullErr) where there is no room or no block can have that size.
-abbrev pub set_handle_size : Option ℕ → ℕ → State → Answer (Unit {0})
-set_handle_size handle n s =
-    on_block handle s (λ held. if is_some (phys n) then rebuilt
-    (grow (is_relocatable held.number) (is_relocatable held.number) n s.zone) s else refused MEM_FULL s)
 
 -- A block with its flags changed.
 abbrev pub flagged : (Flags → Flags) → Block → Block

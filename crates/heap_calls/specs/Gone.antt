@@ -1,19 +1,16 @@
-use Rattle.std.specs.Prelude.{◌≡◌, ℕ, ◌-◌, ◌+◌, Bool, ◌||◌, Option, Some, None, is_some, Result, Ok, Err, List, [], ◌∷◌, true}
-use Rattle.std.specs.Prelude.{◌++◌, length, replicate, nat_lt, nat_le, if◌then◌else◌, zero, suc}
+use Rattle.std.specs.Prelude.{◌≡◌, ℕ, ◌-◌, Bool, Option, Some, None, is_some, Result, Ok, Err, List, [], ◌∷◌, true}
+use Rattle.std.specs.Prelude.{◌++◌, length, replicate, nat_lt, if◌then◌else◌, zero, suc}
 use Rattle.mac_words.specs.Size.{phys}
 use Rattle.mac_words.specs.declared.code.OsErr.{OsErr}
 use Rattle.block_store.specs.declared.flags.Flags.{Flags}
-use Rattle.block_store.specs.Block.{Block, Free, Nonrelocatable, Masters, Relocatable, size, is_mover, is_relocatable}
-use Rattle.block_store.specs.Block.{is_nonrelocatable, content_of, no_flags}
-use Rattle.block_store.specs.Run.{has_free, segments}
-use Rattle.block_store.specs.Room.{Spot, spot, may_be_purged, put_at_base, put_in_place, room}
-use Rattle.block_store.specs.Grow.{growth, grow_up, grow_mover, freed}
+use Rattle.block_store.specs.Block.{Block, Free, Nonrelocatable, Masters, Relocatable, size, is_relocatable}
+use Rattle.block_store.specs.Block.{no_flags}
+use Rattle.block_store.specs.Room.{may_be_purged, put_at_base, put_in_place, room}
 use Rattle.heap_calls.specs.State.{Resource, State, Memory, used_slots, all_slots}
 use Rattle.heap_calls.specs.Slots.{slotted}
 use Rattle.heap_calls.specs.Answer.{look_up, handle_at, nothing}
-use Rattle.heap_calls.specs.Pointers.{pointed_at, reserved}
-use Rattle.heap_calls.specs.Purging.{is_loose, purgeable, blocks_purged}
-use Rattle.heap_calls.specs.Searches.{room_searches, resized_at}
+use Rattle.heap_calls.specs.Purging.{purgeable, blocks_purged}
+use Rattle.heap_calls.specs.Searches.{room_searches}
 use Rattle.heap_calls.specs.Inside.{new_inside}
 
 -- What a call purges for room: each block's handle and bytes, the lowest block first. Inside Macintosh: Memory, chapter
@@ -63,29 +60,6 @@ block_gone spared bytes s = if is_some (phys (length bytes))
 abbrev pub made_gone : (Block → Bool) → List ℕ → State → List Gone
 made_gone spared bytes s = slot_gone spared s ++ ready_gone (slotted spared s) (block_gone spared bytes)
 
--- The blocks that NewHandle purges.
-abbrev pub new_handle_gone : ℕ → State → List Gone
-new_handle_gone size s = made_gone nothing (replicate size 0) s
-
--- The blocks that NewEmptyHandle purges.
-abbrev pub new_empty_handle_gone : State → List Gone
-new_empty_handle_gone s = slot_gone nothing s
-
--- The blocks that MoreMasters purges.
-abbrev pub more_masters_gone : State → List Gone
-more_masters_gone s = room_gone (length s.names) (put_at_base Masters) nothing s.zone
-
--- The blocks that NewPtr purges.
-abbrev pub new_pointer_gone : ℕ → State → List Gone
-new_pointer_gone size s = if is_some (phys size)
-    then room_gone (length s.names) (put_at_base (Nonrelocatable (length s.names) (replicate size 0))) nothing s.zone
-    else []
-
--- The blocks that ReserveMem purges.
-abbrev pub reserve_gone : Option ℕ → State → List Gone
-reserve_gone None s = []
-reserve_gone (Some p) s = room_gone (length s.names) (reserved p) nothing s.zone
-
 -- The blocks that PurgeMem purges, also where it is refused.
 abbrev pub purge_mem_gone : ℕ → State → List Gone
 purge_mem_gone size s = gone (length s.names) (blocks_purged (phys size) s.zone) nothing s.zone
@@ -93,25 +67,6 @@ purge_mem_gone size s = gone (length s.names) (blocks_purged (phys size) s.zone)
 -- The blocks that MaxMem purges.
 abbrev pub max_mem_gone : State → List Gone
 max_mem_gone s = gone (length s.names) (purgeable s.zone) nothing s.zone
-
--- The blocks that are purged for the growth of a nonrelocatable or locked block: none where the free block above it is
--- large enough, else some of the run above it.
-abbrev pub in_place_gone : ℕ → (Block → Bool) → Block → Spot → List Gone
-in_place_gone n spared new s =
-    if is_some (grow_up new s) then []
-    else room_gone n (λ run. if has_free (growth new s) run then Some run else None) spared (segments s.above).first
-
--- The blocks that are purged where the block at a spot gets another size.
-abbrev pub growth_gone : ℕ → (Block → Bool) → (Block → Bool) → Block → List Block → Option Spot → List Gone
-growth_gone n test spared new zone None = []
-growth_gone n test spared new zone (Some s) =
-    if nat_le (size new) (size s.here) then []
-    else (if is_mover s.here then room_gone n (grow_mover test new) spared zone else in_place_gone n spared new s)
-
--- The blocks that are purged where the block that passes a test gets so many bytes of content.
-abbrev pub size_gone : ℕ → (Block → Bool) → (Block → Bool) → ℕ → List Block → List Gone
-size_gone n test spared bytes zone = if is_some (phys bytes) then growth_gone n test spared
-    (resized_at bytes (spot test zone)) zone (spot test zone) else []
 
 -- The blocks that a call purges for what was found; none where nothing was found.
 abbrev pub found_gone : {A : Type 0} → Result A OsErr → (A → List Gone) → List Gone
@@ -126,44 +81,6 @@ gone_unless (Some code) purged = []
 -- The blocks that HandToHand purges for the master pointer of the copy, and those that it purges in all.
 abbrev pub copy_slot_gone : Option ℕ → State → List Gone
 copy_slot_gone handle s = found_gone (look_up handle s) (λ held. slot_gone (is_relocatable held.number) s)
-
-abbrev pub hand_to_hand_gone : Option ℕ → State → List Gone
-hand_to_hand_gone handle s =
-    found_gone (look_up handle s) (λ held. made_gone (is_relocatable held.number) (content_of held.at.here) s)
-
--- The blocks that SetHandleSize purges.
-abbrev pub set_handle_size_gone : Option ℕ → ℕ → State → List Gone
-set_handle_size_gone handle bytes s = found_gone (look_up handle s)
-    (λ held. size_gone (length s.names) (is_relocatable held.number) (is_relocatable held.number) bytes s.zone)
-
--- The blocks that SetPtrSize purges.
-abbrev pub set_pointer_size_gone : Option ℕ → ℕ → State → List Gone
-set_pointer_size_gone pointer bytes s = found_gone (pointed_at pointer s)
-    (λ held. size_gone (length s.names) (is_nonrelocatable held.number) nothing bytes s.zone)
-
--- The blocks that HandAndHand purges.
-abbrev pub hand_and_hand_gone : Option ℕ → Option ℕ → State → List Gone
-hand_and_hand_gone from to s =
-    found_gone (look_up from s) (λ a. found_gone (look_up to s) (λ b.
-    size_gone (length s.names) (is_relocatable b.number)
-    (λ block. is_relocatable a.number block || is_relocatable b.number block)
-    (length (content_of b.at.here) + length (content_of a.at.here)) s.zone))
-
--- The blocks that PtrAndHand purges.
-abbrev pub pointer_and_hand_gone : Option ℕ → List ℕ → State → List Gone
-pointer_and_hand_gone handle x s =
-    found_gone (look_up handle s) (λ held. size_gone (length s.names) (is_relocatable held.number)
-    (is_relocatable held.number) (length (content_of held.at.here) + length x) s.zone)
-
--- The blocks that ReallocateHandle purges. The handle's own block, if it has one, is free by then, and is not among
--- them.
-abbrev pub reallocate_handle_gone : Option ℕ → ℕ → State → List Gone
-reallocate_handle_gone handle n s =
-    found_gone (handle_at handle s) (λ k. if is_loose (spot (is_relocatable k.number) s.zone)
-    then (if is_some (phys n) then room_gone (length s.names)
-    (put_in_place (Relocatable k.number no_flags (replicate n 0))) nothing (freed (is_relocatable k.number) s.zone)
-    else [])
-    else [])
 
 -- The blocks that are purged for a new block of n bytes for an empty handle.
 abbrev pub refill_gone : ℕ → ℕ → State → List Gone

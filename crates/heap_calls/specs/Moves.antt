@@ -1,17 +1,17 @@
-use Rattle.std.specs.Prelude.{ℕ, ◌+◌, ◌-◌, Bool, ◌&&◌, ◌||◌, Option, Some, None, List, length, replicate, is_some}
+use Rattle.std.specs.Prelude.{ℕ, ◌-◌, Bool, ◌&&◌, Option, Some, None, List, length, replicate, is_some}
 use Rattle.std.specs.Prelude.{nat_le, if◌then◌else◌}
 use Rattle.mac_words.specs.Size.{phys}
-use Rattle.block_store.specs.Block.{Block, Relocatable, size, is_mover, is_relocatable, is_room, no_flags, content_of}
+use Rattle.block_store.specs.Block.{Block, Relocatable, size, is_mover, is_room, no_flags}
 use Rattle.block_store.specs.Run.{RunSpot, run_spot, has_free, has, high, runs}
 use Rattle.block_store.specs.Room.{Spot, spot, place, put_in_place, purge}
-use Rattle.block_store.specs.Grow.{growth, grow_up, grow_mover, freed}
+use Rattle.block_store.specs.Grow.{growth, grow_up, grow_mover}
 use Rattle.block_store.specs.Compact.{lowered_in_runs, runs_settled}
 use Rattle.block_store.specs.Rest.{lowered_in_run}
 use Rattle.heap_calls.specs.State.{State}
-use Rattle.heap_calls.specs.Answer.{handle_at, look_up, nothing}
+use Rattle.heap_calls.specs.Answer.{nothing}
 use Rattle.heap_calls.specs.Slots.{slotted}
-use Rattle.heap_calls.specs.Purging.{is_loose, purged_all}
-use Rattle.heap_calls.specs.Searches.{room_searches, ready_searches, resized_at, found_searches}
+use Rattle.heap_calls.specs.Purging.{purged_all}
+use Rattle.heap_calls.specs.Searches.{room_searches, ready_searches, resized_at}
 
 -- How many blocks the compaction of a call moves down. A block that moves up, to make room at the base of a run or to
 -- stand at the top of one, is not counted. Inside Macintosh: Memory, chapter 1, "Heap Compaction".
@@ -74,40 +74,6 @@ growth_moves test spared new zone (Some s) =
 abbrev pub size_moves : (Block → Bool) → (Block → Bool) → ℕ → List Block → ℕ
 size_moves test spared n zone =
     if is_some (phys n) then growth_moves test spared (resized_at n (spot test zone)) zone (spot test zone) else 0
-
--- The moves of SetHandleSize.
-abbrev pub set_handle_size_moves : Option ℕ → ℕ → State → ℕ
-set_handle_size_moves handle n s =
-    found_searches (look_up handle s) (λ held. size_moves (is_relocatable held.number) (is_relocatable held.number) n
-    s.zone)
-
--- The moves of ReallocateHandle.
-abbrev pub reallocate_handle_moves : Option ℕ → ℕ → State → ℕ
-reallocate_handle_moves handle n s =
-    found_searches (handle_at handle s) (λ k. if is_loose (spot (is_relocatable k.number) s.zone)
-    then (if is_some (phys n)
-    then put_moves (Relocatable k.number no_flags (replicate n 0)) nothing (freed (is_relocatable k.number) s.zone)
-    else 0)
-    else 0)
-
--- The moves of HandToHand.
-abbrev pub hand_to_hand_moves : Option ℕ → State → ℕ
-hand_to_hand_moves handle s =
-    found_searches (look_up handle s) (λ held. ready_searches (slotted (is_relocatable held.number) s)
-    (block_moves (is_relocatable held.number) (content_of held.at.here)))
-
--- The moves of HandAndHand.
-abbrev pub hand_and_hand_moves : Option ℕ → Option ℕ → State → ℕ
-hand_and_hand_moves from to s =
-    found_searches (look_up from s) (λ a. found_searches (look_up to s) (λ b.
-    size_moves (is_relocatable b.number) (λ block. is_relocatable a.number block || is_relocatable b.number block)
-    (length (content_of b.at.here) + length (content_of a.at.here)) s.zone))
-
--- The moves of PtrAndHand.
-abbrev pub pointer_and_hand_moves : Option ℕ → List ℕ → State → ℕ
-pointer_and_hand_moves handle x s =
-    found_searches (look_up handle s) (λ held. size_moves (is_relocatable held.number) (is_relocatable held.number)
-    (length (content_of held.at.here) + length x) s.zone)
 
 -- The moves of CompactMem.
 abbrev pub compact_mem_moves : ℕ → State → ℕ

@@ -1,5 +1,5 @@
 use Rattle.std.specs.Prelude.{ℕ, ◌+◌, ◌-◌, ◌/◌, ◌%◌, ◌==◌, Bool, true, false, Option, Some, None, Ok, Err, List, length}
-use Rattle.std.specs.Prelude.{replicate, is_some, if◌then◌else◌}
+use Rattle.std.specs.Prelude.{replicate, if◌then◌else◌}
 use Rattle.mac_words.specs.Size.{phys}
 use Rattle.mac_words.specs.declared.code.TheConstants.OsErr.{MEM_FULL, PURGED}
 use Rattle.block_store.specs.Block.{Block, Free, Nonrelocatable, Masters, Relocatable, free_sum, is_mover, is_relocatable}
@@ -9,7 +9,7 @@ use Rattle.block_store.specs.Room.{Spot, spot, put_in_place, room, purge, count_
 use Rattle.block_store.specs.Grow.{freed}
 use Rattle.block_store.specs.Compact.{largest_free, least_or_last, has_room, settled}
 use Rattle.heap_calls.specs.State.{Role, Plain, Resource, SystemResource, State}
-use Rattle.heap_calls.specs.Answer.{Answer, refused, for_found, on_block, handle_at, rebuilt, change_flags, nothing}
+use Rattle.heap_calls.specs.Answer.{Answer, refused, for_found, on_block, handle_at, change_flags, nothing}
 use Rattle.block_store.specs.declared.measures.TheConstants.{HEADER_SIZE}
 
 -- Properties of blocks, empty handles, and purging. Inside Macintosh: Memory, chapter 2, "Setting the Properties of
@@ -71,14 +71,6 @@ is_loose (Some at) = is_mover at.here
 abbrev pub reallocated : ℕ → ℕ → List Block → Option (List Block)
 reallocated h n zone = room (put_in_place (Relocatable h no_flags (replicate n 0))) nothing
     (freed (is_relocatable h) zone)
-
--- ReallocateHandle: a new block of n bytes, all 0, for a handle; -112 (memPurErr) where its old block is locked, -108
--- (memFullErr) where there is no room or no block can have that size.
-abbrev pub reallocate_handle : Option ℕ → ℕ → State → Answer (Unit {0})
-reallocate_handle handle n s =
-    for_found (handle_at handle s) s (λ k. if is_loose (spot (is_relocatable k.number) s.zone)
-    then (if is_some (phys n) then rebuilt (reallocated k.number n s.zone) s else refused MEM_FULL s)
-    else refused PURGED s)
 
 -- The number of blocks that may be purged.
 abbrev pub purgeable : List Block → ℕ

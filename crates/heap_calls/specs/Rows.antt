@@ -7,9 +7,10 @@ use Rattle.block_store.specs.Block.{Block, Free, Nonrelocatable, Masters, Reloca
 use Rattle.block_store.specs.Room.{spot}
 use Rattle.block_store.specs.Grow.{freed}
 use Rattle.moves.specs.Moves.{Move, Put, Base, Drop, Write, Did, did}
-use Rattle.moves.specs.Seeking.{Sought, no_room, seek, if_fits, seek_slot, seek_new, seek_size, around}
-use Rattle.heap_calls.specs.State.{Plain, Meaning, Handle, Pointer, State, used_slots, all_slots}
-use Rattle.heap_calls.specs.Answer.{Held, look_up, handle_at, nothing}
+use Rattle.moves.specs.Seeking.{Sought, no_room, seek, if_fits, seek_slot, then_seek, seek_size, around}
+use Rattle.heap_calls.specs.State.{Plain, Meaning, Handle, Pointer, State, Memory, used_slots, all_slots}
+use Rattle.heap_calls.specs.Answer.{Answer, Held, look_up, handle_at, nothing, silent, searching, moving}
+use Rattle.heap_calls.specs.Asked.{packing}
 use Rattle.heap_calls.specs.Pointers.{pointed_at}
 use Rattle.heap_calls.specs.Purging.{is_loose}
 use Rattle.heap_calls.specs.Gone.{Gone, gone_of}
@@ -43,6 +44,28 @@ told_blocks n (b ∷ above) = gone_of n b ++ told_blocks n above
 abbrev pub purged_by : {T : Type 0} → Done T → State → List Gone
 purged_by d s = told_blocks (length s.names) (work d s).gone
 
+-- The answer, the searches for room, the blocks that are moved down, and those that are purged, of what does a call.
+abbrev pub answer_made : {T : Type 0} → (State → Done T) → State → Answer T
+answer_made does s = ((does s).reply, heap_after (does s) s)
+
+abbrev pub searches_made : {T : Type 0} → (State → Done T) → State → ℕ
+searches_made does s = (work (does s) s).searches
+
+abbrev pub moves_made : {T : Type 0} → (State → Done T) → State → ℕ
+moves_made does s = (work (does s) s).lowered
+
+abbrev pub purges_made : {T : Type 0} → (State → Done T) → State → List Gone
+purges_made does s = purged_by (does s) s
+
+-- A call that sets the code that MemError returns; its searches and moves are counted.
+abbrev pub doing : {T : Type 0} → (State → Done T) → Memory → Result T OsErr × Memory
+doing does m = packing (moves_made does) (searches_made does) (answer_made does) m
+
+-- The same of a call that does not set it.
+abbrev pub doing_silently : {T : Type 0} → (State → Done T) → Memory → Result T OsErr × Memory
+doing_silently does m =
+    moving (moves_made does m.heap) (searching (searches_made does m.heap) (silent (answer_made does) m))
+
 -- A refusal with a code, which changes nothing.
 abbrev pub refused : {T : Type 0} → OsErr → State → Done T
 refused code s = record { reply = Err code; names = s.names; spared = nothing; path = [] }
@@ -74,14 +97,18 @@ changed spared sought s =
 abbrev pub is_unused : State → Bool
 is_unused s = nat_lt (used_slots s) (all_slots s)
 
--- A new handle with a block of these bytes.
-abbrev pub made : (Block → Bool) → List ℕ → State → Done ℕ
-made spared bytes s = given (Handle Plain) spared
-    (seek_new (is_unused s) (Relocatable (length s.names) no_flags bytes) spared s.zone) s
+-- A new handle: for its master pointer, and then for its block, room is sought.
+abbrev pub made : (Block → Bool) → (List Block → Sought) → State → Done ℕ
+made spared block s =
+    given (Handle Plain) spared (then_seek spared s.zone (seek_slot (is_unused s) spared s.zone) block) s
+
+-- The block of the next handle, with these bytes.
+abbrev pub next_block : List ℕ → State → Block
+next_block bytes s = Relocatable (length s.names) no_flags bytes
 
 -- NewHandle: a new handle with a block of n bytes, all 0.
 abbrev pub new_handle : ℕ → State → Done ℕ
-new_handle n s = made nothing (replicate n 0) s
+new_handle n s = made nothing (λ zone. if_fits n (seek (Put (next_block (replicate n 0) s)) nothing zone)) s
 
 -- NewEmptyHandle: a new handle with no block.
 abbrev pub new_empty_handle : State → Done ℕ
@@ -96,18 +123,20 @@ abbrev pub new_pointer : ℕ → State → Done ℕ
 new_pointer n s = given Pointer nothing
     (if_fits n (seek (Base (Nonrelocatable (length s.names) (replicate n 0))) nothing s.zone)) s
 
+-- The search for a free block of so many bytes, its header among them; none where no block has that size.
+abbrev pub room_for : Option ℕ → List Block → Sought
+room_for None zone = no_room
+room_for (Some p) zone = seek (Base (Free p)) nothing zone
+
 -- ReserveMem: a free block of n bytes as low in the zone as can be.
 abbrev pub reserve_mem : ℕ → State → Done (Unit {0})
-reserve_mem n s = changed nothing (room_for (phys n)) s
-  where
-    room_for : Option ℕ → Sought
-    room_for None = no_room
-    room_for (Some p) = seek (Base (Free p)) nothing s.zone
+reserve_mem n s = changed nothing (room_for (phys n) s.zone) s
 
 -- HandToHand: a new handle with a copy of the bytes of another handle's block, which is not purged for the copy.
 abbrev pub hand_to_hand : Option ℕ → State → Done ℕ
 hand_to_hand handle s =
-    for_found (look_up handle s) s (λ held. made (is_relocatable held.number) (content_of held.at.here) s)
+    for_found (look_up handle s) s (λ held. made (is_relocatable held.number)
+    (seek (Put (next_block (content_of held.at.here) s)) (is_relocatable held.number)) s)
 
 -- SetHandleSize: the handle's block, which is spared, grows or is cut to n bytes.
 abbrev pub set_handle_size : Option ℕ → ℕ → State → Done (Unit {0})

@@ -1,18 +1,16 @@
-use Rattle.std.specs.Prelude.{ℕ, ◌+◌, zero, suc, Bool, true, false, ◌||◌, Option, Some, None, Result, Ok, Err, List, []}
+use Rattle.std.specs.Prelude.{ℕ, ◌+◌, zero, suc, Bool, true, false, Option, Some, None, List, []}
 use Rattle.std.specs.Prelude.{◌∷◌, length, replicate, is_some, nat_lt, nat_le, if◌then◌else◌}
 use Rattle.mac_words.specs.Size.{phys}
-use Rattle.mac_words.specs.declared.code.OsErr.{OsErr}
-use Rattle.block_store.specs.Block.{Block, Nonrelocatable, Masters, Relocatable, size, is_mover, is_relocatable, is_nonrelocatable}
-use Rattle.block_store.specs.Block.{no_flags, resized, content_of}
+use Rattle.block_store.specs.Block.{Block, Masters, Relocatable, size, is_mover}
+use Rattle.block_store.specs.Block.{no_flags, resized}
 use Rattle.block_store.specs.Run.{has_free, segments, runs}
 use Rattle.block_store.specs.Room.{Spot, spot, put_at_base, put_in_place, purge, count_of}
-use Rattle.block_store.specs.Grow.{growth, grow_up, grow_mover, freed}
+use Rattle.block_store.specs.Grow.{growth, grow_up, grow_mover}
 use Rattle.block_store.specs.Compact.{runs_settled}
 use Rattle.heap_calls.specs.State.{State, used_slots, all_slots}
-use Rattle.heap_calls.specs.Answer.{handle_at, look_up, nothing}
+use Rattle.heap_calls.specs.Answer.{nothing}
 use Rattle.heap_calls.specs.Slots.{slotted}
-use Rattle.heap_calls.specs.Pointers.{pointed_at, reserved}
-use Rattle.heap_calls.specs.Purging.{is_loose, blocks_purged}
+use Rattle.heap_calls.specs.Purging.{blocks_purged}
 use Rattle.heap_calls.specs.Inner.Search.{tries}
 
 -- How many searches for room a call makes: one at each number of purges, from none up to the first that serves, or up
@@ -47,20 +45,6 @@ new_handle_searches n s =
 abbrev pub new_empty_handle_searches : State → ℕ
 new_empty_handle_searches s = slot_searches nothing s
 
--- The searches of MoreMasters.
-abbrev pub more_masters_searches : State → ℕ
-more_masters_searches s = room_searches (put_at_base Masters) nothing s.zone
-
--- The searches of NewPtr.
-abbrev pub new_pointer_searches : ℕ → State → ℕ
-new_pointer_searches n s = if is_some (phys n) then room_searches (put_at_base (Nonrelocatable (length s.names) (replicate n 0)))
-    nothing s.zone else 0
-
--- The searches of ReserveMem.
-abbrev pub reserve_searches : Option ℕ → State → ℕ
-reserve_searches None s = 0
-reserve_searches (Some p) s = room_searches (reserved p) nothing s.zone
-
 -- The searches for the growth of a nonrelocatable or locked block: one where the free block above it is large enough,
 -- else one at each number of purges in the run above it.
 abbrev pub in_place_searches : (Block → Bool) → Block → Spot → ℕ
@@ -84,49 +68,6 @@ resized_at n (Some s) = resized n s.here
 abbrev pub size_searches : (Block → Bool) → (Block → Bool) → ℕ → List Block → ℕ
 size_searches test spared n zone = if is_some (phys n) then growth_searches test spared (resized_at n (spot test zone))
     zone (spot test zone) else 0
-
--- The number of searches of a call for what was found; none where nothing was found.
-abbrev pub found_searches : {A : Type 0} → Result A OsErr → (A → ℕ) → ℕ
-found_searches (Err code) count = 0
-found_searches (Ok found) count = count found
-
--- The searches of SetHandleSize.
-abbrev pub set_handle_size_searches : Option ℕ → ℕ → State → ℕ
-set_handle_size_searches handle n s = found_searches (look_up handle s)
-    (λ held. size_searches (is_relocatable held.number) (is_relocatable held.number) n s.zone)
-
--- The searches of SetPtrSize.
-abbrev pub set_pointer_size_searches : Option ℕ → ℕ → State → ℕ
-set_pointer_size_searches pointer n s = found_searches (pointed_at pointer s)
-    (λ held. size_searches (is_nonrelocatable held.number) nothing n s.zone)
-
--- The searches of ReallocateHandle.
-abbrev pub reallocate_handle_searches : Option ℕ → ℕ → State → ℕ
-reallocate_handle_searches handle n s =
-    found_searches (handle_at handle s) (λ k. if is_loose (spot (is_relocatable k.number) s.zone)
-    then (if is_some (phys n) then room_searches (put_in_place (Relocatable k.number no_flags (replicate n 0))) nothing
-    (freed (is_relocatable k.number) s.zone) else 0)
-    else 0)
-
--- The searches of HandToHand.
-abbrev pub hand_to_hand_searches : Option ℕ → State → ℕ
-hand_to_hand_searches handle s =
-    found_searches (look_up handle s) (λ held. slot_searches (is_relocatable held.number) s
-    + ready_searches (slotted (is_relocatable held.number) s) (block_searches (is_relocatable held.number)
-    (content_of held.at.here)))
-
--- The searches of HandAndHand.
-abbrev pub hand_and_hand_searches : Option ℕ → Option ℕ → State → ℕ
-hand_and_hand_searches from to s =
-    found_searches (look_up from s) (λ a. found_searches (look_up to s) (λ b.
-    size_searches (is_relocatable b.number) (λ block. is_relocatable a.number block || is_relocatable b.number block)
-    (length (content_of b.at.here) + length (content_of a.at.here)) s.zone))
-
--- The searches of PtrAndHand.
-abbrev pub pointer_and_hand_searches : Option ℕ → List ℕ → State → ℕ
-pointer_and_hand_searches handle x s =
-    found_searches (look_up handle s) (λ held. size_searches (is_relocatable held.number) (is_relocatable held.number)
-    (length (content_of held.at.here) + length x) s.zone)
 
 -- Whether a run has a block. A run without a block stands between two neighbouring blocks that stay.
 abbrev pub has_block : List Block → Bool

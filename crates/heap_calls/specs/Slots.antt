@@ -1,13 +1,12 @@
-use Rattle.std.specs.Prelude.{ℕ, Bool, Option, Some, None, List, length, replicate, is_some, nat_lt, unwrap_or}
+use Rattle.std.specs.Prelude.{ℕ, Bool, Option, Some, None, List, length, nat_lt, unwrap_or}
 use Rattle.std.specs.Prelude.{if◌then◌else◌}
 use Rattle.std.specs.Option.{option_map}
-use Rattle.mac_words.specs.Size.{phys}
 use Rattle.mac_words.specs.declared.code.TheConstants.OsErr.{MEM_FULL}
-use Rattle.block_store.specs.Block.{Block, Masters, Relocatable, no_flags}
+use Rattle.block_store.specs.Block.{Block, Masters, Relocatable}
 use Rattle.block_store.specs.Room.{put_at_base, put_in_place, room}
 use Rattle.block_store.specs.declared.flags.Flags.{Flags}
-use Rattle.heap_calls.specs.State.{Role, Plain, Handle, State, used_slots, all_slots}
-use Rattle.heap_calls.specs.Answer.{Answer, refused, given, nothing}
+use Rattle.heap_calls.specs.State.{Role, Handle, State, used_slots, all_slots}
+use Rattle.heap_calls.specs.Answer.{Answer, refused, given}
 
 -- Master pointers for new handles. Inside Macintosh: Memory, chapter 2, "Allocating Master Pointers".
 
@@ -30,20 +29,6 @@ if_ready (Some ready) s answer = answer ready
 abbrev pub made : Role → Flags → (Block → Bool) → List ℕ → State → Answer ℕ
 made role flags spared bytes s = given (Handle role) (room (put_in_place (Relocatable (length s.names) flags bytes))
     spared s.zone) s
-
--- A new handle, an application's own, with a block of these bytes.
-abbrev pub new_block : (Block → Bool) → List ℕ → State → Answer ℕ
-new_block spared bytes s = made Plain no_flags spared bytes s
-
--- NewHandle: a new handle with a block of n bytes, all 0; -108 (memFullErr) where there is no room or no block can
--- have that size.
-abbrev pub new_handle : ℕ → State → Answer ℕ
-new_handle n s = if_ready (slotted nothing s) s (λ ready. if is_some (phys n)
-    then new_block nothing (replicate n 0) ready else refused MEM_FULL ready)
-
--- NewEmptyHandle: a new handle with no block.
-abbrev pub new_empty_handle : State → Answer ℕ
-new_empty_handle s = if_ready (slotted nothing s) s (λ ready. given (Handle Plain) (Some ready.zone) ready)
 
 -- The zone with an unused master pointer: as it was where there is one, or where there is no room for more; else with
 -- a new master pointer block, and with what the search for its room purged and moved.

@@ -11,26 +11,19 @@ use Rattle.heap_calls.specs.Asked.{MoveHHi, HLockHi, HandToHand, HandAndHand, Pt
 use Rattle.heap_calls.specs.Asked.{SetPtrSize, FreeMem, MaxBlock, PurgeSpace, CompactMem, PurgeMem, MaxMem, ReserveMem}
 use Rattle.heap_calls.specs.Asked.{MoreMasters, MemError, Put, Show, PutPtr, ShowPtr, Where}
 use Rattle.heap_calls.specs.Asked.{telling, seeking, packing}
-use Rattle.heap_calls.specs.Answer.{Answer, dispose_handle, get_handle_size, free_mem, set_handle_size, h_lock, h_unlock}
+use Rattle.heap_calls.specs.Answer.{Answer, dispose_handle, get_handle_size, free_mem, h_lock, h_unlock}
 use Rattle.heap_calls.specs.Answer.{move_h_hi, h_lock_hi, max_block, compact_mem, put, show, noting, silent, moving}
 use Rattle.heap_calls.specs.Answer.{look_up, nothing}
-use Rattle.heap_calls.specs.Slots.{new_handle, new_empty_handle, slotted_zone}
-use Rattle.heap_calls.specs.Pointers.{new_pointer, dispose_pointer, get_pointer_size, set_pointer_size, put_pointer}
-use Rattle.heap_calls.specs.Pointers.{show_pointer, place_of, reserve_mem, add_masters}
-use Rattle.heap_calls.specs.Purging.{h_purge, h_no_purge, h_get_state, h_set_state, empty_handle, reallocate_handle}
+use Rattle.heap_calls.specs.Slots.{slotted_zone}
+use Rattle.heap_calls.specs.Pointers.{dispose_pointer, get_pointer_size, put_pointer, show_pointer, place_of}
+use Rattle.heap_calls.specs.Purging.{h_purge, h_no_purge, h_get_state, h_set_state, empty_handle}
 use Rattle.heap_calls.specs.Purging.{purge_mem, purge_space, max_mem, blocks_purged}
-use Rattle.heap_calls.specs.Copying.{hand_to_hand, hand_and_hand, pointer_and_hand, copying_zone}
-use Rattle.heap_calls.specs.Searches.{new_handle_searches, new_empty_handle_searches, more_masters_searches}
-use Rattle.heap_calls.specs.Searches.{new_pointer_searches, reserve_searches, set_handle_size_searches}
-use Rattle.heap_calls.specs.Searches.{set_pointer_size_searches, reallocate_handle_searches, hand_to_hand_searches}
-use Rattle.heap_calls.specs.Searches.{hand_and_hand_searches, pointer_and_hand_searches, compact_mem_searches}
-use Rattle.heap_calls.specs.Searches.{purge_mem_searches}
-use Rattle.heap_calls.specs.Moves.{new_handle_moves, set_handle_size_moves, reallocate_handle_moves, hand_to_hand_moves}
-use Rattle.heap_calls.specs.Moves.{hand_and_hand_moves, pointer_and_hand_moves, compact_mem_moves, max_mem_moves}
-use Rattle.heap_calls.specs.Gone.{Gone, new_handle_gone, new_empty_handle_gone, set_handle_size_gone, reallocate_handle_gone}
-use Rattle.heap_calls.specs.Gone.{hand_to_hand_gone, hand_and_hand_gone, pointer_and_hand_gone, new_pointer_gone}
-use Rattle.heap_calls.specs.Gone.{set_pointer_size_gone, purge_mem_gone, max_mem_gone, reserve_gone, more_masters_gone}
-use Rattle.heap_calls.specs.Gone.{gone_unless}
+use Rattle.heap_calls.specs.Copying.{copying_zone}
+use Rattle.heap_calls.specs.Searches.{compact_mem_searches, purge_mem_searches}
+use Rattle.heap_calls.specs.Moves.{compact_mem_moves, max_mem_moves}
+use Rattle.heap_calls.specs.Gone.{Gone, purge_mem_gone, max_mem_gone, gone_unless}
+use Rattle.heap_calls.specs.Rows as rows
+use Rattle.heap_calls.specs.Rows.{doing, searches_made, moves_made, purges_made}
 use Rattle.heap_calls.specs.Busy.{barred, change_barred, both_barred, pointer_barred, either_barred, keep_code, unless}
 use Rattle.heap_calls.specs.Busy.{unless_silent}
 
@@ -70,18 +63,18 @@ second_of (OnBoth from to) = to
 second_of bar = None
 
 -- A row: what may bar the call, how a transcript prints its reply, and its answer. A plain call searches for no room,
--- and sets the code that MemError returns; a quiet one doesn't set it; of one that searches for room the row has the
--- searches that it makes and the blocks that it purges, and of one that packs runs also how many blocks it moves down.
--- CompactMem packs and searches, and purges nothing; MaxMem purges and packs, and searches for nothing; MemError
--- returns the code. Of a call whose refusal by its row leaves another zone than the one before, the row has that zone.
+-- and sets the code that MemError returns; a quiet one doesn't set it. Of one that allocates or resizes a block the row
+-- has the path of its moves, of which its answer, its searches, and the blocks that it moves down and purges are read
+-- off. Of PurgeMem the row has the searches that it makes and the blocks that it purges. CompactMem packs and searches,
+-- and purges nothing; MaxMem purges and packs, and searches for nothing; MemError returns the code. Of a call whose
+-- refusal by its row leaves another zone than the one before, the row has that zone.
 -- See decision 24 (`MemError` returns the code of the last call of its table).
 pub data Row : Type 1 where
   Plain : {T : Type 0} (bar : Bar) (tell : T → Told) (call : State → Answer T) → Row
   Quiet : {T : Type 0} (bar : Bar) (tell : T → Told) (call : State → Answer T) → Row
+  Does : {T : Type 0} (bar : Bar) (tell : T → Told) (does : State → rows.Done T) → Row
   Seeks : {T : Type 0} (bar : Bar) (tell : T → Told) (searches : State → ℕ) (gone : State → List Gone)
       (call : State → Answer T) → Row
-  Packs : {T : Type 0} (bar : Bar) (tell : T → Told) (moves : State → ℕ) (searches : State → ℕ)
-      (gone : State → List Gone) (call : State → Answer T) → Row
   Compacts : (moves : State → ℕ) (searches : State → ℕ) (call : State → Answer ℕ) → Row
   PurgesAll : Row
   LastCode : Row
@@ -91,8 +84,8 @@ pub data Row : Type 1 where
 abbrev pub bar_of : Row → Bar
 bar_of (Plain bar tell call) = bar
 bar_of (Quiet bar tell call) = bar
+bar_of (Does bar tell does) = bar
 bar_of (Seeks bar tell searches gone call) = bar
-bar_of (Packs bar tell moves searches gone call) = bar
 bar_of (Compacts moves searches call) = Open
 bar_of PurgesAll = Open
 bar_of LastCode = Open
@@ -101,8 +94,8 @@ bar_of (Leaves left row) = bar_of row
 abbrev pub notes_code : Row → Bool
 notes_code (Plain bar tell call) = true
 notes_code (Quiet bar tell call) = false
+notes_code (Does bar tell does) = true
 notes_code (Seeks bar tell searches gone call) = true
-notes_code (Packs bar tell moves searches gone call) = true
 notes_code (Compacts moves searches call) = true
 notes_code PurgesAll = true
 notes_code LastCode = false
@@ -112,8 +105,8 @@ notes_code (Leaves left row) = notes_code row
 abbrev pub answer_of : Row → Memory → Told × Memory
 answer_of (Plain bar tell call) m = telling tell (noting call m)
 answer_of (Quiet bar tell call) m = telling tell (silent call m)
+answer_of (Does bar tell does) m = telling tell (doing does m)
 answer_of (Seeks bar tell searches gone call) m = telling tell (seeking searches call m)
-answer_of (Packs bar tell moves searches gone call) m = telling tell (packing moves searches call m)
 answer_of (Compacts moves searches call) m = telling Number (packing moves searches call m)
 answer_of PurgesAll m = telling Number (moving (max_mem_moves m.heap) (noting max_mem m))
 answer_of LastCode m = (Code m.log.code, m)
@@ -123,9 +116,8 @@ answer_of (Leaves left row) m = answer_of row m
 abbrev pub serve : Row → Memory → Told × Memory
 serve (Plain bar tell call) m = telling tell (unless (barred_by bar m) (noting call) m)
 serve (Quiet bar tell call) m = telling tell (unless_silent (barred_by bar m) (silent call) m)
+serve (Does bar tell does) m = telling tell (unless (barred_by bar m) (doing does) m)
 serve (Seeks bar tell searches gone call) m = telling tell (unless (barred_by bar m) (seeking searches call) m)
-serve (Packs bar tell moves searches gone call) m =
-    telling tell (unless (barred_by bar m) (packing moves searches call) m)
 serve (Compacts moves searches call) m = telling Number (packing moves searches call m)
 serve PurgesAll m = telling Number (moving (max_mem_moves m.heap) (noting max_mem m))
 serve LastCode m = (Code m.log.code, m)
@@ -135,8 +127,8 @@ serve (Leaves left row) m = serve row m
 abbrev pub searches_of : Row → State → ℕ
 searches_of (Plain bar tell call) s = 0
 searches_of (Quiet bar tell call) s = 0
+searches_of (Does bar tell does) s = searches_made does s
 searches_of (Seeks bar tell searches gone call) s = searches s
-searches_of (Packs bar tell moves searches gone call) s = searches s
 searches_of (Compacts moves searches call) s = searches s
 searches_of PurgesAll s = 0
 searches_of LastCode s = 0
@@ -145,8 +137,8 @@ searches_of (Leaves left row) s = searches_of row s
 abbrev pub moves_of : Row → State → ℕ
 moves_of (Plain bar tell call) s = 0
 moves_of (Quiet bar tell call) s = 0
+moves_of (Does bar tell does) s = moves_made does s
 moves_of (Seeks bar tell searches gone call) s = 0
-moves_of (Packs bar tell moves searches gone call) s = moves s
 moves_of (Compacts moves searches call) s = moves s
 moves_of PurgesAll s = max_mem_moves s
 moves_of LastCode s = 0
@@ -156,8 +148,8 @@ moves_of (Leaves left row) s = moves_of row s
 abbrev pub gone_of_row : Row → Memory → List Gone
 gone_of_row (Plain bar tell call) m = []
 gone_of_row (Quiet bar tell call) m = []
+gone_of_row (Does bar tell does) m = gone_unless (barred_by bar m) (purges_made does m.heap)
 gone_of_row (Seeks bar tell searches gone call) m = gone_unless (barred_by bar m) (gone m.heap)
-gone_of_row (Packs bar tell moves searches gone call) m = gone_unless (barred_by bar m) (gone m.heap)
 gone_of_row (Compacts moves searches call) m = []
 gone_of_row PurgesAll m = max_mem_gone m.heap
 gone_of_row LastCode m = []
@@ -167,8 +159,8 @@ gone_of_row (Leaves left row) m = gone_of_row row m
 abbrev pub purged_by : Row → State → List Gone
 purged_by (Plain bar tell call) s = []
 purged_by (Quiet bar tell call) s = []
+purged_by (Does bar tell does) s = purges_made does s
 purged_by (Seeks bar tell searches gone call) s = gone s
-purged_by (Packs bar tell moves searches gone call) s = gone s
 purged_by (Compacts moves searches call) s = []
 purged_by PurgesAll s = max_mem_gone s
 purged_by LastCode s = []
@@ -177,8 +169,8 @@ purged_by (Leaves left row) s = purged_by row s
 abbrev pub may_purge : Row → Bool
 may_purge (Plain bar tell call) = false
 may_purge (Quiet bar tell call) = false
+may_purge (Does bar tell does) = true
 may_purge (Seeks bar tell searches gone call) = true
-may_purge (Packs bar tell moves searches gone call) = true
 may_purge (Compacts moves searches call) = false
 may_purge PurgesAll = true
 may_purge LastCode = false
@@ -188,8 +180,8 @@ may_purge (Leaves left row) = may_purge row
 abbrev pub left_by : Row → State → List Block
 left_by (Plain bar tell call) s = s.zone
 left_by (Quiet bar tell call) s = s.zone
+left_by (Does bar tell does) s = s.zone
 left_by (Seeks bar tell searches gone call) s = s.zone
-left_by (Packs bar tell moves searches gone call) s = s.zone
 left_by (Compacts moves searches call) s = s.zone
 left_by PurgesAll s = s.zone
 left_by LastCode s = s.zone
@@ -202,15 +194,12 @@ done u = Done
 -- The table. A master pointer block that was made for a new handle stays where the call is then refused, and so does
 -- what PurgeMem purged.
 abbrev pub row : Asked → Row
-row (NewHandle size) = Leaves (slotted_zone nothing) (Packs Open Given (new_handle_moves size)
-    (new_handle_searches size) (new_handle_gone size) (new_handle size))
-row NewEmptyHandle = Seeks Open Given new_empty_handle_searches new_empty_handle_gone new_empty_handle
+row (NewHandle size) = Leaves (slotted_zone nothing) (Does Open Given (rows.new_handle size))
+row NewEmptyHandle = Does Open Given rows.new_empty_handle
 row (DisposeHandle handle) = Plain (OnHandle handle) done (dispose_handle handle)
 row (GetHandleSize handle) = Plain (OnHandle handle) Number (get_handle_size handle)
-row (SetHandleSize handle size) = Packs (OnChange handle) done (set_handle_size_moves handle size)
-    (set_handle_size_searches handle size) (set_handle_size_gone handle size) (set_handle_size handle size)
-row (ReallocateHandle handle size) = Packs (OnChange handle) done (reallocate_handle_moves handle size)
-    (reallocate_handle_searches handle size) (reallocate_handle_gone handle size) (reallocate_handle handle size)
+row (SetHandleSize handle size) = Does (OnChange handle) done (rows.set_handle_size handle size)
+row (ReallocateHandle handle size) = Does (OnChange handle) done (rows.reallocate_handle handle size)
 row (EmptyHandle handle) = Plain (OnHandle handle) done (empty_handle handle)
 row (HLock handle) = Plain (OnHandle handle) done (h_lock handle)
 row (HUnlock handle) = Plain (OnHandle handle) done (h_unlock handle)
@@ -220,17 +209,14 @@ row (HGetState handle) = Plain (OnHandle handle) Number (h_get_state handle)
 row (HSetState handle state) = Plain (OnHandle handle) done (h_set_state handle state)
 row (MoveHHi handle) = Plain (OnHandle handle) done (move_h_hi handle)
 row (HLockHi handle) = Plain (OnHandle handle) done (h_lock_hi handle)
-row (HandToHand handle) = Leaves (λ s. copying_zone (look_up handle s) s) (Packs (OnHandle handle) Given
-    (hand_to_hand_moves handle) (hand_to_hand_searches handle) (hand_to_hand_gone handle) (hand_to_hand handle))
-row (HandAndHand from to) = Packs (OnBoth from to) done (hand_and_hand_moves from to)
-    (hand_and_hand_searches from to) (hand_and_hand_gone from to) (hand_and_hand from to)
-row (PtrAndHand handle bytes) = Packs (OnChange handle) done (pointer_and_hand_moves handle bytes)
-    (pointer_and_hand_searches handle bytes) (pointer_and_hand_gone handle bytes) (pointer_and_hand handle bytes)
-row (NewPtr size) = Seeks Open Given (new_pointer_searches size) (new_pointer_gone size) (new_pointer size)
+row (HandToHand handle) = Leaves (λ s. copying_zone (look_up handle s) s)
+    (Does (OnHandle handle) Given (rows.hand_to_hand handle))
+row (HandAndHand from to) = Does (OnBoth from to) done (rows.hand_and_hand from to)
+row (PtrAndHand handle bytes) = Does (OnChange handle) done (rows.pointer_and_hand handle bytes)
+row (NewPtr size) = Does Open Given (rows.new_pointer size)
 row (DisposePtr pointer) = Plain (OnPointer pointer) done (dispose_pointer pointer)
 row (GetPtrSize pointer) = Plain (OnPointer pointer) Number (get_pointer_size pointer)
-row (SetPtrSize pointer size) = Seeks (OnPointer pointer) done (set_pointer_size_searches pointer size)
-    (set_pointer_size_gone pointer size) (set_pointer_size pointer size)
+row (SetPtrSize pointer size) = Does (OnPointer pointer) done (rows.set_pointer_size pointer size)
 row FreeMem = Plain Open Number free_mem
 row MaxBlock = Plain Open Number max_block
 row PurgeSpace = Plain Open (λ space. Numbers space.0 space.1) purge_space
@@ -238,8 +224,8 @@ row (CompactMem size) = Compacts (compact_mem_moves size) (compact_mem_searches 
 row (PurgeMem size) = Leaves (λ s. purge (blocks_purged (phys size) s.zone) nothing s.zone)
     (Seeks Open done (purge_mem_searches size) (purge_mem_gone size) (purge_mem size))
 row MaxMem = PurgesAll
-row (ReserveMem size) = Seeks Open done (reserve_searches (phys size)) (reserve_gone (phys size)) (reserve_mem size)
-row MoreMasters = Seeks Open done more_masters_searches more_masters_gone add_masters
+row (ReserveMem size) = Does Open done (rows.reserve_mem size)
+row MoreMasters = Does Open done rows.more_masters
 row MemError = LastCode
 row (Put handle from bytes) = Quiet (OnChange handle) done (put handle from bytes)
 row (Show handle) = Quiet (OnHandle handle) Bytes (show handle)

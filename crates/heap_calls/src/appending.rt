@@ -8,20 +8,18 @@ ghost use Rattle.block_store.specs.Sparing.{spared};
 ghost use Rattle.block_store.specs.Rest.{IsRest, KeepsSlots};
 ghost use Rattle.block_store.specs.Room.{spot};
 ghost use Rattle.heap_calls.specs.Busy.{change_barred, both_barred, unless};
-ghost use Rattle.heap_calls.specs.Asked.{packing};
-ghost use Rattle.heap_calls.specs.Answer.{silent, searching, moving};
 ghost use Rattle.heap_calls.specs.Inner.Appending.{size_for, behind, lengthened, bytes_of, length_of};
-ghost use Rattle.heap_calls.specs.Copying.{hand_and_hand, pointer_and_hand};
-ghost use Rattle.heap_calls.specs.Gone.{IsIdle, gone_unless, hand_and_hand_gone, pointer_and_hand_gone};
+ghost use Rattle.heap_calls.specs.Gone.{IsIdle, gone_unless};
+ghost use Rattle.heap_calls.specs.Rows.{hand_and_hand, pointer_and_hand, doing, doing_silently, purges_made};
 ghost use Rattle.heap_calls.specs.Inner.Halting.{Halts};
 ghost use Rattle.heap_calls.specs.Inner.Given.{IsAnswer, KeepsNames};
 ghost use Rattle.heap_calls.specs.Inner.Growing.{Spares, Stays, fitted};
 ghost use Rattle.heap_calls.specs.Inner.GrowingInPlace.{made_zone};
-ghost use Rattle.heap_calls.specs.Moves.{size_moves, hand_and_hand_moves, pointer_and_hand_moves};
+ghost use Rattle.heap_calls.specs.Moves.{size_moves};
 ghost use Rattle.heap_calls.specs.Inner.Numbered.{KeepsNonrelocatable};
 ghost use Rattle.heap_calls.specs.Inner.Packed.{Packs};
 ghost use Rattle.heap_calls.specs.Inner.Telling.{fitted_gone};
-ghost use Rattle.heap_calls.specs.Searches.{size_searches, hand_and_hand_searches, pointer_and_hand_searches};
+ghost use Rattle.heap_calls.specs.Searches.{size_searches};
 ghost use Rattle.block_store.specs.declared.measures.TheConstants.{GREATEST_ZONE};
 ghost use Rattle.heap_calls.specs.Gone.{Hears};
 ghost use Rattle.heap_calls.specs.Left.{Stops};
@@ -51,10 +49,10 @@ impl<S: BlockStore> Heap<S> {
         sink: &mut K,
     ) -> Result<(), Refusal>
         requires idle { IsIdle K.told K.waits sink.old }
-        ensures answer { IsAnswer (unless (both_barred from to self.old.memory) (packing (hand_and_hand_moves from to)
-            (hand_and_hand_searches from to) (hand_and_hand from to)) self.old.memory) result self.new.memory }
+        ensures answer { IsAnswer (unless (both_barred from to self.old.memory) (doing (hand_and_hand from to))
+            self.old.memory) result self.new.memory }
         ensures hears { Hears K.told K.waits K.listens (result ≢ Err Refusal.HostMemory) (gone_unless (both_barred from
-            to self.old.memory) (hand_and_hand_gone from to self.old.memory.heap)) sink.old sink.new }
+            to self.old.memory) (purges_made (hand_and_hand from to) self.old.memory.heap)) sink.old sink.new }
         ensures stops { result ≡ Err Refusal.HostMemory → Stops S.TAKES_HOST K.told K.listens KeepsNames ⊥ None self.old
             self.new sink.old sink.new }
         ensures lies { self.new.memory.window ≡ self.old.memory.window }
@@ -80,11 +78,11 @@ impl<S: BlockStore> Heap<S> {
         sink: &mut K,
     ) -> Result<(), Refusal>
         requires idle { IsIdle K.told K.waits sink.old }
-        ensures answer { IsAnswer (unless (change_barred handle self.old.memory)
-            (packing (pointer_and_hand_moves handle bytes.now) (pointer_and_hand_searches handle bytes.now)
-            (pointer_and_hand handle bytes.now)) self.old.memory) result self.new.memory }
+        ensures answer { IsAnswer (unless (change_barred handle self.old.memory) (doing (pointer_and_hand handle
+            bytes.now)) self.old.memory) result self.new.memory }
         ensures hears { Hears K.told K.waits K.listens (result ≢ Err Refusal.HostMemory) (gone_unless (change_barred
-            handle self.old.memory) (pointer_and_hand_gone handle bytes.now self.old.memory.heap)) sink.old sink.new }
+            handle self.old.memory) (purges_made (pointer_and_hand handle bytes.now) self.old.memory.heap)) sink.old
+            sink.new }
         ensures stops { result ≡ Err Refusal.HostMemory → Stops S.TAKES_HOST K.told K.listens KeepsNames ⊥ None self.old
             self.new sink.old sink.new }
         ensures lies { self.new.memory.window ≡ self.old.memory.window }
@@ -105,11 +103,9 @@ impl<S: BlockStore> Heap<S> {
         sink: &mut K,
     ) -> Result<(), Refusal>
         requires idle { IsIdle K.told K.waits sink.old }
-        ensures answer { IsAnswer (moving (hand_and_hand_moves from to self.old.memory.heap)
-            (searching (hand_and_hand_searches from to self.old.memory.heap) (silent (hand_and_hand from to)
-            self.old.memory))) result self.new.memory }
-        ensures hears { Hears K.told K.waits K.listens (result ≢ Err Refusal.HostMemory) (hand_and_hand_gone from to
-            self.old.memory.heap) sink.old sink.new }
+        ensures answer { IsAnswer (doing_silently (hand_and_hand from to) self.old.memory) result self.new.memory }
+        ensures hears { Hears K.told K.waits K.listens (result ≢ Err Refusal.HostMemory) (purges_made (hand_and_hand
+            from to) self.old.memory.heap) sink.old sink.new }
         ensures stops { result ≡ Err Refusal.HostMemory → Stops S.TAKES_HOST K.told K.listens KeepsNames ⊥ None self.old
             self.new sink.old sink.new }
         ensures lies { self.new.memory.window ≡ self.old.memory.window }
@@ -138,11 +134,10 @@ impl<S: BlockStore> Heap<S> {
         sink: &mut K,
     ) -> Result<(), Refusal>
         requires idle { IsIdle K.told K.waits sink.old }
-        ensures answer { IsAnswer (moving (pointer_and_hand_moves handle bytes.now self.old.memory.heap)
-            (searching (pointer_and_hand_searches handle bytes.now self.old.memory.heap)
-            (silent (pointer_and_hand handle bytes.now) self.old.memory))) result self.new.memory }
-        ensures hears { Hears K.told K.waits K.listens (result ≢ Err Refusal.HostMemory) (pointer_and_hand_gone handle
-            bytes.now self.old.memory.heap) sink.old sink.new }
+        ensures answer { IsAnswer (doing_silently (pointer_and_hand handle bytes.now) self.old.memory) result
+            self.new.memory }
+        ensures hears { Hears K.told K.waits K.listens (result ≢ Err Refusal.HostMemory) (purges_made (pointer_and_hand
+            handle bytes.now) self.old.memory.heap) sink.old sink.new }
         ensures stops { result ≡ Err Refusal.HostMemory → Stops S.TAKES_HOST K.told K.listens KeepsNames ⊥ None self.old
             self.new sink.old sink.new }
         ensures lies { self.new.memory.window ≡ self.old.memory.window }

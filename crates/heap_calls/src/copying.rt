@@ -6,20 +6,16 @@ ghost use Rattle.block_store.specs.Room.{spot};
 ghost use Rattle.block_store.specs.Slot.{is_used};
 ghost use Rattle.block_store.specs.declared.sparing.Sparing.TheVariants.{One};
 ghost use Rattle.heap_calls.specs.Busy.{barred, unless};
-ghost use Rattle.heap_calls.specs.Asked.{packing};
 ghost use Rattle.heap_calls.specs.Inner.Given.{IsAnswer, KeepsNames};
-ghost use Rattle.heap_calls.specs.Answer.{searching, silent, moving};
 ghost use Rattle.heap_calls.specs.Inner.Copied.{IsCopy};
-ghost use Rattle.heap_calls.specs.Copying.{hand_to_hand};
-ghost use Rattle.heap_calls.specs.Gone.{Tells, TellsNothing, IsIdle, gone_unless, hand_to_hand_gone, copy_slot_gone};
+ghost use Rattle.heap_calls.specs.Gone.{IsIdle, gone_unless};
+ghost use Rattle.heap_calls.specs.Rows.{hand_to_hand, doing, doing_silently, purges_made};
 ghost use Rattle.heap_calls.specs.Refused.{LeavesCopying};
 ghost use Rattle.heap_calls.specs.Inner.Telling.{new_gone, LeavesSlot};
 ghost use Rattle.heap_calls.specs.Inner.NewBlock.{new_searches};
 ghost use Rattle.heap_calls.specs.Inner.NewSlot.{HasMore};
-ghost use Rattle.heap_calls.specs.Moves.{hand_to_hand_moves};
 ghost use Rattle.heap_calls.specs.Inner.Numbered.{KeepsNonrelocatable};
 ghost use Rattle.heap_calls.specs.Inner.Packed.{Packs, new_moves};
-ghost use Rattle.heap_calls.specs.Searches.{hand_to_hand_searches};
 ghost use Rattle.heap_calls.specs.Gone.{Hears};
 ghost use Rattle.heap_calls.specs.Left.{Stops, Unreserved, copy_step};
 ghost use Rattle.std.specs.Prelude.{IsOk, Some};
@@ -49,11 +45,11 @@ impl<S: BlockStore> Heap<S> {
     ) -> Result<usize, Refusal>
         requires idle { IsIdle K.told K.waits sink.old }
         ensures hears { Hears K.told K.waits K.listens (result ≢ Err Refusal.HostMemory) (gone_unless (barred handle
-            self.old.memory) (hand_to_hand_gone handle self.old.memory.heap)) sink.old sink.new }
+            self.old.memory) (purges_made (hand_to_hand handle) self.old.memory.heap)) sink.old sink.new }
         ensures stops { result ≡ Err Refusal.HostMemory → Stops S.TAKES_HOST K.told K.listens KeepsNames (Unreserved
             self.old.memory) (Some (copy_step handle self.old.memory.heap)) self.old self.new sink.old sink.new }
-        ensures answer { IsAnswer (unless (barred handle self.old.memory) (packing (hand_to_hand_moves handle)
-            (hand_to_hand_searches handle) (hand_to_hand handle)) self.old.memory) result self.new.memory }
+        ensures answer { IsAnswer (unless (barred handle self.old.memory) (doing (hand_to_hand handle)) self.old.memory)
+            result self.new.memory }
         ensures lies { self.new.memory.window ≡ self.old.memory.window }
     {
         if let Some(code) = self.barred(handle) {
@@ -71,13 +67,11 @@ impl<S: BlockStore> Heap<S> {
         sink: &mut K,
     ) -> Result<usize, Refusal>
         requires idle { IsIdle K.told K.waits sink.old }
-        ensures hears { Hears K.told K.waits K.listens (result ≢ Err Refusal.HostMemory) (hand_to_hand_gone handle
-            self.old.memory.heap) sink.old sink.new }
+        ensures hears { Hears K.told K.waits K.listens (result ≢ Err Refusal.HostMemory) (purges_made (hand_to_hand
+            handle) self.old.memory.heap) sink.old sink.new }
         ensures stops { result ≡ Err Refusal.HostMemory → Stops S.TAKES_HOST K.told K.listens KeepsNames (Unreserved
             self.old.memory) (Some (copy_step handle self.old.memory.heap)) self.old self.new sink.old sink.new }
-        ensures answer { IsAnswer (moving (hand_to_hand_moves handle self.old.memory.heap)
-            (searching (hand_to_hand_searches handle self.old.memory.heap) (silent (hand_to_hand handle)
-            self.old.memory))) result self.new.memory }
+        ensures answer { IsAnswer (doing_silently (hand_to_hand handle) self.old.memory) result self.new.memory }
         ensures lies { self.new.memory.window ≡ self.old.memory.window }
     {
         let found = slot_of(&self.names, handle)?;

@@ -2,17 +2,15 @@
 
 ghost use Rattle.std.specs.Prelude.{◌≡◌, ◌≢◌, ◌⊎◌, true, Err, IsTrue, IsErr, OnOk, OnErr, IsOk, None};
 ghost use Rattle.heap_calls.specs.Busy.{barred, change_barred, unless};
-ghost use Rattle.heap_calls.specs.Gone.{Tells, TellsNothing, IsIdle, gone_unless, reallocate_handle_gone, Hears};
+ghost use Rattle.heap_calls.specs.Gone.{IsIdle, gone_unless, Hears};
+ghost use Rattle.heap_calls.specs.Rows.{reallocate_handle, doing, doing_silently, purges_made};
 ghost use Rattle.heap_calls.specs.Inner.Telling.{renewed_gone};
 ghost use Rattle.heap_calls.specs.Inner.Given.{IsAnswer, KeepsNames};
 ghost use Rattle.heap_calls.specs.Inner.Halting.{Halts};
-ghost use Rattle.heap_calls.specs.Asked.{packing};
 ghost use Rattle.heap_calls.specs.Inner.Numbered.{Agrees, KeepsNonrelocatable};
-ghost use Rattle.heap_calls.specs.Answer.{noting, silent, searching, moving};
-ghost use Rattle.heap_calls.specs.Purging.{empty_handle, reallocate_handle};
-ghost use Rattle.heap_calls.specs.Searches.{reallocate_handle_searches};
+ghost use Rattle.heap_calls.specs.Answer.{noting, silent};
+ghost use Rattle.heap_calls.specs.Purging.{empty_handle};
 ghost use Rattle.heap_calls.specs.Inner.Loose.{FindsLoose, IsRenewed, renewed_moves};
-ghost use Rattle.heap_calls.specs.Moves.{reallocate_handle_moves};
 ghost use Rattle.heap_calls.specs.Inner.Packed.{Packs};
 ghost use Rattle.block_store.specs.Slot.{is_used};
 ghost use Rattle.heap_calls.specs.Left.{Stops};
@@ -56,12 +54,11 @@ impl<S: BlockStore> Heap<S> {
         sink: &mut K,
     ) -> Result<(), Refusal>
         requires idle { IsIdle K.told K.waits sink.old }
-        ensures answer { IsAnswer (unless (change_barred handle self.old.memory) (packing (reallocate_handle_moves
-            handle size)
-            (reallocate_handle_searches handle size) (reallocate_handle handle size)) self.old.memory) result
-            self.new.memory }
+        ensures answer { IsAnswer (unless (change_barred handle self.old.memory) (doing (reallocate_handle handle size))
+            self.old.memory) result self.new.memory }
         ensures hears { Hears K.told K.waits K.listens (result ≢ Err Refusal.HostMemory) (gone_unless (change_barred
-            handle self.old.memory) (reallocate_handle_gone handle size self.old.memory.heap)) sink.old sink.new }
+            handle self.old.memory) (purges_made (reallocate_handle handle size) self.old.memory.heap)) sink.old
+            sink.new }
         ensures stops { result ≡ Err Refusal.HostMemory → Stops S.TAKES_HOST K.told K.listens KeepsNames ⊥ None self.old
             self.new sink.old sink.new }
         ensures lies { self.new.memory.window ≡ self.old.memory.window }
@@ -92,11 +89,10 @@ impl<S: BlockStore> Heap<S> {
         sink: &mut K,
     ) -> Result<(), Refusal>
         requires idle { IsIdle K.told K.waits sink.old }
-        ensures answer { IsAnswer (moving (reallocate_handle_moves handle size self.old.memory.heap)
-            (searching (reallocate_handle_searches handle size self.old.memory.heap)
-            (silent (reallocate_handle handle size) self.old.memory))) result self.new.memory }
-        ensures hears { Hears K.told K.waits K.listens (result ≢ Err Refusal.HostMemory) (reallocate_handle_gone handle
-            size self.old.memory.heap) sink.old sink.new }
+        ensures answer { IsAnswer (doing_silently (reallocate_handle handle size) self.old.memory) result
+            self.new.memory }
+        ensures hears { Hears K.told K.waits K.listens (result ≢ Err Refusal.HostMemory) (purges_made (reallocate_handle
+            handle size) self.old.memory.heap) sink.old sink.new }
         ensures stops { result ≡ Err Refusal.HostMemory → Stops S.TAKES_HOST K.told K.listens KeepsNames ⊥ None self.old
             self.new sink.old sink.new }
         ensures lies { self.new.memory.window ≡ self.old.memory.window }

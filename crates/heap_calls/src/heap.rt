@@ -1,19 +1,16 @@
 //! The heap of an application.
 
-ghost use Rattle.heap_calls.specs.Gone.{Tells, TellsNothing, IsIdle, new_handle_gone, slot_gone, Hears};
+ghost use Rattle.heap_calls.specs.Gone.{IsIdle, Hears};
+ghost use Rattle.heap_calls.specs.Rows.{new_handle, doing, doing_silently, purges_made};
 ghost use Rattle.heap_calls.specs.Refused.{LeavesMasters};
 ghost use Rattle.std.specs.Prelude.{◌≡◌, ◌≢◌, ◌⊎◌, ◌≤◌, ◌<◌, ◌+◌, true, Err, IsTrue, OnOk, OnErr, length, max, vec_capacity};
 ghost use Rattle.block_store.specs.Block.{fresh, sizes};
 ghost use Rattle.heap_calls.specs.Busy.{barred, change_barred, either_barred, unless, unless_silent};
-ghost use Rattle.heap_calls.specs.Asked.{packing};
 ghost use Rattle.heap_calls.specs.Inner.Given.{IsAnswer, IsShown, KeepsNames, FindsBlock, last_after};
 ghost use Rattle.heap_calls.specs.Inner.Numbered.{Agrees};
 ghost use Rattle.heap_calls.specs.State.{fresh_memory};
-ghost use Rattle.heap_calls.specs.Answer.{nothing, dispose_handle, get_handle_size, free_mem, put, show, noting, searching};
-ghost use Rattle.heap_calls.specs.Answer.{silent, moving, code_of};
-ghost use Rattle.heap_calls.specs.Slots.{new_handle};
-ghost use Rattle.heap_calls.specs.Moves.{new_handle_moves};
-ghost use Rattle.heap_calls.specs.Searches.{new_handle_searches};
+ghost use Rattle.heap_calls.specs.Answer.{nothing, dispose_handle, get_handle_size, free_mem, put, show, noting};
+ghost use Rattle.heap_calls.specs.Answer.{silent, code_of};
 ghost use Rattle.heap_calls.specs.Pointers.{place_of};
 ghost use Rattle.block_store.specs.declared.measures.TheConstants.{SLOTS_A_BLOCK};
 ghost use Rattle.heap_calls.specs.Left.{Stops, Unreserved, slot_step};
@@ -120,12 +117,11 @@ impl<S: BlockStore> Heap<S> {
     /// the host out of memory after a new master pointer block was made, which then stays.
     pub fn new_handle<K: PurgeSink>(&mut self, size: u32, sink: &mut K) -> Result<usize, Refusal>
         requires idle { IsIdle K.told K.waits sink.old }
-        ensures hears { Hears K.told K.waits K.listens (result ≢ Err Refusal.HostMemory) (new_handle_gone size
+        ensures hears { Hears K.told K.waits K.listens (result ≢ Err Refusal.HostMemory) (purges_made (new_handle size)
             self.old.memory.heap) sink.old sink.new }
         ensures stops { result ≡ Err Refusal.HostMemory → Stops S.TAKES_HOST K.told K.listens KeepsNames (Unreserved
             self.old.memory) (Some (slot_step nothing self.old.memory.heap)) self.old self.new sink.old sink.new }
-        ensures answer { IsAnswer (packing (new_handle_moves size) (new_handle_searches size) (new_handle size)
-            self.old.memory) result self.new.memory }
+        ensures answer { IsAnswer (doing (new_handle size) self.old.memory) result self.new.memory }
         ensures lies { self.new.memory.window ≡ self.old.memory.window }
     {
         let answer = self.make_handle(size, sink);
@@ -240,13 +236,11 @@ impl<S: BlockStore> Heap<S> {
     /// that are purged to a sink, if it listens.
     fn make_handle<K: PurgeSink>(&mut self, size: u32, sink: &mut K) -> Result<usize, Refusal>
         requires idle { IsIdle K.told K.waits sink.old }
-        ensures hears { Hears K.told K.waits K.listens (result ≢ Err Refusal.HostMemory) (new_handle_gone size
+        ensures hears { Hears K.told K.waits K.listens (result ≢ Err Refusal.HostMemory) (purges_made (new_handle size)
             self.old.memory.heap) sink.old sink.new }
         ensures stops { result ≡ Err Refusal.HostMemory → Stops S.TAKES_HOST K.told K.listens KeepsNames (Unreserved
             self.old.memory) (Some (slot_step nothing self.old.memory.heap)) self.old self.new sink.old sink.new }
-        ensures answer { IsAnswer (moving (new_handle_moves size self.old.memory.heap)
-            (searching (new_handle_searches size self.old.memory.heap) (silent (new_handle size) self.old.memory)))
-            result self.new.memory }
+        ensures answer { IsAnswer (doing_silently (new_handle size) self.old.memory) result self.new.memory }
         ensures lies { self.new.memory.window ≡ self.old.memory.window }
     {
         self.names.reserve(1)?;

@@ -21,7 +21,7 @@ ghost use Rattle.heap_calls.specs.Refused.{RefusedLeaves, BarredLeaves};
 ghost use Rattle.heap_calls.specs.Staying.{ease, Parted, RefusedKeepsNoMore, LessStaysLater, KeepsBytes, KeepsMasters};
 ghost use Rattle.heap_calls.specs.Staying.{RefusedCostsAtMostMasters, StepCostsAtMostMasters};
 ghost use Rattle.heap_calls.specs.Moves.{compact_mem_moves, max_mem_moves};
-ghost use Rattle.heap_calls.specs.Slots.{new_handle};
+ghost use Rattle.heap_calls.specs.Rows.{new_handle, answer_made};
 ghost use Rattle.heap_calls.specs.ToldGone.{TellsWhatGoes, TellsOfPurgeable, StepTellsWhatGoes};
 ghost use Rattle.heap_calls.specs.Purging.{purged_all};
 
@@ -33,9 +33,9 @@ use mac_words::OsErr;
 /// where no run has as many free bytes as the block takes once every block that may be purged is purged.
 #[tactic(auto, using(crate::proofs::Promises::Fullness::full_only))]
 pub fn new_handle_is_full_only_without_room()
-    ensures { (size bytes : ℕ) (heap after : State) → new_handle size heap ≡ (Err OsErr.MEM_FULL, after)
-        → nat_lt (used_slots heap) (all_slots heap) ≡ true → phys size ≡ Some bytes
-        → largest_run (purged_all heap.zone) < bytes }
+    ensures { (size bytes : ℕ) (heap after : State) → answer_made (new_handle size) heap ≡ (Err OsErr.MEM_FULL, after) →
+        nat_lt (used_slots heap) (all_slots heap) ≡ true → phys size ≡ Some bytes → largest_run (purged_all heap.zone) <
+        bytes }
 {}
 
 /// Each try of a call raises the heap's count of searches for room by the searches of the call's row, and its count of

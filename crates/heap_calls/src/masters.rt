@@ -1,13 +1,9 @@
 //! Master pointers for handles to come, and room at the base of a run.
 
 ghost use Rattle.std.specs.Prelude.{◌≡◌, ◌≢◌, ◌⊎◌, ◌≤◌, true, Err, IsTrue, IsErr, OnOk, OnErr, length, IsOk, None};
-ghost use Rattle.mac_words.specs.Size.{phys as physical_size};
 ghost use Rattle.heap_calls.specs.Inner.Given.{IsAnswer, KeepsMoves};
-ghost use Rattle.heap_calls.specs.Answer.{noting, searching, silent};
-ghost use Rattle.heap_calls.specs.Gone.{Tells, TellsNothing, IsIdle, more_masters_gone, new_empty_handle_gone, reserve_gone};
-ghost use Rattle.heap_calls.specs.Slots.{new_empty_handle};
-ghost use Rattle.heap_calls.specs.Pointers.{add_masters, reserve_mem};
-ghost use Rattle.heap_calls.specs.Searches.{new_empty_handle_searches, more_masters_searches, reserve_searches};
+ghost use Rattle.heap_calls.specs.Gone.{IsIdle};
+ghost use Rattle.heap_calls.specs.Rows.{new_empty_handle, more_masters, reserve_mem, doing, doing_silently, purges_made};
 ghost use Rattle.heap_calls.specs.Gone.{Hears};
 ghost use Rattle.heap_calls.specs.Left.{Stops, Unreserved};
 
@@ -28,9 +24,8 @@ impl<S: BlockStore> Heap<S> {
     /// so over a store that takes no host memory.
     pub fn new_empty_handle<K: PurgeSink>(&mut self, sink: &mut K) -> Result<usize, Refusal>
         requires idle { IsIdle K.told K.waits sink.old }
-        ensures answer { IsAnswer (searching (new_empty_handle_searches self.old.memory.heap)
-            (noting new_empty_handle self.old.memory)) result self.new.memory }
-        ensures hears { Hears K.told K.waits K.listens (result ≢ Err Refusal.HostMemory) (new_empty_handle_gone
+        ensures answer { IsAnswer (doing new_empty_handle self.old.memory) result self.new.memory }
+        ensures hears { Hears K.told K.waits K.listens (result ≢ Err Refusal.HostMemory) (purges_made new_empty_handle
             self.old.memory.heap) sink.old sink.new }
         ensures stops { result ≡ Err Refusal.HostMemory → Stops S.TAKES_HOST K.told K.listens KeepsMoves (Unreserved
             self.old.memory) None self.old self.new sink.old sink.new }
@@ -46,9 +41,8 @@ impl<S: BlockStore> Heap<S> {
     /// only where the sink listens, and the whole heap stays as it was.
     pub fn more_masters<K: PurgeSink>(&mut self, sink: &mut K) -> Result<(), Refusal>
         requires idle { IsIdle K.told K.waits sink.old }
-        ensures answer { IsAnswer (searching (more_masters_searches self.old.memory.heap) (noting add_masters
-            self.old.memory)) result self.new.memory }
-        ensures hears { Hears K.told K.waits K.listens (result ≢ Err Refusal.HostMemory) (more_masters_gone
+        ensures answer { IsAnswer (doing more_masters self.old.memory) result self.new.memory }
+        ensures hears { Hears K.told K.waits K.listens (result ≢ Err Refusal.HostMemory) (purges_made more_masters
             self.old.memory.heap) sink.old sink.new }
         ensures stops { result ≡ Err Refusal.HostMemory → Stops S.TAKES_HOST K.told K.listens KeepsMoves ⊥ None self.old
             self.new sink.old sink.new }
@@ -64,10 +58,9 @@ impl<S: BlockStore> Heap<S> {
     /// no host memory that can be only where the sink listens, and the whole heap stays as it was.
     pub fn reserve_mem<K: PurgeSink>(&mut self, size: u32, sink: &mut K) -> Result<(), Refusal>
         requires idle { IsIdle K.told K.waits sink.old }
-        ensures answer { IsAnswer (searching (reserve_searches (physical_size size) self.old.memory.heap)
-            (noting (reserve_mem size) self.old.memory)) result self.new.memory }
-        ensures hears { Hears K.told K.waits K.listens (result ≢ Err Refusal.HostMemory) (reserve_gone (physical_size
-            size) self.old.memory.heap) sink.old sink.new }
+        ensures answer { IsAnswer (doing (reserve_mem size) self.old.memory) result self.new.memory }
+        ensures hears { Hears K.told K.waits K.listens (result ≢ Err Refusal.HostMemory) (purges_made (reserve_mem size)
+            self.old.memory.heap) sink.old sink.new }
         ensures stops { result ≡ Err Refusal.HostMemory → Stops S.TAKES_HOST K.told K.listens KeepsMoves ⊥ None self.old
             self.new sink.old sink.new }
         ensures lies { self.new.memory.window ≡ self.old.memory.window }
@@ -80,12 +73,11 @@ impl<S: BlockStore> Heap<S> {
     /// sink, if it listens.
     pub(crate) fn make_empty_handle<K: PurgeSink>(&mut self, sink: &mut K) -> Result<usize, Refusal>
         requires idle { IsIdle K.told K.waits sink.old }
-        ensures hears { Hears K.told K.waits K.listens (result ≢ Err Refusal.HostMemory) (new_empty_handle_gone
+        ensures hears { Hears K.told K.waits K.listens (result ≢ Err Refusal.HostMemory) (purges_made new_empty_handle
             self.old.memory.heap) sink.old sink.new }
         ensures stops { result ≡ Err Refusal.HostMemory → Stops S.TAKES_HOST K.told K.listens KeepsMoves (Unreserved
             self.old.memory) None self.old self.new sink.old sink.new }
-        ensures answer { IsAnswer (searching (new_empty_handle_searches self.old.memory.heap)
-            (silent new_empty_handle self.old.memory)) result self.new.memory }
+        ensures answer { IsAnswer (doing_silently new_empty_handle self.old.memory) result self.new.memory }
         ensures lies { self.new.memory.window ≡ self.old.memory.window }
     {
         self.names.reserve(1)?;
@@ -98,9 +90,8 @@ impl<S: BlockStore> Heap<S> {
     /// a sink, if it listens.
     fn add_masters<K: PurgeSink>(&mut self, sink: &mut K) -> Result<(), Refusal>
         requires idle { IsIdle K.told K.waits sink.old }
-        ensures answer { IsAnswer (searching (more_masters_searches self.old.memory.heap) (silent add_masters
-            self.old.memory)) result self.new.memory }
-        ensures hears { Hears K.told K.waits K.listens (result ≢ Err Refusal.HostMemory) (more_masters_gone
+        ensures answer { IsAnswer (doing_silently more_masters self.old.memory) result self.new.memory }
+        ensures hears { Hears K.told K.waits K.listens (result ≢ Err Refusal.HostMemory) (purges_made more_masters
             self.old.memory.heap) sink.old sink.new }
         ensures stops { result ≡ Err Refusal.HostMemory → Stops S.TAKES_HOST K.told K.listens KeepsMoves ⊥ None self.old
             self.new sink.old sink.new }
@@ -118,10 +109,9 @@ impl<S: BlockStore> Heap<S> {
     /// to a sink, if it listens.
     fn reserve_base<K: PurgeSink>(&mut self, size: u32, sink: &mut K) -> Result<(), Refusal>
         requires idle { IsIdle K.told K.waits sink.old }
-        ensures answer { IsAnswer (searching (reserve_searches (physical_size size) self.old.memory.heap)
-            (silent (reserve_mem size) self.old.memory)) result self.new.memory }
-        ensures hears { Hears K.told K.waits K.listens (result ≢ Err Refusal.HostMemory) (reserve_gone (physical_size
-            size) self.old.memory.heap) sink.old sink.new }
+        ensures answer { IsAnswer (doing_silently (reserve_mem size) self.old.memory) result self.new.memory }
+        ensures hears { Hears K.told K.waits K.listens (result ≢ Err Refusal.HostMemory) (purges_made (reserve_mem size)
+            self.old.memory.heap) sink.old sink.new }
         ensures stops { result ≡ Err Refusal.HostMemory → Stops S.TAKES_HOST K.told K.listens KeepsMoves ⊥ None self.old
             self.new sink.old sink.new }
         ensures lies { self.new.memory.window ≡ self.old.memory.window }

@@ -3,18 +3,17 @@
 ghost use Rattle.std.specs.Prelude.{◌≡◌, ◌≢◌, ◌⊎◌, Some, Err, true, false, IfOk, OnOk, OnErr, IsErr, IsTrue};
 ghost use Rattle.block_store.specs.Block.{is_nonrelocatable};
 ghost use Rattle.block_store.specs.Find.{FindsLowest};
-ghost use Rattle.heap_calls.specs.Asked.{seeking};
 ghost use Rattle.heap_calls.specs.Busy.{pointer_barred, unless};
-ghost use Rattle.heap_calls.specs.Answer.{nothing, noting, searching, silent};
-ghost use Rattle.heap_calls.specs.Gone.{IsIdle, gone_unless, set_pointer_size_gone, Hears};
+ghost use Rattle.heap_calls.specs.Answer.{nothing};
+ghost use Rattle.heap_calls.specs.Gone.{IsIdle, gone_unless, Hears};
+ghost use Rattle.heap_calls.specs.Rows.{set_pointer_size, doing, doing_silently, purges_made};
 ghost use Rattle.heap_calls.specs.Inner.Halting.{Halts};
 ghost use Rattle.heap_calls.specs.Inner.Given.{IsAnswer, KeepsMoves};
 ghost use Rattle.heap_calls.specs.Inner.Growing.{fitted};
 ghost use Rattle.heap_calls.specs.Inner.GrowingInPlace.{made_zone};
 ghost use Rattle.heap_calls.specs.Inner.Numbered.{KeepsNonrelocatable};
 ghost use Rattle.heap_calls.specs.Inner.Telling.{fitted_gone};
-ghost use Rattle.heap_calls.specs.Pointers.{set_pointer_size};
-ghost use Rattle.heap_calls.specs.Searches.{size_searches, set_pointer_size_searches};
+ghost use Rattle.heap_calls.specs.Searches.{size_searches};
 ghost use Rattle.heap_calls.specs.Inner.Packed.{KeepsAllButPlaced};
 ghost use Rattle.heap_calls.specs.Left.{Stops};
 ghost use Rattle.std.specs.Prelude.{IsOk, None};
@@ -42,11 +41,11 @@ impl<S: BlockStore> Heap<S> {
         sink: &mut K,
     ) -> Result<(), Refusal>
         requires idle { IsIdle K.told K.waits sink.old }
-        ensures answer { IsAnswer (unless (pointer_barred pointer self.old.memory)
-            (seeking (set_pointer_size_searches pointer size) (set_pointer_size pointer size)) self.old.memory) result
-            self.new.memory }
+        ensures answer { IsAnswer (unless (pointer_barred pointer self.old.memory) (doing (set_pointer_size pointer
+            size)) self.old.memory) result self.new.memory }
         ensures hears { Hears K.told K.waits K.listens (result ≢ Err Refusal.HostMemory) (gone_unless (pointer_barred
-            pointer self.old.memory) (set_pointer_size_gone pointer size self.old.memory.heap)) sink.old sink.new }
+            pointer self.old.memory) (purges_made (set_pointer_size pointer size) self.old.memory.heap)) sink.old
+            sink.new }
         ensures stops { result ≡ Err Refusal.HostMemory → Stops S.TAKES_HOST K.told K.listens KeepsMoves ⊥ None self.old
             self.new sink.old sink.new }
         ensures lies { self.new.memory.window ≡ self.old.memory.window }
@@ -67,10 +66,10 @@ impl<S: BlockStore> Heap<S> {
         sink: &mut K,
     ) -> Result<(), Refusal>
         requires idle { IsIdle K.told K.waits sink.old }
-        ensures answer { IsAnswer (searching (set_pointer_size_searches pointer size self.old.memory.heap)
-            (silent (set_pointer_size pointer size) self.old.memory)) result self.new.memory }
-        ensures hears { Hears K.told K.waits K.listens (result ≢ Err Refusal.HostMemory) (set_pointer_size_gone pointer
-            size self.old.memory.heap) sink.old sink.new }
+        ensures answer { IsAnswer (doing_silently (set_pointer_size pointer size) self.old.memory) result
+            self.new.memory }
+        ensures hears { Hears K.told K.waits K.listens (result ≢ Err Refusal.HostMemory) (purges_made (set_pointer_size
+            pointer size) self.old.memory.heap) sink.old sink.new }
         ensures stops { result ≡ Err Refusal.HostMemory → Stops S.TAKES_HOST K.told K.listens KeepsMoves ⊥ None self.old
             self.new sink.old sink.new }
         ensures lies { self.new.memory.window ≡ self.old.memory.window }

@@ -4,12 +4,12 @@ ghost use Rattle.std.specs.Prelude.{◌≡◌, ◌≢◌, ◌⊎◌, ◌≤◌, 
 ghost use Rattle.heap_calls.specs.Busy.{pointer_barred, unless, unless_silent};
 ghost use Rattle.heap_calls.specs.Inner.Halting.{Halts};
 ghost use Rattle.heap_calls.specs.Inner.Given.{IsAnswer, IsShown, KeepsMoves};
-ghost use Rattle.heap_calls.specs.Answer.{noting, searching, silent};
+ghost use Rattle.heap_calls.specs.Answer.{noting, silent};
 ghost use Rattle.heap_calls.specs.Inner.NewPointer.{IsNewNonrelocatable, nonrelocatable_searches};
-ghost use Rattle.heap_calls.specs.Gone.{Tells, TellsNothing, IsIdle, new_pointer_gone, Hears};
+ghost use Rattle.heap_calls.specs.Gone.{IsIdle, Hears};
+ghost use Rattle.heap_calls.specs.Rows.{new_pointer, doing, doing_silently, purges_made};
 ghost use Rattle.heap_calls.specs.Inner.Telling.{pointer_gone};
-ghost use Rattle.heap_calls.specs.Searches.{new_pointer_searches};
-ghost use Rattle.heap_calls.specs.Pointers.{new_pointer, dispose_pointer, get_pointer_size, show_pointer, put_pointer};
+ghost use Rattle.heap_calls.specs.Pointers.{dispose_pointer, get_pointer_size, show_pointer, put_pointer};
 ghost use Rattle.heap_calls.specs.Pointers.{block_named};
 ghost use Rattle.heap_calls.specs.Inner.Pointing.{FindsHeld};
 ghost use Rattle.heap_calls.specs.Inner.Numbered.{Agrees, KeepsNonrelocatable, state_of};
@@ -34,9 +34,8 @@ impl<S: BlockStore> Heap<S> {
     /// and the whole heap and the sink stay so over a store that takes no host memory.
     pub fn new_pointer<K: PurgeSink>(&mut self, size: u32, sink: &mut K) -> Result<usize, Refusal>
         requires idle { IsIdle K.told K.waits sink.old }
-        ensures answer { IsAnswer (searching (new_pointer_searches size self.old.memory.heap)
-            (noting (new_pointer size) self.old.memory)) result self.new.memory }
-        ensures hears { Hears K.told K.waits K.listens (result ≢ Err Refusal.HostMemory) (new_pointer_gone size
+        ensures answer { IsAnswer (doing (new_pointer size) self.old.memory) result self.new.memory }
+        ensures hears { Hears K.told K.waits K.listens (result ≢ Err Refusal.HostMemory) (purges_made (new_pointer size)
             self.old.memory.heap) sink.old sink.new }
         ensures stops { result ≡ Err Refusal.HostMemory → Stops S.TAKES_HOST K.told K.listens KeepsMoves (Unreserved
             self.old.memory) None self.old self.new sink.old sink.new }
@@ -106,9 +105,8 @@ impl<S: BlockStore> Heap<S> {
     /// are purged to a sink, if it listens.
     fn make_pointer<K: PurgeSink>(&mut self, size: u32, sink: &mut K) -> Result<usize, Refusal>
         requires idle { IsIdle K.told K.waits sink.old }
-        ensures answer { IsAnswer (searching (new_pointer_searches size self.old.memory.heap)
-            (silent (new_pointer size) self.old.memory)) result self.new.memory }
-        ensures hears { Hears K.told K.waits K.listens (result ≢ Err Refusal.HostMemory) (new_pointer_gone size
+        ensures answer { IsAnswer (doing_silently (new_pointer size) self.old.memory) result self.new.memory }
+        ensures hears { Hears K.told K.waits K.listens (result ≢ Err Refusal.HostMemory) (purges_made (new_pointer size)
             self.old.memory.heap) sink.old sink.new }
         ensures stops { result ≡ Err Refusal.HostMemory → Stops S.TAKES_HOST K.told K.listens KeepsMoves (Unreserved
             self.old.memory) None self.old self.new sink.old sink.new }

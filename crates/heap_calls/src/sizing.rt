@@ -7,18 +7,17 @@ ghost use Rattle.block_store.specs.Find.{FindsLowest};
 ghost use Rattle.block_store.specs.Grow.{grow};
 ghost use Rattle.block_store.specs.Rest.{KeepsSlots, counted};
 ghost use Rattle.heap_calls.specs.Busy.{change_barred, unless};
-ghost use Rattle.heap_calls.specs.Asked.{packing};
 ghost use Rattle.heap_calls.specs.Inner.Reaching.{sized_reply};
 ghost use Rattle.heap_calls.specs.Inner.GrowingInPlace.{made_zone};
 ghost use Rattle.heap_calls.specs.Inner.Numbered.{KeepsNonrelocatable};
 ghost use Rattle.heap_calls.specs.Inner.Given.{IsAnswer, KeepsNames};
-ghost use Rattle.heap_calls.specs.Answer.{set_handle_size, silent, searching, moving};
-ghost use Rattle.heap_calls.specs.Moves.{size_moves, set_handle_size_moves};
-ghost use Rattle.heap_calls.specs.Gone.{IsIdle, gone_unless, set_handle_size_gone, Hears};
+ghost use Rattle.heap_calls.specs.Moves.{size_moves};
+ghost use Rattle.heap_calls.specs.Gone.{IsIdle, gone_unless, Hears};
+ghost use Rattle.heap_calls.specs.Rows.{set_handle_size, doing, doing_silently, purges_made};
 ghost use Rattle.heap_calls.specs.Inner.Halting.{Halts};
 ghost use Rattle.heap_calls.specs.Inner.Packed.{Packs};
 ghost use Rattle.heap_calls.specs.Inner.Telling.{fitted_gone};
-ghost use Rattle.heap_calls.specs.Searches.{size_searches, set_handle_size_searches};
+ghost use Rattle.heap_calls.specs.Searches.{size_searches};
 ghost use Rattle.heap_calls.specs.Inner.Growing.{Spares, Stays, fitted};
 ghost use Rattle.block_store.specs.Sparing.{spared};
 ghost use Rattle.heap_calls.specs.Left.{Stops};
@@ -51,11 +50,11 @@ impl<S: BlockStore> Heap<S> {
         sink: &mut K,
     ) -> Result<(), Refusal>
         requires idle { IsIdle K.told K.waits sink.old }
-        ensures answer { IsAnswer (unless (change_barred handle self.old.memory) (packing (set_handle_size_moves handle
-            size) (set_handle_size_searches handle size) (set_handle_size handle size)) self.old.memory) result
-            self.new.memory }
+        ensures answer { IsAnswer (unless (change_barred handle self.old.memory) (doing (set_handle_size handle size))
+            self.old.memory) result self.new.memory }
         ensures hears { Hears K.told K.waits K.listens (result ≢ Err Refusal.HostMemory) (gone_unless (change_barred
-            handle self.old.memory) (set_handle_size_gone handle size self.old.memory.heap)) sink.old sink.new }
+            handle self.old.memory) (purges_made (set_handle_size handle size) self.old.memory.heap)) sink.old
+            sink.new }
         ensures stops { result ≡ Err Refusal.HostMemory → Stops S.TAKES_HOST K.told K.listens KeepsNames ⊥ None self.old
             self.new sink.old sink.new }
         ensures lies { self.new.memory.window ≡ self.old.memory.window }
@@ -76,11 +75,10 @@ impl<S: BlockStore> Heap<S> {
         sink: &mut K,
     ) -> Result<(), Refusal>
         requires idle { IsIdle K.told K.waits sink.old }
-        ensures answer { IsAnswer (moving (set_handle_size_moves handle size self.old.memory.heap)
-            (searching (set_handle_size_searches handle size self.old.memory.heap)
-            (silent (set_handle_size handle size) self.old.memory))) result self.new.memory }
-        ensures hears { Hears K.told K.waits K.listens (result ≢ Err Refusal.HostMemory) (set_handle_size_gone handle
-            size self.old.memory.heap) sink.old sink.new }
+        ensures answer { IsAnswer (doing_silently (set_handle_size handle size) self.old.memory) result
+            self.new.memory }
+        ensures hears { Hears K.told K.waits K.listens (result ≢ Err Refusal.HostMemory) (purges_made (set_handle_size
+            handle size) self.old.memory.heap) sink.old sink.new }
         ensures stops { result ≡ Err Refusal.HostMemory → Stops S.TAKES_HOST K.told K.listens KeepsNames ⊥ None self.old
             self.new sink.old sink.new }
         ensures lies { self.new.memory.window ≡ self.old.memory.window }

@@ -21,6 +21,7 @@ use Rattle.block_store.proofs.Zone.Zones.{joined-segments, joined-is}
 use Rattle.block_store.proofs.Regroup.RunLists.{segments-loose}
 use Rattle.moves.specs.Moves.{Move, Search, Purge, Put, Base, Grow, Extend, Push, Cut, Drop, Write, is_same, pushed}
 use Rattle.moves.specs.Moves.{run_above, rewritten, lowest_gone, gone_above, one, did}
+use Rattle.moves.proofs.Paths.{Along}
 
 -- What a path leaves and what it purges come to what there was and what it puts, by any measure that sees no Free block.
 
@@ -33,6 +34,16 @@ put_by of move = 0
 abbrev pub put_on : (Block → ℕ) → List Move → ℕ
 put_on of [] = 0
 put_on of (m ∷ path) = put_by of m + put_on of path
+
+-- a path that puts nothing that the measure sees
+abbrev pub PutsNone : (Block → ℕ) → Move → List Block → Type 0
+PutsNone of m zone = put_by of m ≡ 0
+
+pub puts-none : (of : Block → ℕ) (spared : Block → Bool) (path : List Move) (zone : List Block)
+    → Along (PutsNone of) spared path zone → put_on of path ≡ 0
+puts-none of spared [] zone all = refl
+puts-none of spared (m ∷ path) zone all =
+    omega (arith, all.0, puts-none of spared path (one spared m zone).zone all.1)
 
 -- a block comes to as much at its new size
 abbrev pub AsNew : (Block → ℕ) → Block → List Block → Type 0
@@ -49,8 +60,7 @@ Weighs of (Write h i x) zone = (b : Block) (y : List ℕ) → is_relocatable h b
 Weighs of move zone = Unit {0}
 
 abbrev pub PathWeighs : (Block → ℕ) → (Block → Bool) → List Move → List Block → Type 0
-PathWeighs of spared [] zone = Unit {0}
-PathWeighs of spared (m ∷ path) zone = Weighs of m zone × PathWeighs of spared path (one spared m zone).zone
+PathWeighs of spared path zone = Along (Weighs of) spared path zone
 
 -- no Free block has a name
 pub same-free : (new : Block) (n : ℕ) → is_same new (Free n) ≡ false
@@ -106,26 +116,26 @@ module _ (of : Block → ℕ) (none : (n : ℕ) → of (Free n) ≡ 0) (spared :
         let ge = moved-all of none (is_same new) zone z new e in
         omega arith)
 
-    extended : (new : Block) (zone z : List Block) → AsNew of new zone
-        → option_and_then (grow_up new) (spot (is_same new) zone) ≡ Some z → total of z ≡ total of zone
-    extended new zone z same e =
-        option_and_then_some (grow_up new) (spot (is_same new) zone) z e
-        (λ s found up. map-some (λ above. s.below ++ new ∷ above) (taken (growth new s) s.above) z
-        (total of z ≡ total of zone) up
+    -- a block that grows where it stands, and the run above it
+    pub extended : (new : Block) (zone z : List Block) (s : Spot) → spot (is_same new) zone ≡ Some s
+        → grow_up new s ≡ Some z → total of z + of s.here ≡ total of zone + of new
+    extended new zone z s found up =
+        map-some (λ above. s.below ++ new ∷ above) (taken (growth new s) s.above) z
+        (total of z + of s.here ≡ total of zone + of new) up
         (λ above took is.
         let le = taken-le of none (growth new s) s.above above took in
         let ge = taken-all of none (growth new s) s.above above took in
         omega (
           arith,
           at-spot (is_same new) zone s found,
-          same s found,
           ap (total of) is,
           total-append of s.below (new ∷ above),
-        )))
+        ))
 
-    pushes : (k : ℕ) (new : Block) (zone : List Block) (s : Spot) → AsNew of new zone → spot (is_same new) zone ≡ Some s
-        → total of (pushed k spared new s) + total of (lowest_gone k spared (segments s.above).first) ≡ total of zone
-    pushes k new zone s same found =
+    pub pushes : (k : ℕ) (new : Block) (zone : List Block) (s : Spot) → spot (is_same new) zone ≡ Some s
+        → total of (pushed k spared new s) + total of (lowest_gone k spared (segments s.above).first) + of s.here
+        ≡ total of zone + of new
+    pushes k new zone s found =
         let parts = segments s.above in
         let left = run_above k spared s in
         let room = free_sum left - growth new s in
@@ -135,7 +145,6 @@ module _ (of : Block → ℕ) (none : (n : ℕ) → of (Free n) ≡ 0) (spared :
         omega (
           arith,
           at-spot (is_same new) zone s found,
-          same s found,
           ap (total of) (joined-segments s.above),
           ap (total of) (joined-is parts.first parts.rest),
           total-append of parts.first (beyond parts.rest),
@@ -171,13 +180,14 @@ module _ (of : Block → ℕ) (none : (n : ℕ) → of (Free n) ≡ 0) (spared :
     one-keeps (Grow new) zone w = kept 0 (grow_mover (is_same new) new zone) zone
         (λ z e. let g = grown new zone z w e in (omega arith, omega arith))
     one-keeps (Extend new) zone w = kept 0 (option_and_then (grow_up new) (spot (is_same new) zone)) zone
-        (λ z e. let g = extended new zone z w e in (omega arith, omega arith))
+        (λ z e. option_and_then_some (grow_up new) (spot (is_same new) zone) z e
+        (λ s found up. let g = extended new zone z s found up in let same = w s found in (omega arith, omega arith)))
     one-keeps (Push new k) zone w = cases (spot (is_same new) zone) refl
       where
         cases : (o : Option Spot) → spot (is_same new) zone ≡ o → Keeps 0 (total of zone)
             (total of (unwrap_or (option_map (pushed k spared new) o) zone)) (total of (gone_above k spared o))
         cases None found = (omega arith, omega arith)
-        cases (Some s) found = let p = pushes k new zone s w found in (omega arith, omega arith)
+        cases (Some s) found = let p = pushes k new zone s found in let same = w s found in (omega arith, omega arith)
     one-keeps (Cut new) zone w = cases (spot (is_same new) zone) refl
       where
         cases : (o : Option Spot) → spot (is_same new) zone ≡ o → Keeps 0 (total of zone)

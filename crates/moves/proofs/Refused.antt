@@ -1,4 +1,5 @@
-use Rattle.std.proofs.Common.{◌≡◌, ℕ, ◌+◌, Bool, true, false, List, [], ◌∷◌, refl, cond, is_some, nat_le}
+use Rattle.std.proofs.Common.{◌≡◌, ℕ, ◌+◌, Bool, true, false, List, [], ◌∷◌, ◌++◌, refl, sym, subst, cond, is_some}
+use Rattle.std.proofs.Common.{nat_le}
 use Rattle.mac_words.specs.Size.{phys}
 use Rattle.block_store.specs.Block.{Block, Masters, size, is_mover, resized}
 use Rattle.block_store.specs.Run.{has_free, segments}
@@ -6,7 +7,7 @@ use Rattle.block_store.specs.Room.{Spot, purge}
 use Rattle.block_store.specs.Grow.{growth, grow_up}
 use Rattle.moves.specs.Moves.{Move, Purge, Base, Grow, Extend, Push, Cut, did, untouched, moved, run_above}
 use Rattle.moves.specs.Seeking.{Sought, no_room, at_hand, sought, purges_for, seek, if_fits, seek_slot, seek_in_place}
-use Rattle.moves.specs.Seeking.{seek_resized, seek_size}
+use Rattle.moves.specs.Seeking.{seek_resized, seek_size, around}
 
 -- Where no room is found a path only searches, and so many times wherever it begins.
 
@@ -62,3 +63,10 @@ module _ (spared : Block → Bool)
     pub size-refused : (n : ℕ) (zone : List Block) (s : Spot) → Refuses spared (seek_size n spared zone s)
     size-refused n zone s = fits-refused n (seek_resized (resized n s.here) spared zone s)
         (resized-refused (resized n s.here) zone s)
+
+    -- moves before and after those into the room
+    pub around-refused : (before later : List Move) (r : Sought) → Refuses spared r → Refuses spared (around before
+        later r)
+    around-refused before later r only none =
+        subst (λ (t : Bool). Only spared (record { found = t; path = cond t (before ++ r.path ++ later) r.path }))
+        (sym none) (only none)

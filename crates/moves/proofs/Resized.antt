@@ -1,18 +1,23 @@
-use Rattle.std.proofs.Common.{◌≡◌, ℕ, ◌≤◌, Bool, true, false, List, [], ◌∷◌, refl, sym, ◌∙◌, ap, subst, cond, arith}
-use Rattle.std.proofs.Common.{is_some, nat_le, Some}
+use Rattle.std.proofs.Common.{◌≡◌, ℕ, ◌+◌, ◌≤◌, Bool, true, false, List, [], ◌∷◌, refl, sym, ◌∙◌, ap, subst, cond}
+use Rattle.std.proofs.Common.{arith}
+use Rattle.std.proofs.Common.{is_some, nat_le, Option, Some, None}
+use Rattle.std.specs.Option.{option_map}
+use Rattle.std.specs.Prelude.{unwrap_or, option_and_then}
 use Rattle.std.proofs.lemmas.Bool.{cond-true, leb-true, leb-false}
 use Rattle.std.proofs.lemmas.Option.{same_Some}
 use Rattle.block_store.specs.Block.{Block, Free, Nonrelocatable, Masters, Relocatable, size, total, free_sum, count, is_mover}
 use Rattle.block_store.specs.Run.{in_run, has_free, segments}
-use Rattle.block_store.specs.Room.{Spot, spot, purge, may_be_purged}
+use Rattle.block_store.specs.Room.{Spot, spot, filled, purge, may_be_purged}
 use Rattle.block_store.specs.Grow.{growth, grow_up, grow_mover}
-use Rattle.block_store.proofs.Zone.Keeping.{purged-le, counts-free, unless}
+use Rattle.block_store.proofs.Zone.Keeping.{purged-le, counts-free, unless, unless-free, filled-is, moved-le}
 use Rattle.block_store.proofs.Zone.Surviving.{whole}
-use Rattle.block_store.proofs.Zone.Tidy.{spot-passes}
-use Rattle.moves.specs.Moves.{Move, Purge, Grow, Extend, Push, Cut, is_same, run_above}
-use Rattle.moves.specs.Seeking.{at_hand, sought, purges_for, seek, seek_resized}
-use Rattle.moves.proofs.Conserved.{AsNew, PathWeighs, same-free, purged-is, gone-light}
-use Rattle.moves.proofs.Steady.{PathStays}
+use Rattle.block_store.proofs.Zone.Tidy.{spot-is, spot-passes}
+use Rattle.block_store.proofs.Zone.Totals.{total-append}
+use Rattle.moves.specs.Moves.{Move, Search, Purge, Grow, Extend, Push, Cut, is_same, run_above, pushed, did}
+use Rattle.moves.specs.Seeking.{Sought, at_hand, sought, purges_for, seek, seek_resized}
+use Rattle.moves.proofs.Paths.{Along, along-sought}
+use Rattle.moves.proofs.Conserved.{AsNew, Weighs, PathWeighs, same-free, purged-is, gone-light, extended, pushes}
+use Rattle.moves.proofs.Steady.{Stays, PathStays}
 
 -- The path of a block that gets another size, to which the laws of paths apply.
 
@@ -28,10 +33,10 @@ module _ (new : Block) (spared : Block → Bool) (zone : List Block) (s : Spot)
     abbrev test : Block → Bool
     test = is_same new
 
-    abbrev in_place : ℕ
+    abbrev pub in_place : ℕ
     in_place = purges_for (has_free (growth new s)) spared (segments s.above).first
 
-    abbrev fewest : ℕ
+    abbrev pub fewest : ℕ
     fewest = purges_for (λ z. is_some (grow_mover test new z)) spared zone
 
     abbrev enough : Bool
@@ -40,25 +45,46 @@ module _ (new : Block) (spared : Block → Bool) (zone : List Block) (s : Spot)
     abbrev grows : Bool
     grows = is_some (grow_mover test new (purge fewest spared zone))
 
-    -- what is said of each of its paths is said of the path
-    pub by_path : (P : List Move → Type 0)
-        → (nat_le (size new) (size s.here) ≡ true → P (Cut new ∷ []))
+    -- what is said of each of its searches is said of it
+    pub by_way : (P : Sought → Type 0)
+        → (nat_le (size new) (size s.here) ≡ true → P (at_hand (Cut new ∷ [])))
         → ((t : Bool) → nat_le (size new) (size s.here) ≡ false → is_mover s.here ≡ true → grows ≡ t
-        → P (sought fewest t (Purge fewest ∷ Grow new ∷ [])).path)
-        → (nat_le (size new) (size s.here) ≡ false → P (sought 0 true (Extend new ∷ [])).path)
+        → P (sought fewest t (Purge fewest ∷ Grow new ∷ [])))
+        → (nat_le (size new) (size s.here) ≡ false → is_some (grow_up new s) ≡ true
+        → P (sought 0 true (Extend new ∷ [])))
         → ((t : Bool) → nat_le (size new) (size s.here) ≡ false → enough ≡ t
-        → P (sought in_place t (Push new in_place ∷ [])).path)
-        → P (seek_resized new spared zone s).path
-    by_path P cut grow extend push = cases (nat_le (size new) (size s.here)) refl (is_mover s.here) refl
-        (is_some (grow_up new s))
+        → P (sought in_place t (Push new in_place ∷ [])))
+        → P (seek_resized new spared zone s)
+    by_way P cut grow extend push = cases (nat_le (size new) (size s.here)) refl (is_mover s.here) refl
+        (is_some (grow_up new s)) refl
       where
         cases : (t : Bool) → nat_le (size new) (size s.here) ≡ t → (u : Bool) → is_mover s.here ≡ u → (v : Bool)
-            → P (cond t (at_hand (Cut new ∷ [])) (cond u (seek (Grow new) spared zone)
-            (cond v (sought 0 true (Extend new ∷ [])) (sought in_place enough (Push new in_place ∷ []))))).path
-        cases true small u mover v = cut small
-        cases false small true mover v = grow grows small mover refl
-        cases false small false mover true = extend small
-        cases false small false mover false = push enough small refl
+            → is_some (grow_up new s) ≡ v → P (cond t (at_hand (Cut new ∷ [])) (cond u (seek (Grow new) spared zone)
+            (cond v (sought 0 true (Extend new ∷ [])) (sought in_place enough (Push new in_place ∷ [])))))
+        cases true small u mover v up = cut small
+        cases false small true mover v up = grow grows small mover refl
+        cases false small false mover true up = extend small up
+        cases false small false mover false up = push enough small refl
+
+    -- a law of moves
+    pub resized-along : (M : Move → List Block → Type 0) → ((n : ℕ) (z : List Block) → M (Search n) z)
+        → ((k : ℕ) (z : List Block) → M (Purge k) z) → (nat_le (size new) (size s.here) ≡ true → M (Cut new) zone)
+        → (nat_le (size new) (size s.here) ≡ false → is_mover s.here ≡ true → M (Grow new) (purge fewest spared zone))
+        → (nat_le (size new) (size s.here) ≡ false → M (Extend new) zone)
+        → (nat_le (size new) (size s.here) ≡ false → enough ≡ true → M (Push new in_place) zone)
+        → Along M spared (seek_resized new spared zone s).path zone
+    resized-along M searches purges cut grow extend push =
+        by_way (λ r. Along M spared r.path zone) (λ small. (cut small, tt))
+        (λ t small mover is. along-sought M spared searches purges fewest t (Purge fewest ∷ Grow new ∷ []) zone
+        (λ found. (purges fewest zone, (grow small mover, tt))))
+        (λ small up. (searches (0 + 1) zone, (extend small, tt)))
+        (λ t small is. along-sought M spared searches purges in_place t (Push new in_place ∷ []) zone
+        (λ found. (push small (is ∙ found), tt)))
+
+    -- an unlocked block is the only one of its name, and no search purges it
+    abbrev pub Alone : Type 0
+    Alone = is_mover s.here ≡ true → (count test zone ≤ 1) × ((b : Block) → may_be_purged spared b ≡ true → test b ≡
+        false)
 
     once-purged : (k : ℕ) → count test zone ≤ 1 → count test (purge k spared zone) ≤ 1
     once-purged k once = let p = purged-le (λ (b : Block). cond {A = ℕ} (test b) 1 0) (counts-free test (same-free new)) k
@@ -95,104 +121,113 @@ module _ (new : Block) (spared : Block → Bool) (zone : List Block) (s : Spot)
             one false = refl
 
     -- by a measure
-    pub resized-weighs : (of : Block → ℕ) → of s.here ≡ of new → spot test zone ≡ Some s → count test zone ≤ 1
-        → ((b : Block) → may_be_purged spared b ≡ true → test b ≡ false)
+    pub resized-weighs : (of : Block → ℕ) → of s.here ≡ of new → spot test zone ≡ Some s → Alone
         → PathWeighs of spared (seek_resized new spared zone s).path zone
-    resized-weighs of same found once kept =
-        by_path (λ path. PathWeighs of spared path zone) (λ small. (here, tt)) (λ t small mover is. grown t)
-        (λ small. (tt, (here, tt))) (λ t small is. pushed t)
+    resized-weighs of same found alone =
+        resized-along (Weighs of) (λ n z. tt) (λ k z. tt) (λ small. here) (λ small mover. (
+          once-purged fewest (alone mover).0,
+          (λ s' found'. same-purged of fewest found (alone mover).0 (alone mover).1 s' found' ∙ same),
+        )) (λ small. here) (λ small is. here)
       where
         here : AsNew of new zone
         here s' found' = ap (λ (t : Spot). of t.here) (same_Some _ _ (sym found' ∙ found)) ∙ same
 
-        grown : (t : Bool) → PathWeighs of spared (sought fewest t (Purge fewest ∷ Grow new ∷ [])).path zone
-        grown true = (
-          tt,
-          (
-            tt,
-            (
-              (
-                once-purged fewest once,
-                (λ s' found'. same-purged of fewest found once kept s' found' ∙ same),
-              ),
-              tt,
-            ),
-          ),
-        )
-        grown false = (tt, tt)
-
-        pushed : (t : Bool) → PathWeighs of spared (sought in_place t (Push new in_place ∷ [])).path zone
-        pushed true = (tt, (here, tt))
-        pushed false = (tt, tt)
-
     -- what is locked or never moves
     pub resized-stays : (seen : Block → Bool) (rigid : (b : Block) → in_run b ≡ true → seen b ≡ false)
-        → ((b : Block) → test b ≡ true → seen b ≡ seen new) → spot test zone ≡ Some s → count test zone ≤ 1
-        → ((b : Block) → may_be_purged spared b ≡ true → test b ≡ false)
-        → PathStays seen rigid spared (seek_resized new spared zone s).path zone
-    resized-stays seen rigid same found once kept =
-        by_path (λ path. PathStays seen rigid spared path zone)
-        (λ small. (
-          (λ s' at. (
-            same s'.here (spot-passes test zone s' at),
-            ap-size s' at (leb-true (size new) (size s.here) small),
-          )),
-          tt,
+        → seen s.here ≡ seen new → (is_mover s.here ≡ true → (b : Block) → test b ≡ true → seen b ≡ false)
+        → spot test zone ≡ Some s → Alone → PathStays seen rigid spared (seek_resized new spared zone s).path zone
+    resized-stays seen rigid same apart found alone =
+        resized-along (Stays seen rigid spared) (λ n z. tt) (λ k z. tt)
+        (λ small s' at. (
+          seen_so s' at,
+          (let l = leb-true (size new) (size s.here) small in
+              let e = size_so s' at in omega arith),
         ))
-        (λ t small mover is. grown t small mover) (λ small. (
-          tt,
-          (
-            (λ s' at. (
-              same s'.here (spot-passes test zone s' at),
-              larger s' at small,
-            )),
-            tt,
-          ),
-        )) (λ t small is. pushed t small is)
+        (λ small mover. (
+          sym same ∙ rigid s.here (mover-in s.here mover),
+          apart mover,
+          once-purged fewest (alone mover).0,
+          (λ s' at.
+              let l = leb-false (size new) (size s.here) small in
+              let n = same-purged size fewest found (alone mover).0 (alone mover).1 s' at in omega arith),
+        ))
+        (λ small s' at. (seen_so s' at, larger s' at small))
+        (λ small is s' at. (
+          seen_so s' at,
+          larger s' at small,
+          subst (λ (t : Spot). growth new t ≤ free_sum (run_above in_place spared t)) (same_Some _ _ (sym found ∙ at))
+              (leb-true (growth new s) (free_sum (run_above in_place spared s)) is),
+        ))
       where
-        ap-size : (s' : Spot) → spot test zone ≡ Some s' → size new ≤ size s.here → size new ≤ size s'.here
-        ap-size s' at le = let e = ap (λ (t : Spot). size t.here) (same_Some _ _ (sym found ∙ at)) in omega arith
+        seen_so : (s' : Spot) → spot test zone ≡ Some s' → seen s'.here ≡ seen new
+        seen_so s' at = ap (λ (t : Spot). seen t.here) (same_Some _ _ (sym at ∙ found)) ∙ same
+
+        size_so : (s' : Spot) → spot test zone ≡ Some s' → size s'.here ≡ size s.here
+        size_so s' at = ap (λ (t : Spot). size t.here) (same_Some _ _ (sym at ∙ found))
 
         larger : (s' : Spot) → spot test zone ≡ Some s' → nat_le (size new) (size s.here) ≡ false
             → size s'.here ≤ size new
-        larger s' at small = let e = ap (λ (t : Spot). size t.here) (same_Some _ _ (sym found ∙ at)) in
-            let l = leb-false (size new) (size s.here) small in omega arith
+        larger s' at small = let e = size_so s' at in let l = leb-false (size new) (size s.here) small in omega arith
 
-        grown : (t : Bool) → nat_le (size new) (size s.here) ≡ false → is_mover s.here ≡ true
-            → PathStays seen rigid spared (sought fewest t (Purge fewest ∷ Grow new ∷ [])).path zone
-        grown true small mover =
-            let open_new : seen new ≡ false = sym (same s.here (spot-passes test zone s found))
-            ∙ rigid s.here (mover-in s.here mover) in (
-              tt,
-              (
-                tt,
-                (
-                  (
-                    open_new,
-                    (λ b e. same b e ∙ open_new),
-                    once-purged fewest once,
-                    (λ s' at.
-                        let l = leb-false (size new) (size s.here) small in
-                        let n = same-purged size fewest found once kept s' at in omega arith),
-                  ),
-                  tt,
-                ),
-              ),
-            )
-        grown false small mover = (tt, tt)
+    -- the block at its new size is all that may be more than the others
+    pub resized-new : (of : Block → ℕ) → ((n : ℕ) → of (Free n) ≡ 0) → spot test zone ≡ Some s → count test zone ≤ 1
+        → (seek_resized new spared zone s).found ≡ true
+        → total of (did spared (seek_resized new spared zone s).path zone).zone ≤ of new + total (unless test of) zone
+    resized-new of none found once = by_way (λ r. r.found ≡ true
+        → total of (did spared r.path zone).zone ≤ of new + total (unless test of) zone)
+        (λ small there. at-hand) (λ t small mover is. moves t is) (λ small up there. extends (grow_up new s) refl up)
+        (λ t small is. in-place t)
+      where
+        all : total of zone ≡ of s.here + total (unless test of) zone
+        all = whole of none test zone s found once
 
-        pushed : (t : Bool) → nat_le (size new) (size s.here) ≡ false → enough ≡ t
-            → PathStays seen rigid spared (sought in_place t (Push new in_place ∷ [])).path zone
-        pushed true small is = (
-          tt,
-          (
-            (λ s' at. (
-              same s'.here (spot-passes test zone s' at),
-              larger s' at small,
-              subst (λ (t : Spot). growth new t ≤ free_sum (run_above in_place spared t)) (same_Some _ _ (sym found ∙ at))
-                  (leb-true (growth new s) (free_sum (run_above in_place spared s)) is),
-            )),
-            tt,
-          ),
+        at-hand : total of (unwrap_or (option_map (filled new) (spot test zone)) zone)
+            ≤ of new + total (unless test of) zone
+        at-hand = omega (
+          arith,
+          all,
+          ap (λ (o : Option Spot). total of (unwrap_or (option_map (filled new) o) zone)) found,
+          filled-is of none new s,
+          ap (total of) (spot-is test zone s found),
+          total-append of s.below (s.here ∷ s.above),
         )
-        pushed false small is = (tt, tt)
+
+        ready : List Block
+        ready = purge fewest spared zone
+
+        moves : (t : Bool) → grows ≡ t → t ≡ true
+            → total of (did spared (sought fewest t (Purge fewest ∷ Grow new ∷ [])).path zone).zone
+            ≤ of new + total (unless test of) zone
+        moves false is there = let f : false ≡ true = there in cc
+        moves true is there = cases (grow_mover test new ready) refl is
+          where
+            cases : (o : Option (List Block)) → grow_mover test new ready ≡ o → is_some o ≡ true
+                → total of (unwrap_or o ready) ≤ of new + total (unless test of) zone
+            cases None e some = let f : false ≡ true = some in cc
+            cases (Some z) e some =
+                let m = moved-le of none test (same-free new) ready z new (once-purged fewest once) e in
+                let p = purged-le (unless test of) (unless-free test of none) fewest spared zone in
+                omega arith
+
+        extends : (o : Option (List Block)) → grow_up new s ≡ o → is_some o ≡ true
+            → total of (unwrap_or (option_and_then (grow_up new) (spot test zone)) zone)
+            ≤ of new + total (unless test of) zone
+        extends None e up = let f : false ≡ true = up in cc
+        extends (Some z) e up = omega (
+          arith,
+          all,
+          ap (λ (o : Option Spot). total of (unwrap_or (option_and_then (grow_up new) o) zone)) found,
+          ap (λ (o : Option (List Block)). total of (unwrap_or o zone)) e,
+          extended of none spared new zone z s found e,
+        )
+
+        in-place : (t : Bool) → t ≡ true
+            → total of (did spared (sought in_place t (Push new in_place ∷ [])).path zone).zone
+            ≤ of new + total (unless test of) zone
+        in-place false there = let f : false ≡ true = there in cc
+        in-place true there = omega (
+          arith,
+          all,
+          ap (λ (o : Option Spot). total of (unwrap_or (option_map (pushed in_place spared new) o) zone)) found,
+          pushes of none spared in_place new zone s found,
+        )

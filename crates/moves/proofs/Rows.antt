@@ -1,117 +1,246 @@
-use Rattle.std.proofs.Common.{Some, ◌≡◌, ℕ, ◌+◌, ◌≤◌, Bool, true, false, List, [], ◌∷◌, ◌++◌, refl}
-use Rattle.std.proofs.Common.{cond, arith, is_some, nat_le}
+use Rattle.std.proofs.Common.{◌≡◌, ℕ, ◌+◌, ◌≤◌, Bool, true, false, List, [], ◌∷◌, ◌++◌, append-nil, refl, sym, ◌∙◌, ap}
+use Rattle.std.proofs.Common.{subst, cond, arith, is_some, nat_le, Option, Some, None}
+use Rattle.std.specs.Prelude.{unwrap_or}
 use Rattle.mac_words.specs.Size.{phys}
-use Rattle.block_store.specs.Block.{Block, size, count, is_mover, is_relocatable, with_content, resized}
-use Rattle.block_store.specs.Run.{has_free, in_run, segments}
-use Rattle.block_store.specs.Room.{Spot, spot, purge, count_of, may_be_purged}
+use Rattle.block_store.specs.Block.{Block, Free, size, total, count, is_mover, is_relocatable, resized}
+use Rattle.block_store.specs.Run.{has_free, segments}
+use Rattle.block_store.specs.Room.{Spot, spot, filled, place, put_in_place, purge, count_of}
 use Rattle.block_store.specs.Grow.{growth, grow_up, freed}
+use Rattle.block_store.specs.Compact.{beyond}
 use Rattle.block_store.proofs.Plain.Trials.{least_or_last-le}
-use Rattle.moves.specs.Moves.{Move, Purge, Put, Grow, Extend, Push, Cut, Drop, Write, is_same, moved, run_above, one, did}
-use Rattle.moves.specs.Seeking.{Sought, no_room, at_hand, sought, purges_for, seek, if_fits, seek_resized, seek_size}
-use Rattle.moves.specs.Seeking.{around}
-use Rattle.moves.proofs.Conserved.{put_on, PathWeighs}
-use Rattle.moves.proofs.Steady.{Stays, PathStays}
-use Rattle.moves.proofs.Resized.{by_path, resized-weighs}
+use Rattle.block_store.proofs.Zone.Tidy.{spot-is}
+use Rattle.block_store.proofs.Zone.Totals.{total-append}
+use Rattle.block_store.proofs.Zone.Zones.{joined-segments, joined-is}
+use Rattle.block_store.proofs.Zone.Keeping.{unless, filled-is, freed-is}
+use Rattle.block_store.proofs.Zone.Views.{map-some}
+use Rattle.moves.specs.Moves.{Move, Search, Purge, Put, Grow, Extend, Push, Cut, Drop, is_same, moved, run_above}
+use Rattle.moves.specs.Moves.{lowest_gone}
+use Rattle.moves.specs.Moves.{gone_above, gone_by, did}
+use Rattle.moves.specs.Seeking.{Sought, no_room, at_hand, sought, purges_for, seek, seek_resized, seek_size, around}
+use Rattle.moves.proofs.Paths.{Along, along-if, along-seek}
+use Rattle.moves.proofs.Conserved.{Weighs, PathWeighs, PutsNone, put_by, put_on, purged-is, keeps}
+use Rattle.moves.proofs.Resized.{Alone, fewest, in_place, by_way, resized-along, resized-weighs, resized-new}
 use Rattle.moves.proofs.Renamed.{Apart, PathNames}
 
 -- The paths of whole calls, to which the laws of paths apply.
 
--- a path and then another
-pub weighs-append : (of : Block → ℕ) (spared : Block → Bool) (a b : List Move) (zone : List Block)
-    → PathWeighs of spared a zone → PathWeighs of spared b (did spared a zone).zone
-    → PathWeighs of spared (a ++ b) zone
-weighs-append of spared [] b zone first later = later
-weighs-append of spared (m ∷ a) b zone first later =
-    (first.0, weighs-append of spared a b (one spared m zone).zone first.1 later)
-
 module _ (of : Block → ℕ) (spared : Block → Bool)
   where
-    fits-weighs : (n : ℕ) (r : Sought) (zone : List Block) → PathWeighs of spared r.path zone
-        → PathWeighs of spared (if_fits n r).path zone
-    fits-weighs n r zone all = cases (is_some (phys n))
-      where
-        cases : (t : Bool) → PathWeighs of spared (cond t r no_room).path zone
-        cases true = all
-        cases false = tt
-
-    put-weighs : (new : Block) (zone : List Block) → PathWeighs of spared (seek (Put new) spared zone).path zone
-    put-weighs new zone =
-        let k = purges_for (λ z. is_some (moved spared (Put new) z)) spared zone in
-        cases k (is_some (moved spared (Put new) (purge k spared zone)))
-      where
-        cases : (k : ℕ) (t : Bool) → PathWeighs of spared (sought k t (Purge k ∷ Put new ∷ [])).path zone
-        cases k true = (tt, (tt, (tt, tt)))
-        cases k false = (tt, tt)
-
-    -- the block at a spot is the only one of its name, is not purged, and comes to the same with n bytes
-    pub record Sole (n : ℕ) (zone : List Block) (s : Spot) : Type 0 where
-      pub same : of s.here ≡ of (resized n s.here)
-      pub found : spot (is_same (resized n s.here)) zone ≡ Some s
-      pub once : count (is_same (resized n s.here)) zone ≤ 1
-      pub kept : (b : Block) → may_be_purged spared b ≡ true → is_same (resized n s.here) b ≡ false
-
     -- SetHandleSize and SetPtrSize
-    pub size-weighs : (n : ℕ) (zone : List Block) (s : Spot) → Sole n zone s
+    pub size-weighs : (n : ℕ) (zone : List Block) (s : Spot) → of s.here ≡ of (resized n s.here)
+        → spot (is_same (resized n s.here)) zone ≡ Some s → Alone (resized n s.here) spared zone s
         → PathWeighs of spared (seek_size n spared zone s).path zone
-    size-weighs n zone s sole = fits-weighs n (seek_resized (resized n s.here) spared zone s) zone
-        (resized-weighs (resized n s.here) spared zone s of sole.same sole.found sole.once sole.kept)
+    size-weighs n zone s same found alone = along-if (Weighs of) spared (is_some (phys n))
+        (seek_resized (resized n s.here) spared zone s) zone
+        (resized-weighs (resized n s.here) spared zone s of same found alone)
 
-    pub size-puts : (n : ℕ) (zone : List Block) (s : Spot) → put_on of (seek_size n spared zone s).path ≡ 0
-    size-puts n zone s = cases (is_some (phys n))
+    pub size-puts : (n : ℕ) (zone : List Block) (s : Spot)
+        → Along (PutsNone of) spared (seek_size n spared zone s).path zone
+    size-puts n zone s = along-if (PutsNone of) spared (is_some (phys n))
+        (seek_resized (resized n s.here) spared zone s) zone
+        (resized-along (resized n s.here) spared zone s (PutsNone of) (λ n z. refl) (λ k z. refl) (λ small. refl)
+        (λ small mover. refl) (λ small. refl) (λ small is. refl))
+
+    -- where room was found, the block with n bytes is all that may be more than the others
+    pub size-new : ((k : ℕ) → of (Free k) ≡ 0) → (n : ℕ) (zone : List Block) (s : Spot) (test : Block → Bool)
+        → is_same (resized n s.here) ≡ test → spot test zone ≡ Some s → count test zone ≤ 1
+        → (seek_size n spared zone s).found ≡ true
+        → total of (did spared (seek_size n spared zone s).path zone).zone
+        ≤ of (resized n s.here) + total (unless test of) zone
+    size-new none n zone s test same found once = cases (is_some (phys n))
       where
         new : Block
         new = resized n s.here
 
-        sought-puts : (k : ℕ) (t : Bool) (taking : List Move) → put_on of taking ≡ 0
-            → put_on of (sought k t taking).path ≡ 0
-        sought-puts k true taking none = omega (arith, none)
-        sought-puts k false taking none = omega arith
+        sized : (seek_resized new spared zone s).found ≡ true
+            → total of (did spared (seek_resized new spared zone s).path zone).zone
+            ≤ of new + total (unless test of) zone
+        sized there = subst (λ (t : Block → Bool). total of (did spared (seek_resized new spared zone s).path zone).zone
+            ≤ of new + total (unless t of) zone) same
+            (resized-new new spared zone s of none (ap (λ (t : Block → Bool). spot t zone) same ∙ found)
+            (subst (λ (t : Block → Bool). count t zone ≤ 1) (sym same) once) there)
 
-        resized-puts : put_on of (seek_resized new spared zone s).path ≡ 0
-        resized-puts = by_path new spared zone s (λ path. put_on of path ≡ 0) (λ small. omega arith)
-            (λ t small mover is. sought-puts k t (Purge k ∷ Grow new ∷ []) (omega arith)) (λ small. omega arith)
-            (λ t small is. sought-puts j t (Push new j ∷ []) (omega arith))
-          where
-            k : ℕ
-            k = purges_for (λ z. is_some (moved spared (Grow new) z)) spared zone
+        cases : (t : Bool) → (cond t (seek_resized new spared zone s) no_room).found ≡ true
+            → total of (did spared (cond t (seek_resized new spared zone s) no_room).path zone).zone
+            ≤ of new + total (unless test of) zone
+        cases true there = sized there
+        cases false there = let f : false ≡ true = there in cc
 
-            j : ℕ
-            j = purges_for (has_free (growth new s)) spared (segments s.above).first
-
-        cases : (t : Bool) → put_on of (cond t (seek_resized new spared zone s) no_room).path ≡ 0
-        cases true = resized-puts
-        cases false = refl
-
-    -- HandAndHand and PtrAndHand
-    pub append-weighs : (n h i : ℕ) (x : List ℕ) (zone : List Block) (s : Spot) → Sole n zone s
-        → ((b : Block) (y : List ℕ) → is_relocatable h b ≡ true → of (with_content y b) ≡ of b)
-        → PathWeighs of spared (around [] (Write h i x ∷ []) (seek_size n spared zone s)).path zone
-    append-weighs n h i x zone s sole blind = cases (seek_size n spared zone s).found
-      where
-        path : List Move
-        path = (seek_size n spared zone s).path
-
-        cases : (t : Bool) → PathWeighs of spared (cond t (path ++ Write h i x ∷ []) path) zone
-        cases true = weighs-append of spared path (Write h i x ∷ []) zone (size-weighs n zone s sole) (blind, tt)
-        cases false = size-weighs n zone s sole
-
-    -- ReallocateHandle
-    pub again-weighs : (n h : ℕ) (new : Block) (zone : List Block)
-        → ((b : Block) → is_relocatable h b ≡ true → of b ≡ 0) → PathWeighs of spared
-        (around (Drop h ∷ []) [] (if_fits n (seek (Put new) spared (freed (is_relocatable h) zone)))).path zone
-    again-weighs n h new zone light = cases (is_some (phys n))
-        (is_some (moved spared (Put new) (purge k spared (freed (is_relocatable h) zone))))
+    -- what a search for the place of a block leaves: that block is all that is more
+    pub seek-more : ((k : ℕ) → of (Free k) ≡ 0) → (m : Move) → ((z : List Block) → Weighs of m z) → (zone : List Block)
+        → total of (did spared (seek m spared zone).path zone).zone ≤ put_by of m + total of zone
+    seek-more none m weighs zone = omega (
+      arith,
+      keeps of none spared (seek m spared zone).path zone
+          (along-seek (Weighs of) spared (λ n z. tt) (λ k z. tt) m weighs zone),
+      puts (is_some (moved spared m (purge k spared zone))),
+    )
       where
         k : ℕ
-        k = purges_for (λ z. is_some (moved spared (Put new) z)) spared (freed (is_relocatable h) zone)
+        k = purges_for (λ z. is_some (moved spared m z)) spared zone
 
-        r : Bool → Sought
-        r u = sought k u (Purge k ∷ Put new ∷ [])
+        puts : (t : Bool) → put_on of (sought k t (Purge k ∷ m ∷ [])).path ≤ put_by of m
+        puts true = omega arith
+        puts false = omega arith
 
-        cases : (t u : Bool) → PathWeighs of spared (around (Drop h ∷ []) [] (cond t (r u) no_room)).path zone
-        cases true true = (light, (tt, (tt, (tt, tt))))
-        cases true false = (tt, tt)
-        cases false u = tt
+    -- where room was found, the block is there
+    pub put-there : ((k : ℕ) → of (Free k) ≡ 0) → (new : Block) (zone : List Block)
+        → (seek (Put new) spared zone).found ≡ true
+        → of new ≤ total of (did spared (seek (Put new) spared zone).path zone).zone
+    put-there none new zone found = cases (put_in_place new ready) refl found
+      where
+        k : ℕ
+        k = purges_for (λ z. is_some (moved spared (Put new) z)) spared zone
+
+        ready : List Block
+        ready = purge k spared zone
+
+        cases : (o : Option (List Block)) → put_in_place new ready ≡ o → is_some o ≡ true
+            → of new ≤ total of (did spared (sought k (is_some o) (Purge k ∷ Put new ∷ [])).path zone).zone
+        cases None is found = let f : false ≡ true = found in cc
+        cases (Some z) is found =
+            map-some (filled new) (place (size new) ready) z (of new ≤ total of (unwrap_or (put_in_place new ready)
+            ready))
+            is (λ s there e. omega (
+              arith,
+              ap (λ (o : Option (List Block)). total of (unwrap_or o ready)) is,
+              ap (total of) e,
+              filled-is of none new s,
+            ))
+
+    pub if-more : ((k : ℕ) → of (Free k) ≡ 0) → (t : Bool) (m : Move) → ((z : List Block) → Weighs of m z)
+        → (zone : List Block)
+        → total of (did spared (cond t (seek m spared zone) no_room).path zone).zone ≤ put_by of m + total of zone
+    if-more none true m weighs zone = seek-more none m weighs zone
+    if-more none false m weighs zone = omega arith
+
+    pub again-more : ((k : ℕ) → of (Free k) ≡ 0) → (t : Bool) (h : ℕ) (new : Block) (zone : List Block)
+        → (around (Drop h ∷ []) [] (cond t (seek (Put new) spared (freed (is_relocatable h) zone)) no_room)).found ≡
+        true
+        → total of (did spared (around (Drop h ∷ []) []
+        (cond t (seek (Put new) spared (freed (is_relocatable h) zone)) no_room)).path zone).zone
+        ≤ of new + total (unless (is_relocatable h) of) zone
+    again-more none false h new zone there = let f : false ≡ true = there in cc
+    again-more none true h new zone there =
+        let left = freed (is_relocatable h) zone in
+        cases (seek (Put new) spared left) (seek-more none (Put new) (λ z. tt) left) there
+      where
+        cases : (r : Sought) → total of (did spared r.path (freed (is_relocatable h) zone)).zone
+            ≤ of new + total of (freed (is_relocatable h) zone) → r.found ≡ true
+            → total of (did spared (around (Drop h ∷ []) [] r).path zone).zone
+            ≤ of new + total (unless (is_relocatable h) of) zone
+        cases r le found = omega (
+          arith,
+          le,
+          freed-is of none (is_relocatable h) zone,
+          ap (λ (t : Bool). total of (did spared (cond t (Drop h ∷ r.path ++ []) r.path) zone).zone) found,
+          ap (λ (path : List Move). total of (did spared path (freed (is_relocatable h) zone)).zone) (append-nil
+              r.path),
+        )
+
+    -- what goes comes to no more than there was
+    lowest-most : ((k : ℕ) → of (Free k) ≡ 0) → (k : ℕ) (bs : List Block)
+        → total of (lowest_gone k spared bs) ≤ total of bs
+    lowest-most none k bs = omega (arith, purged-is of none spared k bs)
+
+    sought-most : ((k : ℕ) → of (Free k) ≡ 0) → (k : ℕ) (t : Bool) (m : Move)
+        → ((z : List Block) → gone_by spared m z ≡ []) → (zone : List Block)
+        → total of (did spared (sought k t (Purge k ∷ m ∷ [])).path zone).gone ≤ total of zone
+    sought-most none k true m quiet zone = omega (
+      arith,
+      lowest-most none k zone,
+      total-append of (lowest_gone k spared zone) (gone_by spared m (purge k spared zone) ++ []),
+      ap (λ (l : List Block). total of (l ++ [])) (quiet (purge k spared zone)),
+    )
+    sought-most none k false m quiet zone = omega arith
+
+    pub seek-most : ((k : ℕ) → of (Free k) ≡ 0) → (m : Move) → ((z : List Block) → gone_by spared m z ≡ [])
+        → (zone : List Block) → total of (did spared (seek m spared zone).path zone).gone ≤ total of zone
+    seek-most none m quiet zone =
+        let k = purges_for (λ z. is_some (moved spared m z)) spared zone in
+        sought-most none k (is_some (moved spared m (purge k spared zone))) m quiet zone
+
+    pub if-most : ((k : ℕ) → of (Free k) ≡ 0) → (t : Bool) (m : Move) → ((z : List Block) → gone_by spared m z ≡ [])
+        → (zone : List Block)
+        → total of (did spared (cond t (seek m spared zone) no_room).path zone).gone ≤ total of zone
+    if-most none true m quiet zone = seek-most none m quiet zone
+    if-most none false m quiet zone = omega arith
+
+    pub size-most : ((k : ℕ) → of (Free k) ≡ 0) → (n : ℕ) (zone : List Block) (s : Spot)
+        → total of (did spared (seek_size n spared zone s).path zone).gone ≤ total of zone
+    size-most none n zone s = cases (is_some (phys n))
+      where
+        new : Block
+        new = resized n s.here
+
+        above : (k : ℕ) (o : Option Spot) → spot (is_same new) zone ≡ o
+            → total of (gone_above k spared o ++ []) ≤ total of zone
+        above k None found = omega arith
+        above k (Some s') found =
+            let parts = segments s'.above in
+            omega (
+              arith,
+              lowest-most none k parts.first,
+              total-append of (lowest_gone k spared parts.first) [],
+              total-append of parts.first (beyond parts.rest),
+              ap (total of) (joined-segments s'.above),
+              ap (total of) (joined-is parts.first parts.rest),
+              total-append of s'.below (s'.here ∷ s'.above),
+              ap (total of) (spot-is (is_same new) zone s' found),
+            )
+
+        pushed : (k : ℕ) (t : Bool) → total of (did spared (sought k t (Push new k ∷ [])).path zone).gone ≤ total of
+            zone
+        pushed k true = above k (spot (is_same new) zone) refl
+        pushed k false = omega arith
+
+        sized : total of (did spared (seek_resized new spared zone s).path zone).gone ≤ total of zone
+        sized = by_way new spared zone s (λ r. total of (did spared r.path zone).gone ≤ total of zone)
+            (λ small. omega arith) (λ t small mover is. sought-most none (fewest new spared zone s) t (Grow new)
+            (λ z. refl) zone) (λ small up. omega arith) (λ t small is. pushed (in_place new spared zone s) t)
+
+        cases : (t : Bool)
+            → total of (did spared (cond t (seek_resized new spared zone s) no_room).path zone).gone ≤ total of zone
+        cases true = sized
+        cases false = omega arith
+
+    pub again-most : ((k : ℕ) → of (Free k) ≡ 0) → (t : Bool) (h : ℕ) (new : Block) (zone : List Block)
+        → total of (did spared (around (Drop h ∷ []) []
+        (cond t (seek (Put new) spared (freed (is_relocatable h) zone)) no_room)).path zone).gone
+        ≤ total of (freed (is_relocatable h) zone)
+    again-most none false h new zone = omega arith
+    again-most none true h new zone = cases (is_some (moved spared (Put new) (purge k spared left)))
+      where
+        left : List Block
+        left = freed (is_relocatable h) zone
+
+        k : ℕ
+        k = purges_for (λ z. is_some (moved spared (Put new) z)) spared left
+
+        cases : (t : Bool) → total of (did spared (around (Drop h ∷ []) []
+            (sought k t (Purge k ∷ Put new ∷ []))).path zone).gone ≤ total of left
+        cases true = sought-most none k true (Put new) (λ z. refl) left
+        cases false = omega arith
+
+-- ReallocateHandle: the old block is freed, and a new one put
+module _ (M : Move → List Block → Type 0) (spared : Block → Bool) (searches : (n : ℕ) (z : List Block) → M (Search n) z)
+    (purges : (k : ℕ) (z : List Block) → M (Purge k) z)
+  where
+    pub again-along : (t : Bool) (h : ℕ) (new : Block) (zone : List Block) → M (Drop h) zone
+        → ((z : List Block) → M (Put new) z) → Along M spared
+        (around (Drop h ∷ []) [] (cond t (seek (Put new) spared (freed (is_relocatable h) zone)) no_room)).path zone
+    again-along false h new zone drops puts = tt
+    again-along true h new zone drops puts = cases (is_some (moved spared (Put new) (purge k spared left)))
+      where
+        left : List Block
+        left = freed (is_relocatable h) zone
+
+        k : ℕ
+        k = purges_for (λ z. is_some (moved spared (Put new) z)) spared left
+
+        cases : (t : Bool) → Along M spared (around (Drop h ∷ []) [] (sought k t (Purge k ∷ Put new ∷ []))).path zone
+        cases true = (drops, (searches (k + 1) left, (purges k left, (puts (purge k spared left), tt))))
+        cases false = (searches (k + 1) zone, tt)
 
 -- how many searches: at most one more than there are blocks to purge
 module _ (spared : Block → Bool)
@@ -157,8 +286,8 @@ module _ (f g : ℕ → ℕ)
     pub resized-names : (new : Block) (spared : Block → Bool) (zone : List Block) (s : Spot) → Apart f g new
         → PathNames f g (seek_resized new spared zone s).path
     resized-names new spared zone s same =
-        by_path new spared zone s (PathNames f g) (λ small. (same, tt)) (λ t small mover is. grown t)
-        (λ small. (tt, (same, tt))) (λ t small is. pushed t)
+        by_way new spared zone s (λ r. PathNames f g r.path) (λ small. (same, tt)) (λ t small mover is. grown t)
+        (λ small up. (tt, (same, tt))) (λ t small is. pushed t)
       where
         k : ℕ
         k = purges_for (λ z. is_some (moved spared (Grow new) z)) spared zone
@@ -173,44 +302,3 @@ module _ (f g : ℕ → ℕ)
         pushed : (t : Bool) → PathNames f g (sought j t (Push new j ∷ [])).path
         pushed true = (tt, (same, tt))
         pushed false = (tt, tt)
-
--- what is locked or never moves stays where bytes are appended, and where a block is freed for another one
-module _ (seen : Block → Bool) (rigid : (b : Block) → in_run b ≡ true → seen b ≡ false) (spared : Block → Bool)
-  where
-    stays-append : (a b : List Move) (zone : List Block) → PathStays seen rigid spared a zone
-        → PathStays seen rigid spared b (did spared a zone).zone → PathStays seen rigid spared (a ++ b) zone
-    stays-append [] b zone first later = later
-    stays-append (m ∷ a) b zone first later =
-        (first.0, stays-append a b (one spared m zone).zone first.1 later)
-
-    pub append-stays : (n h i : ℕ) (x : List ℕ) (zone : List Block) (s : Spot)
-        → PathStays seen rigid spared (seek_size n spared zone s).path zone
-        → ((seek_size n spared zone s).found ≡ true
-        → Stays seen rigid spared (Write h i x) (did spared (seek_size n spared zone s).path zone).zone)
-        → PathStays seen rigid spared (around [] (Write h i x ∷ []) (seek_size n spared zone s)).path zone
-    append-stays n h i x zone s first later = cases (seek_size n spared zone s).found later
-      where
-        path : List Move
-        path = (seek_size n spared zone s).path
-
-        cases : (t : Bool) → (t ≡ true → Stays seen rigid spared (Write h i x) (did spared path zone).zone)
-            → PathStays seen rigid spared (cond t (path ++ Write h i x ∷ []) path) zone
-        cases true later = stays-append path (Write h i x ∷ []) zone first (later refl, tt)
-        cases false later = first
-
-    pub again-stays : (n h : ℕ) (new : Block) (zone : List Block) → seen new ≡ false
-        → ((b : Block) → is_relocatable h b ≡ true → seen b ≡ false) → PathStays seen rigid spared
-        (around (Drop h ∷ []) [] (if_fits n (seek (Put new) spared (freed (is_relocatable h) zone)))).path zone
-    again-stays n h new zone unseen old = cases (is_some (phys n))
-        (is_some (moved spared (Put new) (purge k spared (freed (is_relocatable h) zone))))
-      where
-        k : ℕ
-        k = purges_for (λ z. is_some (moved spared (Put new) z)) spared (freed (is_relocatable h) zone)
-
-        r : Bool → Sought
-        r u = sought k u (Purge k ∷ Put new ∷ [])
-
-        cases : (t u : Bool) → PathStays seen rigid spared (around (Drop h ∷ []) [] (cond t (r u) no_room)).path zone
-        cases true true = (old, (tt, (tt, (unseen, tt))))
-        cases true false = (tt, tt)
-        cases false u = tt

@@ -1,9 +1,9 @@
-use Rattle.std.proofs.Common.{◌≡◌, ℕ, Bool, true, false, List, [], ◌∷◌, ◌++◌, length, refl, sym, ◌∙◌, ap, cond, map}
+use Rattle.std.proofs.Common.{◌≡◌, ℕ, Bool, true, false, List, [], ◌∷◌, ◌++◌, refl, sym, ◌∙◌, ap, cond, map}
 use Rattle.std.proofs.Common.{is_some, nat_le}
 use Rattle.std.proofs.lemmas.List.{map-append}
 use Rattle.mac_words.specs.Size.{phys}
 use Rattle.mac_words.proofs.Plain.{is_some-map}
-use Rattle.block_store.specs.Block.{Block, Masters, size, is_mover, content_of, resized, rename, rename_block}
+use Rattle.block_store.specs.Block.{Block, Masters, size, is_mover, resized, rename, rename_block}
 use Rattle.block_store.specs.Run.{has_free, segments}
 use Rattle.block_store.specs.Room.{Spot, rename_spot, may_be_purged, purge, count_of}
 use Rattle.block_store.specs.Grow.{growth, grow_up}
@@ -12,17 +12,11 @@ use Rattle.block_store.proofs.Renamed.Renaming.{size-rename, total-rename, is_mo
 use Rattle.block_store.proofs.Renamed.Renaming.{segments-rename, has_free-rename, grow_up-rename}
 use Rattle.block_store.proofs.Renamed.GrowRenaming.{resized-rename}
 use Rattle.moves.specs.Moves.{Move, Purge, Put, Base, Grow, Extend, Push, Cut, Did, did, moved, rename_move}
-use Rattle.moves.specs.Seeking.{Sought, no_room, at_hand, sought, purges_for, seek, if_fits, seek_slot, then_seek, seek_block}
+use Rattle.moves.specs.Seeking.{Sought, no_room, at_hand, sought, purges_for, seek, if_fits, seek_slot, then_seek}
 use Rattle.moves.specs.Seeking.{seek_in_place, seek_resized, seek_size, rename_sought}
 use Rattle.moves.proofs.Renamed.{Apart, Names, PathNames, growth-rename, moved-rename, did-rename}
 
 -- No search sees the names of blocks.
-
-content_of-rename : (f g : ℕ → ℕ) (b : Block) → content_of (rename_block f g b) ≡ content_of b
-content_of-rename f g (Block.Free n) = refl
-content_of-rename f g (Block.Nonrelocatable id content) = refl
-content_of-rename f g Masters = refl
-content_of-rename f g (Block.Relocatable id flags content) = refl
 
 module _ (f g : ℕ → ℕ) (p q : Block → Bool) (spares : (b : Block) → p (rename_block f g b) ≡ q b)
   where
@@ -72,12 +66,10 @@ module _ (f g : ℕ → ℕ) (p q : Block → Bool) (spares : (b : Block) → p 
     slot-rename true zone = refl
     slot-rename false zone = seek-rename (Base Masters) tt zone
 
-    pub block-rename : (new : Block) (zone : List Block)
-        → seek_block (rename_block f g new) p (rename f g zone) ≡ rename_sought f g (seek_block new q zone)
-    block-rename new zone =
-        ap (λ x. if_fits (length x) (seek (Put (rename_block f g new)) p (rename f g zone))) (content_of-rename f g new)
-        ∙ ap (if_fits (length (content_of new))) (seek-rename (Put new) tt zone)
-        ∙ fits-rename (length (content_of new)) (seek (Put new) q zone)
+    pub block-rename : (n : ℕ) (new : Block) (zone : List Block)
+        → if_fits n (seek (Put (rename_block f g new)) p (rename f g zone))
+        ≡ rename_sought f g (if_fits n (seek (Put new) q zone))
+    block-rename n new zone = ap (if_fits n) (seek-rename (Put new) tt zone) ∙ fits-rename n (seek (Put new) q zone)
 
     pub in_place-rename : (new : Block) (s : Spot)
         → seek_in_place (rename_block f g new) p (rename_spot f g s) ≡ rename_sought f g (seek_in_place new q s)

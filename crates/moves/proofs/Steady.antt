@@ -22,6 +22,7 @@ use Rattle.block_store.proofs.Regroup.RunLists.{segments-loose}
 use Rattle.moves.specs.Moves.{Move, Search, Purge, Put, Base, Grow, Extend, Push, Cut, Drop, Write, is_same, pushed}
 use Rattle.moves.specs.Moves.{run_above, rewritten, one, did}
 use Rattle.moves.proofs.Conserved.{same-free}
+use Rattle.moves.proofs.Paths.{Along}
 
 -- A path leaves the lowest block that is seen where it is: one that no run has, so one that is locked or never moves.
 
@@ -47,8 +48,7 @@ module _ (seen : Block → Bool) (rigid : (b : Block) → in_run b ≡ true → 
     Stays move zone = Unit {0}
 
     abbrev pub PathStays : List Move → List Block → Type 0
-    PathStays [] zone = Unit {0}
-    PathStays (m ∷ path) zone = Stays m zone × PathStays path (one spared m zone).zone
+    PathStays path zone = Along Stays spared path zone
 
     -- a move by what it leaves
     left : (o : Option (List Block)) (zone : List Block) → ((z : List Block) → o ≡ Some z → Alike seen zone z)

@@ -1,12 +1,12 @@
-use Rattle.std.specs.Prelude.{ℕ, ◌+◌, Bool, true, false, List, [], ◌∷◌, ◌++◌, map, length}
+use Rattle.std.specs.Prelude.{ℕ, ◌+◌, Bool, true, false, List, [], ◌∷◌, ◌++◌, map}
 use Rattle.std.specs.Prelude.{is_some, nat_le, if◌then◌else◌}
 use Rattle.mac_words.specs.Size.{phys}
-use Rattle.block_store.specs.Block.{Block, Masters, size, content_of, is_mover, resized}
+use Rattle.block_store.specs.Block.{Block, Masters, size, is_mover, resized}
 use Rattle.block_store.specs.Run.{has_free, segments}
 use Rattle.block_store.specs.Room.{Spot, purge, count_of}
 use Rattle.block_store.specs.Grow.{growth, grow_up}
 use Rattle.block_store.specs.Compact.{least_or_last}
-use Rattle.moves.specs.Moves.{Move, Search, Purge, Put, Base, Grow, Extend, Push, Cut, did, moved, run_above, rename_move}
+use Rattle.moves.specs.Moves.{Move, Search, Purge, Base, Grow, Extend, Push, Cut, did, moved, run_above, rename_move}
 
 -- Searches for room, as paths of moves. Inside Macintosh: Memory, chapter 1, "Purging and Reallocating Memory Blocks".
 
@@ -57,14 +57,6 @@ then_seek spared zone first next =
   where
     more : Sought
     more = next (did spared first.path zone).zone
-
--- The search for a new relocatable block of this content.
-abbrev pub seek_block : Block → (Block → Bool) → List Block → Sought
-seek_block new spared zone = if_fits (length (content_of new)) (seek (Put new) spared zone)
-
--- The search for a new handle's block: for its master pointer, and then for the block.
-abbrev pub seek_new : Bool → Block → (Block → Bool) → List Block → Sought
-seek_new unused new spared zone = then_seek spared zone (seek_slot unused spared zone) (seek_block new spared)
 
 -- The search for the growth of a nonrelocatable or locked block: into the free block above it, else into the run above
 -- it, in which as few blocks as serve are purged.

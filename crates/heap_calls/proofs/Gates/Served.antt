@@ -5,7 +5,8 @@ use Rattle.block_store.specs.Block.{Block}
 use Rattle.std.proofs.Common.{List}
 use Rattle.heap_calls.specs.State.{State, Memory}
 use Rattle.heap_calls.specs.Answer.{noting, silent}
-use Rattle.heap_calls.specs.Asked.{Asked, telling, seeking, packing}
+use Rattle.heap_calls.specs.Asked.{Asked, telling, seeking}
+use Rattle.heap_calls.specs.Rows.{doing}
 use Rattle.heap_calls.specs.Busy.{unless, unless_silent}
 use Rattle.heap_calls.specs.Table.{Row, row, bar_of, barred_by, notes_code, answer_of, serve, gated_row, gate, gated, served}
 use Rattle.heap_calls.specs.Table as table
@@ -38,11 +39,10 @@ served-row (table.Plain {T = T} bar tell call) m =
     by_unless {T = T} tell (table.Plain {T = T} bar tell call) (noting call) m (barred_by bar m) refl refl
 served-row (table.Quiet {T = T} bar tell call) m =
     by_silent {T = T} tell (table.Quiet {T = T} bar tell call) (silent call) m (barred_by bar m) refl refl
+served-row (table.Does {T = T} bar tell does) m =
+    by_unless {T = T} tell (table.Does {T = T} bar tell does) (doing does) m (barred_by bar m) refl refl
 served-row (table.Seeks {T = T} bar tell searches gone call) m =
     by_unless {T = T} tell (table.Seeks {T = T} bar tell searches gone call) (seeking searches call) m (barred_by bar m) refl refl
-served-row (table.Packs {T = T} bar tell moves searches gone call) m =
-    by_unless {T = T} tell (table.Packs {T = T} bar tell moves searches gone call) (packing moves searches call) m
-    (barred_by bar m) refl refl
 served-row (table.Compacts moves searches call) m = refl
 served-row table.PurgesAll m = refl
 served-row table.LastCode m = refl

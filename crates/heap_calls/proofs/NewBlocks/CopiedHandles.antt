@@ -20,14 +20,15 @@ use Rattle.heap_calls.specs.declared.anchor.Anchor.{Anchor}
 use Rattle.heap_calls.specs.declared.anchor.Anchor.TheVariants.{Handle}
 use Rattle.heap_calls.specs.Answer.{refused, for_found, given, look_up, silent, searching, moving}
 use Rattle.heap_calls.specs.State as names
-use Rattle.heap_calls.specs.Slots.{slotted, if_ready, new_block}
-use Rattle.heap_calls.specs.Copying.{hand_to_hand}
+use Rattle.heap_calls.specs.Slots.{slotted, if_ready}
+use Rattle.heap_calls.proofs.Tables.Replies.{new_block, hand_to_hand}
+use Rattle.heap_calls.proofs.Tables.Moves.{hand_to_hand_moves}
+use Rattle.heap_calls.proofs.Tables.Searches.{found_searches, hand_to_hand_searches}
 use Rattle.heap_calls.specs.Inner.Copied.{IsCopied}
 use Rattle.heap_calls.specs.Inner.Search.{placement_searches}
-use Rattle.heap_calls.specs.Moves.{hand_to_hand_moves, block_moves}
+use Rattle.heap_calls.specs.Moves.{block_moves}
 use Rattle.heap_calls.specs.Inner.Packed.{placement_moves, content_moves, new_moves}
-use Rattle.heap_calls.specs.Searches.{slot_searches, ready_searches, block_searches, found_searches}
-use Rattle.heap_calls.specs.Searches.{hand_to_hand_searches}
+use Rattle.heap_calls.specs.Searches.{slot_searches, ready_searches, block_searches}
 use Rattle.heap_calls.specs.Inner.NewSlot.{zone_slotted, zone_searches}
 use Rattle.heap_calls.specs.Inner.NewBlock.{IsNewBlock, HasNoRoom, new_searches, ready_count, place_searches}
 use Rattle.heap_calls.specs.Inner.Numbered.{state_of, memory_of, name_of, handle_number, pointer_number, no_number}

@@ -11,11 +11,9 @@ use Rattle.heap_calls.specs.declared.anchor.Anchor.{Anchor}
 use Rattle.heap_calls.specs.declared.log.Log.{Log}
 use Rattle.heap_calls.specs.State.{State, Memory}
 use Rattle.heap_calls.specs.Answer.{Answer, silent, searching, moving}
-use Rattle.heap_calls.specs.Pointers.{add_masters, reserve_mem}
-use Rattle.heap_calls.specs.Slots.{new_handle, new_empty_handle}
-use Rattle.heap_calls.specs.Copying.{hand_to_hand}
-use Rattle.heap_calls.specs.Moves.{hand_to_hand_moves}
-use Rattle.heap_calls.specs.Searches.{hand_to_hand_searches}
+use Rattle.heap_calls.proofs.Tables.Replies.{add_masters, reserve_mem, new_handle, new_empty_handle, hand_to_hand}
+use Rattle.heap_calls.proofs.Tables.Moves.{hand_to_hand_moves}
+use Rattle.heap_calls.proofs.Tables.Searches.{hand_to_hand_searches}
 use Rattle.heap_calls.specs.Inner.Copied.{IsCopy}
 use Rattle.heap_calls.specs.declared.anchor.Found.{Found}
 use Rattle.heap_calls.specs.declared.anchor.Anchor.TheVariants.{Handle}

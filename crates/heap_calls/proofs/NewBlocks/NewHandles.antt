@@ -29,7 +29,7 @@ use Rattle.heap_calls.specs.declared.anchor.Anchor.TheVariants.{Handle}
 use Rattle.heap_calls.specs.State.{State, Memory, Plain, used_slots, all_slots, uses_slot}
 use Rattle.heap_calls.specs.State as names
 use Rattle.heap_calls.specs.Answer.{Answer, nothing, given, refused, silent, searching}
-use Rattle.heap_calls.specs.Slots.{more_masters, slotted, if_ready, new_block, new_handle}
+use Rattle.heap_calls.specs.Slots.{more_masters, slotted, if_ready}
 use Rattle.heap_calls.specs.Inner.Search.{tries, placement_searches}
 use Rattle.heap_calls.specs.Searches.{room_searches, slot_searches, ready_searches, block_searches, new_handle_searches}
 use Rattle.heap_calls.specs.Inner.Base.{base_searches}
@@ -41,6 +41,7 @@ use Rattle.heap_calls.proofs.NewBlocks.NewSlots.{tries-map, searches-base}
 use Rattle.heap_calls.proofs.Numbering.Changing.{names-same, masters-rename, silent-done, es', agrees-now, block-given}
 use Rattle.heap_calls.proofs.Numbering.Changing.{agrees-kept}
 use Rattle.heap_calls.proofs.Numbering.Looking.{count_of-rename, room_searches-rename}
+use Rattle.heap_calls.proofs.Tables.Replies.{new_block, new_handle}
 
 -- A store's new slots and blocks, seen as the heap's.
 

@@ -26,8 +26,8 @@ use Rattle.heap_calls.specs.State as names
 use Rattle.heap_calls.specs.Answer.{nothing, given, refused}
 use Rattle.heap_calls.specs.Inner.Base.{IsBaseAt, base, base_searches}
 use Rattle.heap_calls.specs.Inner.NewPointer.{fresh_nonrelocatable, nonrelocatable_searches, IsNonrelocatablePut}
-use Rattle.heap_calls.specs.Pointers.{new_pointer}
-use Rattle.heap_calls.specs.Searches.{new_pointer_searches}
+use Rattle.heap_calls.proofs.Tables.Replies.{new_pointer}
+use Rattle.heap_calls.proofs.Tables.Searches.{new_pointer_searches}
 use Rattle.heap_calls.specs.declared.anchor.Anchor.{Anchor}
 use Rattle.heap_calls.specs.declared.anchor.Anchor.TheVariants.{Handle, Pointer}
 use Rattle.heap_calls.specs.Inner.Numbered.{state_of, name_of, handle_number, pointer_number, leads_to, points_to}

@@ -27,10 +27,10 @@ use Rattle.heap_calls.specs.State.{State, Memory}
 use Rattle.heap_calls.specs.Answer.{nothing, for_found, rebuilt, silent}
 use Rattle.heap_calls.specs.Inner.NewBlock.{fresh_block}
 use Rattle.heap_calls.specs.Inner.Search.{placement, placement_searches, IsAt}
-use Rattle.heap_calls.specs.Searches.{room_searches, found_searches, reallocate_handle_searches}
-use Rattle.heap_calls.specs.Moves.{place_moves, put_moves, reallocate_handle_moves}
+use Rattle.heap_calls.specs.Searches.{room_searches}
+use Rattle.heap_calls.specs.Moves.{place_moves, put_moves}
 use Rattle.heap_calls.specs.Inner.Packed.{placement_moves}
-use Rattle.heap_calls.specs.Purging.{reallocated, reallocate_handle}
+use Rattle.heap_calls.specs.Purging.{reallocated}
 use Rattle.heap_calls.specs.Inner.Loose.{loose_at, renewed, renewed_searches, IsRenewal, renewed_moves}
 use Rattle.heap_calls.specs.Inner.Numbered.{state_of, memory_of, handle_number, pointer_number, no_number}
 use Rattle.heap_calls.proofs.Numbering.Numbers.{Apart, is_relocatable-number, handle_number-at}
@@ -42,6 +42,9 @@ use Rattle.heap_calls.proofs.Numbering.Loosening.{reallocate_searches-loose, rea
 use Rattle.heap_calls.proofs.Numbering.Looking.{tries-same, room_searches-rename}
 use Rattle.heap_calls.proofs.Numbering.MoveNames.{put_moves-rename}
 use Rattle.heap_calls.specs.Inner.Reaching.{sized_reply}
+use Rattle.heap_calls.proofs.Tables.Searches.{found_searches, reallocate_handle_searches}
+use Rattle.heap_calls.proofs.Tables.Moves.{reallocate_handle_moves}
+use Rattle.heap_calls.proofs.Tables.Replies.{reallocate_handle}
 
 -- A new block for a handle, for which its old one counts as Free.
 

@@ -12,9 +12,10 @@ use Rattle.heap_calls.specs.State.{State, Memory, Plain}
 use Rattle.heap_calls.specs.State as names
 use Rattle.heap_calls.specs.declared.anchor.Anchor.{Anchor}
 use Rattle.heap_calls.specs.Answer.{Answer, nothing, given, refused, rebuilt, silent, searching}
-use Rattle.heap_calls.specs.Slots.{if_ready, new_empty_handle}
-use Rattle.heap_calls.specs.Pointers.{add_masters, reserve_mem}
-use Rattle.heap_calls.specs.Searches.{new_empty_handle_searches, more_masters_searches, reserve_searches}
+use Rattle.heap_calls.specs.Slots.{if_ready}
+use Rattle.heap_calls.proofs.Tables.Replies.{new_empty_handle, add_masters, reserve_mem}
+use Rattle.heap_calls.proofs.Tables.Searches.{more_masters_searches, reserve_searches}
+use Rattle.heap_calls.specs.Searches.{new_empty_handle_searches}
 use Rattle.heap_calls.specs.Inner.Base.{base, base_searches, IsBaseAt}
 use Rattle.heap_calls.specs.Inner.NewSlot.{zone_slotted, zone_searches, IsTaken, TakesSlot, IsMade}
 use Rattle.heap_calls.specs.Inner.Numbered.{state_of, handle_number, pointer_number, KeepsNonrelocatable, Agrees}

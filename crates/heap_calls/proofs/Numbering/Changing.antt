@@ -38,7 +38,7 @@ use Rattle.heap_calls.proofs.Numbering.Memories.{counted_as}
 use Rattle.heap_calls.specs.Inner.Numbered.{leads_to, points_to, no_number, role_of, KeepsNonrelocatable, Agrees}
 use Rattle.heap_calls.proofs.Numbering.Answering.{content_of-rename, with_content-rename, held}
 use Rattle.heap_calls.proofs.Room.Staying.{nonrelocatable-released, nonrelocatable-filled}
-use Rattle.heap_calls.specs.Slots.{new_block}
+use Rattle.heap_calls.proofs.Tables.Replies.{new_block}
 use Rattle.heap_calls.proofs.Numbering.Numbers.{is_relocatable-number, leads_to-same, leads_to-is, flipped}
 
 -- an entry that doesn't pass changes no number

@@ -20,10 +20,11 @@ use Rattle.heap_calls.specs.Answer.{Answer, Known, Held, handle_at, known_as, he
 use Rattle.heap_calls.specs.Answer.{rebuilt, silent, searching}
 use Rattle.heap_calls.specs.Inner.Given.{seen_flags}
 use Rattle.heap_calls.specs.Purging.{bit, is_resource, block_bits, h_get_state, is_loose, emptied_at, empty_handle}
-use Rattle.heap_calls.specs.Purging.{reallocated, reallocate_handle}
+use Rattle.heap_calls.specs.Purging.{reallocated}
 use Rattle.heap_calls.specs.Inside.{is_owned}
-use Rattle.heap_calls.specs.Searches.{found_searches, reallocate_handle_searches}
-use Rattle.heap_calls.specs.Moves.{reallocate_handle_moves}
+use Rattle.heap_calls.proofs.Tables.Replies.{reallocate_handle}
+use Rattle.heap_calls.proofs.Tables.Searches.{found_searches, reallocate_handle_searches}
+use Rattle.heap_calls.proofs.Tables.Moves.{reallocate_handle_moves}
 use Rattle.heap_calls.specs.Inner.Loose.{FindsLoose, bits_of, loose, loose_at, renewed, renewed_searches, renewed_moves}
 use Rattle.heap_calls.specs.Inner.Numbered.{state_of, memory_of, name_of, role_of, handle_number, pointer_number}
 use Rattle.heap_calls.specs.Inner.Numbered.{no_number}

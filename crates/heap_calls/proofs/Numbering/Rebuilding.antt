@@ -8,20 +8,23 @@ use Rattle.block_store.specs.Block.{Block, rename, is_relocatable}
 use Rattle.block_store.specs.Slot.{Slot}
 use Rattle.block_store.specs.Grow.{grow}
 use Rattle.heap_calls.specs.Inner.Growing.{fitted}
-use Rattle.heap_calls.specs.Moves.{set_handle_size_moves, size_moves}
-use Rattle.heap_calls.specs.Searches.{set_handle_size_searches, found_searches, size_searches}
+use Rattle.heap_calls.specs.Moves.{size_moves}
+use Rattle.heap_calls.specs.Searches.{size_searches}
 use Rattle.heap_calls.specs.declared.reaching.Reached.{Reached}
 use Rattle.block_store.specs.Rest.{Rest, counted, IsRest}
 use Rattle.block_store.proofs.Plain.Counters.{counted-none}
 use Rattle.heap_calls.specs.declared.log.Log.{Log}
 use Rattle.heap_calls.specs.declared.anchor.Anchor.{Anchor}
 use Rattle.heap_calls.specs.State.{State, Memory}
-use Rattle.heap_calls.specs.Answer.{Answer, Held, look_up, for_found, refused, set_handle_size, rebuilt, silent}
+use Rattle.heap_calls.specs.Answer.{Answer, Held, look_up, for_found, refused, rebuilt, silent}
 use Rattle.heap_calls.specs.Answer.{searching}
 use Rattle.heap_calls.specs.Inner.Reaching.{Reaches, sized_reply}
 use Rattle.heap_calls.specs.Inner.GrowingInPlace.{made_zone}
 use Rattle.heap_calls.specs.Inner.Numbered.{state_of, memory_of, handle_number, pointer_number}
 use Rattle.heap_calls.proofs.Numbering.Changing.{memory-same}
+use Rattle.heap_calls.proofs.Tables.Moves.{set_handle_size_moves}
+use Rattle.heap_calls.proofs.Tables.Searches.{set_handle_size_searches, found_searches}
+use Rattle.heap_calls.proofs.Tables.Replies.{set_handle_size}
 
 -- A call that leaves another zone, or finds no room for it, and searches for room.
 

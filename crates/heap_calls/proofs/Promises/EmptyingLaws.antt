@@ -1,24 +1,23 @@
 use Rattle.std.proofs.Common.{◌≡◌, ℕ, ◌+◌, ◌/◌, ◌%◌, ◌≤◌, Bool, true, false, not, ◌&&◌, ◌||◌, ◌==◌, List, [], ◌∷◌, ◌++◌}
 use Rattle.std.proofs.Common.{length, slice_set, refl, sym, ◌∙◌, ap, subst, cond, arith, Option, Some, None, Result, Ok}
-use Rattle.std.proofs.Common.{Err, replicate, nat_le, nat_lt}
+use Rattle.std.proofs.Common.{Err, replicate, nat_le, nat_lt, append-nil}
 use Rattle.std.proofs.lemmas.Bool.{cond-false}
 use Rattle.std.proofs.lemmas.Bool.Decides.{Decides-eqb}
 use Rattle.std.proofs.lemmas.Option.{same_Some}
-use Rattle.std.specs.Option.{option_map}
 use Rattle.std.specs.Prelude.{is_some, if◌then◌else◌}
 use Rattle.mac_words.specs.Size.{phys}
 use Rattle.mac_words.specs.declared.code.OsErr.{OsErr}
-use Rattle.mac_words.specs.declared.code.TheConstants.OsErr.{MEM_FULL, LOCKED, PROFILE, PURGED}
+use Rattle.mac_words.specs.declared.code.TheConstants.OsErr.{LOCKED, PROFILE, PURGED}
 use Rattle.block_store.specs.declared.flags.Flags.{Flags}
-use Rattle.block_store.specs.Block.{Block, Free, Nonrelocatable, Masters, Relocatable, sizes, total, count, is_mover}
+use Rattle.block_store.specs.Block.{Block, Free, Nonrelocatable, Masters, Relocatable, total, count, is_mover}
 use Rattle.block_store.specs.Block.{is_purgeable, is_masters, is_relocatable, is_nonrelocatable, content_of, with_content}
-use Rattle.block_store.specs.Block.{no_flags, tidy, resized, size}
+use Rattle.block_store.specs.Block.{no_flags, tidy, resized}
 use Rattle.windows.specs.Writes.{written}
 use Rattle.block_store.specs.Run.{has, runs}
-use Rattle.block_store.specs.Room.{Spot, spot, filled, place, purge, put_in_place, put_at_base, room}
-use Rattle.block_store.specs.Grow.{freed, grow}
+use Rattle.block_store.specs.Room.{Spot, spot, put_at_base, room}
+use Rattle.block_store.specs.Grow.{freed}
 use Rattle.block_store.specs.Compact.{runs_settled}
-use Rattle.block_store.proofs.Zone.Tidy.{spot-is, spot-passes}
+use Rattle.block_store.proofs.Zone.Tidy.{spot-is}
 use Rattle.block_store.proofs.Zone.Totals.{total-append, total-le}
 use Rattle.block_store.proofs.Zone.Leading.{count-none}
 use Rattle.block_store.proofs.Zone.Passing.{has-count}
@@ -27,25 +26,34 @@ use Rattle.heap_calls.specs.State as names
 use Rattle.heap_calls.specs.Answer.{Answer, Held, nothing, given, refused, disposed_of, rebuilt, flagged, change_flags}
 use Rattle.heap_calls.specs.Answer.{hoisted, move_h_hi, look_up, handle_at, for_found, written_at, on_block}
 use Rattle.heap_calls.specs.Answer as calls
-use Rattle.heap_calls.specs.Slots.{slotted, if_ready, new_block, more_masters}
-use Rattle.heap_calls.specs.Pointers.{pointed_at, block_named, reserved, reserve_mem}
+use Rattle.heap_calls.specs.Slots.{slotted, more_masters}
+use Rattle.heap_calls.specs.Pointers.{pointed_at}
 use Rattle.heap_calls.specs.Purging.{is_resource, block_bits, emptied_at, is_loose, reallocated, blocks_purged}
 use Rattle.heap_calls.specs.Purging.{purgeable}
 use Rattle.heap_calls.specs.Purging as purging
-use Rattle.heap_calls.specs.Copying.{append, appended, written_in}
 use Rattle.heap_calls.specs.Asked.{Asked}
 use Rattle.heap_calls.specs.Table.{answered, row, may_purge}
+use Rattle.heap_calls.proofs.Rows.Kinds.{by-kind}
+use Rattle.moves.proofs.Conserved.{Weighs}
+use Rattle.heap_calls.proofs.Rows.Along.{row-along}
+use Rattle.heap_calls.proofs.Rows.Weighing.{Renews, allows-weighs, none-lost}
 use Rattle.heap_calls.specs.Asked as asked
 use Rattle.heap_calls.specs.Locked.{OneBlockEach}
 use Rattle.heap_calls.specs.Emptying.{has_purgeable, PurgesOnlyPurgeable}
-use Rattle.block_store.proofs.Zone.Views.{map-some, room-some}
-use Rattle.block_store.proofs.Zone.Keeping.{unless, tidied, freed-is, filled-is}
+use Rattle.block_store.proofs.Zone.Views.{map-some}
+use Rattle.block_store.proofs.Zone.Keeping.{unless, tidied, freed-is}
 use Rattle.heap_calls.proofs.Promises.Knowing.{look_up-spot, pointed_at-spot}
-use Rattle.heap_calls.proofs.Promises.LastPutLaws.{found-same, handle_at-name}
+use Rattle.moves.specs.Moves.{Move, Put, Drop, Did, did}
+use Rattle.moves.specs.Seeking.{Sought, no_room, seek, around}
+use Rattle.moves.proofs.Refused.{Refuses, seek-refused}
+use Rattle.moves.proofs.Rows.{put-there}
+use Rattle.heap_calls.specs.Rows as rows
+use Rattle.heap_calls.specs.Rows.{heap_after}
+use Rattle.heap_calls.proofs.Promises.Knowing.{handle_at-name}
+use Rattle.heap_calls.proofs.Rows.Reads.{quiet-same}
 use Rattle.heap_calls.proofs.Promises.AlikeCalls.{flagged-number}
 use Rattle.heap_calls.proofs.Promises.KnownChanges.{hoisted-all}
-use Rattle.block_store.proofs.Zone.Surviving.{settled-all, purged-all, made-all, base-all}
-use Rattle.block_store.proofs.Zone.Surviving.{grown-all}
+use Rattle.block_store.proofs.Zone.Surviving.{settled-all, purged-all, base-all}
 
 -- Each block that may not be purged is there after each call that doesn't let it go.
 
@@ -98,6 +106,11 @@ flags-rise of change rises (Some k) s = by_spot (look_up (Some k) s) (λ held is
     by_spot (Err code) found = omega arith
     by_spot (Ok held) found = swapped-rises of (is_relocatable k) s.zone held.at (flagged change held.at.here)
         (found held refl) (rises held.at.here)
+
+pub renews : (of : Block → ℕ) (a : Asked) → Spares of a → Renews of a
+renews of (asked.ReallocateHandle None n) spares = tt
+renews of (asked.ReallocateHandle (Some k) n) spares = spares
+renews of a spares = tt
 
 -- a call that may purge blocks for room
 abbrev pub purges : Asked → Bool
@@ -172,10 +185,6 @@ module _ (of : Block → ℕ) (none : (n : ℕ) → of (Free n) ≡ 0) (filled :
         by_role Plain = of-gone (is_relocatable k) spares m.heap.zone
         by_role Resource = omega arith
         by_role SystemResource = omega arith
-    of-quiet (asked.GetHandleSize handle) m quiet spares =
-        unmoved m.heap (answered (asked.GetHandleSize handle) m).1.heap
-        (found-same (look_up handle m.heap) m.heap (λ held. (Ok (length (content_of held.at.here)), m.heap))
-        (λ held. refl))
     of-quiet (asked.EmptyHandle None) m quiet spares = omega arith
     of-quiet (asked.EmptyHandle (Some h)) m quiet spares =
         of-found (handle_at (Some h) m.heap) m.heap (λ k. emptied_at k.number
@@ -206,12 +215,6 @@ module _ (of : Block → ℕ) (none : (n : ℕ) → of (Free n) ≡ 0) (filled :
         m.heap
     of-quiet (asked.HNoPurge handle) m quiet spares = flags-rise of (λ f. record f { purgeable = false }) spares
         handle m.heap
-    of-quiet (asked.HGetState handle) m quiet spares =
-        unmoved m.heap (answered (asked.HGetState handle) m).1.heap
-        (found-same (handle_at handle m.heap) m.heap (λ k. on_block handle m.heap
-        (λ held. (Ok (block_bits held.at.here + cond (is_resource k.role) 32 0), m.heap)))
-        (λ k. found-same (look_up handle m.heap) m.heap (λ held.
-        (Ok (block_bits held.at.here + cond (is_resource k.role) 32 0), m.heap)) (λ held. refl)))
     of-quiet (asked.HSetState handle byte) m quiet spares = flags-rise of
         (λ f. record { locked = byte / 128 % 2 == 1; purgeable = byte / 64 % 2 == 1 }) spares handle m.heap
     of-quiet (asked.MoveHHi handle) m quiet spares = of-moved handle m.heap
@@ -236,44 +239,21 @@ module _ (of : Block → ℕ) (none : (n : ℕ) → of (Free n) ≡ 0) (filled :
         ))
         (λ held is. subst (λ (j : ℕ). total of m.heap.zone ≤ total of (tidy (freed (is_nonrelocatable j) m.heap.zone)))
         (sym (pointed_at-spot p m.heap held is).1) (of-gone (is_nonrelocatable p) spares m.heap.zone))
-    of-quiet (asked.GetPtrSize pointer) m quiet spares =
-        unmoved m.heap (answered (asked.GetPtrSize pointer) m).1.heap
-        (found-same (pointed_at pointer m.heap) m.heap (λ held. (Ok (length (content_of held.at.here)), m.heap))
-        (λ held. refl))
-    of-quiet asked.FreeMem m quiet spares = omega arith
-    of-quiet asked.MaxBlock m quiet spares = omega arith
-    of-quiet asked.PurgeSpace m quiet spares = omega arith
     of-quiet (asked.CompactMem n) m quiet spares = settled-all of none (runs_settled (phys n) m.heap.zone) m.heap.zone
-    of-quiet asked.MemError m quiet spares = omega arith
     of-quiet (asked.Put None i x) m quiet spares = omega arith
     of-quiet (asked.Put (Some k) i x) m quiet spares =
         of-found (look_up (Some k) m.heap) m.heap (λ held. written_at i x held.at m.heap)
         (λ held is. of-put_at (is_relocatable k) i x m.heap held.at (look_up-spot k m.heap held is).0)
-    of-quiet (asked.Show handle) m quiet spares =
-        unmoved m.heap (answered (asked.Show handle) m).1.heap (found-same (look_up handle m.heap) m.heap
-        (λ held. (Ok (content_of held.at.here), m.heap)) (λ held. refl))
     of-quiet (asked.PutPtr None i x) m quiet spares = omega arith
     of-quiet (asked.PutPtr (Some p) i x) m quiet spares =
         of-found (pointed_at (Some p) m.heap) m.heap (λ held. written_at i x held.at m.heap)
         (λ held is. of-put_at (is_nonrelocatable p) i x m.heap held.at (pointed_at-spot p m.heap held is).0)
-    of-quiet (asked.ShowPtr pointer) m quiet spares =
-        unmoved m.heap (answered (asked.ShowPtr pointer) m).1.heap
-        (found-same (pointed_at pointer m.heap) m.heap (λ held. (Ok (content_of held.at.here), m.heap))
-        (λ held. refl))
-    of-quiet (asked.Where name) m quiet spares =
-        unmoved m.heap (answered (asked.Where name) m).1.heap (found-same (block_named name m.heap) m.heap
-        (λ held. (Ok (sizes held.at.below + 16), m.heap)) (λ held. refl))
-    of-quiet a m quiet spares = let f : true ≡ false = quiet in cc
+    of-quiet a m quiet spares = unmoved m.heap (answered a m).1.heap (quiet-same a refl quiet m)
 
 module _ (of : Block → ℕ) (none : (n : ℕ) → of (Free n) ≡ 0) (goes : (b : Block) → is_purgeable b ≡ true → of b ≡ 0)
     (sized : (n : ℕ) (b : Block) → of b ≡ of (resized n b)) (filled : (x : List ℕ) (b : Block)
     → of b ≡ of (with_content x b))
   where
-    of-rebuilt : (s : State) (o : Option (List Block)) → ((zone : List Block) → o ≡ Some zone
-        → total of s.zone ≤ total of zone) → total of s.zone ≤ total of (rebuilt o s).1.zone
-    of-rebuilt s None made = omega arith
-    of-rebuilt s (Some zone) made = made zone refl
-
     pub of-slotted : (sp : Block → Bool) (s r : State) → slotted sp s ≡ Some r → total of s.zone ≤ total of r.zone
     of-slotted sp s r e = by_slots (nat_lt (used_slots s) (all_slots s)) e
       where
@@ -285,174 +265,22 @@ module _ (of : Block → ℕ) (none : (n : ℕ) → of (Free n) ≡ 0) (goes : (
             (λ zone made is. let l = base-all of none goes Masters sp s.zone zone made in
             let z : total of zone ≡ total of r.zone = ap (λ (x : State). total of x.zone) is in omega arith)
 
-    of-made : (sp : Block → Bool) (x : List ℕ) (s : State) → total of s.zone ≤ total of (new_block sp x s).1.zone
-    of-made sp x s = by_room (room (put_in_place (Relocatable (length s.names) no_flags x)) sp s.zone) refl
-      where
-        by_room : (o : Option (List Block)) → room (put_in_place (Relocatable (length s.names) no_flags x)) sp s.zone
-            ≡ o → total of s.zone ≤ total of (given (names.Handle Plain) o s).1.zone
-        by_room None e = omega arith
-        by_room (Some zone) e = made-all of none goes (Relocatable (length s.names) no_flags x) sp s.zone zone e
-
-    of-ready : {T : Type 0} (sp : Block → Bool) (s : State) (answer : State → Answer T)
-        → ((r : State) → total of r.zone ≤ total of (answer r).1.zone)
-        → total of s.zone ≤ total of (if_ready (slotted sp s) s answer).1.zone
-    of-ready sp s answer next = by_ready (slotted sp s) (of-slotted sp s)
-      where
-        by_ready : (o : Option State) → ((r : State) → o ≡ Some r → total of s.zone ≤ total of r.zone)
-            → total of s.zone ≤ total of (if_ready o s answer).1.zone
-        by_ready None ready = omega arith
-        by_ready (Some r) ready = let a = ready r refl in let b = next r in omega arith
-
-    of-sized : (k : ℕ) (sp : Block → Bool) (n : ℕ) (zone z : List Block) → OneBlockEach zone
-        → grow (is_relocatable k) sp n zone ≡ Some z → total of zone ≤ total of z
-    of-sized k sp n zone z once = grown-all of none goes sized (is_relocatable k) sp n zone z (λ s found mover. once k)
-
-    of-appended : (sp : Block → Bool) (k len : ℕ) (x : List ℕ) (s : State) → OneBlockEach s.zone
-        → total of s.zone ≤ total of (append sp k len x s).1.zone
-    of-appended sp k len x s once = by_size (is_some (phys (len + length x)))
-      where
-        grew : Option (List Block)
-        grew = grow (is_relocatable k) sp (len + length x) s.zone
-
-        by_spot : (zone : List Block) (o : Option Spot) → spot (is_relocatable k) zone ≡ o
-            → total of zone ≤ total of (written_in k len x zone o)
-        by_spot zone None found = omega arith
-        by_spot zone (Some at) found =
-            swapped-rises of (is_relocatable k) zone at (with_content (written len x (content_of at.here)) at.here)
-            found (let f = filled (written len x (content_of at.here)) at.here in omega arith)
-
-        by_zone : (o : Option (List Block)) → grew ≡ o → total of s.zone ≤ total of (appended sp k len x o s).1.zone
-        by_zone None e = omega arith
-        by_zone (Some zone) e = let a = of-sized k sp (len + length x) s.zone zone once e in
-            let b = by_spot zone (spot (is_relocatable k) zone) refl in omega arith
-
-        by_size : (t : Bool) → total of s.zone ≤ total of (cond t (appended sp k len x grew s)
-            (refused MEM_FULL s)).1.zone
-        by_size true = by_zone grew refl
-        by_size false = omega arith
-
     -- each call
     pub of-answered : (a : Asked) (m : Memory) → OneBlockEach m.heap.zone → Spares of a
         → total of m.heap.zone ≤ total of (answered a m).1.heap.zone
-    of-answered (asked.NewHandle n) m once spares =
-        of-ready nothing m.heap (λ ready. if is_some (phys n) then new_block nothing (replicate n 0) ready
-        else refused MEM_FULL ready) (λ r. by_size r (is_some (phys n)))
-      where
-        by_size : (r : State) (t : Bool) → total of r.zone ≤ total of
-            (cond t (new_block nothing (replicate n 0) r) (refused MEM_FULL r)).1.zone
-        by_size r true = of-made nothing (replicate n 0) r
-        by_size r false = omega arith
-    of-answered asked.NewEmptyHandle m once spares = of-ready nothing m.heap
-        (λ ready. given (names.Handle Plain) (Some ready.zone) ready) (λ r. omega arith)
-    of-answered (asked.SetHandleSize handle n) m once spares =
-        of-found of none filled (look_up handle m.heap) m.heap (λ held. if is_some (phys n)
-        then rebuilt (grow (is_relocatable held.number) (is_relocatable held.number) n m.heap.zone) m.heap
-        else refused MEM_FULL m.heap)
-        (λ held is. by_size held.number (is_some (phys n)))
-      where
-        by_size : (j : ℕ) (t : Bool) → total of m.heap.zone ≤ total of
-            (cond t (rebuilt (grow (is_relocatable j) (is_relocatable j) n m.heap.zone) m.heap)
-            (refused MEM_FULL m.heap)).1.zone
-        by_size j true = of-rebuilt m.heap (grow (is_relocatable j) (is_relocatable j) n m.heap.zone)
-            (λ zone e. of-sized j (is_relocatable j) n m.heap.zone zone once e)
-        by_size j false = omega arith
-    of-answered (asked.ReallocateHandle None n) m once spares = omega arith
-    of-answered (asked.ReallocateHandle (Some h) n) m once spares =
-        of-found of none filled (handle_at (Some h) m.heap) m.heap (λ k. answer k.number)
-        (λ k is. subst (λ (j : ℕ). total of zone ≤ total of (answer j).1.zone) (sym (handle_at-name h m.heap k is).1)
-        (by_tests (is_loose (spot (is_relocatable h) zone)) (is_some (phys n))))
-      where
-        zone : List Block
-        zone = m.heap.zone
-
-        answer : ℕ → Answer (Unit {0})
-        answer j = if is_loose (spot (is_relocatable j) zone) then
-            (if is_some (phys n) then rebuilt (reallocated j n zone) m.heap else refused MEM_FULL m.heap)
-            else refused PURGED m.heap
-
-        by_tests : (t u : Bool) → total of zone ≤ total of (cond t
-            (cond u (rebuilt (reallocated h n zone) m.heap) (refused MEM_FULL m.heap)) (refused PURGED m.heap)).1.zone
-        by_tests true true =
-            of-rebuilt m.heap (reallocated h n zone)
-            (λ z made. let l = made-all of none goes (Relocatable h no_flags (replicate n 0)) nothing
-            (freed (is_relocatable h) zone) z made in let f = of-freed of none filled (is_relocatable h) spares zone in
-            omega arith)
-        by_tests true false = omega arith
-        by_tests false u = omega arith
-    of-answered (asked.HandToHand handle) m once spares =
-        of-found of none filled (look_up handle m.heap) m.heap (λ held. if_ready (slotted (is_relocatable held.number) m.heap) m.heap
-        (new_block (is_relocatable held.number) (content_of held.at.here)))
-        (λ held is. of-ready (is_relocatable held.number) m.heap
-        (new_block (is_relocatable held.number) (content_of held.at.here))
-        (of-made (is_relocatable held.number) (content_of held.at.here)))
-    of-answered (asked.HandAndHand from to) m once spares =
-        of-found of none filled (look_up from m.heap) m.heap (λ a. for_found (look_up to m.heap) m.heap (answer a))
-        (λ a is. of-found of none filled (look_up to m.heap) m.heap (answer a)
-        (λ b is. of-appended (λ block. is_relocatable a.number block || is_relocatable b.number block) b.number
-        (length (content_of b.at.here)) (content_of a.at.here) m.heap once))
-      where
-        answer : Held → Held → Answer (Unit {0})
-        answer a b = append (λ block. is_relocatable a.number block || is_relocatable b.number block) b.number
-            (length (content_of b.at.here)) (content_of a.at.here) m.heap
-    of-answered (asked.PtrAndHand handle x) m once spares =
-        of-found of none filled (look_up handle m.heap) m.heap (λ held. append (is_relocatable held.number) held.number
-        (length (content_of held.at.here)) x m.heap)
-        (λ held is. of-appended (is_relocatable held.number) held.number (length (content_of held.at.here)) x m.heap
-        once)
-    of-answered (asked.NewPtr n) m once spares = by_size (is_some (phys n))
-      where
-        made : Option (List Block)
-        made = room (put_at_base (Nonrelocatable (length m.heap.names) (replicate n 0))) nothing m.heap.zone
-
-        by_room : (o : Option (List Block)) → made ≡ o → total of m.heap.zone ≤ total of
-            (given names.Pointer o m.heap).1.zone
-        by_room None e = omega arith
-        by_room (Some z) e = base-all of none goes (Nonrelocatable (length m.heap.names) (replicate n 0)) nothing m.heap.zone z e
-
-        by_size : (t : Bool) → total of m.heap.zone ≤ total of (cond t (given names.Pointer made m.heap)
-            (refused MEM_FULL m.heap)).1.zone
-        by_size true = by_room made refl
-        by_size false = omega arith
-    of-answered (asked.SetPtrSize pointer n) m once spares =
-        of-found of none filled (pointed_at pointer m.heap) m.heap (λ held. if is_some (phys n)
-        then rebuilt (grow (is_nonrelocatable held.number) nothing n m.heap.zone) m.heap else refused MEM_FULL m.heap)
-        (λ held is. by_size held.number (is_some (phys n)))
-      where
-        still : (p : ℕ) (b : Block) (R : Type 0) → is_nonrelocatable p b ≡ true → is_mover b ≡ true → R
-        still p (Free k) R e mover = let f : false ≡ true = e in cc
-        still p (Nonrelocatable id content) R e mover = let f : false ≡ true = mover in cc
-        still p Masters R e mover = let f : false ≡ true = e in cc
-        still p (Relocatable id flags content) R e mover = let f : false ≡ true = e in cc
-
-        by_size : (j : ℕ) (t : Bool) → total of m.heap.zone ≤ total of
-            (cond t (rebuilt (grow (is_nonrelocatable j) nothing n m.heap.zone) m.heap) (refused MEM_FULL m.heap)).1.zone
-        by_size j true =
-            of-rebuilt m.heap (grow (is_nonrelocatable j) nothing n m.heap.zone)
-            (λ zone e. grown-all of none goes sized (is_nonrelocatable j) nothing n m.heap.zone zone
-            (λ s found mover. still j s.here (count (is_nonrelocatable j) m.heap.zone ≤ 1)
-            (spot-passes (is_nonrelocatable j) m.heap.zone s found) mover) e)
-        by_size j false = omega arith
-    of-answered (asked.PurgeMem n) m once spares = let p = purged-all of none goes (blocks_purged (phys n) m.heap.zone)
-        nothing m.heap.zone in omega arith
-    of-answered asked.MaxMem m once spares =
+    of-answered a m once spares = by-kind
+        (λ b. Spares of b → total of m.heap.zone ≤ total of (answered b m).1.heap.zone)
+        (λ b path own. none-lost of none goes (row b) m path
+        (row-along (λ sp. Weighs of) m.heap b
+        (allows-weighs of sized filled b m.heap (λ h within. once h) (renews of b own))))
+        (λ n own. let p = purged-all of none goes (blocks_purged (phys n) m.heap.zone) nothing m.heap.zone in
+        omega arith)
+        (λ own.
         let left : List Block = purging.purged_all m.heap.zone in
         let p = purged-all of none goes (purgeable m.heap.zone) nothing m.heap.zone in
         let q = settled-all of none (length (runs left)) left in
-        omega arith
-    of-answered (asked.ReserveMem n) m once spares = by_size (phys n) refl
-      where
-        by_size : (o : Option ℕ) → phys n ≡ o → total of m.heap.zone ≤ total of (reserve_mem n m.heap).1.zone
-        by_size None e = rw e (let z : total of m.heap.zone ≤ total of m.heap.zone = omega arith in z)
-        by_size (Some p) e = rw e (of-rebuilt m.heap (room (reserved p) nothing m.heap.zone)
-            (λ zone made. base-all of none goes (Free p) nothing m.heap.zone zone made))
-    of-answered asked.MoreMasters m once spares = by_room (room (put_at_base Masters) nothing m.heap.zone) refl
-      where
-        by_room : (o : Option (List Block)) → room (put_at_base Masters) nothing m.heap.zone ≡ o
-            → total of m.heap.zone ≤ total of (rebuilt (option_map (λ (ready : State). ready.zone)
-            (option_map (λ zone. record m.heap { zone = zone }) o)) m.heap).1.zone
-        by_room None e = omega arith
-        by_room (Some zone) e = base-all of none goes Masters nothing m.heap.zone zone e
-    of-answered a m once spares = of-quiet of none filled a m refl spares
+        omega arith)
+        (λ b quiet own. of-quiet of none filled b m quiet own) a spares
 
 -- 1 for a block of a handle that may not be purged
 abbrev pub stays : ℕ → Block → ℕ
@@ -577,48 +405,63 @@ unpurgeable-none f = cases f.locked
     cases true = refl
     cases false = refl
 
--- a block that was put in its place is there
-put-there : (of : Block → ℕ) → ((n : ℕ) → of (Free n) ≡ 0) → (new : Block) (sp : Block → Bool) (zone z : List Block)
-    → room (put_in_place new) sp zone ≡ Some z → of new ≤ total of z
-put-there of none new sp zone z e =
-    let r = room-some (put_in_place new) sp zone z e in
-    map-some (filled new) (place (size new) (purge r.0 sp zone)) z (of new ≤ total of z) r.1
-    (λ s found is. omega (arith, ap (total of) is, filled-is of none new s))
-
 -- a handle that had a block has one after ReallocateHandle
-pub renewed-there : (h k n : ℕ) (s : State) → (k == h) ≡ true → has (is_relocatable h) s.zone ≡ true
-    → has (is_relocatable h) (purging.reallocate_handle (Some k) n s).1.zone ≡ true
-renewed-there h k n s e before = by_found (handle_at (Some k) s) (λ found is. (handle_at-name k s found is).1)
+pub renewed-there : (h k n : ℕ) (m : Memory) → (k == h) ≡ true → has (is_relocatable h) m.heap.zone ≡ true
+    → has (is_relocatable h) (answered (asked.ReallocateHandle (Some k) n) m).1.heap.zone ≡ true
+renewed-there h k n m e before = by_found (handle_at (Some k) s) (λ found is. (handle_at-name k s found is).1)
   where
-    answer : ℕ → Answer (Unit {0})
-    answer j = if is_loose (spot (is_relocatable j) s.zone) then
-        (if is_some (phys n) then rebuilt (reallocated j n s.zone) s else refused MEM_FULL s) else refused PURGED s
+    s : State
+    s = m.heap
+
+    new : ℕ → Block
+    new j = Relocatable j no_flags (replicate n 0)
+
+    left : ℕ → List Block
+    left j = freed (is_relocatable j) s.zone
+
+    sought : ℕ → Bool → Sought
+    sought j t = if t then seek (Put (new j)) nothing (left j) else no_room
+
+    answer : ℕ → Bool → rows.Done (Unit {0})
+    answer j t = if t then rows.changed nothing (around (Drop j ∷ []) [] (sought j (is_some (phys n)))) s
+        else rows.refused PURGED s
 
     there : (z : List Block) → 1 ≤ count (is_relocatable h) z → (t : Bool) → has (is_relocatable h) z ≡ t → t ≡ true
     there z some true is = refl
     there z some false is = absurd (let none = count-none (is_relocatable h) z is in omega arith)
 
-    by_room : (j : ℕ) → (j == h) ≡ true → (o : Option (List Block)) → reallocated j n s.zone ≡ o
-        → has (is_relocatable h) (rebuilt o s).1.zone ≡ true
-    by_room j same None is = before
-    by_room j same (Some z) is =
-        let new : Block = Relocatable j no_flags (replicate n 0) in
-        let one : is_of h new ≡ 1 = ap {B = ℕ} (λ (t : Bool). cond t 1 0) same in
-        there z (let l = put-there (is_of h) (λ m. refl) new nothing (freed (is_relocatable j) s.zone) z is in
-        omega (arith, one)) (has (is_relocatable h) z) refl
+    by_path : (j : ℕ) (r : Sought) → Refuses nothing r
+        → (r.found ≡ true → 1 ≤ count (is_relocatable h) (did nothing r.path (left j)).zone) → (t : Bool) → r.found ≡ t
+        → has (is_relocatable h) (did nothing (cond t (Drop j ∷ r.path ++ []) r.path) s.zone).zone ≡ true
+    by_path j r only some true found =
+        let now = (did nothing (r.path ++ []) (left j)).zone in
+        there now (let p = some found in omega (
+          arith,
+          ap (λ (path : List Move). count (is_relocatable h)
+              (did nothing path (left j)).zone) (append-nil r.path),
+        )) (has (is_relocatable h) now) refl
+    by_path j r only some false none = ap (λ (d : Did). has (is_relocatable h) d.zone) ((only none).1 s.zone) ∙ before
 
-    by_tests : (j : ℕ) → (j == h) ≡ true → (t u : Bool) → has (is_relocatable h) (cond t
-        (cond u (rebuilt (reallocated j n s.zone) s) (refused MEM_FULL s)) (refused PURGED s)).1.zone ≡ true
-    by_tests j same true true = by_room j same (reallocated j n s.zone) refl
-    by_tests j same true false = before
-    by_tests j same false u = before
+    by_tests : (j : ℕ) → (j == h) ≡ true → (t : Bool) → has (is_relocatable h) (heap_after (answer j t) s).zone ≡ true
+    by_tests j same false = before
+    by_tests j same true = by_size (is_some (phys n))
+      where
+        one : is_of h (new j) ≡ 1
+        one = ap {B = ℕ} (λ (t : Bool). cond t 1 0) same
+
+        by_size : (t : Bool) → has (is_relocatable h)
+            (did nothing (around (Drop j ∷ []) [] (sought j t)).path s.zone).zone ≡ true
+        by_size true = by_path j (sought j true) (seek-refused nothing (Put (new j)) (left j))
+            (λ found. let p = put-there (is_of h) nothing (λ m. refl) (new j) (left j) found in omega (arith, one))
+            (sought j true).found refl
+        by_size false = before
 
     by_found : (r : Result calls.Known OsErr) → ((found : calls.Known) → r ≡ Ok found → found.number ≡ k)
-        → has (is_relocatable h) (for_found r s (λ found. answer found.number)).1.zone ≡ true
+        → has (is_relocatable h) (heap_after (rows.for_found r s (λ found. answer found.number
+        (is_loose (spot (is_relocatable found.number) s.zone)))) s).zone ≡ true
     by_found (Err code) named = before
-    by_found (Ok found) named =
-        by_tests found.number (ap (λ j. j == h) (named found refl) ∙ e)
-        (is_loose (spot (is_relocatable found.number) s.zone)) (is_some (phys n))
+    by_found (Ok found) named = by_tests found.number (ap (λ j. j == h) (named found refl) ∙ e)
+        (is_loose (spot (is_relocatable found.number) s.zone))
 
 -- no call empties a block that may not be purged, unless it lets it go
 pub only-purgeable-go : (a : Asked) (m : Memory) → OneBlockEach m.heap.zone → PurgesOnlyPurgeable a m
@@ -635,7 +478,7 @@ only-purgeable-go (asked.ReallocateHandle (Some k) n) m once h keeps = by_handle
     by_handle : (t : Bool) → (k == h) ≡ t → has (is_relocatable h) m.heap.zone ≡ true
         → has (is_relocatable h) (answered (asked.ReallocateHandle (Some k) n) m).1.heap.zone ≡ false
         → has_purgeable h m.heap.zone ≡ true
-    by_handle true e = λ before after. let f : true ≡ false = sym (renewed-there h k n m.heap e before) ∙ after in cc
+    by_handle true e = λ before after. let f : true ≡ false = sym (renewed-there h k n m e before) ∙ after in cc
     by_handle false e = spared-stays h (asked.ReallocateHandle (Some k) n) m once (stays-other h k e)
 only-purgeable-go (asked.DisposePtr None) m once h keeps = spared-stays h (asked.DisposePtr None) m once tt
 only-purgeable-go (asked.DisposePtr (Some p)) m once h keeps =

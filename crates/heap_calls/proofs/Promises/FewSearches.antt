@@ -1,16 +1,16 @@
 use Rattle.std.proofs.Common.{◌≡◌, ℕ, ◌+◌, ◌≤◌, ◌<◌, ◌^◌, zero, suc, Bool, true, false, ◌||◌, List, [], ◌∷◌, ◌++◌}
-use Rattle.std.proofs.Common.{length, length-append, refl, sym, ◌∙◌, ap, cond, map, arith, Option, Some, None, Result}
-use Rattle.std.proofs.Common.{Ok, Err, replicate, nat_le, nat_lt}
+use Rattle.std.proofs.Common.{length, refl, sym, ◌∙◌, ap, cond, map, arith, Option, Some, None, Result}
+use Rattle.std.proofs.Common.{Ok, Err, replicate, nat_lt}
 use Rattle.std.specs.Option.{option_map, option_or}
 use Rattle.std.specs.Prelude.{is_some, if◌then◌else◌}
 use Rattle.mac_words.specs.Size.{phys}
 use Rattle.mac_words.specs.declared.code.OsErr.{OsErr}
-use Rattle.block_store.specs.Block.{Block, Free, Nonrelocatable, Masters, Relocatable, size, count, fresh, is_mover, is_masters}
+use Rattle.block_store.specs.Block.{Block, Free, Nonrelocatable, Masters, Relocatable, size, count, fresh, is_masters}
 use Rattle.block_store.specs.Block.{is_relocatable, is_nonrelocatable, no_flags, content_of}
 use Rattle.block_store.specs.Run.{Stretch, Segments, in_run, has_free, segments, runs}
 use Rattle.block_store.specs.Room.{Spot, spot, put_at_base, put_in_place, purge, lowest_purged, may_be_purged, count_of}
 use Rattle.block_store.specs.Room.{least, room}
-use Rattle.block_store.specs.Grow.{growth, grow_up, grow_mover, freed}
+use Rattle.block_store.specs.Grow.{freed}
 use Rattle.block_store.specs.Compact.{beyond, has_room, runs_settled}
 use Rattle.block_store.specs.Rest.{counted}
 use Rattle.block_store.proofs.Zone.Tidy.{spot-is}
@@ -19,14 +19,12 @@ use Rattle.block_store.proofs.Plain.Trials.{least_or_last-le}
 use Rattle.heap_calls.specs.State.{State, Memory, used_slots, all_slots}
 use Rattle.heap_calls.specs.Answer.{Held, nothing, look_up, handle_at}
 use Rattle.heap_calls.specs.Slots.{slotted, more_masters}
-use Rattle.heap_calls.specs.Pointers.{pointed_at, reserved}
+use Rattle.heap_calls.specs.Pointers.{pointed_at}
 use Rattle.heap_calls.specs.Purging.{is_loose, purgeable}
 use Rattle.heap_calls.specs.Inner.Search.{tries}
-use Rattle.heap_calls.specs.Searches.{room_searches, slot_searches, ready_searches, block_searches, reserve_searches}
-use Rattle.heap_calls.specs.Searches.{in_place_searches, growth_searches, resized_at, size_searches, found_searches}
+use Rattle.heap_calls.specs.Searches.{room_searches, slot_searches, ready_searches, block_searches}
+use Rattle.heap_calls.proofs.Tables.Searches.{found_searches}
 use Rattle.heap_calls.specs.Searches.{stretches, compact_mem_searches}
-use Rattle.heap_calls.specs.Searches.{reallocate_handle_searches}
-use Rattle.heap_calls.specs.Searches.{hand_and_hand_searches}
 use Rattle.heap_calls.specs.Asked.{Asked}
 use Rattle.heap_calls.specs.Table as table
 use Rattle.heap_calls.specs.Table.{answered, Row, row, answer_of, searches_of}
@@ -34,6 +32,19 @@ use Rattle.heap_calls.specs.Asked as asked
 use Rattle.block_store.proofs.Zone.Zones.{joined-is}
 use Rattle.block_store.proofs.Plain.Counters.{counted-none}
 use Rattle.heap_calls.specs.Table.{row_searches}
+use Rattle.std.proofs.Common.{append-nil, subst}
+use Rattle.mac_words.specs.declared.code.TheConstants.OsErr.{PURGED}
+use Rattle.block_store.specs.Block.{total, resized}
+use Rattle.block_store.proofs.Zone.Totals.{total-append}
+use Rattle.moves.specs.Moves.{Move, Put, Base, Drop, Write, Did, did}
+use Rattle.moves.specs.Seeking.{Sought, no_room, seek, if_fits, seek_slot, seek_size, seek_resized, around}
+use Rattle.moves.proofs.Paths.{did-append}
+use Rattle.moves.proofs.Refused.{Refuses, seek-refused, fits-refused}
+use Rattle.moves.proofs.Rows.{seek-few, resized-few}
+use Rattle.heap_calls.specs.Rows as rows
+use Rattle.heap_calls.specs.Rows.{work, is_unused}
+use Rattle.heap_calls.proofs.Same.NewBlocks.{new_handle-same, hand_to_hand-same}
+use Rattle.heap_calls.proofs.Same.Resizing.{held-spot, pointer-spot}
 use Rattle.block_store.proofs.Zone.Keeping.{tidied, freed-is, unless-le, based-le}
 
 -- A call searches for room no more often than once for each block and once more.
@@ -148,54 +159,82 @@ slot-blocks : (sp : Block → Bool) (s : State) (looks : State → ℕ) → 0 < 
     length s.zone + 1
 slot-blocks sp s looks masters few = let f = slot-few sp s looks few in let g = goes-le sp s.zone masters in omega arith
 
--- a part of the blocks above one
-first-length : (zone : List Block) → length (segments zone).first ≤ length zone
-first-length zone =
-    let whole : length zone ≡ length ((segments zone).first ++ beyond (segments zone).rest) =
-    ap length (sym (joined-segments zone) ∙ joined-is (segments zone).first (segments zone).rest) in
-    omega (arith, length-append (segments zone).first (beyond (segments zone).rest))
-
-in_place-few : (sp : Block → Bool) (new : Block) (test : Block → Bool) (zone : List Block) (s : Spot)
-    → spot test zone ≡ Some s → in_place_searches sp new s ≤ length zone + 1
-in_place-few sp new test zone s found = cases (is_some (grow_up new s))
+-- a search where the block at a spot gets another size
+size-few : (sp : Block → Bool) (n : ℕ) (zone : List Block) (s : Spot) (test : Block → Bool) → spot test zone ≡ Some s
+    → (did sp (seek_size n sp zone s).path zone).searches ≤ length zone + 1
+size-few sp n zone s test found = cases (is_some (phys n))
   where
-    looks : ℕ
-    looks = room_searches (λ run. if has_free (growth new s) run then Some run else None) sp (segments s.above).first
+    within : count_of sp (segments s.above).first ≤ count_of sp zone
+    within =
+        let goes : Block → ℕ = λ b. cond {A = ℕ} (may_be_purged sp b) 1 0 in
+        omega (
+          arith,
+          ap (total goes) (spot-is test zone s found),
+          total-append goes s.below (s.here ∷ s.above),
+          ap (total goes) (sym (joined-segments s.above) ∙ joined-is (segments s.above).first (segments s.above).rest),
+          total-append goes (segments s.above).first (beyond (segments s.above).rest),
+        )
 
-    cases : (t : Bool) → cond t 1 looks ≤ length zone + 1
-    cases true = omega arith
-    cases false =
-        let r = room-few (λ run. if has_free (growth new s) run then Some run else None) sp (segments s.above).first in
-        let c = count-length (may_be_purged sp) (segments s.above).first in
-        let f = first-length s.above in
-        let whole : length zone ≡ length (s.below ++ s.here ∷ s.above) = ap length (spot-is test zone s found) in
-        omega (arith, length-append s.below (s.here ∷ s.above))
-
-growth-few : (test sp : Block → Bool) (new : Block) (zone : List Block) → 0 < count is_masters zone → (o : Option Spot)
-    → spot test zone ≡ o → growth_searches test sp new zone o ≤ length zone + 1
-growth-few test sp new zone masters None found = omega arith
-growth-few test sp new zone masters (Some s) found = cases (nat_le (size new) (size s.here)) (is_mover s.here)
-  where
-    cases : (t u : Bool) → cond t 0 (cond u (room_searches (grow_mover test new) sp zone) (in_place_searches sp new s))
+    cases : (t : Bool) → (did sp (cond t (seek_resized (resized n s.here) sp zone s) no_room).path zone).searches
         ≤ length zone + 1
-    cases true u = omega arith
-    cases false true = let r = room-blocks (grow_mover test new) sp zone masters in omega arith
-    cases false false = in_place-few sp new test zone s found
-
-size-few : (test sp : Block → Bool) (n : ℕ) (zone : List Block) → 0 < count is_masters zone
-    → size_searches test sp n zone ≤ length zone + 1
-size-few test sp n zone masters = cases (is_some (phys n))
-  where
-    cases : (t : Bool) → cond t (growth_searches test sp (resized_at n (spot test zone)) zone (spot test zone)) 0 ≤
-        length zone + 1
-    cases true = growth-few test sp (resized_at n (spot test zone)) zone masters (spot test zone) refl
+    cases true =
+        let few = resized-few sp (resized n s.here) zone s within in
+        let most = count-length (may_be_purged sp) zone in
+        omega arith
     cases false = omega arith
 
--- searches on what was found
-found-few : {A : Type 0} (r : Result A OsErr) (count : A → ℕ) (most : ℕ) → ((k : A) → count k ≤ most)
-    → found_searches r count ≤ most
-found-few (Err code) count most few = omega arith
-found-few (Ok k) count most few = few k
+-- what is written after it is no search
+written-few : (sp : Block → Bool) (h i : ℕ) (x : List ℕ) (r : Sought) (zone : List Block)
+    → (did sp (around [] (Write h i x ∷ []) r).path zone).searches ≡ (did sp r.path zone).searches
+written-few sp h i x r zone = cases r.found
+  where
+    cases : (t : Bool) → (did sp (cond t (r.path ++ Write h i x ∷ []) r.path) zone).searches
+        ≡ (did sp r.path zone).searches
+    cases true = let d = ap (λ (d : Did). d.searches) (did-append sp r.path (Write h i x ∷ []) zone) in omega arith
+    cases false = refl
+
+-- a search where a handle's block is freed before
+freed-few : (h : ℕ) (r : Sought) → Refuses nothing r → (zone : List Block)
+    → (did nothing (around (Drop h ∷ []) [] r).path zone).searches
+    ≡ (did nothing r.path (freed (is_relocatable h) zone)).searches
+freed-few h r only zone = cases r.found refl
+  where
+    cases : (t : Bool) → r.found ≡ t → (did nothing (cond t (Drop h ∷ r.path ++ []) r.path) zone).searches
+        ≡ (did nothing r.path (freed (is_relocatable h) zone)).searches
+    cases true e =
+        let same = ap (λ (path : List Move). (did nothing path (freed (is_relocatable h) zone)).searches)
+        (append-nil r.path) in
+        omega (arith, same)
+    cases false e = ap (λ (d : Did). d.searches) ((only e).1 zone)
+        ∙ sym (ap (λ (d : Did). d.searches) ((only e).1 (freed (is_relocatable h) zone)))
+
+-- a search for a place at the base of a run
+base-few : (new : Block) (zone : List Block) → 0 < count is_masters zone
+    → (did nothing (seek (Base new) nothing zone).path zone).searches ≤ length zone + 1
+base-few new zone masters =
+    let few = seek-few nothing (Base new) (λ z. refl) zone in
+    let most = goes-le nothing zone masters in
+    omega arith
+
+-- searches for what was found
+found-few : {A T : Type 0} (r : Result A OsErr) (s : State) (call : A → rows.Done T) (most : ℕ)
+    → ((k : A) → r ≡ Ok k → (work (call k) s).searches ≤ most) → (work (rows.for_found r s call) s).searches ≤ most
+found-few (Err code) s call most few = omega arith
+found-few (Ok k) s call most few = few k refl
+
+-- a handle's block, or a pointer's
+handle-few : (handle : Option ℕ) (s : State) (held : Held) → look_up handle s ≡ Ok held → (sp : Block → Bool) (n : ℕ)
+    → (did sp (seek_size n sp s.zone held.at).path s.zone).searches ≤ length s.zone + 1
+handle-few handle s held e sp n =
+    size-few sp n s.zone held.at (is_relocatable held.number) (held-spot (handle_at handle s) s held e)
+
+append-few : (to : Option ℕ) (s : State) (held : Held) → look_up to s ≡ Ok held → (sp : Block → Bool) (x : List ℕ)
+    → (work (rows.append sp held x s) s).searches ≤ length s.zone + 1
+append-few to s held e sp x =
+    let len = length (content_of held.at.here) in
+    subst (λ (k : ℕ). k ≤ length s.zone + 1)
+    (sym (written-few sp held.number len x (seek_size (len + length x) sp s.zone held.at) s.zone))
+    (handle-few to s held e sp (len + length x))
 
 -- searches that are made only in one case
 pub only-if : (t : Bool) (n most : ℕ) → n ≤ most → cond t n 0 ≤ most
@@ -234,124 +273,97 @@ pub unsearched : (zone : List Block) (n : ℕ) → n < 2 ^ 64 → (k : ℕ) × (
 unsearched zone n fits = (0, omega arith, sym (counted-none n))
 
 -- the row of a call searches at most once more than there are blocks, where one is a Masters block
-pub row_few : (a : Asked) (m : Memory) → 0 < count is_masters m.heap.zone → row_searches a m.heap ≤ length m.heap.zone + 1
+pub row_few : (a : Asked) (m : Memory) → 0 < count is_masters m.heap.zone
+    → row_searches a m.heap ≤ length m.heap.zone + 1
 row_few (asked.NewHandle n) m masters =
-    let s = m.heap in
-    let few =
-    slot-blocks nothing s (λ ready. if is_some (phys n) then block_searches nothing (replicate n 0) ready else 0)
-    masters
+    subst (λ (k : ℕ). k ≤ length m.heap.zone + 1) (new_handle-same n m.heap).looks
+    (slot-blocks nothing m.heap
+    (λ ready. if is_some (phys n) then block_searches nothing (replicate n 0) ready else 0) masters
     (λ r. only-if (is_some (phys n)) (block_searches nothing (replicate n 0) r) (count_of nothing r.zone + 1)
-    (room-few (put_in_place (Relocatable (length r.names) no_flags (replicate n 0))) nothing r.zone)) in
-    few
-row_few asked.NewEmptyHandle m masters =
-    slots (nat_lt (used_slots m.heap) (all_slots m.heap))
+    (room-few (put_in_place (Relocatable (length r.names) no_flags (replicate n 0))) nothing r.zone)))
+row_few asked.NewEmptyHandle m masters = cases (is_unused m.heap)
   where
-    slots : (t : Bool) → cond t 0 (room_searches (put_at_base Masters) nothing m.heap.zone) ≤ length m.heap.zone + 1
-    slots true = omega arith
-    slots false = let r = room-blocks (put_at_base Masters) nothing m.heap.zone masters in omega arith
+    cases : (t : Bool) → (did nothing (seek_slot t nothing m.heap.zone).path m.heap.zone).searches
+        ≤ length m.heap.zone + 1
+    cases true = omega arith
+    cases false = base-few Masters m.heap.zone masters
 row_few (asked.SetHandleSize handle n) m masters =
-    let zone = m.heap.zone in
-    let few =
-    found-few (look_up handle m.heap)
-    (λ held. size_searches (is_relocatable held.number) (is_relocatable held.number) n zone) (length zone + 1)
-    (λ held. size-few (is_relocatable held.number) (is_relocatable held.number) n zone masters) in
-    few
-row_few (asked.ReallocateHandle handle n) m masters = few
+    found-few (look_up handle m.heap) m.heap _ (length m.heap.zone + 1)
+    (λ held e. handle-few handle m.heap held e (is_relocatable held.number) n)
+row_few (asked.ReallocateHandle handle n) m masters =
+    found-few (handle_at handle m.heap) m.heap _ (length m.heap.zone + 1)
+    (λ k e. cases k.number (is_loose (spot (is_relocatable k.number) m.heap.zone)))
   where
     zone : List Block
     zone = m.heap.zone
 
-    looks : ℕ → ℕ
-    looks j =
-        if is_some (phys n) then room_searches (put_in_place (Relocatable j no_flags (replicate n 0))) nothing
-        (freed (is_relocatable j) zone) else 0
+    again : ℕ → Sought
+    again j = if_fits n (seek (Put (Relocatable j no_flags (replicate n 0))) nothing (freed (is_relocatable j) zone))
 
-    searches-few : (j : ℕ) → looks j ≤ length zone + 1
-    searches-few j =
-        only-if (is_some (phys n))
-        (room_searches (put_in_place (Relocatable j no_flags (replicate n 0))) nothing (freed (is_relocatable j) zone))
-        (length zone + 1)
-        (let goes : Block → ℕ = λ b. cond {A = ℕ} (may_be_purged nothing b) 1 0 in
-        let r = room-few (put_in_place (Relocatable j no_flags (replicate n 0))) nothing
-        (freed (is_relocatable j) zone) in
+    looks : (j : ℕ) (t : Bool) → (did nothing (cond t (seek (Put (Relocatable j no_flags (replicate n 0))) nothing
+        (freed (is_relocatable j) zone)) no_room).path (freed (is_relocatable j) zone)).searches ≤ length zone + 1
+    looks j true =
+        let goes : Block → ℕ = λ b. cond {A = ℕ} (may_be_purged nothing b) 1 0 in
+        let r = seek-few nothing (Put (Relocatable j no_flags (replicate n 0))) (λ z. refl) (freed (is_relocatable j)
+        zone) in
         let u = unless-le (is_relocatable j) goes zone in
         let g = goes-le nothing zone masters in
-        omega (arith, freed-is goes (λ m. refl) (is_relocatable j) zone))
+        omega (arith, freed-is goes (λ m. refl) (is_relocatable j) zone)
+    looks j false = omega arith
 
-    few : reallocate_handle_searches handle n m.heap ≤ length zone + 1
-    few =
-        found-few (handle_at handle m.heap)
-        (λ k. if is_loose (spot (is_relocatable k.number) zone) then looks k.number else 0) (length zone + 1)
-        (λ k. only-if (is_loose (spot (is_relocatable k.number) zone)) (looks k.number) (length zone + 1)
-        (searches-few k.number))
+    cases : (j : ℕ) (t : Bool) → (work (cond t (rows.changed nothing (around (Drop j ∷ []) [] (again j)) m.heap)
+        (rows.refused PURGED m.heap)) m.heap).searches ≤ length zone + 1
+    cases j true = subst (λ (k : ℕ). k ≤ length zone + 1)
+        (sym (freed-few j (again j) (fits-refused nothing n _ (seek-refused nothing
+        (Put (Relocatable j no_flags (replicate n 0))) (freed (is_relocatable j) zone))) zone))
+        (looks j (is_some (phys n)))
+    cases j false = omega arith
 row_few (asked.HandToHand handle) m masters =
-    let s = m.heap in
-    let few =
-    found-few (look_up handle s)
-    (λ held. slot_searches (is_relocatable held.number) s + ready_searches (slotted (is_relocatable held.number) s)
-    (block_searches (is_relocatable held.number) (content_of held.at.here)))
-    (length s.zone + 1)
-    (λ held. slot-blocks (is_relocatable held.number) s
-    (block_searches (is_relocatable held.number) (content_of held.at.here)) masters
-    (λ r. room-few (put_in_place (Relocatable (length r.names) no_flags (content_of held.at.here)))
-    (is_relocatable held.number) r.zone)) in
-    few
-row_few (asked.HandAndHand from to) m masters = few
+    subst (λ (k : ℕ). k ≤ length m.heap.zone + 1) (hand_to_hand-same handle m.heap).looks (copied (look_up handle
+    m.heap))
   where
-    zone : List Block
-    zone = m.heap.zone
-
-    looks : Held → Held → ℕ
-    looks a b =
-        size_searches (is_relocatable b.number)
-        (λ block. is_relocatable a.number block || is_relocatable b.number block)
-        (length (content_of b.at.here) + length (content_of a.at.here)) zone
-
-    few : hand_and_hand_searches from to m.heap ≤ length zone + 1
-    few =
-        found-few (look_up from m.heap) (λ a. found_searches (look_up to m.heap) (looks a)) (length zone + 1)
-        (λ a. found-few (look_up to m.heap) (looks a) (length zone + 1)
-        (λ b. size-few (is_relocatable b.number)
-        (λ block. is_relocatable a.number block || is_relocatable b.number block)
-        (length (content_of b.at.here) + length (content_of a.at.here)) zone masters))
+    copied : (r : Result Held OsErr) → found_searches r (λ held. slot_searches (is_relocatable held.number) m.heap
+        + ready_searches (slotted (is_relocatable held.number) m.heap) (block_searches (is_relocatable held.number)
+        (content_of held.at.here))) ≤ length m.heap.zone + 1
+    copied (Err code) = omega arith
+    copied (Ok held) = slot-blocks (is_relocatable held.number) m.heap
+        (block_searches (is_relocatable held.number) (content_of held.at.here)) masters
+        (λ r. room-few (put_in_place (Relocatable (length r.names) no_flags (content_of held.at.here)))
+        (is_relocatable held.number) r.zone)
+row_few (asked.HandAndHand from to) m masters =
+    found-few (look_up from m.heap) m.heap _ (length m.heap.zone + 1)
+    (λ a is. found-few (look_up to m.heap) m.heap _ (length m.heap.zone + 1)
+    (λ b e. append-few to m.heap b e (λ block. is_relocatable a.number block || is_relocatable b.number block)
+    (content_of a.at.here)))
 row_few (asked.PtrAndHand handle x) m masters =
-    let zone = m.heap.zone in
-    let few =
-    found-few (look_up handle m.heap)
-    (λ held. size_searches (is_relocatable held.number) (is_relocatable held.number)
-    (length (content_of held.at.here) + length x) zone) (length zone + 1)
-    (λ held. size-few (is_relocatable held.number) (is_relocatable held.number)
-    (length (content_of held.at.here) + length x) zone masters) in
-    few
-row_few (asked.NewPtr n) m masters =
-    let s = m.heap in
-    let few =
-    only-if (is_some (phys n)) (room_searches (put_at_base (Nonrelocatable (length s.names) (replicate n 0))) nothing s.zone)
-    (length s.zone + 1)
-    (let r = room-blocks (put_at_base (Nonrelocatable (length s.names) (replicate n 0))) nothing s.zone masters in omega arith)
-    in
-    few
+    found-few (look_up handle m.heap) m.heap _ (length m.heap.zone + 1)
+    (λ held e. append-few handle m.heap held e (is_relocatable held.number) x)
+row_few (asked.NewPtr n) m masters = cases (is_some (phys n))
+  where
+    new : Block
+    new = Nonrelocatable (length m.heap.names) (replicate n 0)
+
+    cases : (t : Bool) → (did nothing (cond t (seek (Base new) nothing m.heap.zone) no_room).path m.heap.zone).searches
+        ≤ length m.heap.zone + 1
+    cases true = base-few new m.heap.zone masters
+    cases false = omega arith
 row_few (asked.SetPtrSize pointer n) m masters =
-    let zone = m.heap.zone in
-    let few =
-    found-few (pointed_at pointer m.heap) (λ held. size_searches (is_nonrelocatable held.number) nothing n zone)
-    (length zone + 1)
-    (λ held. size-few (is_nonrelocatable held.number) nothing n zone masters) in
-    few
+    found-few (pointed_at pointer m.heap) m.heap _ (length m.heap.zone + 1)
+    (λ held e. size-few nothing n m.heap.zone held.at (is_nonrelocatable held.number)
+    (pointer-spot pointer m.heap held e))
 row_few (asked.CompactMem n) m masters = compact-few n m.heap
 row_few (asked.PurgeMem n) m masters =
     let zone = m.heap.zone in
     let l = least_or_last-le (λ k. has_room (phys n) (purge k nothing zone)) (purgeable zone) in
     let g = goes-le nothing zone masters in
     omega arith
-row_few (asked.ReserveMem n) m masters = searches-few (phys n)
+row_few (asked.ReserveMem n) m masters = cases (phys n)
   where
-    searches-few : (o : Option ℕ) → reserve_searches o m.heap ≤ length m.heap.zone + 1
-    searches-few None = omega arith
-    searches-few (Some p) = let r = room-blocks (reserved p) nothing m.heap.zone masters in omega arith
-row_few asked.MoreMasters m masters =
-    let few = room-blocks (put_at_base Masters) nothing m.heap.zone masters in
-    omega arith
+    cases : (o : Option ℕ) → (did nothing (rows.room_for o m.heap.zone).path m.heap.zone).searches
+        ≤ length m.heap.zone + 1
+    cases None = omega arith
+    cases (Some p) = base-few (Free p) m.heap.zone masters
+row_few asked.MoreMasters m masters = base-few Masters m.heap.zone masters
 row_few a m masters = omega arith
 
 -- and counts its searches
@@ -359,8 +371,8 @@ searched-by : (r : Row) (m : Memory) → (answer_of r m).1.log.searches
     ≡ counted m.log.searches (searches_of r m.heap)
 searched-by (table.Plain bar tell call) m = sym (counted-none m.log.searches)
 searched-by (table.Quiet bar tell call) m = sym (counted-none m.log.searches)
+searched-by (table.Does bar tell does) m = refl
 searched-by (table.Seeks bar tell searches gone call) m = refl
-searched-by (table.Packs bar tell moves searches gone call) m = refl
 searched-by (table.Compacts moves searches call) m = refl
 searched-by table.PurgesAll m = sym (counted-none m.log.searches)
 searched-by table.LastCode m = sym (counted-none m.log.searches)

@@ -17,7 +17,7 @@ use Rattle.block_store.proofs.Zone.Tidy.{spot-is, spot-passes}
 use Rattle.block_store.proofs.Zone.Totals.{total-append, total-le}
 use Rattle.heap_calls.specs.State.{State, Meaning, fresh_heap}
 use Rattle.heap_calls.specs.State as names
-use Rattle.heap_calls.specs.Answer.{Held, look_up, held_at}
+use Rattle.heap_calls.specs.Answer.{Held, look_up, held_at, handle_at}
 use Rattle.heap_calls.specs.Answer as calls
 use Rattle.heap_calls.specs.Pointers.{pointed, pointed_at, named_block}
 use Rattle.heap_calls.specs.LastPut.{Holds}
@@ -99,6 +99,18 @@ look_up-spot h s k is = by_name (slice_get s.names h) is
         → (spot (is_relocatable h) s.zone ≡ Some k.at) × (k.number ≡ h)
     by_name None e = cc
     by_name (Some (names.Handle role)) e = by_spot (spot (is_relocatable h) s.zone) e
+    by_name (Some names.Pointer) e = cc
+    by_name (Some names.Disposed) e = cc
+
+-- a handle that was looked up is one
+pub handle_at-name : (h : ℕ) (s : State) (k : calls.Known) → handle_at (Some h) s ≡ Ok k
+    → (for_handle (slice_get s.names h) ≡ true) × (k.number ≡ h)
+handle_at-name h s k e = by_name (slice_get s.names h) e
+  where
+    by_name : (o : Option Meaning) → calls.known_as h o ≡ Ok k → (for_handle o ≡ true) × (k.number ≡ h)
+    by_name None e = cc
+    by_name (Some (names.Handle role)) e = let same : (record { number = h; role = role }) ≡ k = cc in
+        (refl, ap (λ (x : calls.Known). x.number) (sym same))
     by_name (Some names.Pointer) e = cc
     by_name (Some names.Disposed) e = cc
 

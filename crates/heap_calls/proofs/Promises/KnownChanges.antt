@@ -5,45 +5,46 @@ use Rattle.std.proofs.lemmas.List.{take_all, drop_all, length-replicate, append-
 use Rattle.std.proofs.Math.Seq.{take-append_seam}
 use Rattle.std.proofs.lemmas.Option.{none-some, same_Some}
 use Rattle.std.specs.Option.{option_map}
-use Rattle.std.specs.Prelude.{is_some, unwrap_or, if◌then◌else◌}
-use Rattle.mac_words.specs.Size.{phys}
+use Rattle.std.specs.Prelude.{unwrap_or, if◌then◌else◌}
 use Rattle.mac_words.specs.declared.code.OsErr.{OsErr}
-use Rattle.mac_words.specs.declared.code.TheConstants.OsErr.{MEM_FULL, LOCKED}
+use Rattle.mac_words.specs.declared.code.TheConstants.OsErr.{LOCKED}
 use Rattle.block_store.specs.declared.flags.Flags.{Flags}
 use Rattle.block_store.specs.Block.{Block, Free, Nonrelocatable, Masters, Relocatable, total, count, is_mover, is_relocatable}
 use Rattle.block_store.specs.Block.{is_nonrelocatable, content_of, with_content, no_flags, tidy, resized, resized_content}
 use Rattle.windows.specs.Writes.{written}
 use Rattle.block_store.specs.Run.{change_run, has, high}
-use Rattle.block_store.specs.Room.{Spot, spot, raised, put_at_base, put_in_place, room}
-use Rattle.block_store.specs.Grow.{freed, grow}
+use Rattle.block_store.specs.Room.{Spot, spot, raised, put_at_base, room}
+use Rattle.block_store.specs.Grow.{freed}
 use Rattle.heap_calls.specs.State.{State, Meaning, Role, used_slots, all_slots}
 use Rattle.heap_calls.specs.State as names
 use Rattle.heap_calls.specs.Answer.{Answer, Held, nothing, given, refused, rebuilt, flagged, change_flags, hoisted}
 use Rattle.heap_calls.specs.Answer.{move_h_hi, look_up, for_found, written_at}
 use Rattle.heap_calls.specs.Answer as calls
-use Rattle.heap_calls.specs.Slots.{slotted, more_masters, new_block}
-use Rattle.heap_calls.specs.Purging.{reallocated}
-use Rattle.heap_calls.specs.Copying.{append, appended, written_in}
-use Rattle.mac_words.specs.Told.{Told, Done, Given, Refused}
-use Rattle.heap_calls.specs.Asked.{told_as}
+use Rattle.heap_calls.specs.Slots.{slotted, more_masters}
+use Rattle.moves.specs.Moves.{rewritten}
 use Rattle.block_store.proofs.Zone.Views.{map-some}
 use Rattle.block_store.proofs.Zone.Keeping.{SeesNoFree, unless, unless-le, unless-none, tidied, freed-is, changed-le}
-use Rattle.block_store.proofs.Zone.Keeping.{high-le, room-le, base-le, swapped-le, grown-le}
+use Rattle.block_store.proofs.Zone.Keeping.{high-le, base-le, swapped-le}
 use Rattle.block_store.proofs.Zone.Surviving.{changed-all, high-all}
 use Rattle.heap_calls.proofs.Promises.Knowing.{Known, for_handle, for_pointer, handle-only, pointer-only, look_up-spot}
 use Rattle.heap_calls.proofs.Promises.Knowing.{known-at, known-pointed, handle-changed, pointer-changed, known-more}
-use Rattle.heap_calls.proofs.Promises.Knowing.{known-less, none-handle, none-pointer, push-stands, pushed, set-stands}
+use Rattle.heap_calls.proofs.Promises.Knowing.{known-less, GivesWay, none-handle, none-pointer, push-stands, pushed}
+use Rattle.heap_calls.proofs.Promises.Knowing.{set-stands}
 use Rattle.heap_calls.proofs.Promises.Knowing.{next-none, with_bytes, with-same, with-other, handle-plain}
 use Rattle.heap_calls.proofs.Numbering.Numbers.{flipped}
 use Rattle.heap_calls.proofs.Promises.Knowing.{pointer-plain}
 
 -- What each change of a heap leaves known of its blocks' bytes.
 
+-- a new block is all that is more
+abbrev pub More : Block → List Block → List Block → Type 0
+More new zone z = (of : Block → ℕ) → SeesNoFree of → total of z ≤ of new + total of zone
+
 -- a new Masters block
-pub known-based : (s : State) (bytes : ℕ → List ℕ) → Known s bytes → (sp : Block → Bool) (zone : List Block)
-    → room (put_at_base Masters) sp s.zone ≡ Some zone → Known (record s { zone = zone }) bytes
-known-based s bytes known sp zone made = known-more s (record s { zone = zone }) bytes Masters refl (λ k. refl)
-    (λ k. refl) (λ k n at. at) (λ of none. base-le of none Masters sp s.zone zone made) known
+pub known-based : (s : State) (bytes : ℕ → List ℕ) → Known s bytes → (zone : List Block) → More Masters s.zone zone
+    → Known (record s { zone = zone }) bytes
+known-based s bytes known zone more = known-more s (record s { zone = zone }) bytes Masters refl (λ k. refl)
+    (λ k. refl) (λ k n at. at) more known
 
 -- an unused slot
 pub known-slotted : (sp : Block → Bool) (s : State) (bytes : ℕ → List ℕ) → Known s bytes → (r : State)
@@ -54,24 +55,23 @@ known-slotted sp s bytes known r e = by_slots (nat_lt (used_slots s) (all_slots 
     by_slots true e = subst (λ (x : State). Known x bytes) (same_Some _ _ e) known
     by_slots false e =
         map-some (λ zone. record s { zone = zone }) (room (put_at_base Masters) sp s.zone) r (Known r bytes) e
-        (λ zone made is. subst (λ (x : State). Known x bytes) is (known-based s bytes known sp zone made))
+        (λ zone made is. subst (λ (x : State). Known x bytes) is (known-based s bytes known zone
+        (λ of none. base-le of none Masters sp s.zone zone made)))
 
 -- a new block of the next number
-pub known-new : (s : State) (bytes : ℕ → List ℕ) → Known s bytes → (role : Role) (flags : Flags) (sp : Block → Bool)
-    (x : List ℕ) (zone : List Block) → room (put_in_place (Relocatable (length s.names) flags x)) sp s.zone ≡ Some zone
+pub known-new : (s : State) (bytes : ℕ → List ℕ) → Known s bytes → (role : Role) (flags : Flags) (x : List ℕ)
+    (zone : List Block) → More (Relocatable (length s.names) flags x) s.zone zone
     → Known (record { zone = zone; names = s.names ++ names.Handle role ∷ [] }) (with_bytes (length s.names) x bytes)
-known-new s bytes known role flags sp x zone is =
+known-new s bytes known role flags x zone more =
     handle-changed s (record { zone = zone; names = s.names ++ name ∷ [] }) bytes (with_bytes h x bytes) h
     (Relocatable h flags x)
     (handle-plain (with_bytes h x bytes) (s.names ++ name ∷ []) h flags x (ap for_handle (pushed s.names name))
     (sym (with-same h x bytes))) (flipped h) (λ k. refl)
     (ap for_pointer (next-none s.names)) (with-other h x bytes) (λ k other n e. push-stands s.names name k n e)
-    (λ of none.
-    let l = room-le of none (Relocatable h flags x) sp s.zone zone is in
-    omega (
+    (λ of none. omega (
       arith,
-      unless-none (is_relocatable h) of s.zone (none-handle s bytes known h
-          (ap for_handle (next-none s.names))),
+      more of none,
+      unless-none (is_relocatable h) of s.zone (none-handle s bytes known h (ap for_handle (next-none s.names))),
     )) known
   where
     h : ℕ
@@ -79,20 +79,6 @@ known-new s bytes known role flags sp x zone is =
 
     name : Meaning
     name = names.Handle role
-
-pub known-made : (s : State) (bytes : ℕ → List ℕ) → Known s bytes
-    → (sp : Block → Bool) (x : List ℕ) (tells : Told → ℕ → List ℕ) → ((k : ℕ) → with_bytes k x bytes ≡ tells (Given k))
-    → ((code : OsErr) → bytes ≡ tells (Refused code))
-    → Known (new_block sp x s).1 (tells (told_as {T = ℕ} Given (new_block sp x s).0))
-known-made s bytes known sp x tells given_told refused_told =
-    by_room (room (put_in_place (Relocatable (length s.names) no_flags x)) sp s.zone) refl
-  where
-    by_room : (o : Option (List Block)) → room (put_in_place (Relocatable (length s.names) no_flags x)) sp s.zone ≡ o
-        → Known (given (names.Handle names.Plain) o s).1 (tells (told_as {T = ℕ} Given
-        (given (names.Handle names.Plain) o s).0))
-    by_room None e = subst (Known s) (refused_told MEM_FULL) known
-    by_room (Some zone) e = subst (Known (record { zone = zone; names = s.names ++ names.Handle names.Plain ∷ [] }))
-        (given_told (length s.names)) (known-new s bytes known names.Plain no_flags sp x zone e)
 
 -- a new handle without a block
 pub known-sparing : (s : State) (bytes : ℕ → List ℕ) → Known s bytes → (name : Meaning)
@@ -103,20 +89,18 @@ known-sparing s bytes known name =
 
 -- a new pointer's block
 pub known-new_pointer : (s : State) (bytes : ℕ → List ℕ) → Known s bytes → (x : List ℕ) (zone : List Block)
-    → room (put_at_base (Nonrelocatable (length s.names) x)) nothing s.zone ≡ Some zone
+    → More (Nonrelocatable (length s.names) x) s.zone zone
     → Known (record { zone = zone; names = s.names ++ names.Pointer ∷ [] }) (with_bytes (length s.names) x bytes)
-known-new_pointer s bytes known x zone is =
+known-new_pointer s bytes known x zone more =
     pointer-changed s (record { zone = zone; names = s.names ++ names.Pointer ∷ [] }) bytes (with_bytes p x bytes) p
     (Nonrelocatable p x)
     (pointer-plain (with_bytes p x bytes) (s.names ++ names.Pointer ∷ []) p x
     (ap for_pointer (pushed s.names names.Pointer)) (sym (with-same p x bytes))) (flipped p) (λ k. refl)
     (ap for_handle (next-none s.names)) (with-other p x bytes) (λ k other n e. push-stands s.names names.Pointer k n e)
-    (λ of none.
-    let l = base-le of none (Nonrelocatable p x) nothing s.zone zone is in
-    omega (
+    (λ of none. omega (
       arith,
-      unless-none (is_nonrelocatable p) of s.zone (none-pointer s bytes known p
-          (ap for_pointer (next-none s.names))),
+      more of none,
+      unless-none (is_nonrelocatable p) of s.zone (none-pointer s bytes known p (ap for_pointer (next-none s.names))),
     )) known
   where
     p : ℕ
@@ -193,25 +177,23 @@ known-put_pointer s bytes known p i x at is =
     (λ of none. swapped-le of none (is_nonrelocatable p) (λ n. refl) s.zone at new is (known.single p))
 
 -- a block that grew or was cut
-pub known-grown : (s : State) (bytes : ℕ → List ℕ) → Known s bytes
-    → (h n : ℕ) (sp : Block → Bool) (at : Spot) (zone : List Block) → spot (is_relocatable h) s.zone ≡ Some at
-    → grow (is_relocatable h) sp n s.zone ≡ Some zone
+pub known-grown : (s : State) (bytes : ℕ → List ℕ) → Known s bytes → (h n : ℕ) (at : Spot) (zone : List Block)
+    → spot (is_relocatable h) s.zone ≡ Some at → GivesWay (is_relocatable h) (resized n at.here) s.zone zone
     → Known (record s { zone = zone }) (with_bytes h (resized_content n (bytes h)) bytes)
-known-grown s bytes known h n sp at zone is grew =
+known-grown s bytes known h n at zone is less =
     let here = known-at s bytes known h at is in
     known-replaced s zone bytes known h here.2 (with_bytes h (resized_content n (bytes h)) bytes)
     (with-other h (resized_content n (bytes h)) bytes) here.0 (resized n at.here)
     (ap (resized n) here.1 ∙ ap (λ y. Relocatable h here.0 y) (sym (with-same h (resized_content n (bytes h)) bytes)))
-    (λ of none. grown-le of none (is_relocatable h) (λ n. refl) sp n s.zone zone at is (known.once h) grew)
+    less
 
 pub known-grown_pointer : (s : State) (bytes : ℕ → List ℕ) → Known s bytes → (p n : ℕ) (at : Spot) (zone : List Block)
-    → spot (is_nonrelocatable p) s.zone ≡ Some at → grow (is_nonrelocatable p) nothing n s.zone ≡ Some zone
+    → spot (is_nonrelocatable p) s.zone ≡ Some at → GivesWay (is_nonrelocatable p) (resized n at.here) s.zone zone
     → Known (record s { zone = zone }) (with_bytes p (resized_content n (bytes p)) bytes)
-known-grown_pointer s bytes known p n at zone is grew =
+known-grown_pointer s bytes known p n at zone is less =
     let here = known-pointed s bytes known p at is in
     known-replaced_pointer s zone bytes known p here.1 (resized_content n (bytes p)) (resized n at.here)
-    (ap (resized n) here.0)
-    (λ of none. grown-le of none (is_nonrelocatable p) (λ n. refl) nothing n s.zone zone at is (known.single p) grew)
+    (ap (resized n) here.0) less
 
 -- an empty handle leaves the others
 pub known-emptied : (s : State) (bytes : ℕ → List ℕ) → Known s bytes → (h : ℕ)
@@ -223,15 +205,13 @@ known-emptied s bytes known h =
     known
 
 -- a new block of a handle
-pub known-reallocated : (s : State) (bytes : ℕ → List ℕ) → Known s bytes → (h n : ℕ)
-    → for_handle (slice_get s.names h) ≡ true → (zone : List Block) → reallocated h n s.zone ≡ Some zone
-    → Known (record s { zone = zone }) (with_bytes h (replicate n 0) bytes)
-known-reallocated s bytes known h n is zone made =
-    let new : Block = Relocatable h no_flags (replicate n 0) in
-    known-replaced s zone bytes known h is (with_bytes h (replicate n 0) bytes) (with-other h (replicate n 0) bytes)
-    no_flags new (ap (λ y. Relocatable h no_flags y) (sym (with-same h (replicate n 0) bytes)))
-    (λ of none. let l = room-le of none new nothing (freed (is_relocatable h) s.zone) zone made in
-    omega (arith, freed-is of none (is_relocatable h) s.zone))
+pub known-renewed : (s : State) (bytes : ℕ → List ℕ) → Known s bytes → (h : ℕ) (x : List ℕ)
+    → for_handle (slice_get s.names h) ≡ true → (zone : List Block)
+    → GivesWay (is_relocatable h) (Relocatable h no_flags x) s.zone zone
+    → Known (record s { zone = zone }) (with_bytes h x bytes)
+known-renewed s bytes known h x is zone less =
+    known-replaced s zone bytes known h is (with_bytes h x bytes) (with-other h x bytes) no_flags
+    (Relocatable h no_flags x) (ap (λ y. Relocatable h no_flags y) (sym (with-same h x bytes))) less
 
 -- a block with other flags
 pub known-flags : (change : Flags → Flags) (handle : Option ℕ) (s : State) (bytes : ℕ → List ℕ) → Known s bytes
@@ -325,12 +305,13 @@ none-spot test (b ∷ bs) e = cases (test b) (spot test bs) e (λ e. none-spot t
     cases false None e rest = let r = rest refl in omega arith
     cases false (Some s) e rest = absurd (none-some _ (sym e))
 
--- a block with bytes behind its own
-known-written : (s : State) (bytes : ℕ → List ℕ) (h len : ℕ) (x : List ℕ) → for_handle (slice_get s.names h) ≡ true
+-- a block that grew, with bytes behind its own
+pub known-appended : (s : State) (bytes : ℕ → List ℕ) (h len : ℕ) (x : List ℕ) → for_handle (slice_get s.names h) ≡ true
     → length (bytes h) ≡ len → Known s (with_bytes h (resized_content (len + length x) (bytes h)) bytes)
-    → Known (record s { zone = written_in h len x s.zone (spot (is_relocatable h) s.zone) })
-    (with_bytes h (bytes h ++ x) bytes)
-known-written s bytes h len x is long known = by_spot (spot (is_relocatable h) s.zone) refl
+    → Known (record s {
+      zone = unwrap_or (option_map (rewritten len x) (spot (is_relocatable h) s.zone)) s.zone;
+    }) (with_bytes h (bytes h ++ x) bytes)
+known-appended s bytes h len x is long known = by_spot (spot (is_relocatable h) s.zone) refl
   where
     mid : ℕ → List ℕ
     mid = with_bytes h (resized_content (len + length x) (bytes h)) bytes
@@ -343,7 +324,7 @@ known-written s bytes h len x is long known = by_spot (spot (is_relocatable h) s
         bytes k e)
 
     by_spot : (o : Option Spot) → spot (is_relocatable h) s.zone ≡ o
-        → Known (record s { zone = written_in h len x s.zone o }) new
+        → Known (record s { zone = unwrap_or (option_map (rewritten len x) o) s.zone }) new
     by_spot None e =
         handle-changed s s mid new h (Free 0) refl (λ k e. refl) (λ k. refl) (handle-only (slice_get s.names h) is) same
         (λ k other n e. e)
@@ -357,31 +338,3 @@ known-written s bytes h len x is long known = by_spot (spot (is_relocatable h) s
         known-put s mid known h len x at e new same
         (ap (written len x) (with-same h (resized_content (len + length x) (bytes h)) bytes)
         ∙ written-behind len x (bytes h) long ∙ sym (with-same h (bytes h ++ x) bytes))
-
-pub known-appended : (s : State) (bytes : ℕ → List ℕ) → Known s bytes → (sp : Block → Bool) (h : ℕ) (at : Spot)
-    → spot (is_relocatable h) s.zone ≡ Some at → (x : List ℕ) (tells : Told → ℕ → List ℕ)
-    → with_bytes h (bytes h ++ x) bytes ≡ tells Done → ((code : OsErr) → bytes ≡ tells (Refused code))
-    → Known (append sp h (length (content_of at.here)) x s).1 (tells
-    (told_as {T = Unit {0}} (λ (u : Unit {0}). Done) (append sp h (length (content_of at.here)) x s).0))
-known-appended s bytes known sp h at found x tells done_told refused_told = by_size (is_some (phys (len + length x)))
-  where
-    len : ℕ
-    len = length (content_of at.here)
-
-    grew : Option (List Block)
-    grew = grow (is_relocatable h) sp (len + length x) s.zone
-
-    by_zone : (o : Option (List Block)) → grew ≡ o → Known (appended sp h len x o s).1
-        (tells (told_as {T = Unit {0}} (λ (u : Unit {0}). Done) (appended sp h len x o s).0))
-    by_zone None e = subst (Known s) (refused_told MEM_FULL) known
-    by_zone (Some zone) e =
-        let here = known-at s bytes known h at found in
-        subst (Known (record s { zone = written_in h len x zone (spot (is_relocatable h) zone) })) done_told
-        (known-written (record s { zone = zone }) bytes h len x here.2 (ap (λ b. length (content_of b)) (sym here.1))
-        (known-grown s bytes known h (len + length x) sp at zone found e))
-
-    by_size : (t : Bool) → Known (cond t (appended sp h len x grew s) (refused MEM_FULL s)).1
-        (tells (told_as {T = Unit {0}} (λ (u : Unit {0}). Done) (cond t (appended sp h len x grew s)
-        (refused MEM_FULL s)).0))
-    by_size true = by_zone grew refl
-    by_size false = subst (Known s) (refused_told MEM_FULL) known

@@ -1,72 +1,57 @@
-use Rattle.std.proofs.Common.{◌≡◌, ℕ, ◌+◌, ◌≤◌, ◌/◌, ◌%◌, ◌==◌, Bool, true, false, ◌||◌, List, ◌∷◌, ◌++◌, length}
+use Rattle.std.proofs.Common.{◌≡◌, ℕ, ◌+◌, ◌≤◌, ◌/◌, ◌%◌, ◌==◌, Bool, true, false, ◌||◌, List, [], ◌∷◌, ◌++◌, length}
 use Rattle.std.proofs.Common.{replicate, refl, sym, ◌∙◌, ap, subst, cond, arith, Option, Some, None, Result, Ok, Err}
 use Rattle.std.proofs.Common.{slice_get, slice_set, nat_le}
-use Rattle.std.specs.Option.{option_map}
 use Rattle.std.specs.Prelude.{is_some, if◌then◌else◌}
 use Rattle.mac_words.specs.Size.{phys}
+use Rattle.mac_words.specs.Told.{Told, Done, Given, Refused}
 use Rattle.mac_words.specs.declared.code.OsErr.{OsErr}
 use Rattle.mac_words.specs.declared.code.TheConstants.OsErr.{MEM_FULL, PROFILE, PURGED}
-use Rattle.block_store.specs.Block.{Block, Nonrelocatable, Masters, sizes, total, is_mover, is_relocatable, is_nonrelocatable, content_of}
-use Rattle.block_store.specs.Block.{with_content, tidy}
 use Rattle.windows.specs.Writes.{written}
+use Rattle.block_store.specs.Block.{Block, Free, Nonrelocatable, Masters, Relocatable, total, is_mover}
+use Rattle.block_store.specs.Block.{is_relocatable}
+use Rattle.block_store.specs.Block.{is_nonrelocatable, content_of, with_content, resized_content, no_flags, tidy}
 use Rattle.block_store.specs.Run.{runs}
-use Rattle.block_store.specs.Room.{Spot, spot, put_at_base, purge, room}
-use Rattle.block_store.specs.Grow.{freed, grow}
+use Rattle.block_store.specs.Room.{Spot, spot, purge}
+use Rattle.block_store.specs.Grow.{freed}
 use Rattle.block_store.specs.Compact.{compacted, runs_settled, settled}
+use Rattle.block_store.proofs.Zone.Keeping.{SeesNoFree, purged-le, settled-le}
+use Rattle.block_store.proofs.Zone.Tidy.{spot-passes}
+use Rattle.moves.specs.Moves.{Move, Put, Base, Drop, Write, Did, did}
+use Rattle.moves.specs.Seeking.{Sought, seek, if_fits, seek_slot, seek_size, around}
+use Rattle.moves.proofs.Paths.{did-append}
+use Rattle.moves.proofs.Refused.{Refuses, seek-refused, fits-refused, size-refused, around-refused}
+use Rattle.moves.proofs.Rows.{size-new, seek-more, if-more, again-more}
 use Rattle.heap_calls.specs.State.{State, Memory, Meaning, Role, Plain, Resource, SystemResource}
 use Rattle.heap_calls.specs.State as names
-use Rattle.heap_calls.specs.Answer.{Answer, Held, nothing, given, refused, disposed_of, rebuilt, move_h_hi, look_up}
+use Rattle.heap_calls.specs.Answer.{Answer, Held, nothing, refused, disposed_of, move_h_hi, look_up}
 use Rattle.heap_calls.specs.Answer.{handle_at, for_found, written_at, on_block}
 use Rattle.heap_calls.specs.Answer as calls
-use Rattle.heap_calls.specs.Slots.{slotted, if_ready, new_block, more_masters}
-use Rattle.heap_calls.specs.Pointers.{pointed_at, block_named, reserved, reserve_mem}
-use Rattle.heap_calls.specs.Purging.{is_resource, block_bits, emptied_at, is_loose, reallocated, blocks_purged}
-use Rattle.heap_calls.specs.Purging.{purgeable, purged_all}
-use Rattle.heap_calls.specs.Copying.{append}
-use Rattle.mac_words.specs.Told.{Told, Done, Given, Refused}
+use Rattle.heap_calls.specs.Pointers.{pointed_at}
+use Rattle.heap_calls.specs.Purging.{emptied_at, is_loose, blocks_purged, purgeable}
+use Rattle.heap_calls.specs.Purging.{purged_all}
 use Rattle.heap_calls.specs.Asked.{Asked, told_as}
-use Rattle.heap_calls.specs.Table.{answered}
 use Rattle.heap_calls.specs.Asked as asked
+use Rattle.heap_calls.specs.Rows as rows
+use Rattle.heap_calls.specs.Rows.{heap_after, reply_of, is_unused, next_block}
+use Rattle.heap_calls.specs.Table.{answered}
 use Rattle.heap_calls.specs.LastPut.{put_by}
-use Rattle.block_store.proofs.Zone.Keeping.{SeesNoFree, purged-le, settled-le, reserved-le}
-use Rattle.heap_calls.proofs.Promises.Knowing.{Known, for_handle, look_up-spot, pointed_at-spot, known-at}
+use Rattle.heap_calls.proofs.Same.Growing.{same-handle, same-pointer}
+use Rattle.heap_calls.proofs.Rows.Found.{room_for-refused}
+use Rattle.heap_calls.proofs.Rows.Reads.{reads-same}
+use Rattle.heap_calls.proofs.Promises.Knowing.{Known, for_handle, look_up-spot, handle_at-name, pointed_at-spot}
+use Rattle.heap_calls.proofs.Promises.Knowing.{known-at}
 use Rattle.heap_calls.proofs.Promises.Knowing.{known-pointed, known-less, with_bytes, with-same, with-other}
-use Rattle.heap_calls.proofs.Promises.KnownChanges.{known-based, known-slotted, known-made, known-sparing}
-use Rattle.heap_calls.proofs.Promises.KnownChanges.{known-new_pointer, known-disposed, known-disposed_pointer}
-use Rattle.heap_calls.proofs.Promises.KnownChanges.{known-put, known-put_pointer, known-grown, known-grown_pointer}
-use Rattle.heap_calls.proofs.Promises.KnownChanges.{known-emptied, known-reallocated, known-flags, known-hoisted}
-use Rattle.heap_calls.proofs.Promises.KnownChanges.{known-appended}
+use Rattle.heap_calls.proofs.Promises.KnownChanges.{More, known-based, known-new, known-sparing, known-new_pointer}
+use Rattle.heap_calls.proofs.Promises.KnownChanges.{known-disposed, known-disposed_pointer, known-put}
+use Rattle.heap_calls.proofs.Promises.KnownChanges.{known-put_pointer}
+use Rattle.heap_calls.proofs.Promises.KnownChanges.{known-grown, known-grown_pointer, known-emptied, known-renewed}
+use Rattle.heap_calls.proofs.Promises.KnownChanges.{known-flags, known-hoisted, known-appended}
 
 -- Each call keeps what is known of each block's bytes.
-
--- a call that changes nothing, whatever was found
-pub found-same : {A T : Type 0} (r : Result A OsErr) (s : State) (answer : A → Answer T) → ((k : A) → (answer k).1 ≡ s)
-    → (for_found r s answer).1 ≡ s
-found-same (Err code) s answer same = refl
-found-same (Ok k) s answer same = same k
-
--- a handle that was looked up is one
-pub handle_at-name : (h : ℕ) (s : State) (k : calls.Known) → handle_at (Some h) s ≡ Ok k
-    → (for_handle (slice_get s.names h) ≡ true) × (k.number ≡ h)
-handle_at-name h s k e = by_name (slice_get s.names h) e
-  where
-    by_name : (o : Option Meaning) → calls.known_as h o ≡ Ok k → (for_handle o ≡ true) × (k.number ≡ h)
-    by_name None e = cc
-    by_name (Some (names.Handle role)) e = let same : (record { number = h; role = role }) ≡ k = cc in
-        (refl, ap (λ (x : calls.Known). x.number) (sym same))
-    by_name (Some names.Pointer) e = cc
-    by_name (Some names.Disposed) e = cc
 
 -- what a call tells that answers nothing else
 abbrev done : Result (Unit {0}) OsErr → Told
 done r = told_as {T = Unit {0}} (λ (u : Unit {0}). Done) r
-
--- a zone that was made anew, by blocks that aren't more
-known-rebuilt : (s : State) (bytes : ℕ → List ℕ) → Known s bytes → (o : Option (List Block))
-    → ((zone : List Block) → o ≡ Some zone → (of : Block → ℕ) → SeesNoFree of → total of zone ≤ total of s.zone)
-    → Known (rebuilt o s).1 bytes
-known-rebuilt s bytes known None less = known
-known-rebuilt s bytes known (Some zone) less = known-less s zone bytes (less zone refl) known
 
 -- bytes that were written into the block that was looked up
 known-written_at : (s : State) (bytes : ℕ → List ℕ) → Known s bytes → (it : Block → Bool) (i : ℕ) (x : List ℕ)
@@ -94,62 +79,158 @@ known-written_at s bytes known it i x tells refused_told put (Ok k) found =
     by_test true = put k.at (found k refl)
     by_test false = subst (Known s) (refused_told PROFILE) known
 
--- a zone that was made anew, or no room for it, by what a call then tells
-known-told : (s : State) (bytes : ℕ → List ℕ) → Known s bytes → (tells : Told → ℕ → List ℕ)
-    → ((code : OsErr) → bytes ≡ tells (Refused code)) → (o : Option (List Block))
-    → ((zone : List Block) → o ≡ Some zone → Known (record s { zone = zone }) (tells Done))
-    → Known (rebuilt o s).1 (tells (done (rebuilt o s).0))
-known-told s bytes known tells refused_told None made = subst (Known s) (refused_told MEM_FULL) known
-known-told s bytes known tells refused_told (Some zone) made = made zone refl
-
--- the same for a size that no block may have
-known-sized : (s : State) (bytes : ℕ → List ℕ) → Known s bytes → (tells : Told → ℕ → List ℕ)
-    → ((code : OsErr) → bytes ≡ tells (Refused code)) → (o : Option (List Block))
-    → ((zone : List Block) → o ≡ Some zone → Known (record s { zone = zone }) (tells Done)) → (t : Bool)
-    → Known (cond t (rebuilt o s) (refused MEM_FULL s)).1 (tells (done (cond t (rebuilt o s) (refused MEM_FULL s)).0))
-known-sized s bytes known tells refused_told o made true = known-told s bytes known tells refused_told o made
-known-sized s bytes known tells refused_told o made false = subst (Known s) (refused_told MEM_FULL) known
-
--- MoreMasters
-known-masters : (s : State) (bytes : ℕ → List ℕ) → Known s bytes
-    → Known (rebuilt (option_map (λ (ready : State). ready.zone) (more_masters nothing s)) s).1 bytes
-known-masters s bytes known = by_room (room (put_at_base Masters) nothing s.zone) refl
+-- what the path of a call leaves known, by whether room was found
+module _ (s : State) (bytes : ℕ → List ℕ) (known : Known s bytes) (tells : Told → ℕ → List ℕ)
+    (refused_told : (code : OsErr) → bytes ≡ tells (Refused code))
   where
-    by_room : (o : Option (List Block)) → room (put_at_base Masters) nothing s.zone ≡ o
-        → Known (rebuilt (option_map (λ (ready : State). ready.zone) (option_map (λ zone. record s { zone = zone }) o))
-        s).1 bytes
-    by_room None e = known
-    by_room (Some zone) e = known-based s bytes known nothing zone e
+    abbrev left : (Block → Bool) → Sought → List Block
+    left sp r = (did sp r.path s.zone).zone
+
+    done-found : {A T : Type 0} (tell : T → Told) (r : Result A OsErr) (call : A → rows.Done T)
+        → ((k : A) → r ≡ Ok k → Known (heap_after (call k) s) (tells (told_as {T = T} tell (call k).reply)))
+        → Known (heap_after (rows.for_found r s call) s) (tells (told_as {T = T} tell (rows.for_found r s call).reply))
+    done-found tell (Err code) call each = subst (Known s) (refused_told code) known
+    done-found tell (Ok k) call each = each k refl
+
+    -- where no room is found
+    known-still : (sp : Block → Bool) (r : Sought) → Refuses sp r → r.found ≡ false
+        → Known (record s { zone = left sp r }) bytes
+    known-still sp r only e = subst (λ (z : List Block). Known (record s { zone = z }) bytes)
+        (sym (ap (λ (d : Did). d.zone) ((only e).1 s.zone))) known
+
+    known-changed : (sp : Block → Bool) (r : Sought) → Refuses sp r
+        → (r.found ≡ true → Known (record s { zone = left sp r }) (tells Done))
+        → Known (heap_after (rows.changed sp r s) s) (tells (done (rows.changed sp r s).reply))
+    known-changed sp r only found = cases r.found refl
+      where
+        cases : (t : Bool) → r.found ≡ t → Known (record s { zone = left sp r }) (tells (done (reply_of t tt)))
+        cases true e = found e
+        cases false e = subst (Known (record s { zone = left sp r })) (refused_told MEM_FULL) (known-still sp r only e)
+
+    known-given : (sp : Block → Bool) (name : Meaning) (r : Sought) → (r.found ≡ true
+        → Known (record { zone = left sp r; names = s.names ++ name ∷ [] }) (tells (Given (length s.names))))
+        → (r.found ≡ false → Known (record s { zone = left sp r }) bytes)
+        → Known (heap_after (rows.given name sp r s) s) (tells (told_as {T = ℕ} Given (rows.given name sp r s).reply))
+    known-given sp name r found none = cases r.found refl
+      where
+        cases : (t : Bool) → r.found ≡ t
+            → Known (record { zone = left sp r; names = cond t (s.names ++ name ∷ []) s.names })
+            (tells (told_as {T = ℕ} Given (reply_of t (length s.names))))
+        cases true e = found e
+        cases false e = subst (Known (record s { zone = left sp r })) (refused_told MEM_FULL) (none e)
+
+    -- a master pointer
+    abbrev slot : (Block → Bool) → Sought
+    slot sp = seek_slot (is_unused s) sp s.zone
+
+    known-slot : (sp : Block → Bool) → Known (record s { zone = left sp (slot sp) }) bytes
+    known-slot sp = cases (is_unused s)
+      where
+        cases : (t : Bool) → Known (record s { zone = left sp (seek_slot t sp s.zone) }) bytes
+        cases true = known
+        cases false = known-based s bytes known (left sp (seek (Base Masters) sp s.zone))
+            (λ of none. seek-more of sp none (Base Masters) (λ z. tt) s.zone)
+
+    -- a new handle with a block
+    known-made : (sp : Block → Bool) (block : List Block → Sought) (x : List ℕ) → ((z : List Block) → Refuses sp (block
+        z))
+        → ((z : List Block) → More (next_block x s) z (did sp (block z).path z).zone)
+        → with_bytes (length s.names) x bytes ≡ tells (Given (length s.names))
+        → Known (heap_after (rows.made sp block s) s) (tells (told_as {T = ℕ} Given (rows.made sp block s).reply))
+    known-made sp block x only more_by given_told =
+        known-given sp (names.Handle Plain) (so (slot sp).found) (by_found (slot sp).found refl)
+        (by_none (slot sp).found)
+      where
+        before : List Block
+        before = left sp (slot sp)
+
+        more : Sought
+        more = block before
+
+        so : Bool → Sought
+        so t = cond t (record { found = more.found; path = (slot sp).path ++ more.path }) (slot sp)
+
+        after : left sp (so true) ≡ (did sp more.path before).zone
+        after = ap (λ (d : Did). d.zone) (did-append sp (slot sp).path more.path s.zone)
+
+        by_found : (t : Bool) → (slot sp).found ≡ t → (so t).found ≡ true
+            → Known (record { zone = left sp (so t); names = s.names ++ names.Handle Plain ∷ [] })
+            (tells (Given (length s.names)))
+        by_found true there e =
+            subst (Known (record { zone = left sp (so true); names = s.names ++ names.Handle Plain ∷ [] })) given_told
+            (subst (λ (z : List Block). Known (record { zone = z; names = s.names ++ names.Handle Plain ∷ [] })
+            (with_bytes (length s.names) x bytes)) (sym after)
+            (known-new (record s { zone = before }) bytes (known-slot sp) Plain no_flags x (did sp more.path
+            before).zone
+            (more_by before)))
+        by_found false none e = let f : true ≡ false = sym e ∙ none in cc
+
+        by_none : (t : Bool) → (so t).found ≡ false → Known (record s { zone = left sp (so t) }) bytes
+        by_none true e = subst (λ (z : List Block). Known (record s { zone = z }) bytes)
+            (sym (after ∙ ap (λ (d : Did). d.zone) ((only before e).1 before))) (known-slot sp)
+        by_none false e = known-slot sp
+
+    -- a handle's block that got n bytes
+    known-sized : (sp : Block → Bool) (h n : ℕ) (at : Spot) → spot (is_relocatable h) s.zone ≡ Some at
+        → (seek_size n sp s.zone at).found ≡ true
+        → Known (record s { zone = left sp (seek_size n sp s.zone at) })
+        (with_bytes h (resized_content n (bytes h)) bytes)
+    known-sized sp h n at is there =
+        known-grown s bytes known h n at (left sp (seek_size n sp s.zone at)) is
+        (λ of none. size-new of sp none n s.zone at (is_relocatable h)
+        (same-handle h n at.here (spot-passes (is_relocatable h) s.zone at is)) is (known.once h) there)
+
+    -- bytes behind those of a handle's block
+    known-behind : (sp : Block → Bool) (h : ℕ) (b : Held) (x : List ℕ) → spot (is_relocatable h) s.zone ≡ Some b.at
+        → b.number ≡ h → with_bytes h (bytes h ++ x) bytes ≡ tells Done
+        → Known (heap_after (rows.append sp b x s) s) (tells (done (rows.append sp b x s).reply))
+    known-behind sp h b x at named done_told =
+        known-changed sp (around [] write sought) (around-refused sp [] write sought
+        (size-refused sp (len + length x) s.zone b.at)) (cases sought.found refl)
+      where
+        len : ℕ
+        len = length (content_of b.at.here)
+
+        sought : Sought
+        sought = seek_size (len + length x) sp s.zone b.at
+
+        write : List Move
+        write = Write b.number len x ∷ []
+
+        behind : sought.found ≡ true → Known (record s { zone = (did sp write (left sp sought)).zone })
+            (with_bytes h (bytes h ++ x) bytes)
+        behind there =
+            let here = known-at s bytes known h b.at at in
+            subst (λ (k : ℕ). Known (record s { zone = (did sp (Write k len x ∷ []) (left sp sought)).zone })
+            (with_bytes h (bytes h ++ x) bytes)) (sym named)
+            (known-appended (record s { zone = left sp sought }) bytes h len x here.2
+            (ap (λ (c : Block). length (content_of c)) (sym here.1)) (known-sized sp h (len + length x) b.at at there))
+
+        cases : (t : Bool) → sought.found ≡ t → t ≡ true
+            → Known (record s { zone = (did sp (cond t (sought.path ++ write) sought.path) s.zone).zone }) (tells Done)
+        cases true e there =
+            subst (λ (z : List Block). Known (record s { zone = z }) (tells Done))
+            (sym (ap (λ (d : Did). d.zone) (did-append sp sought.path write s.zone)))
+            (subst (Known (record s { zone = (did sp write (left sp sought)).zone })) done_told (behind e))
+        cases false e there = let f : false ≡ true = there in cc
 
 -- each call keeps what is known, with the bytes that it put
 pub step-known : (a : Asked) (m : Memory) (bytes : ℕ → List ℕ) → Known m.heap bytes
     → Known (answered a m).1.heap (put_by a (answered a m).0 bytes)
-step-known (asked.NewHandle n) m bytes known = by_ready (slotted nothing m.heap)
-    (known-slotted nothing m.heap bytes known)
-  where
-    tells : Told → ℕ → List ℕ
-    tells t = put_by (asked.NewHandle n) t bytes
-
-    by_size : (s : State) → Known s bytes → (t : Bool) → Known
-        (cond t (new_block nothing (replicate n 0) s) (refused MEM_FULL s)).1
-        (tells (told_as {T = ℕ} Given (cond t (new_block nothing (replicate n 0) s) (refused MEM_FULL s)).0))
-    by_size s known true = known-made s bytes known nothing (replicate n 0) tells (λ k. refl) (λ code. refl)
-    by_size s known false = known
-
-    by_ready : (o : Option State) → ((s : State) → o ≡ Some s → Known s bytes)
-        → Known (if_ready o m.heap (λ ready. if is_some (phys n) then new_block nothing (replicate n 0) ready
-        else refused MEM_FULL ready)).1
-        (tells (told_as {T = ℕ} Given (if_ready o m.heap (λ ready. if is_some (phys n)
-        then new_block nothing (replicate n 0) ready else refused MEM_FULL ready)).0))
-    by_ready None ready = known
-    by_ready (Some s) ready = by_size s (ready s refl) (is_some (phys n))
-step-known asked.NewEmptyHandle m bytes known = by_ready (slotted nothing m.heap)
-    (known-slotted nothing m.heap bytes known)
-  where
-    by_ready : (o : Option State) → ((s : State) → o ≡ Some s → Known s bytes)
-        → Known (if_ready o m.heap (λ ready. given (names.Handle Plain) (Some ready.zone) ready)).1 bytes
-    by_ready None ready = known
-    by_ready (Some s) ready = known-sparing s bytes (ready s refl) (names.Handle Plain)
+step-known (asked.NewHandle n) m bytes known =
+    let new = next_block (replicate n 0) m.heap in
+    known-made m.heap bytes known (λ t. put_by (asked.NewHandle n) t bytes) (λ code. refl) nothing
+    (λ z. if_fits n (seek (Put new) nothing z)) (replicate n 0)
+    (λ z. fits-refused nothing n (seek (Put new) nothing z) (seek-refused nothing (Put new) z))
+    (λ z of none. if-more of nothing none (is_some (phys n)) (Put new) (λ y. tt) z) refl
+step-known asked.NewEmptyHandle m bytes known =
+    let tells : Told → ℕ → List ℕ = λ t. bytes in
+    let ready = known-slot m.heap bytes known tells (λ code. refl) nothing in
+    known-given m.heap bytes known tells (λ code. refl) nothing (names.Handle Plain)
+    (seek_slot (is_unused m.heap) nothing m.heap.zone)
+    (λ there. known-sparing (record m.heap {
+      zone = (did nothing (seek_slot (is_unused m.heap) nothing m.heap.zone).path m.heap.zone).zone;
+    }) bytes ready (names.Handle Plain)) (λ none. ready)
 step-known (asked.DisposeHandle None) m bytes known = known
 step-known (asked.DisposeHandle (Some h)) m bytes known = by_name (handle_at (Some h) m.heap) (handle_at-name h m.heap)
   where
@@ -165,36 +246,20 @@ step-known (asked.DisposeHandle (Some h)) m bytes known = by_name (handle_at (So
     by_name (Err code) found = known
     by_name (Ok k) found = let f = found k refl in by_role k.number
         (ap (λ j. for_handle (slice_get m.heap.names j)) f.1 ∙ f.0) k.role
-step-known (asked.GetHandleSize handle) m bytes known =
-    subst (λ (s : State). Known s bytes) (sym (found-same (look_up handle m.heap) m.heap
-    (λ held. (Ok (length (content_of held.at.here)), m.heap)) (λ held. refl))) known
 step-known (asked.SetHandleSize None n) m bytes known = known
-step-known (asked.SetHandleSize (Some h) n) m bytes known = by_spot (look_up (Some h) m.heap) (look_up-spot h m.heap)
-  where
-    s : State
-    s = m.heap
-
-    tells : Told → ℕ → List ℕ
-    tells t = put_by (asked.SetHandleSize (Some h) n) t bytes
-
-    grew : ℕ → Option (List Block)
-    grew j = grow (is_relocatable j) (is_relocatable j) n s.zone
-
-    answer : ℕ → Answer (Unit {0})
-    answer j = if is_some (phys n) then rebuilt (grew j) s else refused MEM_FULL s
-
-    by_spot : (r : Result Held OsErr) → ((k : Held) → r ≡ Ok k → (spot (is_relocatable h) s.zone ≡ Some k.at)
-        × (k.number ≡ h)) → Known (for_found r s (λ k. answer k.number)).1
-        (tells (done (for_found r s (λ k. answer k.number)).0))
-    by_spot (Err code) found = known
-    by_spot (Ok k) found =
-        let f = found k refl in
-        known-sized s bytes known tells (λ code. refl) (grew k.number)
-        (λ zone e. known-grown s bytes known h n (is_relocatable h) k.at zone f.0
-        (subst (λ (j : ℕ). grew j ≡ Some zone) f.1 e)) (is_some (phys n))
+step-known (asked.SetHandleSize (Some h) n) m bytes known =
+    let s = m.heap in
+    let tells : Told → ℕ → List ℕ = λ t. put_by (asked.SetHandleSize (Some h) n) t bytes in
+    done-found s bytes known tells (λ code. refl) (λ u. Done) (look_up (Some h) s) _ (λ b e.
+    let sp = is_relocatable b.number in
+    known-changed s bytes known tells (λ code. refl) sp (seek_size n sp s.zone b.at) (size-refused sp n s.zone b.at)
+    (known-sized s bytes known tells (λ code. refl) sp h n b.at (look_up-spot h s b e).0))
 step-known (asked.ReallocateHandle None n) m bytes known = known
 step-known (asked.ReallocateHandle (Some h) n) m bytes known =
-    by_name (handle_at (Some h) m.heap) (handle_at-name h m.heap)
+    done-found s bytes known tells (λ code. refl) (λ u. Done) (handle_at (Some h) s) _ (λ k e.
+    let f = handle_at-name h s k e in
+    subst (λ (j : ℕ). KnownAfter j (is_loose (spot (is_relocatable j) s.zone))) (sym f.1)
+    (by_test f.0 (is_loose (spot (is_relocatable h) s.zone))))
   where
     s : State
     s = m.heap
@@ -202,26 +267,26 @@ step-known (asked.ReallocateHandle (Some h) n) m bytes known =
     tells : Told → ℕ → List ℕ
     tells t = put_by (asked.ReallocateHandle (Some h) n) t bytes
 
-    by_tests : for_handle (slice_get s.names h) ≡ true → (t u : Bool)
-        → Known (cond t (cond u (rebuilt (reallocated h n s.zone) s) (refused MEM_FULL s)) (refused PURGED s)).1
-        (tells (done (cond t (cond u (rebuilt (reallocated h n s.zone) s) (refused MEM_FULL s))
-        (refused PURGED s)).0))
-    by_tests is true u = known-sized s bytes known tells (λ code. refl) (reallocated h n s.zone)
-        (known-reallocated s bytes known h n is) u
-    by_tests is false u = known
+    sought : ℕ → Sought
+    sought j = around (Drop j ∷ []) [] (if_fits n (seek (Put (Relocatable j no_flags (replicate n 0))) nothing
+        (freed (is_relocatable j) s.zone)))
 
-    answer : ℕ → Answer (Unit {0})
-    answer j = if is_loose (spot (is_relocatable j) s.zone) then
-        (if is_some (phys n) then rebuilt (reallocated j n s.zone) s else refused MEM_FULL s) else refused PURGED s
+    answer : ℕ → Bool → rows.Done (Unit {0})
+    answer j t = if t then rows.changed nothing (sought j) s else rows.refused PURGED s
 
-    by_name : (r : Result calls.Known OsErr) → ((k : calls.Known) → r ≡ Ok k → (for_handle (slice_get s.names h) ≡ true)
-        × (k.number ≡ h)) → Known (for_found r s (λ k. answer k.number)).1
-        (tells (done (for_found r s (λ k. answer k.number)).0))
-    by_name (Err code) found = known
-    by_name (Ok k) found =
-        let f = found k refl in
-        subst (λ (j : ℕ). Known (answer j).1 (tells (done (answer j).0))) (sym f.1)
-        (by_tests f.0 (is_loose (spot (is_relocatable h) s.zone)) (is_some (phys n)))
+    KnownAfter : ℕ → Bool → Type 0
+    KnownAfter j t = Known (heap_after (answer j t) s) (tells (done (answer j t).reply))
+
+    by_test : for_handle (slice_get s.names h) ≡ true → (t : Bool) → KnownAfter h t
+    by_test is true =
+        let new = Relocatable h no_flags (replicate n 0) in
+        let free = freed (is_relocatable h) s.zone in
+        known-changed s bytes known tells (λ code. refl) nothing (sought h)
+        (around-refused nothing (Drop h ∷ []) [] (if_fits n (seek (Put new) nothing free))
+        (fits-refused nothing n (seek (Put new) nothing free) (seek-refused nothing (Put new) free)))
+        (λ there. known-renewed s bytes known h (replicate n 0) is (did nothing (sought h).path s.zone).zone
+        (λ of none. again-more of nothing none (is_some (phys n)) h new s.zone there))
+    by_test is false = known
 step-known (asked.EmptyHandle handle) m bytes known = by_name (handle_at handle m.heap)
   where
     by_mover : (h : ℕ) (t : Bool) → Known (cond t (let gone : Answer (Unit {0}) =
@@ -245,15 +310,6 @@ step-known (asked.HPurge handle) m bytes known = known-flags (λ f. record f { p
     known
 step-known (asked.HNoPurge handle) m bytes known = known-flags (λ f. record f { purgeable = false }) handle m.heap bytes
     known
-step-known (asked.HGetState handle) m bytes known =
-    subst (λ (s : State). Known s bytes)
-    (sym (found-same (handle_at handle m.heap) m.heap (λ k. on_block handle m.heap
-    (λ held. (Ok (block_bits held.at.here + cond (is_resource k.role) 32 0), m.heap)))
-    (λ k. found-same (look_up handle m.heap) m.heap (λ held. (
-      Ok
-          (block_bits held.at.here + cond (is_resource k.role) 32 0),
-      m.heap,
-    )) (λ held. refl)))) known
 step-known (asked.HSetState handle byte) m bytes known = known-flags
     (λ f. record { locked = byte / 128 % 2 == 1; purgeable = byte / 64 % 2 == 1 }) handle m.heap bytes known
 step-known (asked.MoveHHi handle) m bytes known = known-hoisted handle m.heap bytes known
@@ -265,120 +321,47 @@ step-known (asked.HLockHi handle) m bytes known = cases (move_h_hi handle m.heap
     cases (Ok u) = known-flags (λ f. record f { locked = true }) handle (move_h_hi handle m.heap).1 bytes
         (known-hoisted handle m.heap bytes known)
 step-known (asked.HandToHand None) m bytes known = known
-step-known (asked.HandToHand (Some h)) m bytes known = by_spot (look_up (Some h) m.heap) (look_up-spot h m.heap)
-  where
-    s : State
-    s = m.heap
-
-    tells : Told → ℕ → List ℕ
-    tells t = put_by (asked.HandToHand (Some h)) t bytes
-
-    by_ready : (sp : Block → Bool) (x : List ℕ) → x ≡ bytes h → (o : Option State)
-        → ((r : State) → o ≡ Some r → Known r bytes) → Known (if_ready o s (new_block sp x)).1
-        (tells (told_as {T = ℕ} Given (if_ready o s (new_block sp x)).0))
-    by_ready sp x is None ready = known
-    by_ready sp x is (Some r) ready = known-made r bytes (ready r refl) sp x tells
-        (λ k. ap (λ (y : List ℕ). with_bytes k y bytes) is) (λ code. refl)
-
-    by_spot : (r : Result Held OsErr) → ((k : Held) → r ≡ Ok k → (spot (is_relocatable h) s.zone ≡ Some k.at)
-        × (k.number ≡ h))
-        → Known (for_found r s (λ k. if_ready (slotted (is_relocatable k.number) s) s
-        (new_block (is_relocatable k.number) (content_of k.at.here)))).1
-        (tells (told_as {T = ℕ} Given (for_found r s (λ k. if_ready (slotted (is_relocatable k.number) s) s
-        (new_block (is_relocatable k.number) (content_of k.at.here)))).0))
-    by_spot (Err code) found = known
-    by_spot (Ok k) found =
-        by_ready (is_relocatable k.number) (content_of k.at.here)
-        (ap content_of (known-at s bytes known h k.at (found k refl).0).1) (slotted (is_relocatable k.number) s)
-        (known-slotted (is_relocatable k.number) s bytes known)
+step-known (asked.HandToHand (Some h)) m bytes known =
+    let s = m.heap in
+    let tells : Told → ℕ → List ℕ = λ t. put_by (asked.HandToHand (Some h)) t bytes in
+    done-found s bytes known tells (λ code. refl) Given (look_up (Some h) s) _ (λ a e.
+    let sp = is_relocatable a.number in
+    let x = content_of a.at.here in
+    known-made s bytes known tells (λ code. refl) sp (seek (Put (next_block x s)) sp) x
+    (seek-refused sp (Put (next_block x s)))
+    (λ z of none. seek-more of sp none (Put (next_block x s)) (λ y. tt) z)
+    (ap (λ (y : List ℕ). with_bytes (length s.names) y bytes)
+    (ap content_of (known-at s bytes known h a.at (look_up-spot h s a e).0).1)))
 step-known (asked.HandAndHand None to) m bytes known = known
-step-known (asked.HandAndHand (Some h) None) m bytes known = by_spot (look_up (Some h) m.heap)
-  where
-    tells : Told → ℕ → List ℕ
-    tells t = put_by (asked.HandAndHand (Some h) None) t bytes
-
-    by_spot : (r : Result Held OsErr)
-        → Known (for_found {T = Unit {0}} r m.heap (λ a. on_block None m.heap
-        (λ b. append (λ block. is_relocatable a.number block || is_relocatable b.number block) b.number
-        (length (content_of b.at.here)) (content_of a.at.here) m.heap))).1
-        (tells (done (for_found {T = Unit {0}} r m.heap (λ a. on_block None m.heap
-        (λ b. append (λ block. is_relocatable a.number block || is_relocatable b.number block) b.number
-        (length (content_of b.at.here)) (content_of a.at.here) m.heap))).0))
-    by_spot (Err code) = known
-    by_spot (Ok a) = known
+step-known (asked.HandAndHand (Some h) None) m bytes known =
+    done-found m.heap bytes known (λ t. bytes) (λ code. refl) (λ u. Done) (look_up (Some h) m.heap) _ (λ a e. known)
 step-known (asked.HandAndHand (Some h) (Some to)) m bytes known =
-    by_from (look_up (Some h) m.heap) (look_up-spot h m.heap)
-  where
-    s : State
-    s = m.heap
-
-    tells : Told → ℕ → List ℕ
-    tells t = put_by (asked.HandAndHand (Some h) (Some to)) t bytes
-
-    answer : ℕ → ℕ → ℕ → List ℕ → Answer (Unit {0})
-    answer i j len x = append (λ block. is_relocatable i block || is_relocatable j block) j len x s
-
-    by_to : (a : Held) → content_of a.at.here ≡ bytes h → (r : Result Held OsErr)
-        → ((b : Held) → r ≡ Ok b → (spot (is_relocatable to) s.zone ≡ Some b.at) × (b.number ≡ to))
-        → Known (for_found r s (λ b. answer a.number b.number (length (content_of b.at.here)) (content_of a.at.here))).1
-        (tells (done (for_found r s (λ b. answer a.number b.number (length (content_of b.at.here))
-        (content_of a.at.here))).0))
-    by_to a is (Err code) found = known
-    by_to a is (Ok b) found =
-        let f = found b refl in
-        let len : ℕ = length (content_of b.at.here) in
-        subst (λ (j : ℕ). Known (answer a.number j len (content_of a.at.here)).1
-        (tells (done (answer a.number j len (content_of a.at.here)).0))) (sym f.1)
-        (known-appended s bytes known (λ block. is_relocatable a.number block || is_relocatable to block) to b.at f.0
-        (content_of a.at.here) tells (ap (λ (y : List ℕ). with_bytes to (bytes to ++ y) bytes) is) (λ code. refl))
-
-    by_from : (r : Result Held OsErr) → ((a : Held) → r ≡ Ok a → (spot (is_relocatable h) s.zone ≡ Some a.at)
-        × (a.number ≡ h))
-        → Known (for_found r s (λ a. for_found (look_up (Some to) s) s
-        (λ b. answer a.number b.number (length (content_of b.at.here)) (content_of a.at.here)))).1
-        (tells (done (for_found r s (λ a. for_found (look_up (Some to) s) s
-        (λ b. answer a.number b.number (length (content_of b.at.here)) (content_of a.at.here)))).0))
-    by_from (Err code) found = known
-    by_from (Ok a) found = by_to a (ap content_of (known-at s bytes known h a.at (found a refl).0).1)
-        (look_up (Some to) s) (look_up-spot to s)
+    let s = m.heap in
+    let tells : Told → ℕ → List ℕ = λ t. put_by (asked.HandAndHand (Some h) (Some to)) t bytes in
+    done-found s bytes known tells (λ code. refl) (λ u. Done) (look_up (Some h) s) _ (λ a is.
+    done-found s bytes known tells (λ code. refl) (λ u. Done) (look_up (Some to) s) _ (λ b e.
+    let f = look_up-spot to s b e in
+    known-behind s bytes known tells (λ code. refl)
+    (λ block. is_relocatable a.number block || is_relocatable b.number block) to b (content_of a.at.here) f.0 f.1
+    (ap (λ (y : List ℕ). with_bytes to (bytes to ++ y) bytes)
+    (ap content_of (known-at s bytes known h a.at (look_up-spot h s a is).0).1))))
 step-known (asked.PtrAndHand None x) m bytes known = known
-step-known (asked.PtrAndHand (Some h) x) m bytes known = by_spot (look_up (Some h) m.heap) (look_up-spot h m.heap)
-  where
-    s : State
-    s = m.heap
-
-    tells : Told → ℕ → List ℕ
-    tells t = put_by (asked.PtrAndHand (Some h) x) t bytes
-
-    by_spot : (r : Result Held OsErr) → ((k : Held) → r ≡ Ok k → (spot (is_relocatable h) s.zone ≡ Some k.at)
-        × (k.number ≡ h))
-        → Known (for_found r s (λ k. append (is_relocatable k.number) k.number (length (content_of k.at.here)) x s)).1
-        (tells (done (for_found r s (λ k. append (is_relocatable k.number) k.number (length (content_of k.at.here))
-        x s)).0))
-    by_spot (Err code) found = known
-    by_spot (Ok k) found =
-        let f = found k refl in
-        let len : ℕ = length (content_of k.at.here) in
-        subst (λ (j : ℕ). Known (append (is_relocatable j) j len x s).1
-        (tells (done (append (is_relocatable j) j len x s).0))) (sym f.1)
-        (known-appended s bytes known (is_relocatable h) h k.at f.0 x tells refl (λ code. refl))
-step-known (asked.NewPtr n) m bytes known = by_size (is_some (phys n))
-  where
-    made : Option (List Block)
-    made = room (put_at_base (Nonrelocatable (length m.heap.names) (replicate n 0))) nothing m.heap.zone
-
-    tells : Told → ℕ → List ℕ
-    tells t = put_by (asked.NewPtr n) t bytes
-
-    by_room : (o : Option (List Block)) → made ≡ o → Known (given names.Pointer o m.heap).1
-        (tells (told_as {T = ℕ} Given (given names.Pointer o m.heap).0))
-    by_room None e = known
-    by_room (Some zone) e = known-new_pointer m.heap bytes known (replicate n 0) zone e
-
-    by_size : (t : Bool) → Known (cond t (given names.Pointer made m.heap) (refused MEM_FULL m.heap)).1
-        (tells (told_as {T = ℕ} Given (cond t (given names.Pointer made m.heap) (refused MEM_FULL m.heap)).0))
-    by_size true = by_room made refl
-    by_size false = known
+step-known (asked.PtrAndHand (Some h) x) m bytes known =
+    let s = m.heap in
+    let tells : Told → ℕ → List ℕ = λ t. put_by (asked.PtrAndHand (Some h) x) t bytes in
+    done-found s bytes known tells (λ code. refl) (λ u. Done) (look_up (Some h) s) _ (λ b e.
+    let f = look_up-spot h s b e in
+    known-behind s bytes known tells (λ code. refl) (is_relocatable b.number) h b x f.0 f.1 refl)
+step-known (asked.NewPtr n) m bytes known =
+    let s = m.heap in
+    let tells : Told → ℕ → List ℕ = λ t. put_by (asked.NewPtr n) t bytes in
+    let new = Nonrelocatable (length s.names) (replicate n 0) in
+    let sought = if_fits n (seek (Base new) nothing s.zone) in
+    known-given s bytes known tells (λ code. refl) nothing names.Pointer sought
+    (λ there. known-new_pointer s bytes known (replicate n 0) (did nothing sought.path s.zone).zone
+    (λ of none. if-more of nothing none (is_some (phys n)) (Base new) (λ z. tt) s.zone))
+    (known-still s bytes known tells (λ code. refl) nothing sought
+    (fits-refused nothing n (seek (Base new) nothing s.zone) (seek-refused nothing (Base new) s.zone)))
 step-known (asked.DisposePtr None) m bytes known = known
 step-known (asked.DisposePtr (Some p)) m bytes known = by_spot (pointed_at (Some p) m.heap) (pointed_at-spot p m.heap)
   where
@@ -395,36 +378,18 @@ step-known (asked.DisposePtr (Some p)) m bytes known = by_spot (pointed_at (Some
         let f = found k refl in
         subst (λ (j : ℕ). Known (answer j).1 bytes) (sym f.1) (known-disposed_pointer s bytes known p
         (known-pointed s bytes known p k.at f.0).1)
-step-known (asked.GetPtrSize pointer) m bytes known =
-    subst (λ (s : State). Known s bytes) (sym (found-same (pointed_at pointer m.heap) m.heap
-    (λ held. (Ok (length (content_of held.at.here)), m.heap)) (λ held. refl))) known
 step-known (asked.SetPtrSize None n) m bytes known = known
-step-known (asked.SetPtrSize (Some p) n) m bytes known = by_spot (pointed_at (Some p) m.heap) (pointed_at-spot p m.heap)
-  where
-    s : State
-    s = m.heap
-
-    tells : Told → ℕ → List ℕ
-    tells t = put_by (asked.SetPtrSize (Some p) n) t bytes
-
-    grew : ℕ → Option (List Block)
-    grew j = grow (is_nonrelocatable j) nothing n s.zone
-
-    answer : ℕ → Answer (Unit {0})
-    answer j = if is_some (phys n) then rebuilt (grew j) s else refused MEM_FULL s
-
-    by_spot : (r : Result Held OsErr) → ((k : Held) → r ≡ Ok k → (spot (is_nonrelocatable p) s.zone ≡ Some k.at)
-        × (k.number ≡ p)) → Known (for_found r s (λ k. answer k.number)).1
-        (tells (done (for_found r s (λ k. answer k.number)).0))
-    by_spot (Err code) found = known
-    by_spot (Ok k) found =
-        let f = found k refl in
-        known-sized s bytes known tells (λ code. refl) (grew k.number)
-        (λ zone e. known-grown_pointer s bytes known p n k.at zone f.0 (subst (λ (j : ℕ). grew j ≡ Some zone) f.1 e))
-        (is_some (phys n))
-step-known asked.FreeMem m bytes known = known
-step-known asked.MaxBlock m bytes known = known
-step-known asked.PurgeSpace m bytes known = known
+step-known (asked.SetPtrSize (Some p) n) m bytes known =
+    let s = m.heap in
+    let tells : Told → ℕ → List ℕ = λ t. put_by (asked.SetPtrSize (Some p) n) t bytes in
+    let test = is_nonrelocatable p in
+    done-found s bytes known tells (λ code. refl) (λ u. Done) (pointed_at (Some p) s) _ (λ b e.
+    let there = (pointed_at-spot p s b e).0 in
+    let sought = seek_size n nothing s.zone b.at in
+    known-changed s bytes known tells (λ code. refl) nothing sought (size-refused nothing n s.zone b.at)
+    (λ found. known-grown_pointer s bytes known p n b.at (did nothing sought.path s.zone).zone there
+    (λ of none. size-new of nothing none n s.zone b.at test
+    (same-pointer p n b.at.here (spot-passes test s.zone b.at there)) there (known.single p) found)))
 step-known (asked.CompactMem n) m bytes known = known-less m.heap (compacted (phys n) m.heap.zone) bytes
     (λ of none. settled-le of none (runs_settled (phys n) m.heap.zone) m.heap.zone) known
 step-known (asked.PurgeMem n) m bytes known =
@@ -435,14 +400,26 @@ step-known asked.MaxMem m bytes known =
     known-less m.heap (settled (length (runs left)) left) bytes
     (λ of none. let p = purged-le of none (purgeable m.heap.zone) nothing m.heap.zone in
     let q = settled-le of none (length (runs left)) left in omega arith) known
-step-known (asked.ReserveMem n) m bytes known = by_size (phys n) refl
+step-known (asked.ReserveMem n) m bytes known =
+    known-changed s bytes known (λ t. bytes) (λ code. refl) nothing (rows.room_for (phys n) s.zone)
+    (room_for-refused (phys n) s.zone)
+    (λ there. known-less s (did nothing (rows.room_for (phys n) s.zone).path s.zone).zone bytes
+    (λ of none. less of none (phys n)) known)
   where
-    by_size : (o : Option ℕ) → phys n ≡ o → Known (reserve_mem n m.heap).1 bytes
-    by_size None e = rw e known
-    by_size (Some p) e = rw e (known-rebuilt m.heap bytes known (room (reserved p) nothing m.heap.zone)
-        (λ zone made of none. reserved-le of none p nothing m.heap.zone zone made))
-step-known asked.MoreMasters m bytes known = known-masters m.heap bytes known
-step-known asked.MemError m bytes known = known
+    s : State
+    s = m.heap
+
+    less : (of : Block → ℕ) → SeesNoFree of → (o : Option ℕ)
+        → total of (did nothing (rows.room_for o s.zone).path s.zone).zone ≤ total of s.zone
+    less of none None = omega arith
+    less of none (Some p) = let l = seek-more of nothing none (Base (Free p)) (λ z. tt) s.zone in
+        omega (arith, none p, l)
+step-known asked.MoreMasters m bytes known =
+    let sought = seek (Base Masters) nothing m.heap.zone in
+    known-changed m.heap bytes known (λ t. bytes) (λ code. refl) nothing sought
+    (seek-refused nothing (Base Masters) m.heap.zone)
+    (λ there. known-based m.heap bytes known (did nothing sought.path m.heap.zone).zone
+    (λ of none. seek-more of nothing none (Base Masters) (λ z. tt) m.heap.zone))
 step-known (asked.Put None i x) m bytes known = known
 step-known (asked.Put (Some h) i x) m bytes known =
     known-written_at m.heap bytes known (is_relocatable h) i x (λ t. put_by (asked.Put (Some h) i x) t bytes)
@@ -450,17 +427,10 @@ step-known (asked.Put (Some h) i x) m bytes known =
     (λ at found. known-put m.heap bytes known h i x at found (with_bytes h (written i x (bytes h)) bytes)
     (with-other h (written i x (bytes h)) bytes) (sym (with-same h (written i x (bytes h)) bytes)))
     (look_up (Some h) m.heap) (λ k is. (look_up-spot h m.heap k is).0)
-step-known (asked.Show handle) m bytes known =
-    subst (λ (s : State). Known s bytes) (sym (found-same (look_up handle m.heap) m.heap
-    (λ held. (Ok (content_of held.at.here), m.heap)) (λ held. refl))) known
 step-known (asked.PutPtr None i x) m bytes known = known
 step-known (asked.PutPtr (Some p) i x) m bytes known =
     known-written_at m.heap bytes known (is_nonrelocatable p) i x (λ t. put_by (asked.PutPtr (Some p) i x) t bytes)
     (λ code. refl) (λ at found. known-put_pointer m.heap bytes known p i x at found) (pointed_at (Some p) m.heap)
     (λ k is. (pointed_at-spot p m.heap k is).0)
-step-known (asked.ShowPtr pointer) m bytes known =
-    subst (λ (s : State). Known s bytes) (sym (found-same (pointed_at pointer m.heap) m.heap
-    (λ held. (Ok (content_of held.at.here), m.heap)) (λ held. refl))) known
-step-known (asked.Where name) m bytes known =
-    subst (λ (s : State). Known s bytes) (sym (found-same (block_named name m.heap) m.heap
-    (λ held. (Ok (sizes held.at.below + 16), m.heap)) (λ held. refl))) known
+step-known a m bytes known =
+    subst (λ (s : State). Known s (put_by a (answered a m).0 bytes)) (sym (reads-same a refl m)) known

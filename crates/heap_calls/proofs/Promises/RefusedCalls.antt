@@ -1,35 +1,41 @@
-use Rattle.std.proofs.Common.{◌≡◌, ◌≢◌, ℕ, ◌+◌, ◌≤◌, Bool, true, false, ◌||◌, List, ◌∷◌, ◌++◌, length, refl, sym, ◌∙◌}
-use Rattle.std.proofs.Common.{ap, subst, cond, arith, Option, Some, None, Result, Ok, Err, replicate, nat_le, nat_lt}
+use Rattle.std.proofs.Common.{◌≡◌, ◌≢◌, ℕ, ◌+◌, ◌≤◌, Bool, true, false, ◌||◌, List, [], ◌∷◌, ◌++◌, length, refl, sym}
+use Rattle.std.proofs.Common.{◌∙◌}
+use Rattle.std.proofs.Common.{ap, subst, cond, arith, Option, Some, None, Result, Ok, Err, replicate, nat_le}
 use Rattle.std.proofs.Common.{slice_get, slice_set, ◌/◌, ◌%◌, ◌==◌}
 use Rattle.std.specs.Option.{option_map, ok_or}
-use Rattle.std.specs.Prelude.{is_some, unwrap_or}
+use Rattle.std.specs.Prelude.{unwrap_or}
 use Rattle.mac_words.specs.Size.{phys}
 use Rattle.mac_words.specs.declared.code.OsErr.{OsErr}
-use Rattle.mac_words.specs.declared.code.TheConstants.OsErr.{NIL_HANDLE, MEM_FULL, LOCKED, PROFILE, PURGED}
+use Rattle.mac_words.specs.declared.code.TheConstants.OsErr.{NIL_HANDLE, LOCKED, PROFILE, PURGED}
 use Rattle.block_store.specs.declared.flags.Flags.{Flags}
 use Rattle.block_store.specs.Block.{Block, Nonrelocatable, Masters, Relocatable, is_mover, is_relocatable, is_nonrelocatable, content_of}
 use Rattle.block_store.specs.Block.{with_content, no_flags, sizes, tidy, count}
 use Rattle.windows.specs.Writes.{written}
-use Rattle.block_store.specs.Room.{Spot, spot, put_in_place, put_at_base, room}
-use Rattle.block_store.specs.Grow.{freed, grow}
+use Rattle.block_store.specs.Room.{Spot, spot}
+use Rattle.block_store.specs.Grow.{freed}
 use Rattle.block_store.proofs.Zone.Tidy.{spot-is, spot-passes}
 use Rattle.block_store.proofs.Zone.Totals.{total-append}
 use Rattle.heap_calls.specs.State.{State, Memory, Role, Plain, Resource, SystemResource, Meaning, Handle, Pointer}
-use Rattle.heap_calls.specs.State.{Disposed, used_slots, all_slots}
+use Rattle.heap_calls.specs.State.{Disposed}
 use Rattle.heap_calls.specs.Answer.{Answer, Known, Held, nothing, given, refused, disposed_of, rebuilt, flagged}
 use Rattle.heap_calls.specs.Answer.{change_flags, hoisted, look_up, held_at, handle_at, known_as, for_found, written_at}
 use Rattle.heap_calls.specs.Answer.{on_block, code_of, without}
 use Rattle.heap_calls.specs.Answer as calls
-use Rattle.heap_calls.specs.Slots.{slotted, if_ready, new_block, more_masters, new_handle, new_empty_handle}
-use Rattle.heap_calls.specs.Pointers.{pointed_at, block_named, reserved, reserve_mem, new_pointer, dispose_pointer}
-use Rattle.heap_calls.specs.Pointers.{get_pointer_size, set_pointer_size, put_pointer, show_pointer, place_of}
-use Rattle.heap_calls.specs.Pointers.{add_masters}
-use Rattle.heap_calls.specs.Purging.{is_resource, block_bits, bit, emptied_at, is_loose, reallocated, h_purge}
-use Rattle.heap_calls.specs.Purging.{h_no_purge, h_get_state, h_set_state, empty_handle, reallocate_handle, purge_mem}
-use Rattle.heap_calls.specs.Copying.{append, appended, hand_to_hand, hand_and_hand, pointer_and_hand}
+use Rattle.heap_calls.specs.Pointers.{pointed_at, block_named, dispose_pointer}
+use Rattle.heap_calls.specs.Pointers.{get_pointer_size, put_pointer, show_pointer, place_of}
+use Rattle.heap_calls.specs.Purging.{is_resource, block_bits, bit, emptied_at, is_loose, h_purge}
+use Rattle.heap_calls.specs.Purging.{h_no_purge, h_get_state, h_set_state, empty_handle, purge_mem}
 use Rattle.mac_words.specs.Told.{Told, Done, Given, Number, Bytes, Refused}
 use Rattle.heap_calls.specs.Asked.{Asked, told_as}
 use Rattle.heap_calls.specs.Table.{answered}
+use Rattle.moves.specs.Moves.{Move, Put, Base, Drop, Write, Did, did}
+use Rattle.moves.specs.Seeking.{Sought, seek, if_fits, seek_slot, seek_size, around}
+use Rattle.moves.proofs.Paths.{did-append}
+use Rattle.moves.proofs.Refused.{Refuses, seek-refused, fits-refused, slot-refused, size-refused, around-refused}
+use Rattle.heap_calls.proofs.Rows.Found.{room_for-refused}
+use Rattle.heap_calls.specs.Rows as rows
+use Rattle.heap_calls.specs.Rows.{heap_after, answer_made, is_unused, next_block, reply_of}
+use Rattle.heap_calls.proofs.Same.NewBlocks.{slotted-is, slot-agrees, slot_after, ready_with}
 use Rattle.heap_calls.specs.Asked as asked
 use Rattle.heap_calls.specs.Refused.{code_left}
 use Rattle.heap_calls.specs.Slots.{slotted_zone}
@@ -96,30 +102,6 @@ found-leaves : {A T : Type 0} (r : Result A OsErr) (s : State) (answer : A → A
 found-leaves (Err why) s answer each code e = refl
 found-leaves (Ok k) s answer each code e = each k code e
 
-either-leaves : {T : Type 0} (t : Bool) (zone : List Block) (s : State) (one other : Answer T) → Leaves zone s one
-    → Leaves zone s other → Leaves zone s (cond t one other)
-either-leaves true zone s one other first second = first
-either-leaves false zone s one other first second = second
-
-rebuilt-leaves : (o : Option (List Block)) (s : State) → Leaves s.zone s (rebuilt o s)
-rebuilt-leaves None s code e = refl
-rebuilt-leaves (Some zone) s code e = cc
-
-given-leaves : (name : Meaning) (o : Option (List Block)) (s : State) → Leaves s.zone s (given name o s)
-given-leaves name None s code e = refl
-given-leaves name (Some zone) s code e = cc
-
-appended-leaves : (sp : Block → Bool) (h len : ℕ) (x : List ℕ) (o : Option (List Block)) (s : State)
-    → Leaves s.zone s (appended sp h len x o s)
-appended-leaves sp h len x None s code e = refl
-appended-leaves sp h len x (Some zone) s code e = cc
-
-append-leaves : (sp : Block → Bool) (h len : ℕ) (x : List ℕ) (s : State) → Leaves s.zone s (append sp h len x s)
-append-leaves sp h len x s =
-    either-leaves (is_some (phys (len + length x))) s.zone s
-    (appended sp h len x (grow (is_relocatable h) sp (len + length x) s.zone) s) (refused MEM_FULL s)
-    (appended-leaves sp h len x (grow (is_relocatable h) sp (len + length x) s.zone) s) (refused-leaves MEM_FULL s)
-
 written-leaves : (i : ℕ) (x : List ℕ) (at : Spot) (s : State) → Leaves s.zone s (written_at i x at s)
 written-leaves i x at s = by_test (nat_le (i + length x) (length (content_of at.here)))
   where
@@ -129,12 +111,6 @@ written-leaves i x at s = by_test (nat_le (i + length x) (length (content_of at.
     by_test : (t : Bool) → Leaves {T = Unit {0}} s.zone s (cond t (Ok tt, after) (refused PROFILE s))
     by_test true = done tt s.zone s after
     by_test false = refused-leaves PROFILE s
-
-sized-leaves : (o : Option (List Block)) (n : ℕ) (s : State)
-    → Leaves s.zone s (cond (is_some (phys n)) (rebuilt o s) (refused MEM_FULL s))
-sized-leaves o n s =
-    either-leaves (is_some (phys n)) s.zone s (rebuilt o s) (refused MEM_FULL s) (rebuilt-leaves o s)
-    (refused-leaves MEM_FULL s)
 
 disposed-leaves : (role : Role) (h : ℕ) (s : State) → Leaves s.zone s (disposed_of role h s)
 disposed-leaves Plain h s = done tt s.zone s (without h s)
@@ -157,52 +133,6 @@ flags-leave change handle s =
     found-leaves (look_up handle s) s
     (λ held. (Ok tt, record s { zone = held.at.below ++ flagged change held.at.here ∷ held.at.above }))
     (λ held. done tt s.zone s (record s { zone = held.at.below ++ flagged change held.at.here ∷ held.at.above }))
-
--- a new Masters block stays, and so does what the search for it emptied and moved
-ready-leaves : {T : Type 0} (sp : Block → Bool) (s : State) (answer : State → Answer T)
-    → ((r : State) → Leaves r.zone r (answer r)) → Leaves (slotted_zone sp s) s (if_ready (slotted sp s) s answer)
-ready-leaves {T = T} sp s answer each = by_slots (nat_lt (used_slots s) (all_slots s))
-  where
-    leaves : Option State → Type 0
-    leaves o = Leaves {T = T} (unwrap_or (option_map (λ (r : State). r.zone) o) s.zone) s (if_ready o s answer)
-
-    by_room : (o : Option (List Block)) → leaves (option_map (λ zone. record s { zone = zone }) o)
-    by_room None = refused-leaves MEM_FULL s
-    by_room (Some zone) = each (record s { zone = zone })
-
-    by_slots : (t : Bool) → leaves (cond t (Some s) (more_masters sp s))
-    by_slots true = each s
-    by_slots false = by_room (room (put_at_base Masters) sp s.zone)
-
-made-leaves : (sp : Block → Bool) (x : List ℕ) (s : State) → Leaves s.zone s (new_block sp x s)
-made-leaves sp x s =
-    given-leaves (Handle Plain) (room (put_in_place (Relocatable (length s.names) no_flags x)) sp s.zone) s
-
-handle-leaves : (n : ℕ) (s : State) → Leaves (slotted_zone nothing s) s (new_handle n s)
-handle-leaves n s =
-    ready-leaves nothing s (λ r. cond (is_some (phys n)) (new_block nothing (replicate n 0) r) (refused MEM_FULL r))
-    (λ r. either-leaves (is_some (phys n)) r.zone r (new_block nothing (replicate n 0) r) (refused MEM_FULL r)
-    (made-leaves nothing (replicate n 0) r) (refused-leaves MEM_FULL r))
-
--- NewEmptyHandle isn't refused where there is a slot
-empty-leaves : (s : State) → Leaves s.zone s (new_empty_handle s)
-empty-leaves s = by_ready (slotted nothing s)
-  where
-    by_ready : (o : Option State) → Leaves s.zone s (if_ready o s (λ r. given (Handle Plain) (Some r.zone) r))
-    by_ready None = refused-leaves MEM_FULL s
-    by_ready (Some r) = done (length r.names) s.zone s (given (Handle Plain) (Some r.zone) r).1
-
-copy-leaves : (handle : Option ℕ) (s : State) → Leaves (copying_zone (look_up handle s) s) s (hand_to_hand handle s)
-copy-leaves handle s = by_held (look_up handle s)
-  where
-    by_held : (r : Result Held OsErr)
-        → Leaves (copying_zone r s) s
-        (for_found r s (λ held. if_ready (slotted (is_relocatable held.number) s) s
-        (new_block (is_relocatable held.number) (content_of held.at.here))))
-    by_held (Err why) = refused-leaves why s
-    by_held (Ok held) =
-        ready-leaves (is_relocatable held.number) s (new_block (is_relocatable held.number) (content_of held.at.here))
-        (made-leaves (is_relocatable held.number) (content_of held.at.here))
 
 -- a handle with a block has one where its block is in another zone
 found-again : (k : ℕ) (zone : List Block) (s : State) (held : Held) → look_up (Some k) s ≡ Ok held
@@ -291,38 +221,115 @@ locked_high-leaves (Some k) s = by_held (look_up (Some k) s) (λ held is. is)
     by_held (Err why) is = refused-leaves why s
     by_held (Ok held) is = by_mover held (is held refl) (is_mover held.at.here)
 
-renewed-leaves : (handle : Option ℕ) (n : ℕ) (s : State) → Leaves s.zone s (reallocate_handle handle n s)
-renewed-leaves handle n s =
-    found-leaves (handle_at handle s) s
-    (λ k. cond (is_loose (spot (is_relocatable k.number) s.zone))
-    (cond (is_some (phys n)) (rebuilt (reallocated k.number n s.zone) s) (refused MEM_FULL s)) (refused PURGED s))
-    (λ k. either-leaves (is_loose (spot (is_relocatable k.number) s.zone)) s.zone s
-    (cond (is_some (phys n)) (rebuilt (reallocated k.number n s.zone) s) (refused MEM_FULL s)) (refused PURGED s)
-    (sized-leaves (reallocated k.number n s.zone) n s) (refused-leaves PURGED s))
+-- a path that finds no room leaves the zone
+done-found : {A T : Type 0} (r : Result A OsErr) (s : State) (call : A → rows.Done T)
+    → ((k : A) → Leaves s.zone s ((call k).reply, heap_after (call k) s))
+    → Leaves s.zone s ((rows.for_found r s call).reply, heap_after (rows.for_found r s call) s)
+done-found (Err why) s call each code e = refl
+done-found (Ok k) s call each code e = each k code e
 
-reserved-leaves : (n : ℕ) (s : State) → Leaves s.zone s (reserve_mem n s)
-reserved-leaves n s = by_size (phys n) refl
+module _ (sp : Block → Bool) (r : Sought) (s : State)
   where
-    by_size : (o : Option ℕ) → phys n ≡ o → Leaves s.zone s (reserve_mem n s)
-    by_size None e = rw e (refused-leaves MEM_FULL s)
-    by_size (Some p) e = rw e (rebuilt-leaves (room (reserved p) nothing s.zone) s)
+    -- a path that found room isn't refused, and one that found none leaves this zone
+    refused-path : {T : Type 0} (zone : List Block) (value : T) (names : Bool → List Meaning) → names false ≡ s.names
+        → (r.found ≡ false → (did sp r.path s.zone).zone ≡ zone)
+        → Leaves {T = T} zone s (
+          reply_of r.found value,
+          record {
+            zone = (did sp r.path s.zone).zone;
+            names = names r.found;
+          },
+        )
+    refused-path zone value names same left code e = by_room r.found refl e
+      where
+        by_room : (t : Bool) → r.found ≡ t → reply_of t value ≡ Err code
+            → (let now : State = record { zone = (did sp r.path s.zone).zone; names = names t } in now)
+            ≡ record s { zone = zone }
+        by_room true is e = cc
+        by_room false is e = ap (λ (z : List Block). let now : State = record { zone = z; names = names false } in now)
+            (left is) ∙ ap (λ (n : List Meaning). let now : State = record { zone = zone; names = n } in now) same
 
--- a call that its row refuses leaves this zone, its names as they were, this code, and the heap where it lay
-abbrev pub RowLeaves : Asked → Memory → Type 0
-RowLeaves a m =
-    (code : OsErr) → (answered a m).0 ≡ Refused code
-    → ((answered a m).1.heap ≡ record m.heap { zone = zone_left a m.heap })
-    × ((answered a m).1.log.code ≡ code_left a code m.log.code)
-    × ((answered a m).1.window ≡ m.window)
+    still : Refuses sp r → r.found ≡ false → (did sp r.path s.zone).zone ≡ s.zone
+    still only none = ap (λ (d : Did). d.zone) ((only none).1 s.zone)
+
+    changed-leaves : Refuses sp r → Leaves s.zone s ((rows.changed sp r s).reply, heap_after (rows.changed sp r s) s)
+    changed-leaves only = refused-path s.zone tt (λ t. s.names) refl (still only)
+
+    given-leaves : (name : Meaning) → Refuses sp r
+        → Leaves s.zone s ((rows.given name sp r s).reply, heap_after (rows.given name sp r s) s)
+    given-leaves name only =
+        refused-path s.zone (length s.names) (λ t. cond t (s.names ++ name ∷ []) s.names) refl (still only)
+
+-- a new Masters block stays, and so does what the search for it emptied and moved
+made-leaves : (sp : Block → Bool) (block : List Block → Sought) (s : State) → ((z : List Block) → Refuses sp (block z))
+    → Leaves (slotted_zone sp s) s ((rows.made sp block s).reply, heap_after (rows.made sp block s) s)
+made-leaves sp block s only =
+    refused-path sp sought s (slotted_zone sp s) (length s.names) (λ t. cond t (s.names ++ Handle Plain ∷ []) s.names)
+    refl (λ none. by_slot slot.found none ∙ sym slot-left)
+  where
+    slot : Sought
+    slot = seek_slot (is_unused s) sp s.zone
+
+    slot_zone : List Block
+    slot_zone = (did sp slot.path s.zone).zone
+
+    then_so : Bool → Sought
+    then_so t = cond t (record { found = (block slot_zone).found; path = slot.path ++ (block slot_zone).path }) slot
+
+    sought : Sought
+    sought = then_so slot.found
+
+    slot-left : slotted_zone sp s ≡ slot_zone
+    slot-left = ap (λ (o : Option State). unwrap_or (option_map (λ (ready : State). ready.zone) o) s.zone) (slotted-is
+        sp s)
+        ∙ zone-left (slot_after sp s) ∙ (slot-agrees sp s).leaves
+      where
+        zone-left : (o : Option (List Block)) → unwrap_or (option_map (λ (ready : State). ready.zone)
+            (option_map (ready_with s) o)) s.zone ≡ unwrap_or o s.zone
+        zone-left None = refl
+        zone-left (Some z) = refl
+
+    by_slot : (t : Bool) → (then_so t).found ≡ false → (did sp (then_so t).path s.zone).zone ≡ slot_zone
+    by_slot true none = ap (λ (d : Did). d.zone) (did-append sp slot.path (block slot_zone).path s.zone)
+        ∙ ap (λ (d : Did). d.zone) ((only slot_zone none).1 slot_zone)
+    by_slot false none = refl
+
+again-leaves : (t : Bool) (sp : Block → Bool) (r : Sought) (why : OsErr) (s : State) → Refuses sp r
+    → Leaves s.zone s (
+      (cond t (rows.changed sp r s) (rows.refused why s)).reply,
+      heap_after (cond t (rows.changed sp r s) (rows.refused why s)) s,
+    )
+again-leaves true sp r why s only code e = changed-leaves sp r s only code e
+again-leaves false sp r why s only code e = refl
+
+append-leaves : (sp : Block → Bool) (held : Held) (x : List ℕ) (s : State)
+    → Leaves s.zone s ((rows.append sp held x s).reply, heap_after (rows.append sp held x s) s)
+append-leaves sp held x s =
+    let len = length (content_of held.at.here) in
+    let sought = seek_size (len + length x) sp s.zone held.at in
+    let write : List Move = Write held.number len x ∷ [] in
+    changed-leaves sp (around [] write sought) s
+    (around-refused sp [] write sought (size-refused sp (len + length x) s.zone held.at))
+
+-- a call that is refused leaves this zone, its names as they were, this code, and the heap where it lay
+abbrev LeavesSo : Asked → Memory → Told × Memory → Type 0
+LeavesSo a m x =
+    (code : OsErr) → x.0 ≡ Refused code
+    → (x.1.heap ≡ record m.heap { zone = zone_left a m.heap })
+    × (x.1.log.code ≡ code_left a code m.log.code)
+    × (x.1.window ≡ m.window)
 
 -- each call, refused, leaves its heap so
-pub refused_leaves : (a : Asked) (m : Memory) → RowLeaves a m
+pub refused_leaves : (a : Asked) (m : Memory) → LeavesSo a m (answered a m)
 refused_leaves (asked.NewHandle n) m =
-    noted Given given-tells (new_handle n m.heap) m (answered (asked.NewHandle n) m).1 (slotted_zone nothing m.heap)
-    (handle-leaves n m.heap) refl refl refl
+    noted Given given-tells (answer_made (rows.new_handle n) m.heap) m (answered (asked.NewHandle n) m).1 (slotted_zone
+    nothing m.heap)
+    (made-leaves nothing (λ z. if_fits n (seek (Put (next_block (replicate n 0) m.heap)) nothing z)) m.heap
+    (λ z. fits-refused nothing n _ (seek-refused nothing (Put (next_block (replicate n 0) m.heap)) z))) refl refl refl
 refused_leaves asked.NewEmptyHandle m =
-    noted Given given-tells (new_empty_handle m.heap) m (answered asked.NewEmptyHandle m).1 m.heap.zone
-    (empty-leaves m.heap) refl refl refl
+    noted Given given-tells (answer_made rows.new_empty_handle m.heap) m (answered asked.NewEmptyHandle m).1 m.heap.zone
+    (given-leaves nothing (seek_slot (is_unused m.heap) nothing m.heap.zone) m.heap (Handle Plain)
+    (slot-refused nothing (is_unused m.heap) m.heap.zone)) refl refl refl
 refused_leaves (asked.DisposeHandle handle) m =
     noted (λ _. Done) done-tells (calls.dispose_handle handle m.heap) m (answered (asked.DisposeHandle handle) m).1
     m.heap.zone
@@ -334,17 +341,18 @@ refused_leaves (asked.GetHandleSize handle) m =
     (found-leaves (look_up handle m.heap) m.heap (λ held. (Ok (length (content_of held.at.here)), m.heap))
     (λ held code e. refl)) refl refl refl
 refused_leaves (asked.SetHandleSize handle n) m =
-    noted (λ _. Done) done-tells (calls.set_handle_size handle n m.heap) m (answered (asked.SetHandleSize handle n) m).1
-    m.heap.zone
-    (found-leaves (look_up handle m.heap) m.heap
-    (λ held. cond (is_some (phys n))
-    (rebuilt (grow (is_relocatable held.number) (is_relocatable held.number) n m.heap.zone) m.heap)
-    (refused MEM_FULL m.heap))
-    (λ held. sized-leaves (grow (is_relocatable held.number) (is_relocatable held.number) n m.heap.zone) n m.heap))
-    refl refl refl
+    noted (λ _. Done) done-tells (answer_made (rows.set_handle_size handle n) m.heap) m (answered (asked.SetHandleSize
+    handle n) m).1 m.heap.zone
+    (done-found (look_up handle m.heap) m.heap _ (λ held. changed-leaves (is_relocatable held.number)
+    (seek_size n (is_relocatable held.number) m.heap.zone held.at) m.heap
+    (size-refused (is_relocatable held.number) n m.heap.zone held.at))) refl refl refl
 refused_leaves (asked.ReallocateHandle handle n) m =
-    noted (λ _. Done) done-tells (reallocate_handle handle n m.heap) m (answered (asked.ReallocateHandle handle n) m).1
-    m.heap.zone (renewed-leaves handle n m.heap) refl refl refl
+    noted (λ _. Done) done-tells (answer_made (rows.reallocate_handle handle n) m.heap) m (answered
+    (asked.ReallocateHandle handle n) m).1 m.heap.zone
+    (done-found (handle_at handle m.heap) m.heap _ (λ k. again-leaves (is_loose (spot (is_relocatable k.number)
+    m.heap.zone)) nothing _ PURGED m.heap (around-refused nothing (Drop k.number ∷ []) [] _ (fits-refused nothing n _
+    (seek-refused nothing (Put (Relocatable k.number no_flags (replicate n 0)))
+    (freed (is_relocatable k.number) m.heap.zone)))))) refl refl refl
 refused_leaves (asked.EmptyHandle handle) m =
     noted (λ _. Done) done-tells (empty_handle handle m.heap) m (answered (asked.EmptyHandle handle) m).1 m.heap.zone
     (found-leaves (handle_at handle m.heap) m.heap
@@ -381,31 +389,39 @@ refused_leaves (asked.HLockHi handle) m =
     noted (λ _. Done) done-tells (calls.h_lock_hi handle m.heap) m (answered (asked.HLockHi handle) m).1 m.heap.zone
     (locked_high-leaves handle m.heap) refl refl refl
 refused_leaves (asked.HandToHand handle) m =
-    noted Given given-tells (hand_to_hand handle m.heap) m (answered (asked.HandToHand handle) m).1
-    (copying_zone (look_up handle m.heap) m.heap) (copy-leaves handle m.heap) refl refl refl
-refused_leaves (asked.HandAndHand from to) m =
-    noted (λ _. Done) done-tells (hand_and_hand from to m.heap) m (answered (asked.HandAndHand from to) m).1 m.heap.zone
-    (found-leaves (look_up from m.heap) m.heap (λ a. on_block to m.heap (joined a))
-    (λ a. found-leaves (look_up to m.heap) m.heap (joined a)
-    (λ b. append-leaves (λ block. is_relocatable a.number block || is_relocatable b.number block) b.number
-    (length (content_of b.at.here)) (content_of a.at.here) m.heap))) refl refl refl
+    noted Given given-tells (answer_made (rows.hand_to_hand handle) m.heap) m (answered (asked.HandToHand handle) m).1
+    (copying_zone (look_up handle m.heap) m.heap) (by_held (look_up handle m.heap)) refl refl refl
   where
-    joined : Held → Held → Answer (Unit {0})
-    joined a b =
-        append (λ block. is_relocatable a.number block || is_relocatable b.number block) b.number
-        (length (content_of b.at.here)) (content_of a.at.here) m.heap
+    call : Held → rows.Done ℕ
+    call held = rows.made (is_relocatable held.number) (seek (Put (next_block (content_of held.at.here) m.heap))
+        (is_relocatable held.number)) m.heap
+
+    by_held : (r : Result Held OsErr) → Leaves (copying_zone r m.heap) m.heap (
+      (rows.for_found r m.heap call).reply,
+      heap_after (rows.for_found r m.heap call) m.heap,
+    )
+    by_held (Err why) code e = refl
+    by_held (Ok held) code e = made-leaves (is_relocatable held.number)
+        (seek (Put (next_block (content_of held.at.here) m.heap)) (is_relocatable held.number)) m.heap
+        (seek-refused (is_relocatable held.number) (Put (next_block (content_of held.at.here) m.heap))) code e
+refused_leaves (asked.HandAndHand from to) m =
+    noted (λ _. Done) done-tells (answer_made (rows.hand_and_hand from to) m.heap) m (answered (asked.HandAndHand from
+    to) m).1 m.heap.zone
+    (done-found (look_up from m.heap) m.heap _ (λ a. done-found (look_up to m.heap) m.heap _ (λ b. append-leaves
+    (λ block. is_relocatable a.number block || is_relocatable b.number block) b (content_of a.at.here) m.heap))) refl
+    refl refl
 refused_leaves (asked.PtrAndHand handle x) m =
-    noted (λ _. Done) done-tells (pointer_and_hand handle x m.heap) m (answered (asked.PtrAndHand handle x) m).1
-    m.heap.zone
-    (found-leaves (look_up handle m.heap) m.heap
-    (λ held. append (is_relocatable held.number) held.number (length (content_of held.at.here)) x m.heap)
-    (λ held. append-leaves (is_relocatable held.number) held.number (length (content_of held.at.here)) x m.heap))
-    refl refl refl
+    noted (λ _. Done) done-tells (answer_made (rows.pointer_and_hand handle x) m.heap) m (answered (asked.PtrAndHand
+    handle x) m).1 m.heap.zone
+    (done-found (look_up handle m.heap) m.heap _
+    (λ held. append-leaves (is_relocatable held.number) held x m.heap)) refl refl refl
 refused_leaves (asked.NewPtr n) m =
-    let made = room (put_at_base (Nonrelocatable (length m.heap.names) (replicate n 0))) nothing m.heap.zone in
-    noted Given given-tells (new_pointer n m.heap) m (answered (asked.NewPtr n) m).1 m.heap.zone
-    (either-leaves (is_some (phys n)) m.heap.zone m.heap (given Pointer made m.heap) (refused MEM_FULL m.heap)
-    (given-leaves Pointer made m.heap) (refused-leaves MEM_FULL m.heap)) refl refl refl
+    noted Given given-tells (answer_made (rows.new_pointer n) m.heap) m (answered (asked.NewPtr n) m).1 m.heap.zone
+    (given-leaves nothing (if_fits n sought) m.heap Pointer (fits-refused nothing n sought (seek-refused nothing
+    (Base (Nonrelocatable (length m.heap.names) (replicate n 0))) m.heap.zone))) refl refl refl
+  where
+    sought : Sought
+    sought = seek (Base (Nonrelocatable (length m.heap.names) (replicate n 0))) nothing m.heap.zone
 refused_leaves (asked.DisposePtr pointer) m =
     noted (λ _. Done) done-tells (dispose_pointer pointer m.heap) m (answered (asked.DisposePtr pointer) m).1
     m.heap.zone
@@ -419,12 +435,11 @@ refused_leaves (asked.GetPtrSize pointer) m =
     (found-leaves (pointed_at pointer m.heap) m.heap (λ held. (Ok (length (content_of held.at.here)), m.heap))
     (λ held code e. refl)) refl refl refl
 refused_leaves (asked.SetPtrSize pointer n) m =
-    noted (λ _. Done) done-tells (set_pointer_size pointer n m.heap) m (answered (asked.SetPtrSize pointer n) m).1
-    m.heap.zone
-    (found-leaves (pointed_at pointer m.heap) m.heap
-    (λ held. cond (is_some (phys n)) (rebuilt (grow (is_nonrelocatable held.number) nothing n m.heap.zone) m.heap)
-    (refused MEM_FULL m.heap))
-    (λ held. sized-leaves (grow (is_nonrelocatable held.number) nothing n m.heap.zone) n m.heap)) refl refl refl
+    noted (λ _. Done) done-tells (answer_made (rows.set_pointer_size pointer n) m.heap) m (answered (asked.SetPtrSize
+    pointer n) m).1 m.heap.zone
+    (done-found (pointed_at pointer m.heap) m.heap _ (λ held. changed-leaves nothing (seek_size n nothing m.heap.zone
+    held.at) m.heap
+    (size-refused nothing n m.heap.zone held.at))) refl refl refl
 refused_leaves asked.FreeMem m = λ code e. cc
 refused_leaves asked.MaxBlock m = λ code e. cc
 refused_leaves asked.PurgeSpace m = λ code e. cc
@@ -434,11 +449,14 @@ refused_leaves (asked.PurgeMem n) m =
     (zone_left (asked.PurgeMem n) m.heap) (λ code e. refl) refl refl refl
 refused_leaves asked.MaxMem m = λ code e. cc
 refused_leaves (asked.ReserveMem n) m =
-    noted (λ _. Done) done-tells (reserve_mem n m.heap) m (answered (asked.ReserveMem n) m).1 m.heap.zone
-    (reserved-leaves n m.heap) refl refl refl
+    noted (λ _. Done) done-tells (answer_made (rows.reserve_mem n) m.heap) m (answered (asked.ReserveMem n) m).1
+    m.heap.zone
+    (changed-leaves nothing (rows.room_for (phys n) m.heap.zone) m.heap (room_for-refused (phys n) m.heap.zone)) refl
+    refl refl
 refused_leaves asked.MoreMasters m =
-    noted (λ _. Done) done-tells (add_masters m.heap) m (answered asked.MoreMasters m).1 m.heap.zone
-    (rebuilt-leaves (option_map (λ (ready : State). ready.zone) (more_masters nothing m.heap)) m.heap) refl refl refl
+    noted (λ _. Done) done-tells (answer_made rows.more_masters m.heap) m (answered asked.MoreMasters m).1 m.heap.zone
+    (changed-leaves nothing (seek (Base Masters) nothing m.heap.zone) m.heap (seek-refused nothing (Base Masters)
+    m.heap.zone)) refl refl refl
 refused_leaves asked.MemError m = λ code e. cc
 refused_leaves (asked.Put handle i x) m =
     silent (λ _. Done) done-tells (calls.put handle i x m.heap) m (answered (asked.Put handle i x) m).1

@@ -23,7 +23,7 @@ use Rattle.heap_calls.specs.Asked as asked
 use Rattle.heap_calls.specs.Locked.{is_locked, locked_place, releases, OneBlockEach}
 use Rattle.heap_calls.specs.Standing.{pointer_place, disposes, NextIsNew}
 use Rattle.heap_calls.proofs.Promises.Knowing.{look_up-spot, pointed_at-spot}
-use Rattle.heap_calls.proofs.Promises.LastPutLaws.{handle_at-name}
+use Rattle.heap_calls.proofs.Promises.Knowing.{handle_at-name}
 use Rattle.heap_calls.proofs.Promises.LockedLaws.{fewer, stays-locked}
 use Rattle.heap_calls.proofs.Promises.StandingLaws.{stays-nonrelocatable}
 

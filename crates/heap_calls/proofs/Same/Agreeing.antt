@@ -126,17 +126,21 @@ seek-agrees n spared m quiet still moves lowers none zone =
           ∙ append-nil (lowest_gone k spared zone)));
     }
 
+-- a search that is made in one case
+pub agrees-if : {n : ℕ} {spared : Block → Bool} {zone : List Block} (t : Bool) (after : Option (List Block))
+    (searches moves : ℕ) (purged : List Gone) (r : Sought) → Agrees n spared zone after searches moves purged r
+    → Agrees n spared zone (cond t after None) (cond t searches 0) (cond t moves 0) (cond t purged []) (cond t r
+    no_room)
+agrees-if true after searches moves purged r a = a
+agrees-if false after searches moves purged r a =
+    record { finds = refl; leaves = refl; looks = refl; lowers = refl; tells = refl }
+
 -- a search where a block can have the size
 pub fits-agrees : {n : ℕ} {spared : Block → Bool} {zone : List Block} (size : ℕ) (after : Option (List Block))
     (searches moves : ℕ) (purged : List Gone) (r : Sought) → Agrees n spared zone after searches moves purged r
     → Agrees n spared zone (cond (is_some (phys size)) after None) (cond (is_some (phys size)) searches 0)
     (cond (is_some (phys size)) moves 0) (cond (is_some (phys size)) purged []) (if_fits size r)
-fits-agrees {n = n} {spared = spared} {zone = zone} size after searches moves purged r a = cases (is_some (phys size))
-  where
-    cases : (t : Bool) → Agrees n spared zone (cond t after None) (cond t searches 0) (cond t moves 0)
-        (cond t purged []) (cond t r no_room)
-    cases true = a
-    cases false = record { finds = refl; leaves = refl; looks = refl; lowers = refl; tells = refl }
+fits-agrees size after searches moves purged r a = agrees-if (is_some (phys size)) after searches moves purged r a
 
 -- what is said of what there is
 abbrev pub on_some : {A : Type 0} → A → (List Block → A) → Option (List Block) → A

@@ -15,10 +15,11 @@ use Rattle.moves.specs.Moves.{run_above, pushed, lowest_gone, gone_above}
 use Rattle.moves.specs.Seeking.{Sought, at_hand, sought, purges_for, seek, seek_in_place, seek_resized}
 use Rattle.heap_calls.specs.Searches.{room_searches, in_place_searches, growth_searches}
 use Rattle.heap_calls.specs.Moves.{place_moves, run_moves, mover_moves, grow_moves, room_moves, growth_moves}
-use Rattle.heap_calls.specs.Gone.{room_gone, in_place_gone, growth_gone}
+use Rattle.heap_calls.specs.Gone.{room_gone}
 use Rattle.heap_calls.specs.Rows.{told_blocks}
 use Rattle.heap_calls.proofs.Same.Agreeing.{Agrees, agrees-as, seek-agrees, fewest, room-is, searches-is, gone-is}
 use Rattle.heap_calls.proofs.Same.NewBlocks.{place-same}
+use Rattle.heap_calls.proofs.Tables.Gone.{in_place_gone, growth_gone}
 
 -- The growth of a block, and its tables.
 

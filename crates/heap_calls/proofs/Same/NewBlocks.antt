@@ -7,30 +7,33 @@ use Rattle.mac_words.specs.Size.{phys}
 use Rattle.mac_words.specs.declared.code.OsErr.{OsErr}
 use Rattle.mac_words.specs.declared.code.TheConstants.OsErr.{MEM_FULL}
 use Rattle.mac_words.proofs.Plain.{is_some-map}
-use Rattle.block_store.specs.Block.{Block, Free, Nonrelocatable, Masters, Relocatable, size, is_relocatable, is_room, no_flags, content_of}
+use Rattle.block_store.specs.Block.{Block, Free, Nonrelocatable, Masters, size, is_relocatable, is_room, content_of}
 use Rattle.block_store.specs.Run.{RunSpot, run_spot, has_free}
 use Rattle.block_store.specs.Room.{spot, filled, place, put_in_place, put_at_base, room}
 use Rattle.block_store.proofs.Regroup.MostRoom.{placed-is}
 use Rattle.moves.specs.Moves.{Put, Base, place_lowers, lowered_in}
-use Rattle.moves.specs.Seeking.{Sought, seek, if_fits, seek_slot, seek_block, seek_new}
+use Rattle.moves.specs.Seeking.{Sought, no_room, seek, if_fits, seek_slot, then_seek}
 use Rattle.heap_calls.specs.State.{State, Plain, Meaning, Handle, Pointer}
 use Rattle.heap_calls.specs.Answer as today
 use Rattle.heap_calls.specs.Answer.{Answer, Held, look_up, nothing}
 use Rattle.heap_calls.specs.Slots as slots
+use Rattle.heap_calls.proofs.Tables.Replies as tables
 use Rattle.heap_calls.specs.Slots.{slotted, more_masters}
-use Rattle.heap_calls.specs.Pointers as pointers
-use Rattle.heap_calls.specs.Pointers.{reserved}
-use Rattle.heap_calls.specs.Copying as copying
+use Rattle.heap_calls.proofs.Tables.Replies.{reserved}
+use Rattle.heap_calls.proofs.Tables.Searches.{more_masters_searches, reserve_searches, new_pointer_searches}
+use Rattle.heap_calls.proofs.Tables.Searches.{hand_to_hand_searches, found_searches}
+use Rattle.heap_calls.proofs.Tables.Moves.{hand_to_hand_moves}
+use Rattle.heap_calls.proofs.Tables.Gone.{copied_gone, new_handle_gone, reserve_gone, new_empty_handle_gone}
+use Rattle.heap_calls.proofs.Tables.Gone.{more_masters_gone, new_pointer_gone, hand_to_hand_gone}
 use Rattle.heap_calls.specs.Searches.{room_searches, slot_searches, ready_searches, block_searches}
-use Rattle.heap_calls.specs.Searches.{new_handle_searches, new_empty_handle_searches, more_masters_searches}
-use Rattle.heap_calls.specs.Searches.{reserve_searches, new_pointer_searches, hand_to_hand_searches, found_searches}
+use Rattle.heap_calls.specs.Searches.{new_handle_searches, new_empty_handle_searches}
 use Rattle.heap_calls.specs.Moves.{run_moves, as_it_is, place_moves, put_moves, block_moves, new_handle_moves}
-use Rattle.heap_calls.specs.Moves.{hand_to_hand_moves}
-use Rattle.heap_calls.specs.Gone.{Gone, room_gone, slot_gone, ready_gone, block_gone, made_gone, new_handle_gone}
-use Rattle.heap_calls.specs.Gone.{reserve_gone, new_empty_handle_gone, more_masters_gone, new_pointer_gone, hand_to_hand_gone, found_gone}
+use Rattle.heap_calls.specs.Gone.{Gone, room_gone, slot_gone, ready_gone}
+use Rattle.heap_calls.specs.Gone.{found_gone}
 use Rattle.heap_calls.specs.Rows as rows
-use Rattle.heap_calls.specs.Rows.{Done, work, heap_after, purged_by, is_unused}
-use Rattle.heap_calls.proofs.Same.Agreeing.{Agrees, BothAgree, seek-agrees, fits-agrees, then-agrees, on_some}
+use Rattle.heap_calls.specs.Rows.{Done, work, heap_after, purged_by, is_unused, next_block}
+use Rattle.heap_calls.proofs.Same.Agreeing.{Agrees, BothAgree, seek-agrees, agrees-if, fits-agrees, then-agrees}
+use Rattle.heap_calls.proofs.Same.Agreeing.{on_some}
 
 -- The calls that make a block: each table is what is read off the row's path.
 
@@ -135,52 +138,54 @@ given-as : (name : Meaning) (s : State) (o : Option (List Block))
 given-as name s None = refl
 given-as name s (Some zone) = refl
 
--- a new handle's block, with these bytes
-module _ (spared : Block → Bool) (bytes : List ℕ) (s : State)
+-- a new handle's block, with these bytes, where blocks can have their number
+module _ (spared : Block → Bool) (bytes : List ℕ) (fits : Bool) (s : State)
   where
     abbrev new : Block
-    new = Relocatable (length s.names) no_flags bytes
-
-    abbrev fits : Bool
-    fits = is_some (phys (length bytes))
+    new = next_block bytes s
 
     abbrev next : List Block → Option (List Block)
     next z = cond fits (room (put_in_place new) spared z) None
 
+    abbrev block : List Block → Sought
+    block z = cond fits (seek (Put new) spared z) no_room
+
     block-agrees : (z : List Block) → Agrees (length s.names) spared z (next z)
         (cond fits (room_searches (put_in_place new) spared z) 0) (cond fits (put_moves new spared z) 0)
-        (cond fits (room_gone (length s.names) (put_in_place new) spared z) []) (seek_block new spared z)
-    block-agrees z = fits-agrees (length bytes) (room (put_in_place new) spared z)
+        (cond fits (room_gone (length s.names) (put_in_place new) spared z) []) (block z)
+    block-agrees z = agrees-if fits (room (put_in_place new) spared z)
         (room_searches (put_in_place new) spared z) (put_moves new spared z)
         (room_gone (length s.names) (put_in_place new) spared z) (seek (Put new) spared z)
         (put-agrees (length s.names) spared new (omega arith) z)
+
+    abbrev sought_new : Sought
+    sought_new = then_seek spared s.zone (seek_slot (is_unused s) spared s.zone) block
 
     both : BothAgree (length s.names) spared s.zone (slot_after spared s) next
         (slot_searches spared s + on_some 0 (λ z. cond fits (room_searches (put_in_place new) spared z) 0)
         (slot_after spared s)) (0 + on_some 0 (λ z. cond fits (put_moves new spared z) 0) (slot_after spared s))
         (slot_gone spared s ++ on_some [] (λ z. cond fits (room_gone (length s.names) (put_in_place new) spared z) [])
-        (slot_after spared s)) (seek_new (is_unused s) new spared s.zone)
+        (slot_after spared s)) sought_new
     both = then-agrees (length s.names) spared s.zone (slot_after spared s) (slot_searches spared s) 0
         (slot_gone spared s) (seek_slot (is_unused s) spared s.zone) (slot-agrees spared s) next
         (λ z. cond fits (room_searches (put_in_place new) spared z) 0) (λ z. cond fits (put_moves new spared z) 0)
-        (λ z. cond fits (room_gone (length s.names) (put_in_place new) spared z) []) (seek_block new spared)
-        block-agrees
+        (λ z. cond fits (room_gone (length s.names) (put_in_place new) spared z) []) block block-agrees
 
     -- the answer where it is tested whether a block can have the size
     abbrev answer : Answer ℕ
     answer = slots.if_ready (slotted spared s) s
-        (λ ready. cond fits (slots.new_block spared bytes ready) (today.refused MEM_FULL ready))
+        (λ ready. cond fits (tables.new_block spared bytes ready) (today.refused MEM_FULL ready))
 
-    answer-is : answer ≡ ((rows.made spared bytes s).reply, heap_after (rows.made spared bytes s) s)
+    answer-is : answer ≡ ((rows.made spared block s).reply, heap_after (rows.made spared block s) s)
     answer-is =
-        ap (λ o. slots.if_ready o s (λ ready. cond fits (slots.new_block spared bytes ready)
+        ap (λ o. slots.if_ready o s (λ ready. cond fits (tables.new_block spared bytes ready)
         (today.refused MEM_FULL ready))) (slotted-is spared s)
         ∙ cases (slot_after spared s)
         ∙ ap (λ t. given_as (Handle Plain) s t (on_some s.zone (λ z. unwrap_or (next z) z) (slot_after spared s)))
         both.finds
-        ∙ ap (given_as (Handle Plain) s (seek_new (is_unused s) new spared s.zone).found) both.leaves
+        ∙ ap (given_as (Handle Plain) s sought_new.found) both.leaves
       where
-        by_fit : (t : Bool) (z : List Block) → cond t (slots.new_block spared bytes (ready_with s z))
+        by_fit : (t : Bool) (z : List Block) → cond t (tables.new_block spared bytes (ready_with s z))
             (today.refused MEM_FULL (ready_with s z))
             ≡ given_as (Handle Plain) s (is_some (cond t (room (put_in_place new) spared z) None))
             (unwrap_or (cond t (room (put_in_place new) spared z) None) z)
@@ -188,7 +193,7 @@ module _ (spared : Block → Bool) (bytes : List ℕ) (s : State)
         by_fit false z = refl
 
         cases : (o : Option (List Block)) → slots.if_ready (option_map (ready_with s) o) s
-            (λ ready. cond fits (slots.new_block spared bytes ready) (today.refused MEM_FULL ready))
+            (λ ready. cond fits (tables.new_block spared bytes ready) (today.refused MEM_FULL ready))
             ≡ given_as (Handle Plain) s (on_some false (λ z. is_some (next z)) o)
             (on_some s.zone (λ z. unwrap_or (next z) z) o)
         cases None = refl
@@ -198,34 +203,35 @@ module _ (spared : Block → Bool) (bytes : List ℕ) (s : State)
         (slot_searches spared s + ready_searches (slotted spared s)
         (λ ready. cond fits (block_searches spared bytes ready) 0))
         (ready_searches (slotted spared s) (λ ready. cond fits (block_moves spared bytes ready) 0))
-        (made_gone spared bytes s) (rows.made spared bytes s) s
+        (slot_gone spared s ++ ready_gone (slotted spared s) (λ ready. cond fits (room_gone (length ready.names)
+        (put_in_place (next_block bytes ready)) spared ready.zone) [])) (rows.made spared block s) s
     made-same = record {
       answers = answer-is;
       looks = ap (λ (m : ℕ). slot_searches spared s + m) (ready-searches spared s
           (λ ready. cond fits (block_searches spared bytes ready) 0)) ∙ both.looks;
       lowers = (let l = both.lowers in
           let r = ready-searches spared s (λ ready. cond fits (block_moves spared bytes ready) 0) in omega arith);
-      tells = ap (λ l. slot_gone spared s ++ l) (ready-gone spared s (block_gone spared bytes)) ∙ both.tells;
+      tells = ap (λ l. slot_gone spared s ++ l) (ready-gone spared s (λ ready. cond fits (room_gone
+          (length ready.names) (put_in_place (next_block bytes ready)) spared ready.zone) [])) ∙ both.tells;
     }
 
 -- NewHandle
-pub new_handle-same : (n : ℕ) (s : State) → Same (slots.new_handle n s) (new_handle_searches n s) (new_handle_moves n s)
+pub new_handle-same : (n : ℕ) (s : State) → Same (tables.new_handle n s) (new_handle_searches n s) (new_handle_moves n
+    s)
     (new_handle_gone n s) (rows.new_handle n s) s
 new_handle-same n s =
-    let same = made-same nothing (replicate n 0) s in
-    let long = length-replicate n 0 in
+    let same = made-same nothing (replicate n 0) (is_some (phys n)) s in
     record {
-      answers = ap (λ (m : ℕ). slots.if_ready (slotted nothing s) s (λ ready. cond (is_some (phys m))
-          (slots.new_block nothing (replicate n 0) ready) (today.refused MEM_FULL ready))) (sym long) ∙ same.answers;
-      looks = ap (λ (m : ℕ). slot_searches nothing s + ready_searches (slotted nothing s)
-          (λ ready. cond (is_some (phys m)) (block_searches nothing (replicate n 0) ready) 0)) (sym long) ∙ same.looks;
-      lowers = ap (λ (m : ℕ). ready_searches (slotted nothing s)
-          (λ ready. cond (is_some (phys m)) (block_moves nothing (replicate n 0) ready) 0)) (sym long) ∙ same.lowers;
-      tells = same.tells;
+      answers = same.answers;
+      looks = same.looks;
+      lowers = same.lowers;
+      tells = ap (λ (m : ℕ). slot_gone nothing s ++ ready_gone (slotted nothing s) (λ ready. cond (is_some (phys m))
+          (room_gone (length ready.names) (put_in_place (next_block (replicate n 0) ready)) nothing ready.zone) []))
+          (length-replicate n 0) ∙ same.tells;
     }
 
 -- NewEmptyHandle
-pub new_empty_handle-same : (s : State) → Same (slots.new_empty_handle s) (new_empty_handle_searches s) 0
+pub new_empty_handle-same : (s : State) → Same (tables.new_empty_handle s) (new_empty_handle_searches s) 0
     (new_empty_handle_gone s) (rows.new_empty_handle s) s
 new_empty_handle-same s =
     let a = slot-agrees nothing s in
@@ -264,7 +270,7 @@ changed-same spared s after searches moves gone r a = record {
 }
 
 -- MoreMasters
-pub more_masters-same : (s : State) → Same (pointers.add_masters s) (more_masters_searches s) 0 (more_masters_gone s)
+pub more_masters-same : (s : State) → Same (tables.add_masters s) (more_masters_searches s) 0 (more_masters_gone s)
     (rows.more_masters s) s
 more_masters-same s =
     let same = changed-same nothing s (room (put_at_base Masters) nothing s.zone) (more_masters_searches s) 0
@@ -281,7 +287,7 @@ more_masters-same s =
     cases (Some z) = refl
 
 -- NewPtr
-pub new_pointer-same : (n : ℕ) (s : State) → Same (pointers.new_pointer n s) (new_pointer_searches n s) 0
+pub new_pointer-same : (n : ℕ) (s : State) → Same (tables.new_pointer n s) (new_pointer_searches n s) 0
     (new_pointer_gone n s) (rows.new_pointer n s) s
 new_pointer-same n s =
     let a = fits-agrees n (room try nothing s.zone) (room_searches try nothing s.zone) 0
@@ -314,11 +320,11 @@ new_pointer-same n s =
     cases false = refl
 
 -- ReserveMem
-pub reserve_mem-same : (n : ℕ) (s : State) → Same (pointers.reserve_mem n s) (reserve_searches (phys n) s) 0
+pub reserve_mem-same : (n : ℕ) (s : State) → Same (tables.reserve_mem n s) (reserve_searches (phys n) s) 0
     (reserve_gone (phys n) s) (rows.reserve_mem n s) s
 reserve_mem-same n s = cases (phys n) refl
   where
-    cases : (o : Option ℕ) → phys n ≡ o → Same (pointers.reserve_mem n s) (reserve_searches o s) 0 (reserve_gone o s)
+    cases : (o : Option ℕ) → phys n ≡ o → Same (tables.reserve_mem n s) (reserve_searches o s) 0 (reserve_gone o s)
         (rows.reserve_mem n s) s
     cases None e = rw e (record { answers = refl; looks = refl; lowers = refl; tells = refl })
     cases (Some p) e = rw e (changed-same nothing s (room (reserved p) nothing s.zone)
@@ -330,35 +336,22 @@ pub refused-same : {T : Type 0} (code : OsErr) (s : State)
     → Same {T = T} (today.refused code s) 0 0 [] (rows.refused code s) s
 refused-same code s = record { answers = refl; looks = refl; lowers = refl; tells = refl }
 
--- HandToHand, of a block that has a size that blocks can have
-pub hand_to_hand-same : (handle : Option ℕ) (s : State)
-    → ((held : Held) → look_up handle s ≡ Ok held → is_some (phys (length (content_of held.at.here))) ≡ true)
-    → Same (copying.hand_to_hand handle s) (hand_to_hand_searches handle s) (hand_to_hand_moves handle s)
-    (hand_to_hand_gone handle s) (rows.hand_to_hand handle s) s
-hand_to_hand-same handle s fits = cases (look_up handle s) refl
+-- HandToHand
+pub hand_to_hand-same : (handle : Option ℕ) (s : State) → Same (tables.hand_to_hand handle s)
+    (hand_to_hand_searches handle s) (hand_to_hand_moves handle s) (hand_to_hand_gone handle s)
+    (rows.hand_to_hand handle s) s
+hand_to_hand-same handle s = cases (look_up handle s)
   where
-    cases : (r : Result Held OsErr) → look_up handle s ≡ r
+    cases : (r : Result Held OsErr)
         → Same (today.for_found r s (λ held. slots.if_ready (slotted (is_relocatable held.number) s) s
-        (slots.new_block (is_relocatable held.number) (content_of held.at.here))))
+        (tables.new_block (is_relocatable held.number) (content_of held.at.here))))
         (found_searches r (λ held. slot_searches (is_relocatable held.number) s + ready_searches
         (slotted (is_relocatable held.number) s) (block_searches (is_relocatable held.number)
         (content_of held.at.here))))
         (found_searches r (λ held. ready_searches (slotted (is_relocatable held.number) s)
         (block_moves (is_relocatable held.number) (content_of held.at.here))))
-        (found_gone r (λ held. made_gone (is_relocatable held.number) (content_of held.at.here) s))
-        (rows.for_found r s (λ held. rows.made (is_relocatable held.number) (content_of held.at.here) s)) s
-    cases (Err code) e = refused-same code s
-    cases (Ok held) e =
-        let test = is_relocatable held.number in
-        let bytes = content_of held.at.here in
-        let same = made-same test bytes s in
-        let fit = sym (fits held e) in
-        record {
-          answers = ap (λ t. slots.if_ready (slotted test s) s (λ ready. cond t (slots.new_block test bytes ready)
-              (today.refused MEM_FULL ready))) fit ∙ same.answers;
-          looks = ap (λ t. slot_searches test s + ready_searches (slotted test s)
-              (λ ready. cond t (block_searches test bytes ready) 0)) fit ∙ same.looks;
-          lowers = ap (λ t. ready_searches (slotted test s) (λ ready. cond t (block_moves test bytes ready) 0)) fit
-              ∙ same.lowers;
-          tells = same.tells;
-        }
+        (found_gone r (λ held. copied_gone (is_relocatable held.number) (content_of held.at.here) s))
+        (rows.for_found r s (λ held. rows.made (is_relocatable held.number)
+        (seek (Put (next_block (content_of held.at.here) s)) (is_relocatable held.number)) s)) s
+    cases (Err code) = refused-same code s
+    cases (Ok held) = made-same (is_relocatable held.number) (content_of held.at.here) true s

@@ -19,20 +19,21 @@ use Rattle.moves.proofs.Paths.{did-append}
 use Rattle.moves.proofs.Refused.{Refuses, fits-refused, seek-refused}
 use Rattle.heap_calls.specs.State.{State, Meaning, Handle, Pointer, Disposed}
 use Rattle.heap_calls.specs.Answer as today
+use Rattle.heap_calls.proofs.Tables.Replies as tables
 use Rattle.heap_calls.specs.Answer.{Answer, Known, Held, handle_at, held_at, look_up, nothing}
-use Rattle.heap_calls.specs.Pointers as pointers
 use Rattle.heap_calls.specs.Pointers.{pointed, pointed_at}
-use Rattle.heap_calls.specs.Copying as copying
 use Rattle.heap_calls.specs.Copying.{written_in}
-use Rattle.heap_calls.specs.Purging as purging
 use Rattle.heap_calls.specs.Purging.{is_loose, reallocated}
-use Rattle.heap_calls.specs.Searches.{room_searches, growth_searches, resized_at, size_searches, found_searches}
-use Rattle.heap_calls.specs.Searches.{set_handle_size_searches, set_pointer_size_searches, hand_and_hand_searches}
-use Rattle.heap_calls.specs.Searches.{pointer_and_hand_searches, reallocate_handle_searches}
-use Rattle.heap_calls.specs.Moves.{put_moves, room_moves, grow_moves, growth_moves, size_moves, set_handle_size_moves, hand_and_hand_moves}
-use Rattle.heap_calls.specs.Moves.{pointer_and_hand_moves, reallocate_handle_moves}
-use Rattle.heap_calls.specs.Gone.{Gone, room_gone, growth_gone, size_gone, found_gone, set_handle_size_gone}
-use Rattle.heap_calls.specs.Gone.{set_pointer_size_gone, hand_and_hand_gone, pointer_and_hand_gone, reallocate_handle_gone}
+use Rattle.heap_calls.specs.Searches.{room_searches, growth_searches, resized_at, size_searches}
+use Rattle.heap_calls.proofs.Tables.Searches.{found_searches, set_handle_size_searches, set_pointer_size_searches}
+use Rattle.heap_calls.proofs.Tables.Searches.{hand_and_hand_searches, pointer_and_hand_searches}
+use Rattle.heap_calls.proofs.Tables.Searches.{reallocate_handle_searches}
+use Rattle.heap_calls.proofs.Tables.Moves.{set_handle_size_moves, hand_and_hand_moves, pointer_and_hand_moves}
+use Rattle.heap_calls.proofs.Tables.Moves.{reallocate_handle_moves}
+use Rattle.heap_calls.proofs.Tables.Gone.{growth_gone, size_gone, set_handle_size_gone, set_pointer_size_gone}
+use Rattle.heap_calls.proofs.Tables.Gone.{hand_and_hand_gone, pointer_and_hand_gone, reallocate_handle_gone}
+use Rattle.heap_calls.specs.Moves.{put_moves, room_moves, grow_moves, growth_moves, size_moves}
+use Rattle.heap_calls.specs.Gone.{Gone, room_gone, found_gone}
 use Rattle.heap_calls.specs.Rows as rows
 use Rattle.heap_calls.specs.Rows.{told_blocks}
 use Rattle.heap_calls.proofs.Same.Agreeing.{Agrees, agrees-as, fits-agrees}
@@ -60,7 +61,7 @@ pub held-spot : (r : Result Known OsErr) (s : State) (held : Held) → held_at r
 held-spot (Err code) s held e = absurd (none-some _ (ap result_ok e))
 held-spot (Ok k) s held e = spot-held is_relocatable k.number s.zone held e
 
-pointer-spot : (pointer : Option ℕ) (s : State) (held : Held) → pointed_at pointer s ≡ Ok held
+pub pointer-spot : (pointer : Option ℕ) (s : State) (held : Held) → pointed_at pointer s ≡ Ok held
     → spot (is_nonrelocatable held.number) s.zone ≡ Some held.at
 pointer-spot None s held e = absurd (none-some _ (ap result_ok e))
 pointer-spot (Some p) s held e = cases (slice_get s.names p) e
@@ -116,7 +117,7 @@ module _ (test spared : Block → Bool) (n : ℕ) (s : State) (at : Spot) (found
         cases false = refl
 
 -- SetHandleSize
-pub set_handle_size-same : (handle : Option ℕ) (n : ℕ) (s : State) → Same (today.set_handle_size handle n s)
+pub set_handle_size-same : (handle : Option ℕ) (n : ℕ) (s : State) → Same (tables.set_handle_size handle n s)
     (set_handle_size_searches handle n s) (set_handle_size_moves handle n s) (set_handle_size_gone handle n s)
     (rows.set_handle_size handle n s) s
 set_handle_size-same handle n s = cases (look_up handle s) refl
@@ -138,7 +139,7 @@ set_handle_size-same handle n s = cases (look_up handle s) refl
         (same-handle held.number n held.at.here (spot-passes test s.zone held.at found))
 
 -- SetPtrSize, of which no moves are counted
-pub set_pointer_size-same : (pointer : Option ℕ) (n : ℕ) (s : State) → Same (pointers.set_pointer_size pointer n s)
+pub set_pointer_size-same : (pointer : Option ℕ) (n : ℕ) (s : State) → Same (tables.set_pointer_size pointer n s)
     (set_pointer_size_searches pointer n s) 0 (set_pointer_size_gone pointer n s)
     (rows.set_pointer_size pointer n s) s
 set_pointer_size-same pointer n s = cases (pointed_at pointer s) refl
@@ -241,7 +242,7 @@ module _ (spared : Block → Bool) (h : ℕ) (x : List ℕ) (s : State) (at : Sp
     abbrev write : List Block → List Block
     write z = written_in h len x z (spot test z)
 
-    pub append-same : Same (copying.append spared h len x s) (size_searches test spared long s.zone)
+    pub append-same : Same (tables.append spared h len x s) (size_searches test spared long s.zone)
         (size_moves test spared long s.zone) (size_gone (length s.names) test spared long s.zone)
         (rows.append spared held x s) s
     append-same =
@@ -268,7 +269,7 @@ module _ (spared : Block → Bool) (h : ℕ) (x : List ℕ) (s : State) (at : Sp
             by_spot None = refl
             by_spot (Some t) = refl
 
-        cases : (t : Bool) (o : Option (List Block)) → cond t (copying.appended spared h len x o s)
+        cases : (t : Bool) (o : Option (List Block)) → cond t (tables.appended spared h len x o s)
             (today.refused MEM_FULL s) ≡ today.rebuilt (option_map write (cond t o None)) s
         cases true None = refl
         cases true (Some z) = refl
@@ -276,12 +277,12 @@ module _ (spared : Block → Bool) (h : ℕ) (x : List ℕ) (s : State) (at : Sp
 
 -- PtrAndHand
 pub pointer_and_hand-same : (handle : Option ℕ) (x : List ℕ) (s : State)
-    → Same (copying.pointer_and_hand handle x s) (pointer_and_hand_searches handle x s)
+    → Same (tables.pointer_and_hand handle x s) (pointer_and_hand_searches handle x s)
     (pointer_and_hand_moves handle x s) (pointer_and_hand_gone handle x s) (rows.pointer_and_hand handle x s) s
 pointer_and_hand-same handle x s = cases (look_up handle s) refl
   where
     cases : (r : Result Held OsErr) → look_up handle s ≡ r
-        → Same (today.for_found r s (λ held. copying.append (is_relocatable held.number) held.number
+        → Same (today.for_found r s (λ held. tables.append (is_relocatable held.number) held.number
         (length (content_of held.at.here)) x s))
         (found_searches r (λ held. size_searches (is_relocatable held.number) (is_relocatable held.number)
         (length (content_of held.at.here) + length x) s.zone))
@@ -295,7 +296,7 @@ pointer_and_hand-same handle x s = cases (look_up handle s) refl
         append-same (is_relocatable held.number) held.number x s held.at (held-spot (handle_at handle s) s held e)
 
 -- HandAndHand
-pub hand_and_hand-same : (from to : Option ℕ) (s : State) → Same (copying.hand_and_hand from to s)
+pub hand_and_hand-same : (from to : Option ℕ) (s : State) → Same (tables.hand_and_hand from to s)
     (hand_and_hand_searches from to s) (hand_and_hand_moves from to s) (hand_and_hand_gone from to s)
     (rows.hand_and_hand from to s) s
 hand_and_hand-same from to s = cases (look_up from s) (look_up to s) refl
@@ -307,7 +308,7 @@ hand_and_hand-same from to s = cases (look_up from s) (look_up to s) refl
     long a b = length (content_of b.at.here) + length (content_of a.at.here)
 
     cases : (q r : Result Held OsErr) → look_up to s ≡ r
-        → Same (today.for_found q s (λ a. today.for_found r s (λ b. copying.append (both a b) b.number
+        → Same (today.for_found q s (λ a. today.for_found r s (λ b. tables.append (both a b) b.number
         (length (content_of b.at.here)) (content_of a.at.here) s)))
         (found_searches q (λ a. found_searches r (λ b. size_searches (is_relocatable b.number) (both a b) (long a b) s.zone)))
         (found_searches q (λ a. found_searches r (λ b. size_moves (is_relocatable b.number) (both a b) (long a b) s.zone)))
@@ -359,7 +360,7 @@ module _ (n h : ℕ) (zone : List Block) (after : Option (List Block)) (searches
             }
 
 -- ReallocateHandle
-pub reallocate_handle-same : (handle : Option ℕ) (n : ℕ) (s : State) → Same (purging.reallocate_handle handle n s)
+pub reallocate_handle-same : (handle : Option ℕ) (n : ℕ) (s : State) → Same (tables.reallocate_handle handle n s)
     (reallocate_handle_searches handle n s) (reallocate_handle_moves handle n s) (reallocate_handle_gone handle n s)
     (rows.reallocate_handle handle n s) s
 reallocate_handle-same handle n s = by_handle (handle_at handle s)

@@ -19,9 +19,9 @@ use Rattle.block_store.proofs.Renamed.Renaming.{spot-rename}
 use Rattle.block_store.proofs.Content.Resizing.{length-resized}
 use Rattle.heap_calls.specs.State.{State}
 use Rattle.heap_calls.specs.Answer.{Answer, Held, look_up, for_found, refused, rebuilt}
-use Rattle.heap_calls.specs.Copying.{written_in, appended, append, hand_and_hand, pointer_and_hand}
-use Rattle.heap_calls.specs.Moves.{size_moves, hand_and_hand_moves, pointer_and_hand_moves}
-use Rattle.heap_calls.specs.Searches.{found_searches, size_searches, hand_and_hand_searches, pointer_and_hand_searches}
+use Rattle.heap_calls.specs.Copying.{written_in}
+use Rattle.heap_calls.specs.Moves.{size_moves}
+use Rattle.heap_calls.specs.Searches.{size_searches}
 use Rattle.heap_calls.specs.Inner.Growing.{fitted}
 use Rattle.heap_calls.specs.Inner.GrowingInPlace.{made_zone}
 use Rattle.heap_calls.specs.Inner.Appending.{size_for, behind, lengthened, bytes_of, length_of}
@@ -31,6 +31,9 @@ use Rattle.heap_calls.proofs.Sizes.GrowingInPlace.{spot-small, some_spot, spot_a
 use Rattle.heap_calls.proofs.Sizes.Fronts.{own-grown, other-grown}
 use Rattle.heap_calls.proofs.Numbering.Rebuilding.{TellsNone}
 use Rattle.heap_calls.proofs.Numbering.Looking.{fitted-rename}
+use Rattle.heap_calls.proofs.Tables.Replies.{appended, append, hand_and_hand, pointer_and_hand}
+use Rattle.heap_calls.proofs.Tables.Moves.{hand_and_hand_moves, pointer_and_hand_moves}
+use Rattle.heap_calls.proofs.Tables.Searches.{found_searches, hand_and_hand_searches, pointer_and_hand_searches}
 
 -- Bytes behind those of a block.
 

@@ -11,11 +11,13 @@ use Rattle.heap_calls.specs.declared.anchor.Anchor.{Anchor}
 use Rattle.heap_calls.specs.declared.log.Log.{Log}
 use Rattle.heap_calls.specs.declared.reaching.Reached.{Reached}
 use Rattle.heap_calls.specs.State.{State, Memory}
-use Rattle.heap_calls.specs.Answer.{Answer, Held, look_up, rebuilt, silent, searching, moving, set_handle_size}
-use Rattle.heap_calls.specs.Copying.{hand_and_hand, pointer_and_hand}
-use Rattle.heap_calls.specs.Moves.{size_moves, set_handle_size_moves, hand_and_hand_moves, pointer_and_hand_moves}
-use Rattle.heap_calls.specs.Searches.{found_searches, size_searches, set_handle_size_searches, hand_and_hand_searches}
-use Rattle.heap_calls.specs.Searches.{pointer_and_hand_searches}
+use Rattle.heap_calls.specs.Answer.{Answer, Held, look_up, rebuilt, silent, searching, moving}
+use Rattle.heap_calls.proofs.Tables.Replies.{set_handle_size, hand_and_hand, pointer_and_hand}
+use Rattle.heap_calls.proofs.Tables.Moves.{set_handle_size_moves, hand_and_hand_moves, pointer_and_hand_moves}
+use Rattle.heap_calls.proofs.Tables.Searches.{found_searches, set_handle_size_searches, hand_and_hand_searches}
+use Rattle.heap_calls.proofs.Tables.Searches.{pointer_and_hand_searches}
+use Rattle.heap_calls.specs.Moves.{size_moves}
+use Rattle.heap_calls.specs.Searches.{size_searches}
 use Rattle.heap_calls.specs.Inner.Appending.{lengthened, bytes_of, length_of}
 use Rattle.heap_calls.specs.Inner.Growing.{fitted}
 use Rattle.heap_calls.specs.Inner.GrowingInPlace.{made_zone}

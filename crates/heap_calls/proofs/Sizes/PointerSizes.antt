@@ -17,9 +17,9 @@ use Rattle.heap_calls.specs.State.{State, Memory}
 use Rattle.heap_calls.specs.Answer.{Held, nothing, rebuilt, refused, for_found, silent, searching}
 use Rattle.heap_calls.specs.Inner.Growing.{fitted}
 use Rattle.heap_calls.specs.Inner.GrowingInPlace.{made_zone}
-use Rattle.heap_calls.specs.Pointers.{pointed_at, set_pointer_size}
+use Rattle.heap_calls.specs.Pointers.{pointed_at}
 use Rattle.heap_calls.specs.Inner.Pointing.{target_of}
-use Rattle.heap_calls.specs.Searches.{size_searches, found_searches, set_pointer_size_searches}
+use Rattle.heap_calls.specs.Searches.{size_searches}
 use Rattle.heap_calls.specs.declared.growing_in_place.Grown.{Grown}
 use Rattle.heap_calls.specs.declared.log.Log.{Log}
 use Rattle.heap_calls.specs.declared.anchor.Anchor.{Anchor}
@@ -31,6 +31,8 @@ use Rattle.heap_calls.proofs.Numbering.Changing.{phys-some, unplaced, unplaced-i
 use Rattle.heap_calls.proofs.Numbering.Pointing.{Lone, IsHeld, is_nonrelocatable-number, pointed_at-refused}
 use Rattle.heap_calls.proofs.Numbering.Rebuilding.{not-looked, rebuilt-reply}
 use Rattle.heap_calls.proofs.Numbering.Looking.{size_searches-rename, fitted-rename}
+use Rattle.heap_calls.proofs.Tables.Replies.{set_pointer_size}
+use Rattle.heap_calls.proofs.Tables.Searches.{found_searches, set_pointer_size_searches}
 
 -- The size of a pointer's block.
 

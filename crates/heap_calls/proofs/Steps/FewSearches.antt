@@ -11,11 +11,12 @@ use Rattle.heap_calls.specs.State.{Memory}
 use Rattle.heap_calls.specs.Answer.{nothing, handle_at}
 use Rattle.heap_calls.specs.Answer as calls
 use Rattle.heap_calls.specs.Asked as asked
-use Rattle.heap_calls.specs.Searches.{room_searches}
+use Rattle.heap_calls.specs.Searches.{room_searches, new_handle_searches, new_empty_handle_searches}
 use Rattle.heap_calls.specs.Inside.{has_block, refill_inside, refill_searches, for_known}
 use Rattle.heap_calls.specs.Path.{Step, NewFilled, NewEmpty, Refill, Release, Cast, stepped, walk}
 use Rattle.heap_calls.proofs.Steps.Survival.{step-masters}
-use Rattle.heap_calls.proofs.Promises.FewSearches.{room-blocks, only-if, unsearched, searches_few}
+use Rattle.heap_calls.proofs.Promises.FewSearches.{room-blocks, only-if, unsearched, row_few}
+use Rattle.heap_calls.proofs.Same.NewBlocks.{new_handle-same, new_empty_handle-same}
 
 -- How often a step searches for room.
 
@@ -26,8 +27,14 @@ known-few (Ok k) n most le = le
 -- in a zone with a Masters block a step searches at most once more than there are blocks
 pub step-searches : (step : Step) (m : Memory) → 0 < count is_masters m.heap.zone → m.log.searches < 2 ^ 64
     → (n : ℕ) × (n ≤ length m.heap.zone + 1) × ((stepped step m).log.searches ≡ counted m.log.searches n)
-step-searches (NewFilled role flags bytes) m masters fits = searches_few (asked.NewHandle (length bytes)) m masters fits
-step-searches (NewEmpty role) m masters fits = searches_few asked.NewEmptyHandle m masters fits
+step-searches (NewFilled role flags bytes) m masters fits =
+    let same = (new_handle-same (length bytes) m.heap).looks in
+    let few = row_few (asked.NewHandle (length bytes)) m masters in
+    (new_handle_searches (length bytes) m.heap, omega (arith, same, few), refl)
+step-searches (NewEmpty role) m masters fits =
+    let same = (new_empty_handle-same m.heap).looks in
+    let few = row_few asked.NewEmptyHandle m masters in
+    (new_empty_handle_searches m.heap, omega (arith, same, few), refl)
 step-searches (Refill h flags bytes) m masters fits = by_block (has_block h m.heap)
   where
     looks : ℕ

@@ -1,5 +1,5 @@
 use Rattle.std.proofs.Common.{◌≡◌, ℕ, ◌≤◌, zero, suc, Bool, true, false, ◌&&◌, List, [], ◌∷◌, refl, sym}
-use Rattle.std.proofs.Common.{◌∙◌, ap, subst, cond, arith, Option, Some, slice_get, slice_set}
+use Rattle.std.proofs.Common.{◌∙◌, ap, subst, cond, arith, Option, Some, length, slice_get, slice_set}
 use Rattle.std.specs.Prelude.{bytes_eq}
 use Rattle.block_store.specs.declared.flags.Flags.{Flags}
 use Rattle.block_store.specs.Block.{Block, Free, Nonrelocatable, Masters, Relocatable, is_relocatable}
@@ -26,7 +26,8 @@ known-filled : (role : Role) (flags : Flags) (x : List ℕ) (s : State) (bytes :
 known-filled role flags x s bytes known =
     filled-goes (λ a. Known a.1 (put_reads (read_new x a.0) bytes)) role flags x s (λ is. known)
     (λ r is. known-slotted nothing s bytes known r is)
-    (λ r z is fits. known-new r bytes (known-slotted nothing s bytes known r is) role flags nothing x z fits)
+    (λ r z is fits. known-new r bytes (known-slotted nothing s bytes known r is) role flags x z
+    (λ of none. room-le of none (Relocatable (length r.names) flags x) nothing r.zone z fits))
 
 -- a handle without a block gets one
 known-refilled : (h : ℕ) (flags : Flags) (x : List ℕ) (s : State) (bytes : ℕ → List ℕ) → Known s bytes

@@ -18,7 +18,7 @@ use Rattle.heap_calls.specs.Inside.{new_filled, new_empty, refill, released, rel
 use Rattle.heap_calls.specs.Inside.{refill_inside}
 use Rattle.heap_calls.specs.Path.{Step, NewFilled, NewEmpty, Refill, Release, Cast, stepped}
 use Rattle.heap_calls.proofs.Promises.Knowing.{for_handle}
-use Rattle.heap_calls.proofs.Promises.LastPutLaws.{handle_at-name}
+use Rattle.heap_calls.proofs.Promises.Knowing.{handle_at-name}
 
 -- The ways that a step on a heap may go.
 

@@ -1,35 +1,31 @@
-use Rattle.std.proofs.Common.{◌≡◌, ℕ, ◌+◌, ◌≤◌, Bool, true, false, not, ◌||◌, List, [], ◌∷◌, ◌++◌}
+use Rattle.std.proofs.Common.{◌≡◌, ℕ, ◌+◌, ◌≤◌, Bool, true, false, not, List, [], ◌++◌}
 use Rattle.std.proofs.Common.{refl, sym, ◌∙◌, ap, subst, cond, arith, Option, Some, None, Result, Ok, Err, is_some, length}
-use Rattle.std.proofs.Common.{replicate, nat_le, nat_lt}
-use Rattle.std.proofs.lemmas.Bool.{and_parts}
+use Rattle.std.proofs.Common.{replicate, nat_lt}
+use Rattle.std.proofs.lemmas.Bool.{and_parts, cond-true}
 use Rattle.std.proofs.lemmas.Option.{same_Some}
 use Rattle.mac_words.specs.Size.{phys}
 use Rattle.mac_words.specs.declared.code.OsErr.{OsErr}
-use Rattle.block_store.specs.Block.{Block, Free, Masters, Relocatable, Nonrelocatable, size, total, is_mover, is_purgeable}
-use Rattle.block_store.specs.Block.{is_relocatable, is_nonrelocatable, content_of, no_flags}
-use Rattle.block_store.specs.Run.{has_free, segments}
-use Rattle.block_store.specs.Room.{Spot, spot, may_be_purged, put_at_base, put_in_place, purge, room}
-use Rattle.block_store.specs.Grow.{growth, grow_up, grow_mover, freed}
-use Rattle.block_store.specs.Compact.{beyond}
-use Rattle.block_store.proofs.Zone.Tidy.{spot-is}
-use Rattle.block_store.proofs.Zone.Totals.{total-append}
-use Rattle.block_store.proofs.Zone.Zones.{joined-segments, joined-is}
+use Rattle.block_store.specs.Block.{Block, Free, Masters, Relocatable, size, total, is_purgeable}
+use Rattle.block_store.specs.Block.{no_flags}
+use Rattle.block_store.specs.Run.{has_free}
+use Rattle.block_store.specs.Room.{may_be_purged, put_at_base, put_in_place, purge, room}
+use Rattle.block_store.proofs.Zone.Totals.{total-le}
 use Rattle.block_store.proofs.Zone.Views.{map-some}
-use Rattle.block_store.proofs.Zone.Keeping.{unless-le, freed-is, based-le}
+use Rattle.block_store.proofs.Zone.Keeping.{based-le}
 use Rattle.heap_calls.specs.State.{State, Memory, used_slots, all_slots}
-use Rattle.heap_calls.specs.Answer.{look_up, handle_at, nothing}
-use Rattle.heap_calls.specs.Pointers.{pointed_at, reserved}
-use Rattle.heap_calls.specs.Purging.{is_loose, purgeable, blocks_purged}
-use Rattle.heap_calls.specs.Searches.{resized_at}
+use Rattle.heap_calls.specs.Answer.{handle_at, nothing}
+use Rattle.heap_calls.specs.Purging.{purgeable, blocks_purged}
 use Rattle.heap_calls.specs.Slots.{slotted, more_masters}
 use Rattle.heap_calls.specs.Asked.{Asked}
-use Rattle.heap_calls.specs.Asked as asked
 use Rattle.heap_calls.specs.Inside.{has_block}
 use Rattle.heap_calls.specs.Path.{Step, NewFilled, NewEmpty, Refill, Release, Cast, gone_at}
-use Rattle.heap_calls.specs.Busy.{barred, change_barred, both_barred, pointer_barred}
 use Rattle.heap_calls.specs.Gone.{Gone, gone_of, gone, room_gone, slot_gone, ready_gone, block_gone, made_gone, found_gone}
-use Rattle.heap_calls.specs.Gone.{gone_unless, in_place_gone, growth_gone, size_gone, reserve_gone}
-use Rattle.heap_calls.specs.Table.{gone_in}
+use Rattle.heap_calls.specs.Gone.{gone_unless}
+use Rattle.heap_calls.specs.Table.{row, gone_in, bar_of, barred_by, purged_by}
+use Rattle.heap_calls.specs.Rows.{Done, work, told_blocks}
+use Rattle.heap_calls.proofs.Rows.Kinds.{of-path, by-kind, none-by, gated-by}
+use Rattle.heap_calls.proofs.Rows.Most.{PurgesMost, row-most}
+use Rattle.heap_calls.proofs.Rows.Telling.{path-told}
 use Rattle.heap_calls.proofs.ToldGone.Sums.{Adds, room-told, purged-most, room-most}
 
 -- What a call tells of comes to no more than its zone did, by any measure of blocks by which each block that may be
@@ -116,72 +112,24 @@ module _ (n : ℕ) (of : Block → ℕ) (none : (m : ℕ) → of (Free m) ≡ 0)
         (if-bound (is_some (phys (length bytes))) _ (total of r.zone)
         (most sp (put_in_place (Relocatable n no_flags bytes)) r.zone))
 
-    made-bound : (sp : Block → Bool) (bytes : List ℕ) (s : State) → n ≡ length s.names
-        → told (made_gone sp bytes s) ≤ total of s.zone
-    made-bound sp bytes s named = by_ready (slotted sp s) (slot-bound sp s)
+    new-bound : (sp : Block → Bool) (gone_for : State → List Gone) (s : State)
+        → ((r : State) → n ≡ length r.names → told (gone_for r) ≤ total of r.zone) → n ≡ length s.names
+        → told (slot_gone sp s ++ ready_gone (slotted sp s) gone_for) ≤ total of s.zone
+    new-bound sp gone_for s each named = by_ready (slotted sp s) (slot-bound sp s)
       where
         by_ready : (o : Option State) → ((r : State) → n ≡ length s.names → o ≡ Some r
             → (total of r.zone + told (slot_gone sp s) ≤ total of s.zone) × (r.names ≡ s.names))
-            → told (slot_gone sp s ++ ready_gone o (block_gone sp bytes)) ≤ total of s.zone
+            → told (slot_gone sp s ++ ready_gone o gone_for) ≤ total of s.zone
         by_ready None ready = let l = slot-most sp s named in omega (arith, nil, adds (slot_gone sp s) [])
         by_ready (Some r) ready =
             let two = ready r named refl in
             let l = two.0 in
-            let b = block-bound sp bytes r (named ∙ ap length (sym two.1)) in
-            omega (arith, adds (slot_gone sp s) (block_gone sp bytes r))
+            let b = each r (named ∙ ap length (sym two.1)) in
+            omega (arith, adds (slot_gone sp s) (gone_for r))
 
-    -- what is told of for a block that grows
-    in_place-bound : (sp : Block → Bool) (new : Block) (s : Spot) → told (in_place_gone n sp new s) ≤ total of s.above
-    in_place-bound sp new s =
-        let first = (segments s.above).first in
-        let rest = beyond (segments s.above).rest in
-        let parts : total of s.above ≡ total of first + total of rest =
-        ap (total of) (sym (joined-segments s.above) ∙ joined-is first (segments s.above).rest)
-        ∙ total-append of first rest in
-        let m = most sp (λ run. cond (has_free (growth new s) run) (Some run) None) first in
-        unless-bound (is_some (grow_up new s)) _ (total of s.above) (omega (arith, parts))
-
-    growth-bound : (test sp : Block → Bool) (new : Block) (zone : List Block) (o : Option Spot) → spot test zone ≡ o
-        → told (growth_gone n test sp new zone o) ≤ total of zone
-    growth-bound test sp new zone None found = least-bound (total of zone)
-    growth-bound test sp new zone (Some s) found =
-        unless-bound (nat_le (size new) (size s.here)) _ (total of zone) (by_kind (is_mover s.here))
-      where
-        by_kind : (t : Bool) → told (cond t (room_gone n (grow_mover test new) sp zone) (in_place_gone n sp new s))
-            ≤ total of zone
-        by_kind true = most sp (grow_mover test new) zone
-        by_kind false = let b = in_place-bound sp new s in
-            omega (arith, ap (total of) (spot-is test zone s found), total-append of s.below (s.here ∷ s.above))
-
-    size-bound : (test sp : Block → Bool) (bytes : ℕ) (zone : List Block)
-        → told (size_gone n test sp bytes zone) ≤ total of zone
-    size-bound test sp bytes zone = if-bound (is_some (phys bytes)) _ (total of zone)
-        (growth-bound test sp (resized_at bytes (spot test zone)) zone (spot test zone) refl)
-
-    reserve-bound : (o : Option ℕ) (s : State) → n ≡ length s.names → told (reserve_gone o s) ≤ total of s.zone
-    reserve-bound None s named = least-bound (total of s.zone)
-    reserve-bound (Some p) s named =
-        subst (λ (j : ℕ). told (room_gone j (reserved p) nothing s.zone) ≤ total of s.zone) named
-        (most nothing (reserved p) s.zone)
-
-    -- what is told of for a new block where the old one counts as free
-    pub loose-bound : (h m : ℕ) (zone : List Block)
-        → told (cond (is_loose (spot (is_relocatable h) zone)) (cond (is_some (phys m)) (room_gone n
-        (put_in_place (Relocatable h no_flags (replicate m 0))) nothing (freed (is_relocatable h) zone)) []) [])
-        ≤ total of (freed (is_relocatable h) zone)
-    loose-bound h m zone =
-        if-bound (is_loose (spot (is_relocatable h) zone)) _ (total of (freed (is_relocatable h) zone))
-        (if-bound (is_some (phys m)) _ (total of (freed (is_relocatable h) zone))
-        (most nothing (put_in_place (Relocatable h no_flags (replicate m 0))) (freed (is_relocatable h) zone)))
-
-    loose-most : (h m : ℕ) (zone : List Block)
-        → told (cond (is_loose (spot (is_relocatable h) zone)) (cond (is_some (phys m)) (room_gone n
-        (put_in_place (Relocatable h no_flags (replicate m 0))) nothing (freed (is_relocatable h) zone)) []) [])
-        ≤ total of zone
-    loose-most h m zone =
-        let l = loose-bound h m zone in
-        let u = unless-le (is_relocatable h) of zone in
-        omega (arith, freed-is of none (is_relocatable h) zone)
+    made-bound : (sp : Block → Bool) (bytes : List ℕ) (s : State) → n ≡ length s.names
+        → told (made_gone sp bytes s) ≤ total of s.zone
+    made-bound sp bytes s named = new-bound sp (block_gone sp bytes) s (block-bound sp bytes) named
 
     purged-bound : (k : ℕ) (s : State) → n ≡ length s.names
         → told (gone (length s.names) k nothing s.zone) ≤ total of s.zone
@@ -189,67 +137,39 @@ module _ (n : ℕ) (of : Block → ℕ) (none : (m : ℕ) → of (Free m) ≡ 0)
         subst (λ (j : ℕ). told (gone j k nothing s.zone) ≤ total of s.zone) named
         (let p = purged-most n of none told nil adds nothing (goes-if nothing) k s.zone in omega arith)
 
+    -- what is told of a block that may be purged
+    abbrev told_of_block : Block → ℕ
+    told_of_block b = cond (is_purgeable b) (told (gone_of n b)) 0
+
+    told-less : (b : Block) → told_of_block b ≤ of b
+    told-less b = cases (is_purgeable b) (goes b)
+      where
+        cases : (t : Bool) → (t ≡ true → told (gone_of n b) ≤ of b) → cond {A = ℕ} t (told (gone_of n b)) 0 ≤ of b
+        cases true le = le refl
+        cases false le = omega arith
+
     -- each call
     pub told-most : (a : Asked) (m : Memory) → n ≡ length m.heap.names → told (gone_in a m) ≤ total of m.heap.zone
-    told-most (asked.NewHandle k) m named = made-bound nothing (replicate k 0) m.heap named
-    told-most asked.NewEmptyHandle m named = slot-most nothing m.heap named
-    told-most (asked.SetHandleSize handle k) m named =
-        subst (λ (j : ℕ). told (gone_unless (change_barred handle m) (found_gone (look_up handle m.heap)
-        (λ held. size_gone j (is_relocatable held.number) (is_relocatable held.number) k m.heap.zone)))
-        ≤ total of m.heap.zone) named
-        (open-bound (change_barred handle m) _ (total of m.heap.zone)
-        (found-bound (look_up handle m.heap) _ (total of m.heap.zone)
-        (λ held. size-bound (is_relocatable held.number) (is_relocatable held.number) k m.heap.zone)))
-    told-most (asked.ReallocateHandle handle k) m named =
-        subst (λ (j : ℕ). told (gone_unless (change_barred handle m) (found_gone (handle_at handle m.heap)
-        (λ found. cond (is_loose (spot (is_relocatable found.number) m.heap.zone)) (cond (is_some (phys k)) (room_gone j
-        (put_in_place (Relocatable found.number no_flags (replicate k 0))) nothing
-        (freed (is_relocatable found.number) m.heap.zone)) []) []))) ≤ total of m.heap.zone) named
-        (open-bound (change_barred handle m) _ (total of m.heap.zone)
-        (found-bound (handle_at handle m.heap) _ (total of m.heap.zone)
-        (λ found. loose-most found.number k m.heap.zone)))
-    told-most (asked.HandToHand handle) m named =
-        open-bound (barred handle m) _ (total of m.heap.zone)
-        (found-bound (look_up handle m.heap) _ (total of m.heap.zone)
-        (λ held. made-bound (is_relocatable held.number) (content_of held.at.here) m.heap named))
-    told-most (asked.HandAndHand from to) m named =
-        subst (λ (j : ℕ). told (gone_unless (both_barred from to m) (found_gone (look_up from m.heap)
-        (λ a. found_gone (look_up to m.heap) (λ b. size_gone j (is_relocatable b.number)
-        (λ block. is_relocatable a.number block || is_relocatable b.number block)
-        (length (content_of b.at.here) + length (content_of a.at.here)) m.heap.zone)))) ≤ total of m.heap.zone) named
-        (open-bound (both_barred from to m) _ (total of m.heap.zone)
-        (found-bound (look_up from m.heap) _ (total of m.heap.zone)
-        (λ a. found-bound (look_up to m.heap) _ (total of m.heap.zone)
-        (λ b. size-bound (is_relocatable b.number)
-        (λ block. is_relocatable a.number block || is_relocatable b.number block)
-        (length (content_of b.at.here) + length (content_of a.at.here)) m.heap.zone))))
-    told-most (asked.PtrAndHand handle x) m named =
-        subst (λ (j : ℕ). told (gone_unless (change_barred handle m) (found_gone (look_up handle m.heap)
-        (λ held. size_gone j (is_relocatable held.number) (is_relocatable held.number)
-        (length (content_of held.at.here) + length x) m.heap.zone))) ≤ total of m.heap.zone) named
-        (open-bound (change_barred handle m) _ (total of m.heap.zone)
-        (found-bound (look_up handle m.heap) _ (total of m.heap.zone)
-        (λ held. size-bound (is_relocatable held.number) (is_relocatable held.number)
-        (length (content_of held.at.here) + length x) m.heap.zone)))
-    told-most (asked.NewPtr k) m named =
-        subst (λ (j : ℕ). told (cond (is_some (phys k))
-        (room_gone j (put_at_base (Nonrelocatable j (replicate k 0))) nothing m.heap.zone) []) ≤ total of m.heap.zone)
-        named
-        (if-bound (is_some (phys k)) _ (total of m.heap.zone)
-        (most nothing (put_at_base (Nonrelocatable n (replicate k 0))) m.heap.zone))
-    told-most (asked.SetPtrSize pointer k) m named =
-        subst (λ (j : ℕ). told (gone_unless (pointer_barred pointer m) (found_gone (pointed_at pointer m.heap)
-        (λ held. size_gone j (is_nonrelocatable held.number) nothing k m.heap.zone))) ≤ total of m.heap.zone) named
-        (open-bound (pointer_barred pointer m) _ (total of m.heap.zone)
-        (found-bound (pointed_at pointer m.heap) _ (total of m.heap.zone)
-        (λ held. size-bound (is_nonrelocatable held.number) nothing k m.heap.zone)))
-    told-most (asked.PurgeMem k) m named = purged-bound (blocks_purged (phys k) m.heap.zone) m.heap named
-    told-most asked.MaxMem m named = purged-bound (purgeable m.heap.zone) m.heap named
-    told-most (asked.ReserveMem k) m named = reserve-bound (phys k) m.heap named
-    told-most asked.MoreMasters m named =
-        subst (λ (j : ℕ). told (room_gone j (put_at_base Masters) nothing m.heap.zone) ≤ total of m.heap.zone) named
-        (most nothing (put_at_base Masters) m.heap.zone)
-    told-most a m named = least-bound (total of m.heap.zone)
+    told-most a m named = subst (λ (l : List Gone). told l ≤ total of m.heap.zone) (sym (gated-by (row a) m))
+        (open-bound (barred_by (bar_of (row a)) m) (purged_by (row a) m.heap) (total of m.heap.zone) (by-kind
+        (λ b. told (purged_by (row b) m.heap) ≤ total of m.heap.zone) (λ b path. of-path
+        (λ r. PurgesMost told_of_block r m.heap → told (purged_by r m.heap) ≤ total of m.heap.zone)
+        (λ T bar tell does few. by_path (does m.heap) few) (λ left r kept. kept) (row b) path
+        (row-most told_of_block (λ k. refl) refl m.heap b))
+        (λ k. purged-bound (blocks_purged (phys k) m.heap.zone) m.heap named)
+        (purged-bound (purgeable m.heap.zone) m.heap named)
+        (λ b quiet. subst (λ (l : List Gone). told l ≤ total of m.heap.zone) (sym (none-by (row b) m.heap quiet))
+        (least-bound (total of m.heap.zone))) a))
+      where
+        by_path : {T : Type 0} (d : Done T) → total told_of_block (work d m.heap).gone ≤ total told_of_block m.heap.zone
+            → told (told_blocks (length m.heap.names) (work d m.heap).gone) ≤ total of m.heap.zone
+        by_path d few = subst (λ (j : ℕ). told (told_blocks j (work d m.heap).gone) ≤ total of m.heap.zone) named (omega (
+          arith,
+          few,
+          path-told n told_of_block (λ k. refl) told nil adds (λ b may. sym (cond-true (is_purgeable b)
+              (told (gone_of n b)) 0 may)) d.spared d.path m.heap.zone,
+          total-le told_of_block of told-less m.heap.zone,
+        ))
 
     -- each step of the Resource Manager
     pub step-most : (step : Step) (m : Memory) → n ≡ length m.heap.names → told (gone_at step m) ≤ total of m.heap.zone

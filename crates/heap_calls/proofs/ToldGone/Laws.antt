@@ -4,15 +4,16 @@ use Rattle.std.proofs.Common.{length, nat_lt, is_some, replicate}
 use Rattle.std.proofs.lemmas.Bool.{cond-true, cond-false}
 use Rattle.std.proofs.lemmas.Bool.Decides.{Decides-eqb, nat_tests}
 use Rattle.std.proofs.lemmas.Slice.Eq.{bytes_eq-Decides}
-use Rattle.std.specs.Prelude.{bytes_eq}
+use Rattle.std.specs.Prelude.{bytes_eq, if◌then◌else◌}
 use Rattle.mac_words.specs.declared.code.OsErr.{OsErr}
+use Rattle.mac_words.specs.declared.code.TheConstants.OsErr.{PURGED}
 use Rattle.mac_words.specs.Told.{Told}
 use Rattle.mac_words.specs.Size.{phys}
 use Rattle.block_store.specs.declared.flags.Flags.{Flags}
 use Rattle.block_store.specs.Block.{Block, Free, Nonrelocatable, Masters, Relocatable, sizes, total, count, is_purgeable}
 use Rattle.block_store.specs.Block.{is_relocatable, is_nonrelocatable, content_of, with_content, resized, no_flags}
 use Rattle.block_store.specs.Run.{has}
-use Rattle.block_store.specs.Room.{spot, put_in_place}
+use Rattle.block_store.specs.Room.{spot}
 use Rattle.block_store.specs.Grow.{freed}
 use Rattle.block_store.specs.declared.measures.TheConstants.{GREATEST_ZONE}
 use Rattle.block_store.proofs.Zone.Leading.{count-none}
@@ -22,23 +23,29 @@ use Rattle.heap_calls.specs.State.{State, Memory}
 use Rattle.heap_calls.specs.Answer.{Known, handle_at, nothing}
 use Rattle.heap_calls.specs.Purging.{is_loose}
 use Rattle.heap_calls.specs.Asked.{Asked}
-use Rattle.heap_calls.specs.Table as table
-use Rattle.heap_calls.specs.Table.{answered, Row, row, may_purge, purged_by, gone_of_row, barred_by, bar_of}
+use Rattle.heap_calls.specs.Table.{answered, row}
 use Rattle.heap_calls.specs.Asked as asked
 use Rattle.heap_calls.specs.Busy.{keep_code}
 use Rattle.heap_calls.specs.Table.{gate, gated, notes}
 use Rattle.heap_calls.specs.Emptying.{takes_block}
-use Rattle.heap_calls.specs.Gone.{Gone, gone_of, gone_unless, found_gone, room_gone, refill_gone}
+use Rattle.heap_calls.specs.Gone.{Gone, gone_of, gone_unless, refill_gone}
 use Rattle.heap_calls.specs.Table.{gone_in}
 use Rattle.heap_calls.specs.ToldGone.{told_of, bytes_in, TellsWhatGoes, TellsOfPurgeable, StepTellsWhatGoes}
 use Rattle.heap_calls.specs.Inside.{has_block, refill_inside, released_as, cast_as}
 use Rattle.heap_calls.specs.Path.{Step, NewFilled, NewEmpty, Refill, Release, Cast, stepped, gone_at, step_disposes}
 use Rattle.heap_calls.proofs.Gates.Served.{served-gated}
-use Rattle.heap_calls.proofs.Promises.LastPutLaws.{handle_at-name}
+use Rattle.moves.specs.Moves.{Put, Drop}
+use Rattle.moves.specs.Seeking.{seek, if_fits, around}
+use Rattle.moves.proofs.Rows.{again-most}
+use Rattle.heap_calls.specs.Rows as rows
+use Rattle.heap_calls.specs.Rows.{work, told_blocks}
+use Rattle.heap_calls.proofs.Rows.Kinds.{none-by, gated-by}
+use Rattle.heap_calls.proofs.Rows.Telling.{path-told}
+use Rattle.heap_calls.proofs.Promises.Knowing.{handle_at-name}
 use Rattle.heap_calls.proofs.Promises.EmptyingLaws.{Unseen, Spares, purges, of-quiet, of-gone, is_of, is_of-rises}
 use Rattle.heap_calls.proofs.Promises.EmptyingLaws.{renewed-there}
 use Rattle.heap_calls.proofs.ToldGone.Sums.{Adds}
-use Rattle.heap_calls.proofs.ToldGone.Bounds.{told-most, step-most, loose-bound}
+use Rattle.heap_calls.proofs.ToldGone.Bounds.{told-most, step-most}
 use Rattle.heap_calls.proofs.ToldGone.Rows.{row_gone, rows-even, filled_step-even, empty_step-even, refill_step-even}
 
 -- What a call tells of a handle is what the handle loses.
@@ -177,34 +184,10 @@ is_of-filled h x Masters = refl
 is_of-filled h x (Relocatable id flags content) = refl
 
 -- a call that purges nothing tells of nothing
-none-by : (r : Row) (s : State) → may_purge r ≡ false → purged_by r s ≡ []
-none-by (table.Plain bar tell call) s e = refl
-none-by (table.Quiet bar tell call) s e = refl
-none-by (table.Seeks bar tell searches gone call) s e = let f : true ≡ false = e in cc
-none-by (table.Packs bar tell moves searches gone call) s e = let f : true ≡ false = e in cc
-none-by (table.Compacts moves searches call) s e = refl
-none-by table.PurgesAll s e = let f : true ≡ false = e in cc
-none-by table.LastCode s e = refl
-none-by (table.Leaves left r) s e = none-by r s e
-
 row-none : (a : Asked) (s : State) → purges a ≡ false → row_gone a s ≡ []
 row-none a s e = none-by (row a) s e
 
 -- what a try tells of, by its gate
-unless-none : (o : Option OsErr) → gone_unless o [] ≡ []
-unless-none None = refl
-unless-none (Some code) = refl
-
-gated-by : (r : Row) (m : Memory) → gone_of_row r m ≡ gone_unless (barred_by (bar_of r) m) (purged_by r m.heap)
-gated-by (table.Plain bar tell call) m = sym (unless-none (barred_by bar m))
-gated-by (table.Quiet bar tell call) m = sym (unless-none (barred_by bar m))
-gated-by (table.Seeks bar tell searches gone call) m = refl
-gated-by (table.Packs bar tell moves searches gone call) m = refl
-gated-by (table.Compacts moves searches call) m = refl
-gated-by table.PurgesAll m = refl
-gated-by table.LastCode m = refl
-gated-by (table.Leaves left r) m = gated-by r m
-
 gone-gated : (a : Asked) (m : Memory) → gone_in a m ≡ gone_unless (gate a m) (row_gone a m.heap)
 gone-gated a m = gated-by (row a) m
 
@@ -245,32 +228,41 @@ module _ (h : ℕ) (m : Memory) (within : h < length m.heap.names)
     taken-none (asked.ReallocateHandle (Some k) n) takes =
         many-none _ (by_found (handle_at (Some k) m.heap) (λ found e. (handle_at-name k m.heap found e).1))
       where
-        zero_left : (zone : List Block) → total (unless (is_relocatable h) (is_of h)) zone ≡ 0
+        zone : List Block
+        zone = m.heap.zone
+
+        zero_left : (bs : List Block) → total (unless (is_relocatable h) (is_of h)) bs ≡ 0
         zero_left [] = refl
-        zero_left (b ∷ zone) = omega (arith, zero_left zone, cases (is_relocatable h b))
+        zero_left (b ∷ bs) = omega (arith, zero_left bs, cases (is_relocatable h b))
           where
             cases : (t : Bool) → cond {A = ℕ} t 0 (cond {A = ℕ} t 1 0) ≡ 0
             cases true = refl
             cases false = refl
 
-        loose_gone : ℕ → List Gone
-        loose_gone j =
-            cond (is_loose (spot (is_relocatable j) m.heap.zone)) (cond (is_some (phys n))
-            (room_gone (length m.heap.names) (put_in_place (Relocatable j no_flags (replicate n 0))) nothing
-            (freed (is_relocatable j) m.heap.zone)) []) []
+        answer : ℕ → Bool → rows.Done (Unit {0})
+        answer j t = if t then rows.changed nothing (around (Drop j ∷ []) [] (if_fits n
+            (seek (Put (Relocatable j no_flags (replicate n 0))) nothing (freed (is_relocatable j) zone)))) m.heap
+            else rows.refused PURGED m.heap
+
+        by_tests : (j : ℕ) → j ≡ h → (t : Bool)
+            → many (told_of h (told_blocks (length m.heap.names) (work (answer j t) m.heap).gone)) ≤ 0
+        by_tests j same false = omega arith
+        by_tests j same true = omega (
+          arith,
+          path-told (length m.heap.names) (is_of h) (λ i. refl) (λ l. many (told_of h l)) refl (told-adds (λ x. 1) h)
+              (λ b goes. told-one (λ x. 1) h (length m.heap.names) within b) nothing (answer j true).path zone,
+          again-most (is_of h) nothing (λ i. refl) (is_some (phys n)) j (Relocatable j no_flags (replicate n 0)) zone,
+          freed-is (is_of h) (λ i. refl) (is_relocatable j) zone,
+          ap (λ (i : ℕ). total (unless (is_relocatable i) (is_of h)) zone) same,
+          zero_left zone,
+        )
 
         by_found : (r : Result Known OsErr) → ((found : Known) → r ≡ Ok found → found.number ≡ k)
-            → many (told_of h (found_gone r (λ found. loose_gone found.number))) ≤ 0
+            → many (told_of h (told_blocks (length m.heap.names) (work (rows.for_found r m.heap
+            (λ found. answer found.number (is_loose (spot (is_relocatable found.number) zone)))) m.heap).gone)) ≤ 0
         by_found (Err code) named = omega arith
-        by_found (Ok found) named =
-            let same : found.number ≡ h = named found refl ∙ (Decides-eqb k h).0 takes in
-            let zone = m.heap.zone in
-            let bound = loose-bound (length m.heap.names) (is_of h) (λ j. refl) refl (λ l. many (told_of h l)) refl
-            (told-adds (λ x. 1) h) (λ b goes. let one = told-one (λ x. 1) h (length m.heap.names) within b in omega arith)
-            found.number n zone in
-            let none_left : total (unless (is_relocatable found.number) (is_of h)) zone ≡ 0 =
-            subst (λ (j : ℕ). total (unless (is_relocatable j) (is_of h)) zone ≡ 0) (sym same) (zero_left zone) in
-            omega (arith, freed-is (is_of h) (λ j. refl) (is_relocatable found.number) zone, none_left)
+        by_found (Ok found) named = by_tests found.number (named found refl ∙ (Decides-eqb k h).0 takes)
+            (is_loose (spot (is_relocatable found.number) zone))
     taken-none a takes = let f : false ≡ true = takes in cc
 
     -- all that is told of a handle comes to no more than its blocks
@@ -312,7 +304,7 @@ module _ (h : ℕ) (m : Memory) (within : h < length m.heap.names)
         by_block : (t : Bool) → has (is_relocatable h) m.heap.zone ≡ t
             → [] ≡ cond (has (is_relocatable h) after) [] (bytes_in h m.heap.zone)
         by_block true e =
-            sym (ap (λ t. cond t [] (bytes_in h m.heap.zone)) (renewed-there h k n m.heap takes e))
+            sym (ap (λ t. cond t [] (bytes_in h m.heap.zone)) (renewed-there h k n m takes e))
         by_block false e =
             let held : bytes_in h m.heap.zone ≡ [] = many-none (bytes_in h m.heap.zone)
             (omega (arith, held-bytes (λ x. 1) h m.heap.zone, count-none (is_relocatable h) m.heap.zone e)) in

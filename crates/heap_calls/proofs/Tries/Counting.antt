@@ -23,8 +23,8 @@ use Rattle.heap_calls.proofs.Promises.FewSearches.{row_few, row_searched}
 moved-by : (r : Row) (m : Memory) → (answer_of r m).1.moves ≡ counted m.moves (moves_of r m.heap)
 moved-by (table.Plain bar tell call) m = sym (counted-none m.moves)
 moved-by (table.Quiet bar tell call) m = sym (counted-none m.moves)
+moved-by (table.Does bar tell does) m = refl
 moved-by (table.Seeks bar tell searches gone call) m = sym (counted-none m.moves)
-moved-by (table.Packs bar tell moves searches gone call) m = refl
 moved-by (table.Compacts moves searches call) m = refl
 moved-by table.PurgesAll m = refl
 moved-by table.LastCode m = sym (counted-none m.moves)

@@ -8,6 +8,7 @@ use Rattle.heap_calls.specs.Table.{answered, Bar, Row, row, bar_of, barred_by, g
 use Rattle.heap_calls.specs.Table as table
 use Rattle.heap_calls.specs.Asked as asked
 use Rattle.heap_calls.specs.Gone.{gone_unless}
+use Rattle.heap_calls.specs.Rows.{purges_made}
 use Rattle.heap_calls.specs.Table.{gone_in}
 use Rattle.heap_calls.specs.Busy.{keep_code, pointer_barred, either_barred}
 use Rattle.heap_calls.specs.Table.{gate, gated, notes, served}
@@ -66,9 +67,9 @@ served-elsewhere window a m =
 gone-row : (window : Site) (r : Row) (m : Memory) → gone_of_row r (elsewhere window m) ≡ gone_of_row r m
 gone-row window (table.Plain bar tell call) m = refl
 gone-row window (table.Quiet bar tell call) m = refl
+gone-row window (table.Does bar tell does) m =
+    ap (λ o. gone_unless o (purges_made does m.heap)) (bar-elsewhere window bar m)
 gone-row window (table.Seeks bar tell searches gone call) m =
-    ap (λ o. gone_unless o (gone m.heap)) (bar-elsewhere window bar m)
-gone-row window (table.Packs bar tell moves searches gone call) m =
     ap (λ o. gone_unless o (gone m.heap)) (bar-elsewhere window bar m)
 gone-row window (table.Compacts moves searches call) m = refl
 gone-row window table.PurgesAll m = refl

@@ -1,35 +1,35 @@
-use Rattle.std.proofs.Common.{◌≡◌, ℕ, ◌+◌, ◌/◌, ◌%◌, ◌||◌, zero, suc, Bool, true, false, ◌==◌, List, [], ◌∷◌, ◌++◌}
-use Rattle.std.proofs.Common.{length, replicate, refl, sym, ◌∙◌, ap, cond, arith, Option, Some, None, Result, Ok, Err}
-use Rattle.std.proofs.Common.{nat_le, nat_lt, slice_get, slice_set}
+use Rattle.std.proofs.Common.{◌≡◌, ℕ, ◌+◌, ◌/◌, ◌%◌, zero, suc, Bool, true, false, ◌==◌, List, [], ◌∷◌, ◌++◌}
+use Rattle.std.proofs.Common.{length, refl, sym, ◌∙◌, ap, subst, cond, arith, Option, Some, None, Result, Ok, Err}
+use Rattle.std.proofs.Common.{nat_le, slice_get, slice_set}
 use Rattle.std.proofs.lemmas.Bool.Decides.{Decides-eqb}
 use Rattle.std.specs.Option.{option_map, ok_or}
-use Rattle.std.specs.Prelude.{is_some}
-use Rattle.mac_words.specs.Size.{phys}
 use Rattle.mac_words.specs.declared.code.OsErr.{OsErr}
-use Rattle.mac_words.specs.declared.code.TheConstants.OsErr.{NIL_HANDLE, MEM_FULL, LOCKED, PROFILE, PURGED}
+use Rattle.mac_words.specs.declared.code.TheConstants.OsErr.{NIL_HANDLE, LOCKED, PROFILE, PURGED}
 use Rattle.block_store.specs.declared.flags.Flags.{Flags}
-use Rattle.block_store.specs.Block.{Block, Nonrelocatable, Masters, Relocatable, is_mover, is_relocatable, is_nonrelocatable, content_of}
-use Rattle.block_store.specs.Block.{with_content, no_flags, tidy}
+use Rattle.block_store.specs.Block.{Block, is_mover, is_relocatable, is_nonrelocatable, content_of}
+use Rattle.block_store.specs.Block.{with_content, tidy}
 use Rattle.windows.specs.Writes.{written}
-use Rattle.block_store.specs.Room.{Spot, spot, put_in_place, put_at_base, room}
-use Rattle.block_store.specs.Grow.{freed, grow}
+use Rattle.block_store.specs.Room.{Spot, spot}
+use Rattle.block_store.specs.Grow.{freed}
 use Rattle.heap_calls.specs.State.{State, Memory, Plain, Resource, SystemResource, Meaning, Handle, Pointer}
-use Rattle.heap_calls.specs.State.{Disposed, used_slots, all_slots}
+use Rattle.heap_calls.specs.State.{Disposed}
 use Rattle.heap_calls.specs.Answer.{Answer, Held, nothing, given, refused, disposed_of, rebuilt, change_flags, hoisted}
 use Rattle.heap_calls.specs.Answer.{look_up, known_as, handle_at, for_found, written_at, on_block}
 use Rattle.heap_calls.specs.Answer as calls
-use Rattle.heap_calls.specs.Slots.{slotted, if_ready, new_block, more_masters, new_handle}
-use Rattle.heap_calls.specs.Pointers.{pointed, pointed_at, block_named, reserved, reserve_mem}
+use Rattle.heap_calls.specs.Pointers.{pointed, pointed_at}
 use Rattle.heap_calls.specs.Pointers.{dispose_pointer}
-use Rattle.heap_calls.specs.Purging.{emptied_at, is_loose, reallocated, reallocate_handle}
-use Rattle.heap_calls.specs.Copying.{append, appended, hand_to_hand, hand_and_hand}
+use Rattle.heap_calls.specs.Purging.{emptied_at, is_loose}
 use Rattle.heap_calls.specs.Asked.{Asked}
 use Rattle.heap_calls.specs.Table.{answered}
+use Rattle.heap_calls.specs.Rows as rows
+use Rattle.heap_calls.specs.Rows.{Done, heap_after}
+use Rattle.moves.specs.Seeking.{Sought}
 use Rattle.heap_calls.specs.Asked as asked
 use Rattle.heap_calls.specs.Table.{served}
 use Rattle.heap_calls.specs.Owned.{resource_meant, resource_role_at}
 use Rattle.heap_calls.proofs.Promises.Knowing.{pushed}
 use Rattle.heap_calls.proofs.Tries.Gating.{served-holds}
+use Rattle.heap_calls.proofs.Rows.Reads.{reads-same}
 
 -- No call of the Memory Manager makes a resource's handle, changes its role, or disposes of it.
 
@@ -116,26 +116,6 @@ either-keeps : {T : Type 0} (t : Bool) (s : State) (one other : Answer T) → Ke
 either-keeps true s one other first second = first
 either-keeps false s one other first second = second
 
-rebuilt-keeps : (o : Option (List Block)) (s : State) → Keeps s (rebuilt o s).1
-rebuilt-keeps None s h = refl
-rebuilt-keeps (Some zone) s h = refl
-
-given-keeps : (name : Meaning) → resource_meant (Some name) ≡ None → (o : Option (List Block)) (s : State)
-    → Keeps s (given name o s).1
-given-keeps name none None s h = refl
-given-keeps name none (Some zone) s h = push-none s.names h name none
-
-appended-keeps : (sp : Block → Bool) (k len : ℕ) (x : List ℕ) (o : Option (List Block)) (s : State)
-    → Keeps s (appended sp k len x o s).1
-appended-keeps sp k len x None s h = refl
-appended-keeps sp k len x (Some zone) s h = refl
-
-append-keeps : (sp : Block → Bool) (k len : ℕ) (x : List ℕ) (s : State) → Keeps s (append sp k len x s).1
-append-keeps sp k len x s =
-    either-keeps (is_some (phys (len + length x))) s
-    (appended sp k len x (grow (is_relocatable k) sp (len + length x) s.zone) s) (refused MEM_FULL s)
-    (appended-keeps sp k len x (grow (is_relocatable k) sp (len + length x) s.zone) s) (same-keeps s)
-
 written-keeps : (i : ℕ) (x : List ℕ) (at : Spot) (s : State) → Keeps s (written_at i x at s).1
 written-keeps i x at s = by_test (nat_le (i + length x) (length (content_of at.here)))
   where
@@ -145,11 +125,6 @@ written-keeps i x at s = by_test (nat_le (i + length x) (length (content_of at.h
     by_test : (t : Bool) → Keeps s (cond {A = Answer (Unit {0})} t (Ok tt, after) (refused PROFILE s)).1
     by_test true h = refl
     by_test false h = refl
-
-sized-keeps : (o : Option (List Block)) (n : ℕ) (s : State)
-    → Keeps s (cond (is_some (phys n)) (rebuilt o s) (refused MEM_FULL s)).1
-sized-keeps o n s =
-    either-keeps (is_some (phys n)) s (rebuilt o s) (refused MEM_FULL s) (rebuilt-keeps o s) (same-keeps s)
 
 emptied-keeps : (k : ℕ) (o : Option Spot) (s : State) → Keeps s (emptied_at k o s).1
 emptied-keeps k None s = same-keeps s
@@ -165,43 +140,21 @@ emptied-keeps k (Some at) s = by_mover (is_mover at.here)
 flags-keep : (change : Flags → Flags) (handle : Option ℕ) (s : State) → Keeps s (change_flags change handle s).1
 flags-keep change handle s = found-keeps (look_up handle s) s _ (λ held h. refl)
 
--- a slot that is made for a new handle
-ready-keeps : {T : Type 0} (sp : Block → Bool) (s : State) (answer : State → Answer T)
-    → ((r : State) → Keeps r (answer r).1) → Keeps s (if_ready (slotted sp s) s answer).1
-ready-keeps sp s answer each = by_slots (nat_lt (used_slots s) (all_slots s))
-  where
-    by_room : (o : Option (List Block))
-        → Keeps s (if_ready (option_map (λ zone. record s { zone = zone }) o) s answer).1
-    by_room None = same-keeps s
-    by_room (Some zone) = each (record s { zone = zone })
+-- the path of a call leaves the names, or gives a number that is no resource's
+done-found : {A T : Type 0} (r : Result A OsErr) (s : State) (call : A → Done T)
+    → ((k : A) → Keeps s (heap_after (call k) s)) → Keeps s (heap_after (rows.for_found r s call) s)
+done-found (Err why) s call each h = refl
+done-found (Ok k) s call each h = each k h
 
-    by_slots : (t : Bool) → Keeps s (if_ready (cond t (Some s) (more_masters sp s)) s answer).1
-    by_slots true = each s
-    by_slots false = by_room (room (put_at_base Masters) sp s.zone)
+given-keeps : (name : Meaning) → resource_meant (Some name) ≡ None → (t : Bool) (s : State) (h : ℕ)
+    → resource_meant (slice_get (cond t (s.names ++ name ∷ []) s.names) h) ≡ resource_meant (slice_get s.names h)
+given-keeps name none true s h = push-none s.names h name none
+given-keeps name none false s h = refl
 
-made-keeps : (sp : Block → Bool) (x : List ℕ) (s : State) → Keeps s (new_block sp x s).1
-made-keeps sp x s =
-    given-keeps (Handle Plain) refl (room (put_in_place (Relocatable (length s.names) no_flags x)) sp s.zone) s
-
-handle-keeps : (n : ℕ) (s : State) → Keeps s (new_handle n s).1
-handle-keeps n s =
-    ready-keeps nothing s _
-    (λ r. either-keeps (is_some (phys n)) r (new_block nothing (replicate n 0) r) (refused MEM_FULL r)
-    (made-keeps nothing (replicate n 0) r) (same-keeps r))
-
-copy-keeps : (handle : Option ℕ) (s : State) → Keeps s (hand_to_hand handle s).1
-copy-keeps handle s =
-    found-keeps (look_up handle s) s _
-    (λ held. ready-keeps (is_relocatable held.number) s
-    (new_block (is_relocatable held.number) (content_of held.at.here))
-    (made-keeps (is_relocatable held.number) (content_of held.at.here)))
-
-joined-keeps : (from to : Option ℕ) (s : State) → Keeps s (hand_and_hand from to s).1
-joined-keeps from to s =
-    found-keeps (look_up from s) s _
-    (λ a. found-keeps (look_up to s) s _
-    (λ b. append-keeps (λ block. is_relocatable a.number block || is_relocatable b.number block) b.number
-    (length (content_of b.at.here)) (content_of a.at.here) s))
+again-keeps : (t : Bool) (sp : Block → Bool) (r : Sought) (code : OsErr) (s : State)
+    → Keeps s (heap_after (cond t (rows.changed sp r s) (rows.refused code s)) s)
+again-keeps true sp r code s h = refl
+again-keeps false sp r code s h = refl
 
 moved-keeps : (handle : Option ℕ) (s : State) → Keeps s (calls.move_h_hi handle s).1
 moved-keeps handle s =
@@ -219,20 +172,6 @@ locked_high-keeps handle s = by_moved (calls.move_h_hi handle s).0 (calls.move_h
         → Keeps s moved → Keeps s (for_found r s (λ (u : Unit {0}). change_flags lock handle moved)).1
     by_moved (Err why) moved same = same-keeps s
     by_moved (Ok u) moved same = λ h. flags-keep lock handle moved h ∙ same h
-
-renewed-keeps : (handle : Option ℕ) (n : ℕ) (s : State) → Keeps s (reallocate_handle handle n s).1
-renewed-keeps handle n s =
-    found-keeps (handle_at handle s) s _
-    (λ k. either-keeps (is_loose (spot (is_relocatable k.number) s.zone)) s
-    (cond (is_some (phys n)) (rebuilt (reallocated k.number n s.zone) s) (refused MEM_FULL s)) (refused PURGED s)
-    (sized-keeps (reallocated k.number n s.zone) n s) (same-keeps s))
-
-reserved-keeps : (n : ℕ) (s : State) → Keeps s (reserve_mem n s).1
-reserved-keeps n s = by_size (phys n) refl
-  where
-    by_size : (o : Option ℕ) → phys n ≡ o → Keeps s (reserve_mem n s).1
-    by_size None e = λ h. rw e refl
-    by_size (Some p) e = λ h. rw e (rebuilt-keeps (room (reserved p) nothing s.zone) s h)
 
 -- only an application's own handle is disposed of
 disposed-keeps : (handle : Option ℕ) (s : State) → Keeps s (calls.dispose_handle handle s).1
@@ -271,15 +210,13 @@ unpointed-keeps (Some p) s = by_name (slice_get s.names p) refl
 
 -- each call's row
 row-keeps : (a : Asked) (m : Memory) → Keeps m.heap (answered a m).1.heap
-row-keeps (asked.NewHandle n) m = handle-keeps n m.heap
-row-keeps asked.NewEmptyHandle m =
-    ready-keeps nothing m.heap _ (λ r. given-keeps (Handle Plain) refl (Some r.zone) r)
+row-keeps (asked.NewHandle n) m = given-keeps (Handle Plain) refl _ m.heap
+row-keeps asked.NewEmptyHandle m = given-keeps (Handle Plain) refl _ m.heap
 row-keeps (asked.DisposeHandle handle) m = disposed-keeps handle m.heap
-row-keeps (asked.GetHandleSize handle) m = found-keeps {T = ℕ} (look_up handle m.heap) m.heap _ (λ held h. refl)
-row-keeps (asked.SetHandleSize handle n) m =
-    found-keeps (look_up handle m.heap) m.heap _
-    (λ held. sized-keeps (grow (is_relocatable held.number) (is_relocatable held.number) n m.heap.zone) n m.heap)
-row-keeps (asked.ReallocateHandle handle n) m = renewed-keeps handle n m.heap
+row-keeps (asked.SetHandleSize handle n) m = done-found (look_up handle m.heap) m.heap _ (λ held h. refl)
+row-keeps (asked.ReallocateHandle handle n) m =
+    done-found (handle_at handle m.heap) m.heap _
+    (λ k. again-keeps (is_loose (spot (is_relocatable k.number) m.heap.zone)) nothing _ PURGED m.heap)
 row-keeps (asked.EmptyHandle handle) m =
     found-keeps (handle_at handle m.heap) m.heap _
     (λ k. emptied-keeps k.number (spot (is_relocatable k.number) m.heap.zone) m.heap)
@@ -287,44 +224,29 @@ row-keeps (asked.HLock handle) m = flags-keep (λ f. record f { locked = true })
 row-keeps (asked.HUnlock handle) m = flags-keep (λ f. record f { locked = false }) handle m.heap
 row-keeps (asked.HPurge handle) m = flags-keep (λ f. record f { purgeable = true }) handle m.heap
 row-keeps (asked.HNoPurge handle) m = flags-keep (λ f. record f { purgeable = false }) handle m.heap
-row-keeps (asked.HGetState handle) m =
-    found-keeps (handle_at handle m.heap) m.heap _
-    (λ k. found-keeps {T = ℕ} (look_up handle m.heap) m.heap _ (λ held h. refl))
 row-keeps (asked.HSetState handle byte) m =
     flags-keep (λ f. record { locked = byte / 128 % 2 == 1; purgeable = byte / 64 % 2 == 1 }) handle m.heap
 row-keeps (asked.MoveHHi handle) m = moved-keeps handle m.heap
 row-keeps (asked.HLockHi handle) m = locked_high-keeps handle m.heap
-row-keeps (asked.HandToHand handle) m = copy-keeps handle m.heap
-row-keeps (asked.HandAndHand from to) m = joined-keeps from to m.heap
-row-keeps (asked.PtrAndHand handle x) m =
-    found-keeps (look_up handle m.heap) m.heap _
-    (λ held. append-keeps (is_relocatable held.number) held.number (length (content_of held.at.here)) x m.heap)
-row-keeps (asked.NewPtr n) m =
-    let made = room (put_at_base (Nonrelocatable (length m.heap.names) (replicate n 0))) nothing m.heap.zone in
-    either-keeps (is_some (phys n)) m.heap (given Pointer made m.heap) (refused MEM_FULL m.heap)
-    (given-keeps Pointer refl made m.heap) (same-keeps m.heap)
+row-keeps (asked.HandToHand handle) m =
+    done-found (look_up handle m.heap) m.heap _
+    (λ held. given-keeps (Handle Plain) refl _ m.heap)
+row-keeps (asked.HandAndHand from to) m =
+    done-found (look_up from m.heap) m.heap _ (λ a. done-found (look_up to m.heap) m.heap _ (λ b h. refl))
+row-keeps (asked.PtrAndHand handle x) m = done-found (look_up handle m.heap) m.heap _ (λ held h. refl)
+row-keeps (asked.NewPtr n) m = given-keeps Pointer refl _ m.heap
 row-keeps (asked.DisposePtr pointer) m = unpointed-keeps pointer m.heap
-row-keeps (asked.GetPtrSize pointer) m = found-keeps {T = ℕ} (pointed_at pointer m.heap) m.heap _ (λ held h. refl)
-row-keeps (asked.SetPtrSize pointer n) m =
-    found-keeps (pointed_at pointer m.heap) m.heap _
-    (λ held. sized-keeps (grow (is_nonrelocatable held.number) nothing n m.heap.zone) n m.heap)
-row-keeps asked.FreeMem m = same-keeps m.heap
-row-keeps asked.MaxBlock m = same-keeps m.heap
-row-keeps asked.PurgeSpace m = same-keeps m.heap
+row-keeps (asked.SetPtrSize pointer n) m = done-found (pointed_at pointer m.heap) m.heap _ (λ held h. refl)
 row-keeps (asked.CompactMem n) m = same-keeps m.heap
 row-keeps (asked.PurgeMem n) m = same-keeps m.heap
 row-keeps asked.MaxMem m = same-keeps m.heap
-row-keeps (asked.ReserveMem n) m = reserved-keeps n m.heap
-row-keeps asked.MoreMasters m =
-    rebuilt-keeps (option_map (λ (ready : State). ready.zone) (more_masters nothing m.heap)) m.heap
-row-keeps asked.MemError m = same-keeps m.heap
+row-keeps (asked.ReserveMem n) m = same-keeps m.heap
+row-keeps asked.MoreMasters m = same-keeps m.heap
 row-keeps (asked.Put handle i x) m =
     found-keeps (look_up handle m.heap) m.heap _ (λ held. written-keeps i x held.at m.heap)
-row-keeps (asked.Show handle) m = found-keeps {T = List ℕ} (look_up handle m.heap) m.heap _ (λ held h. refl)
 row-keeps (asked.PutPtr pointer i x) m =
     found-keeps (pointed_at pointer m.heap) m.heap _ (λ held. written-keeps i x held.at m.heap)
-row-keeps (asked.ShowPtr pointer) m = found-keeps {T = List ℕ} (pointed_at pointer m.heap) m.heap _ (λ held h. refl)
-row-keeps (asked.Where name) m = found-keeps {T = ℕ} (block_named name m.heap) m.heap _ (λ held h. refl)
+row-keeps a m = subst (Keeps m.heap) (sym (reads-same a refl m)) (same-keeps m.heap)
 
 -- a number is a resource's handle after a try just where it was before, in the same role
 pub served-roles : (a : Asked) (m : Memory) (h : ℕ)

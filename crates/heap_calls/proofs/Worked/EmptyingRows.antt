@@ -3,9 +3,10 @@ use Rattle.block_store.specs.declared.flags.Flags.{Flags}
 use Rattle.block_store.specs.Block.{Free, Masters, Relocatable, no_flags, is_relocatable}
 use Rattle.block_store.specs.Run.{has}
 use Rattle.heap_calls.specs.State.{State, Handle, Plain}
-use Rattle.heap_calls.specs.Slots.{new_handle}
 use Rattle.heap_calls.specs.Purging.{purge_mem}
 use Rattle.heap_calls.specs.Emptying.{has_purgeable}
+use Rattle.heap_calls.specs.Rows as rows
+use Rattle.heap_calls.specs.Rows.{answer_made}
 
 -- Blocks that may be purged, on a small zone.
 
@@ -26,10 +27,10 @@ may-stay : has_purgeable 1 heap.zone ≡ false
 may-stay = refl
 
 -- it goes for a new block, and the other stays
-goes-for-new : has (is_relocatable 0) (new_handle 4 heap).1.zone ≡ false
+goes-for-new : has (is_relocatable 0) (answer_made (rows.new_handle 4) heap).1.zone ≡ false
 goes-for-new = refl
 
-stays-for-new : has (is_relocatable 1) (new_handle 4 heap).1.zone ≡ true
+stays-for-new : has (is_relocatable 1) (answer_made (rows.new_handle 4) heap).1.zone ≡ true
 stays-for-new = refl
 
 -- and so it does where so much isn't to be had

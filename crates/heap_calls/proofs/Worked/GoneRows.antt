@@ -4,10 +4,12 @@ use Rattle.heap_calls.specs.State.{Memory, fresh_memory}
 use Rattle.heap_calls.specs.Asked.{Asked}
 use Rattle.heap_calls.specs.Asked as asks
 use Rattle.heap_calls.specs.Table.{served}
-use Rattle.heap_calls.specs.Gone.{Gone, reallocate_handle_gone, refill_gone}
+use Rattle.heap_calls.specs.Gone.{Gone, refill_gone}
 use Rattle.heap_calls.specs.Table.{gone_in}
 use Rattle.heap_calls.specs.ToldGone.{told_of, bytes_in}
 use Rattle.heap_calls.specs.Inside.{has_block}
+use Rattle.heap_calls.specs.Rows as rows
+use Rattle.heap_calls.specs.Rows.{purges_made}
 
 -- The blocks that calls purge for a new block of a handle, by the definitions alone.
 
@@ -24,29 +26,33 @@ abbrev lowest : Gone
 lowest = (0, 72 ∷ replicate 199 0)
 
 -- the handle's own bytes serve first, and then the lowest block goes
-own_bytes_first : (window : Site) → reallocate_handle_gone (Some 2) 250 (three window).heap ≡ []
+own_bytes_first : (window : Site) → purges_made (rows.reallocate_handle (Some 2) 250) (three window).heap ≡ []
 own_bytes_first window = refl
 
-lowest_block : (window : Site) → reallocate_handle_gone (Some 2) 300 (three window).heap ≡ lowest ∷ []
+lowest_block : (window : Site) → purges_made (rows.reallocate_handle (Some 2) 300) (three window).heap ≡ lowest ∷ []
 lowest_block window = refl
 
-lowest_two : (window : Site) → reallocate_handle_gone (Some 2) 600 (three window).heap
+lowest_two : (window : Site) → purges_made (rows.reallocate_handle (Some 2) 600) (three window).heap
     ≡ lowest ∷ (1, replicate 200 0) ∷ []
 lowest_two window = refl
 
 -- the handle's own block is not among them, although it may be purged
-never_its_own : (window : Site) → reallocate_handle_gone (Some 0) 450 (three window).heap ≡ (1, replicate 200 0) ∷ []
+never_its_own : (window : Site) → purges_made (rows.reallocate_handle (Some 0) 450) (three window).heap ≡ (
+  1,
+  replicate
+      200 0,
+) ∷ []
 never_its_own window = refl
 
 -- none goes where all are too few, nor for a locked block, nor where there is no such handle
-too_few : (window : Site) → reallocate_handle_gone (Some 0) 600 (three window).heap ≡ []
+too_few : (window : Site) → purges_made (rows.reallocate_handle (Some 0) 600) (three window).heap ≡ []
 too_few window = refl
 
 locked : (window : Site)
-    → reallocate_handle_gone (Some 2) 300 (after (asks.HLock (Some 2) ∷ []) (three window)).heap ≡ []
+    → purges_made (rows.reallocate_handle (Some 2) 300) (after (asks.HLock (Some 2) ∷ []) (three window)).heap ≡ []
 locked window = refl
 
-no_handle : (window : Site) → reallocate_handle_gone (Some 7) 300 (three window).heap ≡ []
+no_handle : (window : Site) → purges_made (rows.reallocate_handle (Some 7) 300) (three window).heap ≡ []
 no_handle window = refl
 
 -- a block for an empty handle

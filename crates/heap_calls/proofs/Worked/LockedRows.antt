@@ -2,10 +2,12 @@ use Rattle.std.proofs.Common.{◌≡◌, true, false, [], ◌∷◌, replicate, 
 use Rattle.block_store.specs.declared.flags.Flags.{Flags}
 use Rattle.block_store.specs.Block.{Free, Masters, Relocatable, no_flags}
 use Rattle.heap_calls.specs.State.{State, Handle, Plain}
-use Rattle.heap_calls.specs.Answer.{set_handle_size, h_unlock, move_h_hi, dispose_handle}
+use Rattle.heap_calls.specs.Answer.{h_unlock, move_h_hi, dispose_handle}
 use Rattle.heap_calls.specs.Purging.{h_set_state}
 use Rattle.heap_calls.specs.Locked.{locked_place, releases}
 use Rattle.heap_calls.specs.Asked.{HSetState}
+use Rattle.heap_calls.specs.Rows as rows
+use Rattle.heap_calls.specs.Rows.{answer_made}
 
 -- The place of a locked block, on a small zone.
 
@@ -27,7 +29,7 @@ locked-here : locked_place 1 heap.zone ≡ Some 368
 locked-here = refl
 
 -- it grows where it is
-locked-grows : locked_place 1 (set_handle_size (Some 1) 40 heap).1.zone ≡ Some 368
+locked-grows : locked_place 1 (answer_made (rows.set_handle_size (Some 1) 40) heap).1.zone ≡ Some 368
 locked-grows = refl
 
 -- it isn't moved to the top

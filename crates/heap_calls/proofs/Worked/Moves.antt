@@ -2,9 +2,11 @@ use Rattle.std.proofs.Common.{◌≡◌, true, false, [], ◌∷◌, refl, Some}
 use Rattle.block_store.specs.declared.flags.Flags.{Flags}
 use Rattle.block_store.specs.Block.{Free, Masters, Relocatable, no_flags}
 use Rattle.heap_calls.specs.State.{State, Handle, Plain}
-use Rattle.heap_calls.specs.Moves.{place_moves, new_handle_moves, set_handle_size_moves, reallocate_handle_moves}
-use Rattle.heap_calls.specs.Moves.{hand_to_hand_moves, hand_and_hand_moves, pointer_and_hand_moves, compact_mem_moves}
+use Rattle.heap_calls.specs.Moves.{place_moves}
+use Rattle.heap_calls.specs.Moves.{compact_mem_moves}
 use Rattle.heap_calls.specs.Moves.{max_mem_moves}
+use Rattle.heap_calls.specs.Rows as rows
+use Rattle.heap_calls.specs.Rows.{moves_made}
 
 -- How many blocks packing moves down, by the definitions alone.
 
@@ -22,36 +24,36 @@ a_run_is_packed = refl
 no_run_has_room : place_moves 96 between.zone ≡ 0
 no_run_has_room = refl
 
-a_block_that_fits_moves_none : new_handle_moves 32 between ≡ 0
+a_block_that_fits_moves_none : moves_made (rows.new_handle 32) between ≡ 0
 a_block_that_fits_moves_none = refl
 
-a_block_for_a_packed_run_moves_one : new_handle_moves 40 between ≡ 1
+a_block_for_a_packed_run_moves_one : moves_made (rows.new_handle 40) between ≡ 1
 a_block_for_a_packed_run_moves_one = refl
 
-a_copy_moves_none : hand_to_hand_moves (Some 0) between ≡ 0
+a_copy_moves_none : moves_made (rows.hand_to_hand (Some 0)) between ≡ 0
 a_copy_moves_none = refl
 
 -- it grows into the Free block above it, at a place of its own, as the last of its run, or not at all
-grows_into_the_free_block_above : set_handle_size_moves (Some 0) 30 between ≡ 0
+grows_into_the_free_block_above : moves_made (rows.set_handle_size (Some 0) 30) between ≡ 0
 grows_into_the_free_block_above = refl
 
-grows_at_a_place_of_its_own : set_handle_size_moves (Some 0) 60 between ≡ 1
+grows_at_a_place_of_its_own : moves_made (rows.set_handle_size (Some 0) 60) between ≡ 1
 grows_at_a_place_of_its_own = refl
 
-grows_as_the_last_of_its_run : set_handle_size_moves (Some 0) 75 between ≡ 1
+grows_as_the_last_of_its_run : moves_made (rows.set_handle_size (Some 0) 75) between ≡ 1
 grows_as_the_last_of_its_run = refl
 
-cannot_grow : set_handle_size_moves (Some 0) 81 between ≡ 0
+cannot_grow : moves_made (rows.set_handle_size (Some 0) 81) between ≡ 0
 cannot_grow = refl
 
-appended_bytes_fit_above : pointer_and_hand_moves (Some 0) (1 ∷ 2 ∷ 3 ∷ []) between ≡ 0
+appended_bytes_fit_above : moves_made (rows.pointer_and_hand (Some 0) (1 ∷ 2 ∷ 3 ∷ [])) between ≡ 0
 appended_bytes_fit_above = refl
 
-appended_to_itself : hand_and_hand_moves (Some 0) (Some 0) between ≡ 0
+appended_to_itself : moves_made (rows.hand_and_hand (Some 0) (Some 0)) between ≡ 0
 appended_to_itself = refl
 
 -- a new block for it: its old one counts as Free, so that all 96 bytes are
-renewed_where_its_old_block_is_free : reallocate_handle_moves (Some 0) 80 between ≡ 0
+renewed_where_its_old_block_is_free : moves_made (rows.reallocate_handle (Some 0) 80) between ≡ 0
 renewed_where_its_old_block_is_free = refl
 
 -- a run is packed only where no Free block serves
@@ -82,5 +84,5 @@ what_is_purged_lets_the_next_fall : max_mem_moves above_purgeable ≡ 1
 what_is_purged_lets_the_next_fall = refl
 
 -- for a new handle it is emptied, and then the run is packed
-purged_then_packed : new_handle_moves 40 above_purgeable ≡ 1
+purged_then_packed : moves_made (rows.new_handle 40) above_purgeable ≡ 1
 purged_then_packed = refl

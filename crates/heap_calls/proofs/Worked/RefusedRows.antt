@@ -5,22 +5,23 @@ use Rattle.block_store.specs.Block.{Free, Nonrelocatable, Masters, Relocatable, 
 use Rattle.block_store.specs.Run.{has}
 use Rattle.heap_calls.specs.State.{State, Handle, Pointer, Plain, fresh_heap}
 use Rattle.heap_calls.specs.Answer.{put, show}
-use Rattle.heap_calls.specs.Slots.{new_handle, new_empty_handle}
 use Rattle.heap_calls.specs.Purging.{h_purge, purge_mem}
 use Rattle.heap_calls.specs.Asked.{NewHandle, PurgeMem, NewPtr, Put}
 use Rattle.heap_calls.specs.Refused.{code_left}
 use Rattle.heap_calls.specs.Table.{zone_left}
 use Rattle.heap_calls.specs.Staying.{ease}
+use Rattle.heap_calls.specs.Rows as rows
+use Rattle.heap_calls.specs.Rows.{answer_made}
 
 -- What refused calls leave, on small zones.
 
 -- a block of 480 bytes that may be purged, in a zone of 1024
 abbrev with_block : State
-with_block = (h_purge (Some 0) (new_handle 480 (fresh_heap 1024)).1).1
+with_block = (h_purge (Some 0) (answer_made (rows.new_handle 480) (fresh_heap 1024)).1).1
 
 abbrev with_empty : ℕ → State → State
 with_empty zero s = s
-with_empty (suc n) s = with_empty n (new_empty_handle s).1
+with_empty (suc n) s = with_empty n (answer_made rows.new_empty_handle s).1
 
 -- and 63 empty handles: all slots are used
 abbrev full : State
@@ -30,11 +31,11 @@ block-there : has (is_relocatable 0) full.zone ≡ true
 block-there = refl
 
 -- there is no room for 700 bytes beside a new Masters block
-no-room : (new_handle 700 full).0 ≡ Err MEM_FULL
+no-room : (answer_made (rows.new_handle 700) full).0 ≡ Err MEM_FULL
 no-room = refl
 
 -- and the block is emptied by the search for that
-block-emptied : (show (Some 0) (new_handle 700 full).1).0 ≡ Err NIL_HANDLE
+block-emptied : (show (Some 0) (answer_made (rows.new_handle 700) full).1).0 ≡ Err NIL_HANDLE
 block-emptied = refl
 
 masters-left : zone_left (NewHandle 700) full ≡ Masters ∷ Masters ∷ Free 480 ∷ []

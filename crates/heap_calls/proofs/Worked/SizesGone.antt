@@ -3,8 +3,9 @@ use Rattle.mac_words.specs.declared.code.TheConstants.OsErr.{LOCKED}
 use Rattle.block_store.specs.declared.flags.Flags.{Flags}
 use Rattle.block_store.specs.Block.{Block, Free, Masters, Nonrelocatable, Relocatable, no_flags}
 use Rattle.heap_calls.specs.State.{State, Handle, Plain, Pointer}
-use Rattle.heap_calls.specs.Gone.{set_handle_size_gone, set_pointer_size_gone, hand_and_hand_gone, pointer_and_hand_gone}
 use Rattle.heap_calls.specs.Gone.{gone_unless}
+use Rattle.heap_calls.specs.Rows as rows
+use Rattle.heap_calls.specs.Rows.{purges_made}
 
 -- What is purged where a block gets another size, by the definitions alone.
 
@@ -27,31 +28,31 @@ free_to_move = around (Relocatable 0 no_flags (5 ∷ []))
 abbrev fixed : State
 fixed = around (Relocatable 0 locked (5 ∷ []))
 
-a_block_is_cut : set_handle_size_gone (Some 0) 0 free_to_move ≡ []
+a_block_is_cut : purges_made (rows.set_handle_size (Some 0) 0) free_to_move ≡ []
 a_block_is_cut = refl
 
-the_free_block_above_serves : set_handle_size_gone (Some 0) 20 free_to_move ≡ []
+the_free_block_above_serves : purges_made (rows.set_handle_size (Some 0) 20) free_to_move ≡ []
 the_free_block_above_serves = refl
 
 -- the lowest goes first, also where it doesn't help
-all_below_go_first : set_handle_size_gone (Some 0) 40 free_to_move ≡ (1, 7 ∷ []) ∷ (2, 8 ∷ 9 ∷ []) ∷ []
+all_below_go_first : purges_made (rows.set_handle_size (Some 0) 40) free_to_move ≡ (1, 7 ∷ []) ∷ (2, 8 ∷ 9 ∷ []) ∷ []
 all_below_go_first = refl
 
-no_purges_serve : set_handle_size_gone (Some 0) 100 free_to_move ≡ []
+no_purges_serve : purges_made (rows.set_handle_size (Some 0) 100) free_to_move ≡ []
 no_purges_serve = refl
 
 -- a locked block only takes of the run above it
-only_the_run_above : set_handle_size_gone (Some 0) 40 fixed ≡ (2, 8 ∷ 9 ∷ []) ∷ []
+only_the_run_above : purges_made (rows.set_handle_size (Some 0) 40) fixed ≡ (2, 8 ∷ 9 ∷ []) ∷ []
 only_the_run_above = refl
 
 -- and so does a pointer's block
 abbrev pointed : State
 pointed = record { zone = (around (Nonrelocatable 0 (5 ∷ []))).zone; names = Pointer ∷ Handle Plain ∷ Handle Plain ∷ [] }
 
-above_a_pointer : set_pointer_size_gone (Some 0) 40 pointed ≡ (2, 8 ∷ 9 ∷ []) ∷ []
+above_a_pointer : purges_made (rows.set_pointer_size (Some 0) 40) pointed ≡ (2, 8 ∷ 9 ∷ []) ∷ []
 above_a_pointer = refl
 
-not_a_pointer : set_pointer_size_gone (Some 1) 40 pointed ≡ []
+not_a_pointer : purges_made (rows.set_pointer_size (Some 1) 40) pointed ≡ []
 not_a_pointer = refl
 
 -- appended bytes: the block that they come from is not purged for them
@@ -62,18 +63,18 @@ tight = record {
   names = Handle Plain ∷ Handle Plain ∷ Handle Plain ∷ [];
 }
 
-appended_from_above : hand_and_hand_gone (Some 2) (Some 0) tight ≡ (1, 7 ∷ []) ∷ []
+appended_from_above : purges_made (rows.hand_and_hand (Some 2) (Some 0)) tight ≡ (1, 7 ∷ []) ∷ []
 appended_from_above = refl
 
-appended_from_below : hand_and_hand_gone (Some 1) (Some 0) tight ≡ (2, 8 ∷ 9 ∷ []) ∷ []
+appended_from_below : purges_made (rows.hand_and_hand (Some 1) (Some 0)) tight ≡ (2, 8 ∷ 9 ∷ []) ∷ []
 appended_from_below = refl
 
-appended_bytes : pointer_and_hand_gone (Some 0) (3 ∷ []) tight ≡ (1, 7 ∷ []) ∷ []
+appended_bytes : purges_made (rows.pointer_and_hand (Some 0) (3 ∷ [])) tight ≡ (1, 7 ∷ []) ∷ []
 appended_bytes = refl
 
-appended_to_no_handle : hand_and_hand_gone (Some 1) None tight ≡ []
+appended_to_no_handle : purges_made (rows.hand_and_hand (Some 1) None) tight ≡ []
 appended_to_no_handle = refl
 
 -- a call that is barred purges nothing
-barred : gone_unless (Some LOCKED) (pointer_and_hand_gone (Some 0) (3 ∷ []) tight) ≡ []
+barred : gone_unless (Some LOCKED) (purges_made (rows.pointer_and_hand (Some 0) (3 ∷ [])) tight) ≡ []
 barred = refl

@@ -1,10 +1,12 @@
 use Rattle.std.proofs.Common.{◌≡◌, true, [], ◌∷◌, replicate, refl, Some, None}
 use Rattle.block_store.specs.Block.{Free, Nonrelocatable, Masters, Relocatable, no_flags}
 use Rattle.heap_calls.specs.State.{State, Handle, Pointer, Plain}
-use Rattle.heap_calls.specs.Pointers.{new_pointer, dispose_pointer, set_pointer_size}
+use Rattle.heap_calls.specs.Pointers.{dispose_pointer}
 use Rattle.heap_calls.specs.Purging.{max_mem}
 use Rattle.heap_calls.specs.Standing.{pointer_place, disposes}
 use Rattle.heap_calls.specs.Asked.{DisposePtr}
+use Rattle.heap_calls.specs.Rows as rows
+use Rattle.heap_calls.specs.Rows.{answer_made}
 
 -- The place of a pointer's block, on a small zone.
 
@@ -22,14 +24,14 @@ handle-none : pointer_place 0 heap.zone ≡ None
 handle-none = refl
 
 -- it grows where it is
-pointer-grows : pointer_place 1 (set_pointer_size (Some 1) 40 heap).1.zone ≡ Some 368
+pointer-grows : pointer_place 1 (answer_made (rows.set_pointer_size (Some 1) 40) heap).1.zone ≡ Some 368
 pointer-grows = refl
 
 -- what is new below it goes around it
-pointer-alone : pointer_place 1 (new_pointer 32 heap).1.zone ≡ Some 368
+pointer-alone : pointer_place 1 (answer_made (rows.new_pointer 32) heap).1.zone ≡ Some 368
 pointer-alone = refl
 
-pointer-next : pointer_place 2 (new_pointer 32 heap).1.zone ≡ Some 272
+pointer-next : pointer_place 2 (answer_made (rows.new_pointer 32) heap).1.zone ≡ Some 272
 pointer-next = refl
 
 -- no compaction moves it

@@ -1,14 +1,14 @@
 use Rattle.std.proofs.Common.{◌≡◌, ℕ, List, [], ◌∷◌, ◌++◌, replicate, refl, Some, Ok, Err}
 use Rattle.std.specs.Prelude.{ℤ, pos, negsuc, suc}
 use Rattle.heap_calls.specs.State.{State, fresh_heap}
-use Rattle.heap_calls.specs.Answer.{Answer, dispose_handle, get_handle_size, set_handle_size, show, free_mem, max_block}
+use Rattle.heap_calls.specs.Answer.{Answer, dispose_handle, get_handle_size, show, free_mem, max_block}
 use Rattle.heap_calls.specs.Answer.{compact_mem, put, h_lock, h_unlock, move_h_hi, h_lock_hi}
-use Rattle.heap_calls.specs.Slots.{new_handle, new_empty_handle}
-use Rattle.heap_calls.specs.Pointers.{new_pointer, dispose_pointer, get_pointer_size, set_pointer_size, show_pointer}
-use Rattle.heap_calls.specs.Pointers.{put_pointer, place_of, reserve_mem, add_masters}
-use Rattle.heap_calls.specs.Purging.{h_purge, h_no_purge, h_get_state, h_set_state, empty_handle, reallocate_handle}
+use Rattle.heap_calls.specs.Pointers.{dispose_pointer, get_pointer_size, show_pointer}
+use Rattle.heap_calls.specs.Pointers.{put_pointer, place_of}
+use Rattle.heap_calls.specs.Purging.{h_purge, h_no_purge, h_get_state, h_set_state, empty_handle}
 use Rattle.heap_calls.specs.Purging.{purge_mem, purge_space, max_mem}
-use Rattle.heap_calls.specs.Copying.{hand_to_hand, hand_and_hand, pointer_and_hand}
+use Rattle.heap_calls.specs.Rows as rows
+use Rattle.heap_calls.specs.Rows.{answer_made}
 
 -- The worked examples of the table, by the definitions alone.
 
@@ -38,16 +38,16 @@ abbrev given : Answer ℕ → List ℕ × State
 given answer = told (λ v. []) answer
 
 abbrev new_handle_of : ℕ → TableLine
-new_handle_of n s = given (new_handle n s)
+new_handle_of n s = given (answer_made (rows.new_handle n) s)
 
 abbrev new_empty : TableLine
-new_empty s = given (new_empty_handle s)
+new_empty s = given (answer_made rows.new_empty_handle s)
 
 abbrev new_pointer_of : ℕ → TableLine
-new_pointer_of n s = given (new_pointer n s)
+new_pointer_of n s = given (answer_made (rows.new_pointer n) s)
 
 abbrev copies : ℕ → TableLine
-copies h s = given (hand_to_hand (Some h) s)
+copies h s = given (answer_made (rows.hand_to_hand (Some h)) s)
 
 abbrev disposes : ℕ → TableLine
 disposes h s = done (dispose_handle (Some h) s)
@@ -62,13 +62,13 @@ abbrev pointer_size_is : ℕ → TableLine
 pointer_size_is h s = number (get_pointer_size (Some h) s)
 
 abbrev resizes : ℕ → ℕ → TableLine
-resizes h n s = done (set_handle_size (Some h) n s)
+resizes h n s = done (answer_made (rows.set_handle_size (Some h) n) s)
 
 abbrev resizes_pointer : ℕ → ℕ → TableLine
-resizes_pointer h n s = done (set_pointer_size (Some h) n s)
+resizes_pointer h n s = done (answer_made (rows.set_pointer_size (Some h) n) s)
 
 abbrev reallocates : ℕ → ℕ → TableLine
-reallocates h n s = done (reallocate_handle (Some h) n s)
+reallocates h n s = done (answer_made (rows.reallocate_handle (Some h) n) s)
 
 abbrev empties : ℕ → TableLine
 empties h s = done (empty_handle (Some h) s)
@@ -98,10 +98,10 @@ abbrev goes_high_locked : ℕ → TableLine
 goes_high_locked h s = done (h_lock_hi (Some h) s)
 
 abbrev joins : ℕ → ℕ → TableLine
-joins h n s = done (hand_and_hand (Some h) (Some n) s)
+joins h n s = done (answer_made (rows.hand_and_hand (Some h) (Some n)) s)
 
 abbrev appends : ℕ → List ℕ → TableLine
-appends h x s = done (pointer_and_hand (Some h) x s)
+appends h x s = done (answer_made (rows.pointer_and_hand (Some h) x) s)
 
 abbrev frees : TableLine
 frees s = number (free_mem s)
@@ -122,10 +122,10 @@ abbrev compacts_all : TableLine
 compacts_all s = number (max_mem s)
 
 abbrev reserves : ℕ → TableLine
-reserves n s = done (reserve_mem n s)
+reserves n s = done (answer_made (rows.reserve_mem n) s)
 
 abbrev masters : TableLine
-masters s = done (add_masters s)
+masters s = done (answer_made rows.more_masters s)
 
 abbrev writes : ℕ → ℕ → List ℕ → TableLine
 writes h n x s = done (put (Some h) n x s)

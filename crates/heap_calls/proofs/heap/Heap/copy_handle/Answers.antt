@@ -1,3 +1,7 @@
+use Rattle.heap_calls.specs.Rows as rows
+use Rattle.heap_calls.specs.Rows.{doing_silently, purges_made}
+use Rattle.heap_calls.proofs.Same.Silent.{hand_to_hand-silent}
+use Rattle.heap_calls.proofs.Same.NewBlocks.{hand_to_hand-same}
 use Rattle.heap_calls.specs.Inner.Given.{KeepsNames}
 use Rattle.std.proofs.lemmas.List.{length-map}
 use Rattle.heap_calls.specs.Inner.Numbered.{name_of}
@@ -10,7 +14,7 @@ use Rattle.block_store.specs.declared.sparing.Sparing.TheVariants.{One}
 use Rattle.heap_calls.specs.declared.anchor.Anchor.{Anchor}
 use Rattle.heap_calls.specs.State.{Memory}
 use Rattle.heap_calls.specs.Answer.{look_up, silent, searching, moving}
-use Rattle.heap_calls.specs.Gone.{Gone, Tells, copy_slot_gone, hand_to_hand_gone, Hears}
+use Rattle.heap_calls.specs.Gone.{Gone, Tells, copy_slot_gone, Hears}
 use Rattle.heap_calls.specs.Copying.{copying_zone}
 use Rattle.heap_calls.specs.Inner.Numbered.{memory_of, handle_number, pointer_number}
 use Rattle.heap_calls.specs.Inner.Telling.{zone_slot_gone, new_gone}
@@ -20,9 +24,10 @@ use Rattle.heap_calls.proofs.NewBlocks.NewHandles.{kept-still}
 use Rattle.heap_calls.specs.declared.anchor.Anchor.TheVariants.{Handle}
 use Rattle.std.proofs.lemmas.Result.{err_from_is_err_and}
 use Rattle.block_store.specs.Block.{content_of}
-use Rattle.heap_calls.specs.Copying.{hand_to_hand}
-use Rattle.heap_calls.specs.Searches.{hand_to_hand_searches}
-use Rattle.heap_calls.specs.Moves.{hand_to_hand_moves}
+use Rattle.heap_calls.proofs.Tables.Gone.{hand_to_hand_gone}
+use Rattle.heap_calls.proofs.Tables.Replies.{hand_to_hand}
+use Rattle.heap_calls.proofs.Tables.Searches.{hand_to_hand_searches}
+use Rattle.heap_calls.proofs.Tables.Moves.{hand_to_hand_moves}
 use Rattle.heap_calls.proofs.Numbering.Answering.{at_place}
 use Rattle.heap_calls.proofs.NewBlocks.NewHandles.{agrees-more, kept-memory}
 use Rattle.heap_calls.proofs.NewBlocks.CopiedHandles.{copy-emptied, copy-not_found, slot-in, source-few}
@@ -47,7 +52,8 @@ returns-in_err-found-clause-answer g c =
     let p = err_from_is_err_and c.from_residual.result c.from_residual.ensures.1 in
     let a = c.self.inside in
     rw (p.1, p.2)
-    (not-moved _ _ c.in_err-found.field-0.0 c.args.self.now.memory (g.S.BlockStore.zone a.store) (g.S.BlockStore.rest
+    (hand_to_hand-silent c.args.handle c.args.self.now.memory ∙ not-moved _ _ c.in_err-found.field-0.0
+    c.args.self.now.memory (g.S.BlockStore.zone a.store) (g.S.BlockStore.rest
     a.store)
     a.names.items a.log (memory_as c.self.view_is)
     (copy-not_found c.args.self.now.memory (g.S.BlockStore.zone a.store) (g.S.BlockStore.rest a.store) a.names.items
@@ -69,7 +75,8 @@ returns-in_default-clause-answer g c =
     let a = c.self.inside in
     let f = c.in_ok-found.found in
     let is = entry g (goal.at.returns-in_default-clause-answer g c).In_ok-found in
-    copy-emptied c.args.self.now.memory (g.S.BlockStore.zone a.store) (g.S.BlockStore.rest a.store) a.names.items a.log
+    hand_to_hand-silent c.args.handle c.args.self.now.memory ∙ copy-emptied c.args.self.now.memory (g.S.BlockStore.zone
+    a.store) (g.S.BlockStore.rest a.store) a.names.items a.log
     c.args.handle f.number f.slot (memory_as c.self.view_is) is.0 is.1 c.self.invariant
     (omega arith) c.in_default.ensures
 
@@ -111,7 +118,8 @@ invariant_of-self-in_err-made g c = rw c.in_ok-reserve.ensures.items
     (agrees-more _ _ _ _ c.self.invariant c.copy_block.ensures.nonrelocatable c.in_err-made.ensures.kept)
 
 -- what the call answers where the host has memory
-told : (g : Over) (c : After-name_handle g) → Copied (g.S.BlockStore.zone c.self.inside.store) c.self.inside.names.items
+tabled : (g : Over) (c : After-name_handle g) → Copied (g.S.BlockStore.zone c.self.inside.store)
+    c.self.inside.names.items
     c.args.handle c.in_ok-found.found (length c.bytes.result.now)
     → moving (hand_to_hand_moves c.args.handle c.args.self.now.memory.heap)
     (searching (hand_to_hand_searches c.args.handle c.args.self.now.memory.heap) (silent (hand_to_hand c.args.handle) c.args.self.now.memory))
@@ -120,7 +128,7 @@ told : (g : Over) (c : After-name_handle g) → Copied (g.S.BlockStore.zone c.se
       memory_of (g.S.BlockStore.zone c.copy_block.new.store)
           (g.S.BlockStore.rest c.copy_block.new.store) c.name_handle.new.names.items c.count.new.self,
     )
-told g c from =
+tabled g c from =
     let a = c.self.inside in
     let masters = g.met.S.BlockStore.masters a.store in
     rw (c.name_handle.ensures.number, c.name_handle.ensures.entered, c.in_ok-reserve.ensures.items)
@@ -133,6 +141,17 @@ told g c from =
     c.in_ok-found.found _ from)) c.count.ensures
     _ (copied_moves-is _ _ _ masters c.self.invariant c.args.handle c.in_ok-found.found _ from)
     c.in_ok-made.ensures.moves)
+
+-- and by its path
+told : (g : Over) (c : After-name_handle g) → Copied (g.S.BlockStore.zone c.self.inside.store) c.self.inside.names.items
+    c.args.handle c.in_ok-found.found (length c.bytes.result.now)
+    → doing_silently (rows.hand_to_hand c.args.handle) c.args.self.now.memory
+    ≡ (
+      c.name_handle.result,
+      memory_of (g.S.BlockStore.zone c.copy_block.new.store)
+          (g.S.BlockStore.rest c.copy_block.new.store) c.name_handle.new.names.items c.count.new.self,
+    )
+told g c from = hand_to_hand-silent c.args.handle c.args.self.now.memory ∙ tabled g c from
 
 pub returns-in_err-name_handle-clause-answer : goal.returns-in_err-name_handle-clause-answer
 returns-in_err-name_handle-clause-answer g c =
@@ -204,7 +223,7 @@ heard : (g : Over) (c : After-name_handle g) → Copied (g.S.BlockStore.zone c.s
     c.args.handle c.in_ok-found.found (length c.bytes.result.now)
     → (done : Type 0)
     → Hears g.K.PurgeSink.told g.K.PurgeSink.waits g.K.PurgeSink.listens done
-    (hand_to_hand_gone c.args.handle c.args.self.now.memory.heap) c.args.sink.now c.copy_block.new.sink
+    (purges_made (rows.hand_to_hand c.args.handle) c.args.self.now.memory.heap) c.args.sink.now c.copy_block.new.sink
 heard g c from done =
     let a = c.self.inside in
     let zone = g.S.BlockStore.zone a.store in
@@ -216,7 +235,8 @@ heard g c from done =
     ∙ copy_gone-is zone rest es (g.met.S.BlockStore.masters a.store) c.self.invariant c.args.handle f _ from
     ∙ ap (λ (m : Memory). hand_to_hand_gone c.args.handle m.heap) (memory_as c.self.view_is) in
     hears-as g.K.PurgeSink.told g.K.PurgeSink.waits g.K.PurgeSink.listens _ _ _ _ _ _
-    (λ some. refl) (same) c.in_ok-made.ensures.hears
+    (λ some. refl) (same ∙ (hand_to_hand-same c.args.handle c.args.self.now.memory.heap).tells)
+    c.in_ok-made.ensures.hears
 
 pub returns-in_err-name_handle-clause-hears : goal.returns-in_err-name_handle-clause-hears
 returns-in_err-name_handle-clause-hears g c = heard g (goal.at.returns-in_err-name_handle-clause-hears g c).After-name_handle
@@ -236,7 +256,8 @@ pub returns-in_err-found-clause-hears : goal.returns-in_err-found-clause-hears
 returns-in_err-found-clause-hears g c =
     let a = c.self.inside in
     hears-none g.K.PurgeSink.told g.K.PurgeSink.waits g.K.PurgeSink.listens _ _ c.args.sink.now c.requires.idle
-    (copy_gone-none c.args.self.now.memory (g.S.BlockStore.zone a.store) (g.S.BlockStore.rest a.store) a.names.items
+    (sym (hand_to_hand-same c.args.handle c.args.self.now.memory.heap).tells ∙ copy_gone-none c.args.self.now.memory
+    (g.S.BlockStore.zone a.store) (g.S.BlockStore.rest a.store) a.names.items
     c.deref.result.now a.log c.args.handle c.in_err-found.field-0.0 (memory_as c.self.view_is) c.deref.ensures.value
     (sym c.slot_of.ensures ∙ c.in_err-found.was))
 
@@ -246,7 +267,8 @@ returns-in_default-clause-hears g c =
     let f = c.in_ok-found.found in
     let is = entry g (goal.at.returns-in_default-clause-hears g c).In_ok-found in
     hears-none g.K.PurgeSink.told g.K.PurgeSink.waits g.K.PurgeSink.listens _ _ c.args.sink.now c.requires.idle
-    (copy_gone-nil c.args.self.now.memory (g.S.BlockStore.zone a.store) (g.S.BlockStore.rest a.store) a.names.items
+    (sym (hand_to_hand-same c.args.handle c.args.self.now.memory.heap).tells ∙ copy_gone-nil c.args.self.now.memory
+    (g.S.BlockStore.zone a.store) (g.S.BlockStore.rest a.store) a.names.items
     a.log
     c.args.handle f.number f.slot (memory_as c.self.view_is) is.0 is.1 c.self.invariant (omega arith)
     c.in_default.ensures)

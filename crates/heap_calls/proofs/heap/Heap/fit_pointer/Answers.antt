@@ -1,8 +1,12 @@
-use Rattle.std.proofs.Common.{◌≡◌, arith, Err, List, ap, refl, ◌∙◌, rules}
+use Rattle.heap_calls.specs.Rows as rows
+use Rattle.heap_calls.specs.Rows.{doing_silently, purges_made}
+use Rattle.heap_calls.proofs.Same.Silent.{set_pointer_size-silent}
+use Rattle.heap_calls.proofs.Same.Resizing.{set_pointer_size-same}
+use Rattle.std.proofs.Common.{◌≡◌, arith, Err, List, ap, refl, ◌∙◌, rules, sym}
 use Rattle.std.proofs.lemmas.Result.{err_from_is_err_and}
 use Rattle.heap_calls.specs.Answer.{silent, searching}
-use Rattle.heap_calls.specs.Pointers.{set_pointer_size}
-use Rattle.heap_calls.specs.Searches.{set_pointer_size_searches}
+use Rattle.heap_calls.proofs.Tables.Replies.{set_pointer_size}
+use Rattle.heap_calls.proofs.Tables.Searches.{set_pointer_size_searches}
 use Rattle.heap_calls.proofs.Numbering.Changing.{agrees-placed, heap-same}
 use Rattle.heap_calls.proofs.Numbering.Pointing.{IsHeld, pointer-held, target_in}
 use Rattle.heap_calls.proofs.Sizes.PointerSizes.{set_pointer_size-done, no_pointer}
@@ -13,7 +17,7 @@ use Rattle.heap_calls.proofs.Hearing.{stops-halted, hears-none, hears-as}
 use Rattle.block_store.specs.Block.{is_nonrelocatable}
 use Rattle.block_store.specs.declared.sparing.Sparing.TheVariants.{Nothing}
 use Rattle.heap_calls.specs.declared.anchor.Anchor.{Anchor}
-use Rattle.heap_calls.specs.Gone.{Hears, set_pointer_size_gone}
+use Rattle.heap_calls.specs.Gone.{Hears}
 use Rattle.heap_calls.specs.Inner.Given.{KeepsMoves}
 use Rattle.heap_calls.specs.Inner.Telling.{fitted_gone}
 use Rattle.heap_calls.proofs.GoneForSizes.{no_pointer-gone, set_pointer_size-gone}
@@ -34,7 +38,8 @@ returns-in_err-target-clause-answer g c =
     let p = err_from_is_err_and c.from_residual.result c.from_residual.ensures.1 in
     let a = c.self.inside in
     let e = c.in_err-target.field-0.0 in
-    rw (p.1, p.2) (no_pointer c.args.self.now.memory (g.S.BlockStore.zone a.store) (g.S.BlockStore.rest a.store)
+    rw (p.1, p.2) (set_pointer_size-silent c.args.pointer c.args.size c.args.self.now.memory ∙ no_pointer
+    c.args.self.now.memory (g.S.BlockStore.zone a.store) (g.S.BlockStore.rest a.store)
     a.names.items
     a.log e c.args.pointer c.args.size (memory_as c.self.view_is)
     (target_in a.names.items _ c.args.pointer (Err e) c.deref.ensures.value c.in_err-target.ensures))
@@ -59,12 +64,12 @@ invariant_of-self-2 g c =
     c.fit_nonrelocatable.ensures.rest
 
 -- what the call answers where the pointer has a block
-told : (g : Over) (c : After-account g) → IsHeld (g.S.BlockStore.zone c.self.inside.store)
+tabled : (g : Over) (c : After-account g) → IsHeld (g.S.BlockStore.zone c.self.inside.store)
     (g.S.BlockStore.rest c.self.inside.store).slots c.self.inside.names.items c.args.pointer c.in_ok-target.target
     → searching (set_pointer_size_searches c.args.pointer c.args.size c.args.self.now.memory.heap)
     (silent (set_pointer_size c.args.pointer c.args.size) c.args.self.now.memory)
     ≡ (c.account.result, c.account.new.self.memory)
-told g c there =
+tabled g c there =
     let a = c.self.inside in
     rw (c.account.ensures.reply, c.account.ensures.counted)
     (set_pointer_size-done c.args.self.now.memory (g.S.BlockStore.zone a.store) (g.S.BlockStore.zone
@@ -73,6 +78,13 @@ told g c there =
     c.in_ok-target.target c.args.size c.in_ok-grown.grown.searches c.in_ok-grown.grown.done (memory_as c.self.view_is)
     there c.self.invariant.lone (omega arith)
     c.fit_nonrelocatable.ensures.rest c.in_ok-grown.ensures.searches c.in_ok-grown.ensures.zone c.in_ok-grown.ensures.full)
+
+-- and by its path
+told : (g : Over) (c : After-account g) → IsHeld (g.S.BlockStore.zone c.self.inside.store)
+    (g.S.BlockStore.rest c.self.inside.store).slots c.self.inside.names.items c.args.pointer c.in_ok-target.target
+    → doing_silently (rows.set_pointer_size c.args.pointer c.args.size) c.args.self.now.memory
+    ≡ (c.account.result, c.account.new.self.memory)
+told g c there = set_pointer_size-silent c.args.pointer c.args.size c.args.self.now.memory ∙ tabled g c there
 
 pub returns-in_err-account-clause-answer : goal.returns-in_err-account-clause-answer
 returns-in_err-account-clause-answer g c =
@@ -91,7 +103,8 @@ pub returns-in_err-target-clause-hears : goal.returns-in_err-target-clause-hears
 returns-in_err-target-clause-hears g c =
     let a = c.self.inside in
     hears-none g.K.PurgeSink.told g.K.PurgeSink.waits g.K.PurgeSink.listens _ _ c.args.sink.now c.requires.idle
-    (no_pointer-gone c.args.self.now.memory (g.S.BlockStore.zone a.store) (g.S.BlockStore.rest a.store) a.names.items
+    (sym (set_pointer_size-same c.args.pointer c.args.size c.args.self.now.memory.heap).tells ∙ no_pointer-gone
+    c.args.self.now.memory (g.S.BlockStore.zone a.store) (g.S.BlockStore.rest a.store) a.names.items
     a.log c.in_err-target.field-0.0 c.args.pointer c.args.size (memory_as c.self.view_is)
     (target_in a.names.items _ c.args.pointer (Err c.in_err-target.field-0.0) c.deref.ensures.value
     c.in_err-target.ensures))
@@ -99,7 +112,7 @@ returns-in_err-target-clause-hears g c =
 heard : (g : Over) (c : After-account g) → IsHeld (g.S.BlockStore.zone c.self.inside.store)
     (g.S.BlockStore.rest c.self.inside.store).slots c.self.inside.names.items c.args.pointer c.in_ok-target.target
     → (done : Type 0) → Hears g.K.PurgeSink.told g.K.PurgeSink.waits g.K.PurgeSink.listens done
-    (set_pointer_size_gone c.args.pointer c.args.size c.args.self.now.memory.heap) c.args.sink.now
+    (purges_made (rows.set_pointer_size c.args.pointer c.args.size) c.args.self.now.memory.heap) c.args.sink.now
     c.fit_nonrelocatable.new.sink
 heard g c there done =
     let a = c.self.inside in
@@ -108,7 +121,8 @@ heard g c there done =
     c.deref-2.ensures.value
     ∙ set_pointer_size-gone c.args.self.now.memory zone (g.S.BlockStore.rest a.store) a.names.items a.log c.args.pointer
     c.in_ok-target.target c.args.size (memory_as c.self.view_is) there c.self.invariant.lone (omega arith) in
-    hears-as g.K.PurgeSink.told g.K.PurgeSink.waits g.K.PurgeSink.listens _ _ _ _ _ _ (λ some. refl) same c.in_ok-grown.ensures.hears
+    hears-as g.K.PurgeSink.told g.K.PurgeSink.waits g.K.PurgeSink.listens _ _ _ _ _ _ (λ some. refl) (same
+    ∙ (set_pointer_size-same c.args.pointer c.args.size c.args.self.now.memory.heap).tells) c.in_ok-grown.ensures.hears
 
 pub returns-in_err-account-clause-hears : goal.returns-in_err-account-clause-hears
 returns-in_err-account-clause-hears g c = heard g (goal.at.returns-in_err-account-clause-hears g c).After-account

@@ -1,8 +1,14 @@
-use Rattle.std.proofs.Common.{◌≡◌, Ok, List, ap, refl, rules, ◌∙◌}
+use Rattle.heap_calls.specs.Rows as rows
+use Rattle.heap_calls.specs.Rows.{doing_silently, purges_made}
+use Rattle.heap_calls.proofs.Same.Silent.{set_handle_size-silent}
+use Rattle.heap_calls.proofs.Same.Resizing.{set_handle_size-same}
+use Rattle.std.proofs.Common.{◌≡◌, Ok, List, ap, refl, rules, ◌∙◌, sym}
 use Rattle.std.proofs.lemmas.Result.{err_from_is_err_and}
-use Rattle.heap_calls.specs.Answer.{set_handle_size, silent, searching, moving}
-use Rattle.heap_calls.specs.Moves.{set_handle_size_moves}
-use Rattle.heap_calls.specs.Searches.{set_handle_size_searches}
+use Rattle.heap_calls.specs.Answer.{silent, searching, moving}
+use Rattle.heap_calls.proofs.Tables.Replies.{set_handle_size}
+use Rattle.heap_calls.proofs.Tables.Moves.{set_handle_size_moves}
+use Rattle.heap_calls.proofs.Tables.Searches.{set_handle_size_searches}
+use Rattle.heap_calls.proofs.Tables.Gone.{set_handle_size_gone}
 use Rattle.heap_calls.proofs.Numbering.Rebuilding.{reached_in, not-resized}
 use Rattle.heap_calls.proofs.Numbering.Changing.{agrees-kept, heap-same}
 use Rattle.heap_calls.proofs.Sizes.Grown.{nothing-grown, grown-done, resize-tells}
@@ -14,7 +20,7 @@ use Rattle.heap_calls.proofs.Hearing.{stops-halted, hears-none, hears-as}
 use Rattle.block_store.specs.Block.{is_relocatable}
 use Rattle.block_store.specs.declared.sparing.Sparing.TheVariants.{One}
 use Rattle.heap_calls.specs.declared.anchor.Anchor.{Anchor}
-use Rattle.heap_calls.specs.Gone.{Hears, set_handle_size_gone}
+use Rattle.heap_calls.specs.Gone.{Hears}
 use Rattle.heap_calls.specs.Inner.Given.{KeepsNames}
 use Rattle.heap_calls.specs.Inner.Telling.{fitted_gone}
 use Rattle.heap_calls.proofs.GoneForSizes.{not_reached-gone, set_handle_size-gone, nothing-sized}
@@ -25,17 +31,18 @@ returns-in_err-held-clause-answer g c =
     let p = err_from_is_err_and c.from_residual.result c.from_residual.ensures.1 in
     let a = c.self.inside in
     rw (p.1, p.2)
-    (nothing-grown c.args.self.now.memory _ (g.S.BlockStore.rest a.store) a.names.items a.log (memory_as c.self.view_is)
+    (set_handle_size-silent c.args.handle c.args.size c.args.self.now.memory ∙ nothing-grown c.args.self.now.memory _
+    (g.S.BlockStore.rest a.store) a.names.items a.log (memory_as c.self.view_is)
     (set_handle_size c.args.handle c.args.size) (set_handle_size_searches c.args.handle c.args.size)
     (set_handle_size_moves c.args.handle c.args.size) c.in_err-held.field-0.0
     c.args.handle _ c.deref.ensures.value c.in_err-held.ensures (not-resized c.args.handle c.args.size _))
 
 -- what the call answers where the handle has a block
-told : (g : Over) (c : After-account g) → moving (set_handle_size_moves c.args.handle c.args.size
+tabled : (g : Over) (c : After-account g) → moving (set_handle_size_moves c.args.handle c.args.size
     c.args.self.now.memory.heap) (searching (set_handle_size_searches c.args.handle c.args.size
     c.args.self.now.memory.heap) (silent (set_handle_size c.args.handle c.args.size) c.args.self.now.memory))
     ≡ (c.account.result, c.account.new.self.memory)
-told g c =
+tabled g c =
     let a = c.self.inside in
     let held = c.in_ok-held.held in
     let rest = g.S.BlockStore.rest a.store in
@@ -47,6 +54,12 @@ told g c =
     _ (g.S.BlockStore.rest c.fit_block.new.store) c.in_ok-grown.ensures.rest c.in_ok-grown.grown.done
     c.in_ok-grown.grown.searches c.in_ok-grown.ensures.searches c.in_ok-grown.ensures.zone
     c.in_ok-grown.ensures.full c.in_ok-grown.ensures.moves)
+
+-- and by its path
+told : (g : Over) (c : After-account g) → doing_silently (rows.set_handle_size c.args.handle c.args.size)
+    c.args.self.now.memory
+    ≡ (c.account.result, c.account.new.self.memory)
+told g c = set_handle_size-silent c.args.handle c.args.size c.args.self.now.memory ∙ tabled g c
 
 pub returns-in_err-account-clause-answer : goal.returns-in_err-account-clause-answer
 returns-in_err-account-clause-answer g c =
@@ -72,13 +85,15 @@ pub returns-in_err-held-clause-hears : goal.returns-in_err-held-clause-hears
 returns-in_err-held-clause-hears g c =
     let a = c.self.inside in
     hears-none g.K.PurgeSink.told g.K.PurgeSink.waits g.K.PurgeSink.listens _ _ c.args.sink.now c.requires.idle
-    (not_reached-gone c.args.self.now.memory (g.S.BlockStore.zone a.store) (g.S.BlockStore.rest a.store) a.names.items
+    (sym (set_handle_size-same c.args.handle c.args.size c.args.self.now.memory.heap).tells ∙ not_reached-gone
+    c.args.self.now.memory (g.S.BlockStore.zone a.store) (g.S.BlockStore.rest a.store) a.names.items
     a.log (memory_as c.self.view_is) (set_handle_size_gone c.args.handle c.args.size) c.in_err-held.field-0.0
     c.args.handle _ c.deref.ensures.value c.in_err-held.ensures (nothing-sized c.args.handle c.args.size _))
 
 heard : (g : Over) (c : After-account g) → (done : Type 0)
     → Hears g.K.PurgeSink.told g.K.PurgeSink.waits g.K.PurgeSink.listens done
-    (set_handle_size_gone c.args.handle c.args.size c.args.self.now.memory.heap) c.args.sink.now c.fit_block.new.sink
+    (purges_made (rows.set_handle_size c.args.handle c.args.size) c.args.self.now.memory.heap) c.args.sink.now
+    c.fit_block.new.sink
 heard g c done =
     let a = c.self.inside in
     let zone = g.S.BlockStore.zone a.store in
@@ -90,7 +105,8 @@ heard g c done =
     c.deref-2.ensures.value
     ∙ set_handle_size-gone c.args.self.now.memory zone rest a.names.items a.log (memory_as c.self.view_is)
     c.self.invariant c.args.handle held there c.args.size in
-    hears-as g.K.PurgeSink.told g.K.PurgeSink.waits g.K.PurgeSink.listens _ _ _ _ _ _ (λ some. refl) same c.in_ok-grown.ensures.hears
+    hears-as g.K.PurgeSink.told g.K.PurgeSink.waits g.K.PurgeSink.listens _ _ _ _ _ _ (λ some. refl) (same
+    ∙ (set_handle_size-same c.args.handle c.args.size c.args.self.now.memory.heap).tells) c.in_ok-grown.ensures.hears
 
 pub returns-in_err-account-clause-hears : goal.returns-in_err-account-clause-hears
 returns-in_err-account-clause-hears g c = heard g (goal.at.returns-in_err-account-clause-hears g c).After-account _

@@ -1,3 +1,7 @@
+use Rattle.heap_calls.specs.Rows as rows
+use Rattle.heap_calls.specs.Rows.{doing_silently, purges_made}
+use Rattle.heap_calls.proofs.Same.Silent.{new_empty_handle-silent}
+use Rattle.heap_calls.proofs.Same.NewBlocks.{new_empty_handle-same}
 use Rattle.std.proofs.lemmas.Result.{err_from_is_err_and}
 use Rattle.heap_calls.specs.Inner.Given.{KeepsMoves}
 use Rattle.std.proofs.lemmas.List.{length-map}
@@ -8,13 +12,13 @@ use Rattle.block_store.specs.declared.sparing.Sparing.TheVariants.{Nothing}
 use Rattle.heap_calls.specs.declared.anchor.Anchor.{Anchor}
 use Rattle.heap_calls.specs.State.{Memory}
 use Rattle.heap_calls.specs.Answer.{nothing, silent, searching}
-use Rattle.heap_calls.specs.Gone.{slot_gone, Hears, new_empty_handle_gone}
+use Rattle.heap_calls.specs.Gone.{slot_gone, Hears}
 use Rattle.heap_calls.specs.Inner.Numbered.{memory_of}
 use Rattle.heap_calls.specs.Inner.Telling.{zone_slot_gone}
 use Rattle.heap_calls.proofs.Hearing.{hears-as, stops-at-once, stops-halted}
 use Rattle.heap_calls.proofs.GoneBlocks.{slot_gone-is}
 use Rattle.heap_calls.proofs.Numbering.Changing.{heap-same}
-use Rattle.heap_calls.specs.Slots.{new_empty_handle}
+use Rattle.heap_calls.proofs.Tables.Replies.{new_empty_handle}
 use Rattle.heap_calls.specs.Searches.{new_empty_handle_searches}
 use Rattle.heap_calls.proofs.NewBlocks.Naming.{Names, empty-names, named-looking}
 use Rattle.heap_calls.proofs.NewBlocks.NewHandles.{agrees-more}
@@ -39,14 +43,14 @@ returns-in_err-reserve-clause-stops g c host =
     omega (arith, length-map c.self.inside.names.items (name_of (g.S.BlockStore.rest c.self.inside.store).slots))))
 
 -- what the call answers where the host has memory
-told : (g : Over) (c : After-name_handle g) → searching (new_empty_handle_searches c.args.self.now.memory.heap)
+tabled : (g : Over) (c : After-name_handle g) → searching (new_empty_handle_searches c.args.self.now.memory.heap)
     (silent new_empty_handle c.args.self.now.memory)
     ≡ (
       c.name_handle.result,
       memory_of (g.S.BlockStore.zone c.make_slot.new.store)
           (g.S.BlockStore.rest c.make_slot.new.store) c.name_handle.new.names.items c.count.new.self,
     )
-told g c =
+tabled g c =
     let a = c.self.inside in
     rw (c.name_handle.ensures.number, c.name_handle.ensures.entered, c.in_ok-reserve.ensures.items)
     (named-looking new_empty_handle new_empty_handle_searches (λ _. 0) c.args.self.now.memory (g.S.BlockStore.zone
@@ -56,6 +60,15 @@ told g c =
     (memory_as c.self.view_is) (named g c) c.in_ok-taken.taken.searches
     (c.in_ok-taken.ensures.searches ∙ sym (empty_searches-is _ _ _ (g.met.S.BlockStore.masters a.store)
     c.self.invariant)) c.count.ensures c.make_slot.ensures.moves)
+
+-- and by its path
+told : (g : Over) (c : After-name_handle g) → doing_silently rows.new_empty_handle c.args.self.now.memory
+    ≡ (
+      c.name_handle.result,
+      memory_of (g.S.BlockStore.zone c.make_slot.new.store)
+          (g.S.BlockStore.rest c.make_slot.new.store) c.name_handle.new.names.items c.count.new.self,
+    )
+told g c = new_empty_handle-silent c.args.self.now.memory ∙ tabled g c
 
 pub returns-in_err-name_handle-clause-answer : goal.returns-in_err-name_handle-clause-answer
 returns-in_err-name_handle-clause-answer g c =
@@ -78,7 +91,7 @@ invariant_of-self-in_err-taken g c = rw c.in_ok-reserve.ensures.items
 -- what the sink hears
 heard : (g : Over) (c : After-name_handle g) → (done : Type 0)
     → Hears g.K.PurgeSink.told g.K.PurgeSink.waits g.K.PurgeSink.listens done
-    (new_empty_handle_gone c.args.self.now.memory.heap) c.args.sink.now c.make_slot.new.sink
+    (purges_made rows.new_empty_handle c.args.self.now.memory.heap) c.args.sink.now c.make_slot.new.sink
 heard g c done =
     let a = c.self.inside in
     let zone = g.S.BlockStore.zone a.store in
@@ -90,7 +103,7 @@ heard g c done =
     (λ b. refl)
     ∙ ap (λ (m : Memory). slot_gone nothing m.heap) (memory_as c.self.view_is) in
     hears-as g.K.PurgeSink.told g.K.PurgeSink.waits g.K.PurgeSink.listens _ _ _ _ _ _
-    (λ some. refl) (same) c.in_ok-taken.ensures.hears
+    (λ some. refl) (same ∙ (new_empty_handle-same c.args.self.now.memory.heap).tells) c.in_ok-taken.ensures.hears
 
 pub returns-in_err-name_handle-clause-hears : goal.returns-in_err-name_handle-clause-hears
 returns-in_err-name_handle-clause-hears g c = heard g (goal.at.returns-in_err-name_handle-clause-hears g c).After-name_handle _

@@ -1,3 +1,7 @@
+use Rattle.heap_calls.specs.Rows as rows
+use Rattle.heap_calls.specs.Rows.{doing_silently, purges_made}
+use Rattle.heap_calls.proofs.Same.Silent.{new_handle-silent}
+use Rattle.heap_calls.proofs.Same.NewBlocks.{new_handle-same}
 use Rattle.std.proofs.lemmas.Result.{err_from_is_err_and}
 use Rattle.heap_calls.specs.Inner.Given.{KeepsNames}
 use Rattle.std.proofs.lemmas.List.{length-map}
@@ -9,12 +13,13 @@ use Rattle.block_store.specs.declared.sparing.Sparing.TheVariants.{Nothing}
 use Rattle.heap_calls.specs.declared.anchor.Anchor.{Anchor}
 use Rattle.heap_calls.specs.State.{Memory}
 use Rattle.heap_calls.specs.Answer.{nothing, silent, searching, moving}
-use Rattle.heap_calls.specs.Gone.{new_handle_gone, Hears}
+use Rattle.heap_calls.specs.Gone.{Hears}
 use Rattle.heap_calls.specs.Inner.Telling.{new_gone}
 use Rattle.heap_calls.proofs.Hearing.{hears-as, stops-at-once, stops-on-the-way}
 use Rattle.heap_calls.proofs.Filled.Unmade.{heap-unmade}
 use Rattle.heap_calls.proofs.GonePlaces.{new_gone-is}
-use Rattle.heap_calls.specs.Slots.{new_handle}
+use Rattle.heap_calls.proofs.Tables.Gone.{new_handle_gone}
+use Rattle.heap_calls.proofs.Tables.Replies.{new_handle}
 use Rattle.heap_calls.specs.Searches.{new_handle_searches}
 use Rattle.heap_calls.specs.Moves.{new_handle_moves}
 use Rattle.heap_calls.proofs.NewBlocks.Naming.{Names, new-names, named-packing}
@@ -51,14 +56,14 @@ invariant_of-self-in_err-name_handle g c = rw (c.name_handle.ensures.entered, c.
     (made g (goal.at.invariant_of-self-in_err-name_handle g c).After-name_handle).agrees
 
 -- what the call answers where the host has memory
-told : (g : Over) (c : After-name_handle g) → moving (new_handle_moves c.args.size c.args.self.now.memory.heap)
+tabled : (g : Over) (c : After-name_handle g) → moving (new_handle_moves c.args.size c.args.self.now.memory.heap)
     (searching (new_handle_searches c.args.size c.args.self.now.memory.heap) (silent (new_handle c.args.size) c.args.self.now.memory))
     ≡ (
       c.name_handle.result,
       memory_of (g.S.BlockStore.zone c.new_block.new.store)
           (g.S.BlockStore.rest c.new_block.new.store) c.name_handle.new.names.items c.count.new.self,
     )
-told g c =
+tabled g c =
     let a = c.self.inside in
     let masters = g.met.S.BlockStore.masters a.store in
     rw (c.name_handle.ensures.number, c.name_handle.ensures.entered, c.in_ok-reserve.ensures.items)
@@ -69,6 +74,15 @@ told g c =
     (made g c) c.in_ok-made.made.searches
     (c.in_ok-made.ensures.searches ∙ sym (new_handle_searches-is _ _ _ c.args.size masters c.self.invariant))
     c.count.ensures _ (new_handle_moves-is _ _ _ c.args.size masters c.self.invariant) c.in_ok-made.ensures.moves)
+
+-- and by its path
+told : (g : Over) (c : After-name_handle g) → doing_silently (rows.new_handle c.args.size) c.args.self.now.memory
+    ≡ (
+      c.name_handle.result,
+      memory_of (g.S.BlockStore.zone c.new_block.new.store)
+          (g.S.BlockStore.rest c.new_block.new.store) c.name_handle.new.names.items c.count.new.self,
+    )
+told g c = new_handle-silent c.args.size c.args.self.now.memory ∙ tabled g c
 
 pub returns-in_err-name_handle-clause-answer : goal.returns-in_err-name_handle-clause-answer
 returns-in_err-name_handle-clause-answer g c =
@@ -100,7 +114,7 @@ returns-in_err-made-clause-stops g c host =
 -- what the sink hears
 heard : (g : Over) (c : After-name_handle g) → (done : Type 0)
     → Hears g.K.PurgeSink.told g.K.PurgeSink.waits g.K.PurgeSink.listens done
-    (new_handle_gone c.args.size c.args.self.now.memory.heap) c.args.sink.now c.new_block.new.sink
+    (purges_made (rows.new_handle c.args.size) c.args.self.now.memory.heap) c.args.sink.now c.new_block.new.sink
 heard g c done =
     let a = c.self.inside in
     let zone = g.S.BlockStore.zone a.store in
@@ -113,7 +127,7 @@ heard g c done =
     (λ z. refl) (λ b. refl) (replicate c.args.size 0)
     ∙ ap (λ (m : Memory). new_handle_gone c.args.size m.heap) (memory_as c.self.view_is) in
     hears-as g.K.PurgeSink.told g.K.PurgeSink.waits g.K.PurgeSink.listens _ _ _ _ _ _
-    (λ some. refl) (same) c.in_ok-made.ensures.hears
+    (λ some. refl) (same ∙ (new_handle-same c.args.size c.args.self.now.memory.heap).tells) c.in_ok-made.ensures.hears
 
 pub returns-in_err-name_handle-clause-hears : goal.returns-in_err-name_handle-clause-hears
 returns-in_err-name_handle-clause-hears g c = heard g (goal.at.returns-in_err-name_handle-clause-hears g c).After-name_handle _

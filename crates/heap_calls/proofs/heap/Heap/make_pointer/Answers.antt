@@ -1,3 +1,7 @@
+use Rattle.heap_calls.specs.Rows as rows
+use Rattle.heap_calls.specs.Rows.{doing_silently, purges_made}
+use Rattle.heap_calls.proofs.Same.Silent.{new_pointer-silent}
+use Rattle.heap_calls.proofs.Same.NewBlocks.{new_pointer-same}
 use Rattle.heap_calls.specs.Inner.Given.{KeepsMoves}
 use Rattle.std.proofs.lemmas.List.{length-map}
 use Rattle.heap_calls.specs.Inner.Numbered.{name_of}
@@ -7,10 +11,10 @@ use Rattle.mac_words.specs.declared.code.TheConstants.OsErr.{MEM_FULL}
 use Rattle.heap_calls.specs.State.{Memory}
 use Rattle.heap_calls.specs.declared.anchor.Anchor.{Anchor}
 use Rattle.heap_calls.specs.declared.anchor.Anchor.TheVariants.{Pointer}
-use Rattle.heap_calls.specs.Pointers.{new_pointer}
-use Rattle.heap_calls.specs.Gone.{new_pointer_gone}
+use Rattle.heap_calls.proofs.Tables.Replies.{new_pointer}
+use Rattle.heap_calls.proofs.Tables.Gone.{new_pointer_gone}
+use Rattle.heap_calls.proofs.Tables.Searches.{new_pointer_searches}
 use Rattle.heap_calls.specs.Inner.Telling.{pointer_gone}
-use Rattle.heap_calls.specs.Searches.{new_pointer_searches}
 use Rattle.heap_calls.specs.Inner.NewPointer.{IsNewNonrelocatable}
 use Rattle.heap_calls.specs.Inner.Numbered.{state_of, memory_of}
 use Rattle.heap_calls.proofs.Hearing.{hears-as, stops-at-once, stops-halted}
@@ -41,7 +45,8 @@ returns-in_default-clause-answer g c =
     let es = a.names.items in
     let P : Option ℕ → Type 0 = λ o. IsNewNonrelocatable c.args.size zone o zone' in
     let none : P None = subst P c.in_default.is c.in_ok-room.ensures.put in
-    searched-done (new_pointer c.args.size) (new_pointer_searches c.args.size) c.args.self.now.memory zone zone rest
+    new_pointer-silent c.args.size c.args.self.now.memory ∙ searched-done (new_pointer c.args.size)
+    (new_pointer_searches c.args.size) c.args.self.now.memory zone zone rest
     rest es es
     a.log c.count.new.self (Err MEM_FULL) c.in_ok-room.room.searches (memory_as c.self.view_is)
     (new_pointer-refused c.args.size zone rest es none.1) refl refl
@@ -78,7 +83,8 @@ returns-clause-answer g c =
     let put : P (Some c.in-Some.place) = subst P c.in-Some.is c.in_ok-room.ensures.put in
     let es' = a.names.items ++ Pointer c.in-Some.place ∷ [] in
     let n : length a.names.items ≡ c.len-number.result = omega arith in
-    searched-done (new_pointer c.args.size) (new_pointer_searches c.args.size) c.args.self.now.memory
+    new_pointer-silent c.args.size c.args.self.now.memory ∙ searched-done (new_pointer c.args.size)
+    (new_pointer_searches c.args.size) c.args.self.now.memory
     (g.S.BlockStore.zone a.store) zone' (g.S.BlockStore.rest a.store) rest' a.names.items es' a.log c.count.new.self
     (Ok c.len-number.result) c.in_ok-room.room.searches (memory_as c.self.view_is)
     (new_pointer-done (g.S.BlockStore.zone a.store) zone' (g.S.BlockStore.rest a.store) rest' a.names.items c.args.size
@@ -93,13 +99,14 @@ returns-clause-answer g c =
 -- the sink is told of the blocks of the call's row
 told : (g : Over) (c : In_ok-room g)
     → pointer_gone c.deref.result.now c.args.size (g.S.BlockStore.zone c.self.inside.store)
-    ≡ new_pointer_gone c.args.size c.args.self.now.memory.heap
+    ≡ purges_made (rows.new_pointer c.args.size) c.args.self.now.memory.heap
 told g c =
     let a = c.self.inside in
     let zone = g.S.BlockStore.zone a.store in
     ap (λ (e : List Anchor). pointer_gone e c.args.size zone) (c.deref.ensures.value ∙ c.in_ok-reserve.ensures.items)
     ∙ pointer_gone-is c.args.size zone (g.S.BlockStore.rest a.store).slots a.names.items
     ∙ ap (λ (m : Memory). new_pointer_gone c.args.size m.heap) (memory_as c.self.view_is)
+    ∙ (new_pointer-same c.args.size c.args.self.now.memory.heap).tells
 
 pub returns-in_default-clause-hears : goal.returns-in_default-clause-hears
 returns-in_default-clause-hears g c =

@@ -1,10 +1,13 @@
-use Rattle.std.proofs.Common.{◌≡◌, is_some, refl, ◌∙◌, ap, List, Ok, Err, rules}
+use Rattle.heap_calls.specs.Rows as rows
+use Rattle.heap_calls.specs.Rows.{doing_silently, purges_made}
+use Rattle.heap_calls.proofs.Same.Silent.{reallocate_handle-silent}
+use Rattle.heap_calls.proofs.Same.Resizing.{reallocate_handle-same}
+use Rattle.std.proofs.Common.{◌≡◌, is_some, refl, ◌∙◌, ap, List, Ok, Err, rules, sym}
 use Rattle.std.proofs.lemmas.Result.{err_from_is_err_and}
 use Rattle.heap_calls.specs.Answer.{silent, searching, moving}
-use Rattle.heap_calls.specs.Gone.{reallocate_handle_gone}
-use Rattle.heap_calls.specs.Purging.{reallocate_handle}
-use Rattle.heap_calls.specs.Moves.{reallocate_handle_moves}
-use Rattle.heap_calls.specs.Searches.{reallocate_handle_searches}
+use Rattle.heap_calls.proofs.Tables.Replies.{reallocate_handle}
+use Rattle.heap_calls.proofs.Tables.Moves.{reallocate_handle_moves}
+use Rattle.heap_calls.proofs.Tables.Searches.{reallocate_handle_searches}
 use Rattle.heap_calls.specs.Inner.Numbered.{memory_of}
 use Rattle.heap_calls.specs.Inner.Telling.{renewed_gone}
 use Rattle.heap_calls.specs.declared.anchor.Anchor.{Anchor}
@@ -34,7 +37,8 @@ returns-in_err-slot-clause-answer g c =
     let es = a.names.items in
     let found = loose_in zone rest.slots es _ c.args.handle (Err c.in_err-slot.field-0.0) c.deref.ensures.value
     c.in_err-slot.ensures in
-    rw (p.1, p.2) (not-moved _ _ c.in_err-slot.field-0.0 c.args.self.now.memory zone rest es a.log (memory_as
+    rw (p.1, p.2) (reallocate_handle-silent c.args.handle c.args.size c.args.self.now.memory ∙ not-moved _ _
+    c.in_err-slot.field-0.0 c.args.self.now.memory zone rest es a.log (memory_as
     c.self.view_is)
     (loose_not_searched c.args.size c.in_err-slot.field-0.0 zone rest es a.log c.args.handle c.args.self.now.memory
     (memory_as c.self.view_is)
@@ -44,11 +48,11 @@ returns-in_err-slot-clause-answer g c =
     found))
 
 -- what the call answers where the handle is found
-told : (g : Over) (c : After-account g) → moving (reallocate_handle_moves c.args.handle c.args.size
+tabled : (g : Over) (c : After-account g) → moving (reallocate_handle_moves c.args.handle c.args.size
     c.args.self.now.memory.heap) (searching (reallocate_handle_searches c.args.handle c.args.size
     c.args.self.now.memory.heap) (silent (reallocate_handle c.args.handle c.args.size) c.args.self.now.memory))
     ≡ (c.account.result, c.account.new.self.memory)
-told g c =
+tabled g c =
     let a = c.self.inside in
     let zone = g.S.BlockStore.zone a.store in
     let zone' = g.S.BlockStore.zone c.renew_block.new.store in
@@ -72,6 +76,12 @@ told g c =
     c.args.size made (memory_as c.self.view_is) found.2 found.3 c.self.invariant.apart found.4
     c.in_ok-room.ensures.answer)
     c.in_ok-room.ensures.moves)
+
+-- and by its path
+told : (g : Over) (c : After-account g) → doing_silently (rows.reallocate_handle c.args.handle c.args.size)
+    c.args.self.now.memory
+    ≡ (c.account.result, c.account.new.self.memory)
+told g c = reallocate_handle-silent c.args.handle c.args.size c.args.self.now.memory ∙ tabled g c
 
 pub returns-in_err-account-clause-answer : goal.returns-in_err-account-clause-answer
 returns-in_err-account-clause-answer g c =
@@ -109,12 +119,13 @@ returns-in_err-slot-clause-hears g c =
     let found = loose_in zone rest.slots es _ c.args.handle (Err c.in_err-slot.field-0.0) c.deref.ensures.value
     c.in_err-slot.ensures in
     hears-none g.K.PurgeSink.told g.K.PurgeSink.waits g.K.PurgeSink.listens _ _ c.args.sink.now c.requires.idle
-    (reallocate_gone-none c.args.self.now.memory zone rest es a.log c.args.handle c.args.size c.in_err-slot.field-0.0
+    (sym (reallocate_handle-same c.args.handle c.args.size c.args.self.now.memory.heap).tells ∙ reallocate_gone-none
+    c.args.self.now.memory zone rest es a.log c.args.handle c.args.size c.in_err-slot.field-0.0
     (memory_as c.self.view_is) found)
 
 -- the blocks that are purged
 gone : (g : Over) (c : After-account g) → renewed_gone c.deref-2.result.now c.in_ok-slot.slot c.args.size
-    (g.S.BlockStore.zone c.self.inside.store) ≡ reallocate_handle_gone c.args.handle c.args.size
+    (g.S.BlockStore.zone c.self.inside.store) ≡ purges_made (rows.reallocate_handle c.args.handle c.args.size)
     c.args.self.now.memory.heap
 gone g c =
     let a = c.self.inside in
@@ -127,6 +138,7 @@ gone g c =
     ∙ reallocate_gone-is c.args.self.now.memory zone rest es a.log c.args.handle found.0 slot c.args.size (memory_as
     c.self.view_is) found.2
     found.3 c.self.invariant.apart found.4
+    ∙ (reallocate_handle-same c.args.handle c.args.size c.args.self.now.memory.heap).tells
 
 pub returns-in_err-account-clause-hears : goal.returns-in_err-account-clause-hears
 returns-in_err-account-clause-hears g c =

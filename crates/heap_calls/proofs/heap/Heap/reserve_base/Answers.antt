@@ -1,9 +1,14 @@
+use Rattle.heap_calls.specs.Rows as rows
+use Rattle.heap_calls.specs.Rows.{doing_silently, purges_made}
+use Rattle.heap_calls.proofs.Same.Silent.{reserve_mem-silent}
+use Rattle.heap_calls.proofs.Same.NewBlocks.{reserve_mem-same}
 use Rattle.std.proofs.Common.{◌≡◌, is_some, sym, ◌∙◌, List, Option, Some, ℕ, ap, refl, rules}
 use Rattle.std.proofs.lemmas.Result.{err_from_is_err_and}
 use Rattle.mac_words.specs.Size.{phys}
 use Rattle.heap_calls.specs.Answer.{silent, searching, nothing}
-use Rattle.heap_calls.specs.Pointers.{reserve_mem}
-use Rattle.heap_calls.specs.Searches.{reserve_searches}
+use Rattle.heap_calls.proofs.Tables.Replies.{reserve_mem}
+use Rattle.heap_calls.proofs.Tables.Searches.{reserve_searches}
+use Rattle.heap_calls.proofs.Tables.Gone.{reserve_gone}
 use Rattle.heap_calls.proofs.NewBlocks.Naming.{Ends, reserve-ends, served-looking}
 use Rattle.heap_calls.proofs.NewBlocks.Reserving.{reserve-too_large, reserve_searches-is}
 use Rattle.heap_calls.proofs.Numbering.Changing.{agrees-placed, heap-same}
@@ -12,12 +17,12 @@ use Rattle.heap_calls.proofs.Numbering.Memories.{memory_as, reply-as}
 use Rattle.heap_calls.specs.Inner.Reaching.{sized_reply}
 use Rattle.heap_calls.proofs.heap.Heap.reserve_base.Given.{Over}
 use Rattle.heap_calls.proofs.heap.Heap.reserve_base.Goals.{In_ok-room, After-account}
-use Rattle.heap_calls.proofs.Hearing.{stops-halted, hears-as}
+use Rattle.heap_calls.proofs.Hearing.{stops-halted, hears-as, hears-none}
 use Rattle.block_store.specs.Block.{Free}
 use Rattle.block_store.specs.declared.sparing.Sparing.TheVariants.{Nothing}
 use Rattle.heap_calls.specs.declared.anchor.Anchor.{Anchor}
 use Rattle.heap_calls.specs.State.{Memory}
-use Rattle.heap_calls.specs.Gone.{Hears, reserve_gone}
+use Rattle.heap_calls.specs.Gone.{Hears}
 use Rattle.heap_calls.specs.Inner.Given.{KeepsMoves}
 use Rattle.heap_calls.specs.Inner.Telling.{base_gone}
 use Rattle.heap_calls.proofs.GoneBlocks.{base_gone-is}
@@ -25,7 +30,8 @@ use Rattle.heap_calls.proofs.heap.Heap.reserve_base.Goals as goal
 
 pub returns-in_default-clause-answer : goal.returns-in_default-clause-answer
 returns-in_default-clause-answer g c =
-    reserve-too_large c.args.size c.args.self.now.memory (sym c.phys.ensures ∙ c.in_default.is)
+    reserve_mem-silent c.args.size c.args.self.now.memory ∙ reserve-too_large c.args.size c.args.self.now.memory (sym
+    c.phys.ensures ∙ c.in_default.is)
 
 reserved : (g : Over) (c : In_ok-room g) → Ends (reserve_mem c.args.size) (g.S.BlockStore.zone c.self.inside.store)
     (g.S.BlockStore.rest c.self.inside.store) c.self.inside.names.items
@@ -38,14 +44,14 @@ reserved g c =
     (λ none. at_none c.in_ok-room.room.place _ _ none now.none)
 
 -- what the call answers where a block can have that size
-told : (g : Over) (c : After-account g) → Ends (reserve_mem c.args.size) (g.S.BlockStore.zone c.self.inside.store)
+tabled : (g : Over) (c : After-account g) → Ends (reserve_mem c.args.size) (g.S.BlockStore.zone c.self.inside.store)
     (g.S.BlockStore.rest c.self.inside.store) c.self.inside.names.items
     (sized_reply (is_some c.in_ok-room.room.place)) (g.S.BlockStore.zone c.make_base.new.store)
     (g.S.BlockStore.rest c.make_base.new.store) c.self.inside.names.items
     → searching (reserve_searches (phys c.args.size) c.args.self.now.memory.heap)
     (silent (reserve_mem c.args.size) c.args.self.now.memory)
     ≡ (c.account.result, c.account.new.self.memory)
-told g c ends =
+tabled g c ends =
     let a = c.self.inside in
     let now = c.in_ok-room.ensures in
     rw (c.account.ensures.reply, c.account.ensures.counted, c.is_some.ensures)
@@ -55,6 +61,15 @@ told g c ends =
     ends c.in_ok-room.room.searches
     (now.searches ∙ sym (reserve_searches-is _ _ _ (g.met.S.BlockStore.masters a.store) c.self.invariant c.args.size
     c.in-Some.bytes (sym c.phys.ensures ∙ c.in-Some.is))) now.rest.moves)
+
+-- and by its path
+told : (g : Over) (c : After-account g) → Ends (reserve_mem c.args.size) (g.S.BlockStore.zone c.self.inside.store)
+    (g.S.BlockStore.rest c.self.inside.store) c.self.inside.names.items
+    (sized_reply (is_some c.in_ok-room.room.place)) (g.S.BlockStore.zone c.make_base.new.store)
+    (g.S.BlockStore.rest c.make_base.new.store) c.self.inside.names.items
+    → doing_silently (rows.reserve_mem c.args.size) c.args.self.now.memory
+    ≡ (c.account.result, c.account.new.self.memory)
+told g c ends = reserve_mem-silent c.args.size c.args.self.now.memory ∙ tabled g c ends
 
 pub returns-in_err-account-clause-answer : goal.returns-in_err-account-clause-answer
 returns-in_err-account-clause-answer g c =
@@ -86,7 +101,7 @@ returns-in_err-room-clause-stops g c host =
 -- what the sink hears
 heard : (g : Over) (c : In_ok-room g) → (done : Type 0)
     → Hears g.K.PurgeSink.told g.K.PurgeSink.waits g.K.PurgeSink.listens done
-    (reserve_gone (phys c.args.size) c.args.self.now.memory.heap) c.args.sink.now c.make_base.new.sink
+    (purges_made (rows.reserve_mem c.args.size) c.args.self.now.memory.heap) c.args.sink.now c.make_base.new.sink
 heard g c done =
     let a = c.self.inside in
     let zone = g.S.BlockStore.zone a.store in
@@ -98,10 +113,17 @@ heard g c done =
     ∙ ap (λ (m : Memory). reserve_gone (Some c.in-Some.bytes) m.heap) (memory_as c.self.view_is) in
     let wanted = ap (λ (p : Option ℕ). reserve_gone p c.args.self.now.memory.heap)
     (sym c.phys.ensures ∙ c.in-Some.is) in
-    hears-as g.K.PurgeSink.told g.K.PurgeSink.waits g.K.PurgeSink.listens _ _ _ _ _ _ (λ some. refl) (same ∙ sym wanted) c.in_ok-room.ensures.hears
+    hears-as g.K.PurgeSink.told g.K.PurgeSink.waits g.K.PurgeSink.listens _ _ _ _ _ _ (λ some. refl) (same ∙ sym wanted
+    ∙ (reserve_mem-same c.args.size c.args.self.now.memory.heap).tells) c.in_ok-room.ensures.hears
 
 pub returns-in_err-account-clause-hears : goal.returns-in_err-account-clause-hears
 returns-in_err-account-clause-hears g c = heard g (goal.at.returns-in_err-account-clause-hears g c).In_ok-room _
 
 pub returns-clause-hears : goal.returns-clause-hears
 returns-clause-hears g c = heard g (goal.at.returns-clause-hears g c).In_ok-room _
+
+pub returns-in_default-clause-hears : goal.returns-in_default-clause-hears
+returns-in_default-clause-hears g c =
+    hears-none g.K.PurgeSink.told g.K.PurgeSink.waits g.K.PurgeSink.listens _ _ c.args.sink.now c.requires.idle
+    (sym (reserve_mem-same c.args.size c.args.self.now.memory.heap).tells
+    ∙ ap (λ (p : Option ℕ). reserve_gone p c.args.self.now.memory.heap) (sym c.phys.ensures ∙ c.in_default.is))

@@ -1,0 +1,33 @@
+use Rattle.std.proofs.Common.{◌≡◌, ◌≢◌, ℕ, Result, Ok, Err, refl, sym, ap}
+use Rattle.std.specs.Prelude.{IfOk, OnOk}
+use Rattle.std.specs.declared.alloc.AllocError.{AllocError}
+use Rattle.mac_words.specs.declared.code.OsErr.{OsErr}
+use Rattle.mac_words.specs.Told.{Told, Given}
+use Rattle.heap_calls.specs.State.{Memory}
+use Rattle.heap_calls.specs.Asked.{telling}
+use Rattle.heap_calls.specs.Inner.Given.{IsAnswer}
+use Rattle.heap_calls.specs.declared.refusal.Refusal.{Refusal}
+use Rattle.heap_calls.specs.declared.refusal.Refusal.TheVariants.{Code, HostMemory}
+use Rattle.applications.specs.Replies.{GivenAs, TellsTold}
+use Rattle.applications.specs.declared.tried.Tried.{Tried}
+
+-- What a try tells and leaves whose call returns a new handle or pointer.
+
+-- the answer of a row is told
+pub given-told : (answer : Result ℕ OsErr × Memory) (result : Result ℕ Refusal) (after : Memory)
+    (try : Result Tried AllocError) → IsAnswer answer result after
+    → IfOk try (λ tried. (told : Told) → GivenAs Given result told → TellsTold tried told)
+    → OnOk try (result ≢ Err HostMemory) → IfOk try (λ tried. TellsTold tried (telling Given answer).0)
+given-told answer result after (Err e) is tells host = tt
+given-told answer (Ok n) after (Ok t) is tells host = tells _ (ap (λ a. (telling Given a).0) is)
+given-told answer (Err (Code code)) after (Ok t) is tells host = tells _ (ap (λ a. (telling Given a).0) is)
+given-told answer (Err HostMemory) after (Ok t) is tells host = absurd (host refl)
+
+-- the memory is that after the row
+pub given-after : (answer : Result ℕ OsErr × Memory) (result : Result ℕ Refusal) (after : Memory)
+    (try : Result Tried AllocError) → IsAnswer answer result after → OnOk try (result ≢ Err HostMemory)
+    → OnOk try (after ≡ (telling Given answer).1)
+given-after answer result after (Err e) is host = tt
+given-after answer (Ok n) after (Ok t) is host = sym (ap (λ a. (telling Given a).1) is)
+given-after answer (Err (Code code)) after (Ok t) is host = sym (ap (λ a. (telling Given a).1) is)
+given-after answer (Err HostMemory) after (Ok t) is host = absurd (host refl)

@@ -1,0 +1,77 @@
+use Rattle.std.proofs.Common.{◌≡◌, ℕ, Bool, true, false, List, [], Option, Some, None, refl, sym}
+use Rattle.mac_words.specs.Told.{Told}
+use Rattle.mac_words.specs.declared.code.OsErr.{OsErr}
+use Rattle.block_store.specs.Block.{Block}
+use Rattle.heap_calls.specs.State.{State, Memory}
+use Rattle.heap_calls.specs.Gone.{gone_unless}
+use Rattle.heap_calls.specs.Asked.{Asked}
+use Rattle.heap_calls.specs.Asked as asked
+use Rattle.heap_calls.specs.Rows.{Done}
+use Rattle.heap_calls.specs.Table.{Bar, Row, row, may_purge, bar_of, barred_by, purged_by, gone_of_row}
+use Rattle.heap_calls.specs.Table as table
+
+-- The rows that are paths, and the others.
+
+-- whether a row is a path
+abbrev pub has_path : Row → Bool
+has_path (table.Does bar tell does) = true
+has_path (table.Leaves left r) = has_path r
+has_path r = false
+
+-- what is said of each path is said of each row that is one
+pub of-path : (P : Row → Type 0)
+    → ((T : Type 0) (bar : Bar) (tell : T → Told) (does : State → Done T) → P (table.Does {T = T} bar tell does))
+    → ((left : State → List Block) (r : Row) → P r → P (table.Leaves left r)) → (r : Row) → has_path r ≡ true → P r
+of-path P does leaves (table.Does {T = T} bar tell call) path = does T bar tell call
+of-path P does leaves (table.Leaves left r) path = leaves left r (of-path P does leaves r path)
+of-path P does leaves (table.Plain bar tell call) path = let f : false ≡ true = path in cc
+of-path P does leaves (table.Quiet bar tell call) path = let f : false ≡ true = path in cc
+of-path P does leaves (table.Seeks bar tell searches gone call) path = let f : false ≡ true = path in cc
+of-path P does leaves (table.Compacts moves searches call) path = let f : false ≡ true = path in cc
+of-path P does leaves table.PurgesAll path = let f : false ≡ true = path in cc
+of-path P does leaves table.LastCode path = let f : false ≡ true = path in cc
+
+-- each call is a path, or purges nothing, or is PurgeMem or MaxMem
+pub by-kind : (P : Asked → Type 0) → ((a : Asked) → has_path (row a) ≡ true → P a)
+    → ((n : ℕ) → P (asked.PurgeMem n)) → P asked.MaxMem → ((a : Asked) → may_purge (row a) ≡ false → P a)
+    → (a : Asked) → P a
+by-kind P path purge max rest (asked.NewHandle n) = path (asked.NewHandle n) refl
+by-kind P path purge max rest asked.NewEmptyHandle = path asked.NewEmptyHandle refl
+by-kind P path purge max rest (asked.SetHandleSize handle n) = path (asked.SetHandleSize handle n) refl
+by-kind P path purge max rest (asked.ReallocateHandle handle n) = path (asked.ReallocateHandle handle n) refl
+by-kind P path purge max rest (asked.HandToHand handle) = path (asked.HandToHand handle) refl
+by-kind P path purge max rest (asked.HandAndHand from to) = path (asked.HandAndHand from to) refl
+by-kind P path purge max rest (asked.PtrAndHand handle x) = path (asked.PtrAndHand handle x) refl
+by-kind P path purge max rest (asked.NewPtr n) = path (asked.NewPtr n) refl
+by-kind P path purge max rest (asked.SetPtrSize pointer n) = path (asked.SetPtrSize pointer n) refl
+by-kind P path purge max rest (asked.ReserveMem n) = path (asked.ReserveMem n) refl
+by-kind P path purge max rest asked.MoreMasters = path asked.MoreMasters refl
+by-kind P path purge max rest (asked.PurgeMem n) = purge n
+by-kind P path purge max rest asked.MaxMem = max
+by-kind P path purge max rest a = rest a refl
+
+-- a call that purges nothing tells of nothing
+pub none-by : (r : Row) (s : State) → may_purge r ≡ false → purged_by r s ≡ []
+none-by (table.Plain bar tell call) s e = refl
+none-by (table.Quiet bar tell call) s e = refl
+none-by (table.Does bar tell does) s e = let f : true ≡ false = e in cc
+none-by (table.Seeks bar tell searches gone call) s e = let f : true ≡ false = e in cc
+none-by (table.Compacts moves searches call) s e = refl
+none-by table.PurgesAll s e = let f : true ≡ false = e in cc
+none-by table.LastCode s e = refl
+none-by (table.Leaves left r) s e = none-by r s e
+
+-- what a try tells of, by its gate
+unless-none : (o : Option OsErr) → gone_unless o [] ≡ []
+unless-none None = refl
+unless-none (Some code) = refl
+
+pub gated-by : (r : Row) (m : Memory) → gone_of_row r m ≡ gone_unless (barred_by (bar_of r) m) (purged_by r m.heap)
+gated-by (table.Plain bar tell call) m = sym (unless-none (barred_by bar m))
+gated-by (table.Quiet bar tell call) m = sym (unless-none (barred_by bar m))
+gated-by (table.Does bar tell does) m = refl
+gated-by (table.Seeks bar tell searches gone call) m = refl
+gated-by (table.Compacts moves searches call) m = refl
+gated-by table.PurgesAll m = refl
+gated-by table.LastCode m = refl
+gated-by (table.Leaves left r) m = gated-by r m

@@ -1,0 +1,4 @@
+pub mod Replies
+pub mod Searches
+pub mod Moves
+pub mod Gone

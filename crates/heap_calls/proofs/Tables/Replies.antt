@@ -1,0 +1,117 @@
+use Rattle.std.specs.Prelude.{ℕ, Option, is_some, if◌then◌else◌, Bool, List, replicate, Some, length, None, Ok, ◌+◌}
+use Rattle.std.specs.Prelude.{◌||◌}
+use Rattle.mac_words.specs.Size.{phys}
+use Rattle.mac_words.specs.declared.code.TheConstants.OsErr.{MEM_FULL, PURGED}
+use Rattle.block_store.specs.Block.{is_relocatable, Block, no_flags, Nonrelocatable, is_nonrelocatable, Free, tidy}
+use Rattle.block_store.specs.Block.{content_of}
+use Rattle.block_store.specs.Grow.{grow}
+use Rattle.heap_calls.specs.State.{State, Plain, Handle, Pointer}
+use Rattle.heap_calls.specs.Answer.{Answer, refused, on_block, rebuilt, nothing, given, for_found, handle_at}
+use Rattle.heap_calls.specs.Slots.{made, slotted, if_ready, more_masters}
+use Rattle.block_store.specs.Room.{put_at_base, room, spot}
+use Rattle.heap_calls.specs.Pointers.{on_pointer}
+use Rattle.std.specs.Option.{option_map}
+use Rattle.block_store.specs.Run.{change_run, has_free, low}
+use Rattle.heap_calls.specs.Copying.{written_in}
+use Rattle.heap_calls.specs.Purging.{is_loose, reallocated}
+
+-- What the calls that search for room answer, by the words of the inner functions. `proofs/Same` shows that the paths of
+-- their rows say the same.
+
+-- SetHandleSize: the handle's block grows or is cut to n bytes, and is not purged for the room that it needs; -108
+-- (memFullErr) where there is no room or no block can have that size.
+abbrev pub set_handle_size : Option ℕ → ℕ → State → Answer (Unit {0})
+set_handle_size handle n s =
+    on_block handle s (λ held. if is_some (phys n) then rebuilt
+    (grow (is_relocatable held.number) (is_relocatable held.number) n s.zone) s else refused MEM_FULL s)
+
+-- A new handle, an application's own, with a block of these bytes.
+abbrev pub new_block : (Block → Bool) → List ℕ → State → Answer ℕ
+new_block spared bytes s = made Plain no_flags spared bytes s
+
+-- NewHandle: a new handle with a block of n bytes, all 0; -108 (memFullErr) where there is no room or no block can
+-- have that size.
+abbrev pub new_handle : ℕ → State → Answer ℕ
+new_handle n s = if_ready (slotted nothing s) s (λ ready. if is_some (phys n)
+    then new_block nothing (replicate n 0) ready else refused MEM_FULL ready)
+
+-- NewEmptyHandle: a new handle with no block.
+abbrev pub new_empty_handle : State → Answer ℕ
+new_empty_handle s = if_ready (slotted nothing s) s (λ ready. given (Handle Plain) (Some ready.zone) ready)
+
+-- NewPtr: a new pointer to a nonrelocatable block of n bytes, all 0, at the base of a run; -108 (memFullErr) where
+-- there is no room or no block can have that size.
+abbrev pub new_pointer : ℕ → State → Answer ℕ
+new_pointer n s = if is_some (phys n) then given Pointer (room (put_at_base (Nonrelocatable (length s.names) (replicate
+    n 0)))
+    nothing s.zone) s else refused MEM_FULL s
+
+-- SetPtrSize: the pointer's block grows or is cut to n bytes where it stands; -108 (memFullErr) where there is no
+-- room or no block can have that size.
+abbrev pub set_pointer_size : Option ℕ → ℕ → State → Answer (Unit {0})
+set_pointer_size pointer n s = on_pointer pointer s (λ held. if is_some (phys n)
+    then rebuilt (grow (is_nonrelocatable held.number) nothing n s.zone) s else refused MEM_FULL s)
+
+-- The zone with a free block of p bytes at the base of the lowest run that has p free bytes.
+abbrev pub reserved : ℕ → List Block → Option (List Block)
+reserved p zone = option_map tidy (change_run (has_free p) (low (Free p)) zone)
+
+-- ReserveMem: makes room for a block of n bytes as low in the zone as can be; -108 (memFullErr) where there is no
+-- room or no block can have that size.
+abbrev pub reserve_mem : ℕ → State → Answer (Unit {0})
+reserve_mem n s = reserve (phys n)
+  where
+    reserve : Option ℕ → Answer (Unit {0})
+    reserve None = refused MEM_FULL s
+    reserve (Some p) = rebuilt (room (reserved p) nothing s.zone) s
+
+-- MoreMasters: a new master pointer block; -108 (memFullErr) where there is no room for it.
+abbrev pub add_masters : State → Answer (Unit {0})
+add_masters s = rebuilt (option_map (λ (ready : State). ready.zone) (more_masters nothing s)) s
+
+-- HandToHand: a new handle with a copy of the bytes of another handle's block, which is not purged for the copy.
+abbrev pub hand_to_hand : Option ℕ → State → Answer ℕ
+hand_to_hand handle s =
+    on_block handle s (λ held. if_ready (slotted (is_relocatable held.number) s) s
+    (new_block (is_relocatable held.number) (content_of held.at.here)))
+
+-- The heap with x written after the len bytes of a handle's block, in the zone where the block has grown; -108
+-- (memFullErr) where it could not.
+abbrev pub appended : (Block → Bool) → ℕ → ℕ → List ℕ → Option (List Block) → State → Answer (Unit {0})
+appended spared h len x None s = refused MEM_FULL s
+appended spared h len x (Some zone) s = (
+  Ok tt,
+  record s {
+    zone = written_in h len x zone
+        (spot (is_relocatable h) zone);
+  },
+)
+
+-- The bytes x appended to a handle's block of len bytes; -108 (memFullErr) where there is no room or no block can
+-- have that size.
+abbrev pub append : (Block → Bool) → ℕ → ℕ → List ℕ → State → Answer (Unit {0})
+append spared h len x s =
+    if is_some (phys (len + length x)) then appended spared h len x
+    (grow (is_relocatable h) spared (len + length x) s.zone) s else refused MEM_FULL s
+
+-- HandAndHand: the bytes of one handle's block appended to another's, which may be the same; neither block is purged
+-- for it.
+-- See decision 31 (`HandAndHand a b` refuses for `a` first, then for `b`).
+abbrev pub hand_and_hand : Option ℕ → Option ℕ → State → Answer (Unit {0})
+hand_and_hand from to s =
+    on_block from s (λ a. on_block to s (λ b.
+    append (λ block. is_relocatable a.number block || is_relocatable b.number block) b.number
+    (length (content_of b.at.here)) (content_of a.at.here) s))
+
+-- PtrAndHand: bytes appended to a handle's block.
+abbrev pub pointer_and_hand : Option ℕ → List ℕ → State → Answer (Unit {0})
+pointer_and_hand handle x s = on_block handle s (λ held. append (is_relocatable held.number) held.number
+    (length (content_of held.at.here)) x s)
+
+-- ReallocateHandle: a new block of n bytes, all 0, for a handle; -112 (memPurErr) where its old block is locked, -108
+-- (memFullErr) where there is no room or no block can have that size.
+abbrev pub reallocate_handle : Option ℕ → ℕ → State → Answer (Unit {0})
+reallocate_handle handle n s =
+    for_found (handle_at handle s) s (λ k. if is_loose (spot (is_relocatable k.number) s.zone)
+    then (if is_some (phys n) then rebuilt (reallocated k.number n s.zone) s else refused MEM_FULL s)
+    else refused PURGED s)

@@ -1,0 +1,75 @@
+use Rattle.std.specs.Prelude.{ℕ, length, replicate, is_some, if◌then◌else◌, Option, Some, None, Result, Ok, Err, ◌+◌}
+use Rattle.std.specs.Prelude.{◌||◌, List}
+use Rattle.block_store.specs.Block.{Masters, Nonrelocatable, is_relocatable, is_nonrelocatable, Relocatable, no_flags}
+use Rattle.block_store.specs.Block.{content_of}
+use Rattle.block_store.specs.Room.{put_at_base, spot, put_in_place}
+use Rattle.heap_calls.specs.State.{State}
+use Rattle.heap_calls.specs.Answer.{nothing, look_up, handle_at}
+use Rattle.heap_calls.specs.Searches.{room_searches, size_searches, slot_searches, ready_searches, block_searches}
+use Rattle.mac_words.specs.Size.{phys}
+use Rattle.heap_calls.specs.Pointers.{pointed_at}
+use Rattle.heap_calls.proofs.Tables.Replies.{reserved}
+use Rattle.mac_words.specs.declared.code.OsErr.{OsErr}
+use Rattle.block_store.specs.Grow.{freed}
+use Rattle.heap_calls.specs.Purging.{is_loose}
+use Rattle.heap_calls.specs.Slots.{slotted}
+
+-- The searches of the same calls.
+
+-- The searches of MoreMasters.
+abbrev pub more_masters_searches : State → ℕ
+more_masters_searches s = room_searches (put_at_base Masters) nothing s.zone
+
+-- The searches of NewPtr.
+abbrev pub new_pointer_searches : ℕ → State → ℕ
+new_pointer_searches n s = if is_some (phys n) then room_searches (put_at_base (Nonrelocatable (length s.names)
+    (replicate n 0)))
+    nothing s.zone else 0
+
+-- The searches of ReserveMem.
+abbrev pub reserve_searches : Option ℕ → State → ℕ
+reserve_searches None s = 0
+reserve_searches (Some p) s = room_searches (reserved p) nothing s.zone
+
+-- The number of searches of a call for what was found; none where nothing was found.
+abbrev pub found_searches : {A : Type 0} → Result A OsErr → (A → ℕ) → ℕ
+found_searches (Err code) count = 0
+found_searches (Ok found) count = count found
+
+-- The searches of SetHandleSize.
+abbrev pub set_handle_size_searches : Option ℕ → ℕ → State → ℕ
+set_handle_size_searches handle n s = found_searches (look_up handle s)
+    (λ held. size_searches (is_relocatable held.number) (is_relocatable held.number) n s.zone)
+
+-- The searches of SetPtrSize.
+abbrev pub set_pointer_size_searches : Option ℕ → ℕ → State → ℕ
+set_pointer_size_searches pointer n s = found_searches (pointed_at pointer s)
+    (λ held. size_searches (is_nonrelocatable held.number) nothing n s.zone)
+
+-- The searches of ReallocateHandle.
+abbrev pub reallocate_handle_searches : Option ℕ → ℕ → State → ℕ
+reallocate_handle_searches handle n s =
+    found_searches (handle_at handle s) (λ k. if is_loose (spot (is_relocatable k.number) s.zone)
+    then (if is_some (phys n) then room_searches (put_in_place (Relocatable k.number no_flags (replicate n 0))) nothing
+    (freed (is_relocatable k.number) s.zone) else 0)
+    else 0)
+
+-- The searches of HandToHand.
+abbrev pub hand_to_hand_searches : Option ℕ → State → ℕ
+hand_to_hand_searches handle s =
+    found_searches (look_up handle s) (λ held. slot_searches (is_relocatable held.number) s
+    + ready_searches (slotted (is_relocatable held.number) s) (block_searches (is_relocatable held.number)
+    (content_of held.at.here)))
+
+-- The searches of HandAndHand.
+abbrev pub hand_and_hand_searches : Option ℕ → Option ℕ → State → ℕ
+hand_and_hand_searches from to s =
+    found_searches (look_up from s) (λ a. found_searches (look_up to s) (λ b.
+    size_searches (is_relocatable b.number) (λ block. is_relocatable a.number block || is_relocatable b.number block)
+    (length (content_of b.at.here) + length (content_of a.at.here)) s.zone))
+
+-- The searches of PtrAndHand.
+abbrev pub pointer_and_hand_searches : Option ℕ → List ℕ → State → ℕ
+pointer_and_hand_searches handle x s =
+    found_searches (look_up handle s) (λ held. size_searches (is_relocatable held.number) (is_relocatable held.number)
+    (length (content_of held.at.here) + length x) s.zone)
