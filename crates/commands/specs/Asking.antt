@@ -6,28 +6,29 @@ use Rattle.fork_commands.specs.declared.editing.Edit.{Edit}
 use Rattle.fork_commands.specs.declared.editing.Edit.TheVariants.{Remove, Rename}
 use Rattle.fork_commands.specs.declared.pair.PairWork.{PairWork}
 use Rattle.fork_commands.specs.declared.pair.PairWork.TheVariants.{Set, SetStated, Diff, DiffText, Wrap, Merge}
-use Rattle.commands.specs.declared.delivering.Target.{Target}
-use Rattle.commands.specs.declared.delivering.Target.TheVariants.{Printed, NewFile}
-use Rattle.commands.specs.declared.extracting.Pieces.{Pieces}
-use Rattle.commands.specs.declared.extracting.Pieces.TheVariants.{Resources, Forks}
-use Rattle.commands.specs.declared.linting.TextKind.{TextKind}
-use Rattle.commands.specs.declared.linting.TextKind.TheVariants as kind
-use Rattle.commands.specs.declared.source_printing.Part.{Part}
-use Rattle.commands.specs.declared.source_printing.Part.TheVariants.{Whole, Selected}
-use Rattle.commands.specs.declared.playing.PlayWork.{PlayWork}
-use Rattle.commands.specs.declared.playing.PlayWork.TheVariants.{Transcript, Words, Leavings, Zone}
-use Rattle.commands.specs.Linting as linting
-use Rattle.commands.specs.Loading.{AppFork, Own, System, Other}
-use Rattle.commands.specs.Playing.{parts_of}
-use Rattle.commands.specs.SourcePrinting as printing
-use Rattle.commands.specs.Assembling as assembling
-use Rattle.commands.specs.declared.tasks.Work.{Work}
-use Rattle.commands.specs.declared.tasks.Work.TheVariants as work
-use Rattle.commands.specs.declared.work.ToldLines.{ToldLines}
-use Rattle.commands.specs.declared.work.ToldLines.TheVariants as told
-use Rattle.commands.specs.Surveying.{paths_of}
+use Rattle.fork_tasks.specs.declared.delivering.Target.{Target}
+use Rattle.fork_tasks.specs.declared.delivering.Target.TheVariants.{Printed, NewFile}
+use Rattle.fork_tasks.specs.declared.extracting.Pieces.{Pieces}
+use Rattle.fork_tasks.specs.declared.extracting.Pieces.TheVariants.{Resources, Forks}
+use Rattle.fork_tasks.specs.declared.linting.TextKind.{TextKind}
+use Rattle.fork_tasks.specs.declared.linting.TextKind.TheVariants as kind
+use Rattle.fork_tasks.specs.declared.source_printing.Part.{Part}
+use Rattle.fork_tasks.specs.declared.source_printing.Part.TheVariants.{Whole, Selected}
+use Rattle.job_tasks.specs.declared.playing.PlayWork.{PlayWork}
+use Rattle.job_tasks.specs.declared.playing.PlayWork.TheVariants.{Transcript, Words, Leavings, Zone}
+use Rattle.fork_tasks.specs.Linting as linting
+use Rattle.job_tasks.specs.Loading.{AppFork, Own, System, Other}
+use Rattle.job_tasks.specs.Playing.{parts_of}
+use Rattle.fork_tasks.specs.SourcePrinting as printing
+use Rattle.fork_tasks.specs.Assembling as assembling
+use Rattle.job_tasks.specs.declared.tasks.Work.{Work}
+use Rattle.job_tasks.specs.declared.tasks.Work.TheVariants as work
+use Rattle.job_tasks.specs.declared.work.ToldLines.{ToldLines}
+use Rattle.job_tasks.specs.declared.work.ToldLines.TheVariants as told
+use Rattle.fork_tasks.specs.Surveying.{paths_of}
 use Rattle.commands.specs.declared.request.Request.{Request}
-use Rattle.commands.specs.declared.request.Request.TheVariants.{Look, Check, Lint, Run, Show, Play, Convert, Combine, Extract, Pack, Print, Assemble}
+use Rattle.commands.specs.declared.request.Request.TheVariants.{Look, Check, Lint, Run, Show, Play, Convert, Combine, Extract, Pack, Print}
+use Rattle.commands.specs.declared.request.Request.TheVariants.{Assemble}
 
 -- Which words of a command line ask for a request. The first word is the program's name, and the second the command's.
 

@@ -1,26 +1,27 @@
 use Rattle.std.specs.Prelude.{◌≡◌, ◌⊎◌, ℕ, false, Option, Some, None, List, [], ◌∷◌}
-use Rattle.commands.specs.declared.ending.Ending.{Ending}
-use Rattle.commands.specs.declared.ending.Ending.TheVariants.{Done}
-use Rattle.commands.specs.declared.tasks.Task.{Task}
+use Rattle.fork_tasks.specs.declared.ending.Ending.{Ending}
+use Rattle.fork_tasks.specs.declared.ending.Ending.TheVariants.{Done}
+use Rattle.job_tasks.specs.declared.tasks.Task.{Task}
 use Rattle.commands.specs.declared.request.Request.{Request}
-use Rattle.commands.specs.declared.request.Request.TheVariants.{Look, Check, Lint, Run, Show, Play, Convert, Combine, Extract, Pack, Print, Assemble}
-use Rattle.commands.specs.Fault.{Message, IsUsage}
-use Rattle.commands.specs.Accesses.{Access, Read, and_then, IsUnread}
+use Rattle.commands.specs.declared.request.Request.TheVariants.{Look, Check, Lint, Run, Show, Play, Convert, Combine, Extract, Pack, Print}
+use Rattle.commands.specs.declared.request.Request.TheVariants.{Assemble}
+use Rattle.fork_tasks.specs.Fault.{Message, IsUsage}
+use Rattle.fork_tasks.specs.Accesses.{Access, Read, and_then, IsUnread}
 use Rattle.commands.specs.Asking.{IsAskedBy}
-use Rattle.commands.specs.declared.tasks.Work.TheVariants as work
-use Rattle.commands.specs.declared.surveying.Survey.{Survey}
-use Rattle.commands.specs.Surveying.{lone_path, Lists, IsFolderSurveyed, IsUnlisted, Surveys, IsUnsurveyed}
-use Rattle.commands.specs.Linting.{Lints, IsUnlinted}
-use Rattle.commands.specs.Tasks.{Prints, IsRefusal, ending_for}
-use Rattle.commands.specs.Running.{Runs, IsStopped}
-use Rattle.commands.specs.JobZones.{Shows, IsUnshown}
-use Rattle.commands.specs.Playing.{Plays, IsUnplayed}
-use Rattle.commands.specs.Converting.{Converts, IsUnconverted}
-use Rattle.commands.specs.Combining.{Combines, IsUncombined}
-use Rattle.commands.specs.Extracting.{Extracts, IsUnextracted}
-use Rattle.commands.specs.Packing.{Packs, IsUnpacked}
-use Rattle.commands.specs.SourcePrinting.{PrintsSource, IsSourceUnprinted}
-use Rattle.commands.specs.Assembling.{Assembles, IsUnassembled}
+use Rattle.job_tasks.specs.declared.tasks.Work.TheVariants as work
+use Rattle.fork_tasks.specs.declared.surveying.Survey.{Survey}
+use Rattle.fork_tasks.specs.Surveying.{lone_path, Lists, IsFolderSurveyed, IsUnlisted, Surveys, IsUnsurveyed}
+use Rattle.fork_tasks.specs.Linting.{Lints, IsUnlinted}
+use Rattle.job_tasks.specs.Tasks.{Prints, IsRefusal, ending_for}
+use Rattle.job_tasks.specs.Running.{Runs, IsStopped}
+use Rattle.job_tasks.specs.JobZones.{Shows, IsUnshown}
+use Rattle.job_tasks.specs.Playing.{Plays, IsUnplayed}
+use Rattle.fork_tasks.specs.Converting.{Converts, IsUnconverted}
+use Rattle.fork_tasks.specs.Combining.{Combines, IsUncombined}
+use Rattle.fork_tasks.specs.Extracting.{Extracts, IsUnextracted}
+use Rattle.fork_tasks.specs.Packing.{Packs, IsUnpacked}
+use Rattle.fork_tasks.specs.SourcePrinting.{PrintsSource, IsSourceUnprinted}
+use Rattle.fork_tasks.specs.Assembling.{Assembles, IsUnassembled}
 
 -- A request of the command line is done. `p` and `q` are the bytes that have been printed before and after,
 -- `old` and `new` the accesses to files.

@@ -1,19 +1,16 @@
 //! Whether the words of a command line ask for a request: a test of what the parser of the words answers.
 
 ghost use Rattle.std.specs.Prelude.{◌≡◌, ◌≤◌, ◌++◌, ◌∷◌, [], ℕ, List, map, drop, length, option_map, codes, IsTrue};
-ghost use Rattle.commands.specs.Asking.{look_word, print_word, edit_word, write_word, convert_word, combine_word, extract_word, part_word, command_of, word_into};
+ghost use Rattle.commands.specs.Asking.{look_word, print_word, edit_word, write_word, convert_word, combine_word, extract_word, part_word};
+ghost use Rattle.commands.specs.Asking.{command_of, word_into, StandIn, HasValue, IsGiven, HasValues, MayHaveValue, IsKindAsked, Names};
 ghost use Rattle.commands.specs.declared.request.Request.TheVariants.{Lint, Print, Assemble};
-ghost use Rattle.commands.specs.Asking.{StandIn, HasValue, IsGiven, HasValues, MayHaveValue, IsKindAsked, Names, IsAskedBy, path_in};
+ghost use Rattle.commands.specs.Asking.{IsAskedBy, path_in};
 
-use crate::assembling::Assembly;
-use crate::delivering::Target;
-use crate::extracting::Pieces;
-use crate::linting::{Linting, TextKind};
 use crate::play_asking::{name_played, play_word};
 use crate::request::Request;
-use crate::source_printing::{Part, Printing};
-use crate::tasks::Work;
 use fork_commands::{Edit, ForkWork, PairWork};
+use fork_tasks::{Assembly, Linting, Part, Pieces, Printing, Target, TextKind};
+use job_tasks::Work;
 
 /// Returns the command that prints something of a file.
 fn look_word(work: Work) -> &'static str

@@ -1,40 +1,28 @@
 //! From the words of the command line to what is printed or written: the words name a task, whose file is read and
 //! whose bytes are worked on, a survey of several files, texts whose faulty lines are printed, or a job to be run or shown;
 //! or something is made of one file or of two, what is in a file is written into a folder, a folder is packed into a fork, a
-//! fork is printed as source, or the fork of a source is written. Between the words and the host stand only `tasks::do_task`, `surveying::print_survey`,
-//! `surveying::print_folder`, `linting::print_faults`, `running::run_job`, `job_zones::show_in_job`, `converting::convert`,
-//! `combining::combine`, `extracting::extract`, `packing::pack`, `source_printing::print_source` and `assembling::assemble`.
+//! fork is printed as source, or the fork of a source is written. Between the words and the host stand only `job_tasks::do_task`, `fork_tasks::print_survey`,
+//! `fork_tasks::print_folder`, `fork_tasks::print_faults`, `job_tasks::run_job`, `job_tasks::show_in_job`, `fork_tasks::convert`,
+//! `fork_tasks::combine`, `fork_tasks::extract`, `fork_tasks::pack`, `fork_tasks::print_source` and `fork_tasks::assemble`.
 
 ghost use Rattle.std.specs.Prelude.{◌≡◌, map, IfErr, IfOk};
 ghost use Rattle.commands.specs.declared.request.Request.{Request};
-ghost use Rattle.commands.specs.declared.ending.Ending.TheVariants.{Done};
+ghost use Rattle.fork_tasks.specs.declared.ending.Ending.TheVariants.{Done};
 ghost use Rattle.commands.specs.Asking.{IsAskedBy};
-ghost use Rattle.commands.specs.Fault.{message_of};
-ghost use Rattle.commands.specs.Tasks.{IsQuiet};
-ghost use Rattle.commands.specs.Running.{Runs, IsStopped};
-ghost use Rattle.commands.specs.Extracting.{Extracts, IsUnextracted};
-ghost use Rattle.commands.specs.Packing.{Packs, IsUnpacked};
+ghost use Rattle.fork_tasks.specs.Fault.{message_of, IsQuiet};
+ghost use Rattle.job_tasks.specs.Running.{Runs, IsStopped};
+ghost use Rattle.fork_tasks.specs.Extracting.{Extracts, IsUnextracted};
+ghost use Rattle.fork_tasks.specs.Packing.{Packs, IsUnpacked};
 ghost use Rattle.commands.specs.Doing.{Looks, IsUnseen, ChecksOne, IsOneUnchecked, Checks, IsUnchecked, IsDone, IsUndone, IsNotDone};
 
-use crate::assembling::assemble;
-use crate::combining::combine;
-use crate::converting::convert;
-use crate::ending::Ending;
-use crate::extracting::{Extraction, extract};
-use crate::fault::ToolFault;
-use crate::host::Host;
-use crate::input::read_input;
-use crate::job_zones::show_in_job;
-use crate::linting::print_faults;
-use crate::packing::{Packing, pack};
-use crate::playing::play;
 use crate::request::Request;
-use crate::running::{Errand, run_job};
-use crate::source_printing::print_source;
-use crate::surveying::{Survey, print_folder, print_survey};
-use crate::tasks::{Task, Work, do_task};
 use crate::words::read_words;
 use applications::Watch;
+use fork_tasks::{
+    Ending, Extraction, Host, Packing, Survey, ToolFault, assemble, combine, convert, extract,
+    pack, print_faults, print_folder, print_source, print_survey, read_input,
+};
+use job_tasks::{Errand, Task, Work, do_task, play, run_job, show_in_job};
 use std::alloc::Global;
 
 /// Reads the file of a task, and prints what the task prints of the file's bytes.

@@ -1,13 +1,13 @@
 //! The words of the command that reads a zone in a memory dump.
 
 ghost use Rattle.std.specs.Prelude.{IfErr, IfOk};
-ghost use Rattle.commands.specs.Fault.{message_of, IsUsage};
+ghost use Rattle.fork_tasks.specs.Fault.{message_of, IsUsage};
 
-use crate::fault::ToolFault;
 use crate::parsing::{argument, bad_value, flag, option, value};
 use crate::request::Request;
-use crate::tasks::{Task, Work};
 use clap::{Arg, ArgAction, ArgMatches, Command};
+use fork_tasks::ToolFault;
+use job_tasks::{Task, Work};
 use real_zone::Form;
 use real_zone_view::{Digits, DumpView, Fields, Place, Question, Style};
 use std::alloc::{AllocError, Global};

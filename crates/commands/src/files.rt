@@ -2,9 +2,8 @@
 
 ghost use Rattle.std.specs.Prelude.{None};
 
-use crate::host::{Host, ReadError, WriteError};
-use crate::reading::read_all;
 use applications::Watch;
+use fork_tasks::{Host, ReadError, WriteError, read_all};
 use std::alloc::Global;
 use std::fs::{self, File, OpenFile};
 use std::io::{self, Read, Write};

@@ -1,14 +1,8 @@
 //! The words of the commands that make something of resource forks.
 
 ghost use Rattle.std.specs.Prelude.{IfErr, IfOk};
-ghost use Rattle.commands.specs.Fault.{message_of, IsUsage};
+ghost use Rattle.fork_tasks.specs.Fault.{message_of, IsUsage};
 
-use crate::combining::Combination;
-use crate::converting::Conversion;
-use crate::delivering::Target;
-use crate::extracting::{Extraction, Pieces};
-use crate::fault::ToolFault;
-use crate::packing::Packing;
 use crate::parsing::{Spoken, Word, bad_value, mistake, value, with_commands};
 use crate::request::Request;
 use crate::source_words::{DEREZ, REZ, SHOW, source_request, style_in};
@@ -17,6 +11,7 @@ use fork_commands::{
     Edit, ForkWork, Naming, Packaging, PairWork, ResourceKey, Setting, SourceForm,
 };
 use fork_edits::{NameFault, RomanName, TypeFault, read_attrs, read_type_text};
+use fork_tasks::{Combination, Conversion, Extraction, Packing, Pieces, Target, ToolFault};
 use mac_roman::Charset;
 use mac_words::{Attrs, OsType};
 use rez_printing::Numbering;

@@ -1,59 +1,24 @@
-//! The work of the program: scripts and jobs are run, and resource forks are listed and checked.
+//! The command line: its words, the request that they make, and how the request is done with a host.
 #![tactic(auto)]
 
 mod asking;
-mod assembling;
-mod combining;
-mod converting;
-mod declaring;
-mod delivering;
 mod doing;
 mod dump_words;
-mod dumping;
-mod ending;
-mod extracting;
-mod fault;
 mod files;
 mod fork_words;
-mod gathering;
-mod host;
-mod input;
-mod job_zones;
 mod lint_words;
-mod linting;
-mod listing;
-mod loading;
-mod outputs;
-mod packing;
 mod parsing;
-mod paths;
 mod play_asking;
 mod play_words;
-mod playing;
-mod reading;
 mod request;
-mod running;
-mod showing;
-mod size;
 mod size_words;
-mod sizing;
-mod source_printing;
 mod source_words;
-mod speaking;
-mod surveying;
-mod tasks;
 mod words;
-mod work;
 mod zone_words;
 
 pub use applications::{Unwatched, Watch};
 pub use doing::tool;
-pub use ending::Ending;
-pub use fault::ToolFault;
 pub use files::{HostFiles, Progress};
-pub use gathering::{GatheredJob, Source, gather};
-pub use host::{Host, ReadError, WriteError};
-pub use outputs::write_outcome;
-pub use paths::room_for_paths;
-pub use reading::read_all;
+pub use fork_tasks::{Ending, Host, ReadError, ToolFault, WriteError, read_all};
+pub use job_tasks::{GatheredJob, Source, gather, room_for_paths, write_outcome};
 pub use words::not_utf8;

@@ -1,8 +1,8 @@
 //! The words of the command `lint`.
 
-use crate::linting::{Linting, TextKind};
 use crate::parsing::{Word, flag, with_words};
 use clap::{ArgMatches, Command};
+use fork_tasks::{Linting, TextKind};
 use std::alloc::{AllocError, Global};
 
 const LINT_ABOUT: &str = "Says in words what is wrong with each faulty line of a file";

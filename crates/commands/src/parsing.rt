@@ -1,11 +1,11 @@
 //! What the commands' words have in common: arguments, their values, and the faults of words.
 
 ghost use Rattle.std.specs.Prelude.{IfOk};
-ghost use Rattle.commands.specs.Fault.{message_of, IsUsage};
+ghost use Rattle.fork_tasks.specs.Fault.{message_of, IsUsage};
 
-use crate::fault::ToolFault;
 use clap::error::ErrorKind;
 use clap::{Arg, ArgAction, ArgMatches, Command, Error};
+use fork_tasks::ToolFault;
 use std::alloc::{AllocError, Global};
 
 /// The help for the size of a partition.

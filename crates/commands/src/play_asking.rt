@@ -2,13 +2,11 @@
 
 ghost use Rattle.std.specs.Prelude.{◌≡◌, ◌++◌, ◌∷◌, [], map, codes, IsTrue};
 ghost use Rattle.commands.specs.Asking.{StandIn, HasValue, told_word, play_word, IsPart, AreParts, IsPlayFolder};
-ghost use Rattle.commands.specs.Loading.{part_seen};
-ghost use Rattle.commands.specs.Playing.{parts_of};
+ghost use Rattle.job_tasks.specs.Loading.{part_seen};
+ghost use Rattle.job_tasks.specs.Playing.{parts_of};
 
 use crate::asking::{has_value, stand_in};
-use crate::loading::AppFork;
-use crate::playing::{PlayWork, Playing};
-use crate::work::ToldLines;
+use job_tasks::{AppFork, PlayWork, Playing, ToldLines};
 
 /// Returns the command that prints a transcript in words.
 fn told_word(lines: ToldLines) -> &'static str

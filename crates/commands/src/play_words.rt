@@ -1,15 +1,13 @@
 //! The words that give files to a script.
 
 ghost use Rattle.std.specs.Prelude.{IfErr, IfOk};
-ghost use Rattle.commands.specs.Fault.{message_of, IsUsage};
+ghost use Rattle.fork_tasks.specs.Fault.{message_of, IsUsage};
 
-use crate::fault::ToolFault;
-use crate::loading::AppFork;
 use crate::parsing::{Word, bad_value};
-use crate::playing::PlayWork;
-use crate::work::ToldLines;
 use arrayvec::ArrayVec;
 use clap::{ArgMatches, Command};
+use fork_tasks::ToolFault;
+use job_tasks::{AppFork, PlayWork, ToldLines};
 use mac_words::FileName;
 use std::alloc::{AllocError, Global};
 

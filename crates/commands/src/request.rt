@@ -1,17 +1,9 @@
 //! Requests: what the words of a command line make.
 
-use crate::assembling::Assembly;
-use crate::combining::Combination;
-use crate::converting::Conversion;
-use crate::extracting::Extraction;
-use crate::job_zones::JobZone;
-use crate::linting::Linting;
-use crate::packing::Packing;
-use crate::playing::Playing;
-use crate::running::Errand;
-use crate::source_printing::Printing;
-use crate::surveying::Survey;
-use crate::tasks::Task;
+use fork_tasks::{
+    Assembly, Combination, Conversion, Extraction, Linting, Packing, Printing, Survey,
+};
+use job_tasks::{Errand, JobZone, Playing, Task};
 
 /// A request that the words of a command line make.
 #[derive(Drop)]

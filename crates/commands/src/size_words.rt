@@ -1,13 +1,12 @@
 //! The words that ask for the sizes of the partitions of a job.
 
 ghost use Rattle.std.specs.Prelude.{IfErr};
-ghost use Rattle.commands.specs.Fault.{message_of, IsUsage};
+ghost use Rattle.fork_tasks.specs.Fault.{message_of, IsUsage};
 
-use crate::fault::ToolFault;
 use crate::parsing::{Word, bad_value};
-use crate::size::PartitionSize;
-use crate::sizing::AskedSize;
 use clap::{ArgMatches, Command};
+use fork_tasks::ToolFault;
+use job_tasks::{AskedSize, PartitionSize};
 use std::alloc::{AllocError, Global};
 
 /// The name of the option for the size of a partition, without its two hyphens.

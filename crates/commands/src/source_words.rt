@@ -1,18 +1,16 @@
 //! The words of the commands that print forks as source of Rez, and assemble source into forks.
 
 ghost use Rattle.std.specs.Prelude.{IfErr};
-ghost use Rattle.commands.specs.Fault.{message_of, IsUsage};
+ghost use Rattle.fork_tasks.specs.Fault.{message_of, IsUsage};
 
-use crate::assembling::Assembly;
-use crate::fault::ToolFault;
 use crate::fork_words::{
     FORK_HELP, ID_HELP, NEW_FORK_HELP, TYPE_HELP, UTF8, charset_in, key_in, type_in,
 };
 use crate::parsing::{Spoken, Word, value};
 use crate::request::Request;
-use crate::source_printing::{Part, Printing};
 use clap::{ArgMatches, Command};
 use fork_commands::{Selection, SourceForm};
+use fork_tasks::{Assembly, Part, Printing, ToolFault};
 use mac_roman::Charset;
 use rez_printing::Numbering;
 use rez_typed::{Coding, SourceStyle};

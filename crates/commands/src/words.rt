@@ -3,16 +3,14 @@
 
 ghost use Rattle.std.specs.Prelude.{map, IfOk, IfErr};
 ghost use Rattle.commands.specs.Asking.{IsAskedBy};
-ghost use Rattle.commands.specs.Fault.{message_of, IsUsage};
+ghost use Rattle.fork_tasks.specs.Fault.{message_of, IsUsage};
 
 use crate::asking::is_asked;
 use crate::dump_words::{zone_command, zone_request};
-use crate::fault::ToolFault;
 use crate::fork_words::{
     BARE, FORK_HELP, UTF8, UTF8_HELP, charset_in, fork_request, with_fork_commands,
 };
 use crate::lint_words::{lint_command, linting_in};
-use crate::listing::Spelling;
 use crate::parsing::{
     SCRIPT_HELP, SIZE_HELP, SIZE_RULE, Spoken, Word, bad_value, flag, mistake, usage, value,
     with_commands, with_words,
@@ -20,15 +18,12 @@ use crate::parsing::{
 use crate::play_words::{
     FILE_WORD, OWN_WORD, SYSTEM_WORD, WRITE, WRITE_WORD, gives_files, parts_in, script_work,
 };
-use crate::playing::Playing;
 use crate::request::Request;
-use crate::running::Errand;
-use crate::size::PartitionSize;
 use crate::size_words::{SIZE_WORD, sizes_in};
-use crate::surveying::Survey;
-use crate::tasks::{Task, Work};
 use crate::zone_words::{heap_command, heap_request};
 use clap::{ArgMatches, Command};
+use fork_tasks::{Spelling, Survey, ToolFault};
+use job_tasks::{Errand, PartitionSize, Playing, Task, Work};
 use script_text::CALLS;
 use std::alloc::{AllocError, Global};
 

@@ -1,20 +1,18 @@
 //! The words of the command that shows a zone.
 
 ghost use Rattle.std.specs.Prelude.{IfErr, IfOk};
-ghost use Rattle.commands.specs.Fault.{message_of, IsUsage};
+ghost use Rattle.fork_tasks.specs.Fault.{message_of, IsUsage};
 
-use crate::fault::ToolFault;
-use crate::job_zones::JobZone;
 use crate::parsing::{SCRIPT_HELP, SIZE_HELP, SIZE_RULE, bad_value, flag, option, value};
 use crate::play_words::{
     FILE, FILE_HELP, FILE_VALUE, FORK, OWN_HELP, SYSTEM, SYSTEM_HELP, gives_files, parts_in,
 };
-use crate::playing::{PlayWork, Playing};
 use crate::request::Request;
-use crate::size::PartitionSize;
-use crate::tasks::{Task, Work};
-use crate::work::{Lines, ToldLines, ZoneView};
 use clap::{Arg, ArgAction, ArgGroup, ArgMatches, Command};
+use fork_tasks::ToolFault;
+use job_tasks::{
+    JobZone, Lines, PartitionSize, PlayWork, Playing, Task, ToldLines, Work, ZoneView,
+};
 use std::alloc::{AllocError, Global};
 use zone_view::Form;
 

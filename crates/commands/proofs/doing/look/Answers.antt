@@ -1,8 +1,8 @@
 use Rattle.std.proofs.Common.{◌≡◌, ℕ, List, subst, rules}
-use Rattle.commands.specs.Fault.{message_of}
-use Rattle.commands.specs.Tasks.{IsRefusal}
+use Rattle.fork_tasks.specs.Fault.{message_of}
+use Rattle.job_tasks.specs.Tasks.{IsRefusal}
 use Rattle.commands.specs.Doing.{Refused}
-use Rattle.commands.proofs.Accesses.{also_err}
+use Rattle.fork_tasks.proofs.Accesses.{also_err}
 use Rattle.commands.proofs.doing.look.Goals as goal
 
 -- the file was read, and then the task was refused

@@ -1,5 +1,5 @@
 use Rattle.std.proofs.Common.{IfErr, sym, subst}
-use Rattle.commands.specs.Fault.{message_of}
+use Rattle.fork_tasks.specs.Fault.{message_of}
 use Rattle.commands.specs.Doing.{IsUndone}
 use Rattle.commands.proofs.doing.perform.Goals as goal
 

@@ -1,5 +1,5 @@
 use Rattle.commands.specs.Doing.{Asks}
-use Rattle.commands.proofs.Accesses.{also_err}
+use Rattle.fork_tasks.proofs.Accesses.{also_err}
 use Rattle.commands.proofs.doing.tool.Goals as goal
 
 -- some request was not done

@@ -1,6 +1,6 @@
 use Rattle.std.proofs.Common.{◌≡◌, Err, rules}
-use Rattle.commands.proofs.Accesses.{told_err}
-use Rattle.commands.proofs.Faults.{quiet_silent}
+use Rattle.fork_tasks.proofs.Accesses.{told_err}
+use Rattle.fork_tasks.proofs.Faults.{quiet_silent}
 use Rattle.commands.proofs.doing.write_packed.Goals as goal
 
 -- nothing was printed

@@ -1,9 +1,0 @@
-use Rattle.std.proofs.Common.{◌≡◌, drop, map}
-use Rattle.script_text.specs.Job.{input_seen}
-use Rattle.commands.specs.Gathering.{system_path}
-use Rattle.commands.proofs.gathering.system_path.Given as goal
-
--- where no line so far names a System, those to come do
-abbrev pub invariant-loop-input : goal.invariant-loop-input
-invariant-loop-input l =
-    system_path (map input_seen (drop l.input-index l.inputs)) ≡ system_path (map input_seen l.inputs)

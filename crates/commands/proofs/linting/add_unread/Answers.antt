@@ -1,5 +1,0 @@
-use Rattle.commands.proofs.Linted.{none_linted}
-use Rattle.commands.proofs.linting.add_unread.Goals as goal
-
-pub returns-clause-text : goal.returns-clause-text
-returns-clause-text c = λ faulty. none_linted faulty c.args.path.now _ _ c.in_ok-add_refused.ensures

@@ -1,5 +1,0 @@
-use Rattle.commands.proofs.Linted.{one_alone}
-use Rattle.commands.proofs.linting.add_unstated.Goals as goal
-
-pub returns-clause-text : goal.returns-clause-text
-returns-clause-text c = one_alone c.args.path.now _ _ _ c.args.fault.line c.in_ok-add_words.ensures

@@ -1,0 +1,91 @@
+-- Accesses that are made one after the other, and what stops them.
+use Rattle.std.proofs.Common.{◌≡◌, ◌∷◌, ◌++◌, ℕ, List, [], Option, Some, None, Result, Ok, Err, OnOk, IfErr, inl, inr, refl, sym, ap, subst}
+use Rattle.std.proofs.Common.{append_assoc, append-nil}
+use Rattle.fork_tasks.specs.Fault.{Message, Usage, CannotRead, Script, Fork, CannotWrite, HostMemory, NotLaunched, Dump, message_of}
+use Rattle.fork_tasks.specs.declared.fault.ToolFault.{ToolFault}
+use Rattle.fork_tasks.specs.declared.host.WriteError.{WriteError}
+use Rattle.fork_tasks.specs.declared.host.WriteError.TheVariants as write_error
+use Rattle.fork_commands.specs.declared.fault.FileFault.{FileFault}
+use Rattle.fork_tasks.specs.Fault.{write_message, IsForkFault}
+use Rattle.fork_tasks.specs.Accesses.{Access, Failed, and_then, RefusesWrite, IsUnread, IsUnwritten, Stops, Ends}
+
+pub none : (a : Option (List Access)) → a ≡ and_then a []
+none None = refl
+none (Some xs) = ap Some (sym (append-nil xs))
+
+pub one_more : (a : Option (List Access)) (xs ys : List Access) → and_then (and_then a xs) ys ≡ and_then a (xs ++ ys)
+one_more None xs ys = refl
+one_more (Some zs) xs ys = ap Some (append_assoc zs xs ys)
+
+-- the host refused to write to a path, as the fault says; or there was no memory to report it
+pub unwritten_so : (path : List ℕ) (error : WriteError) (old new : Option (List Access)) (message : Message)
+    → RefusesWrite path error old new → message ≡ write_message path error → IsUnwritten path old new message
+unwritten_so path write_error.CannotWrite old new message fails is =
+    subst (λ m. IsUnwritten path old new m) (sym is) (refl, fails)
+unwritten_so path write_error.HostMemory old new message fails is =
+    subst (λ m. IsUnwritten path old new m) (sym is) (inl fails)
+
+pub unreported : (path : List ℕ) (error : WriteError) (old new : Option (List Access)) → RefusesWrite path error old new
+    → IsUnwritten path old new HostMemory
+unreported path write_error.CannotWrite old new fails = inr fails
+unreported path write_error.HostMemory old new fails = inl fails
+
+-- the path that a fault names
+abbrev named_in : Message → List ℕ
+named_in (CannotRead path) = path
+named_in message = []
+
+-- a file that was not read stops the reading
+pub unread_stops : (path : List ℕ) (old new : Option (List Access)) (message : Message) → IsUnread path old new message
+    → Stops old new message
+unread_stops path old new HostMemory unread = unread
+unread_stops path old new (CannotRead named) unread =
+    subst (λ p. new ≡ and_then old (Failed p ∷ [])) (sym (ap named_in unread.0)) unread.1
+unread_stops path old new (Usage text) unread = absurd (let no : Usage text ≡ CannotRead path = unread.0 in cc)
+unread_stops path old new (Script named line kind) unread =
+    absurd (let no : Script named line kind ≡ CannotRead path = unread.0 in cc)
+unread_stops path old new (Fork named fault) unread = absurd (let no : Fork named fault ≡ CannotRead path = unread.0 in cc)
+unread_stops path old new (CannotWrite named) unread =
+    absurd (let no : CannotWrite named ≡ CannotRead path = unread.0 in cc)
+unread_stops path old new (NotLaunched named app) unread =
+    absurd (let no : NotLaunched named app ≡ CannotRead path = unread.0 in cc)
+unread_stops path old new (Dump named why) unread =
+    absurd (let no : Dump named why ≡ CannotRead path = unread.0 in cc)
+
+-- the fault of a file's bytes, and of a script, comes after all that was read
+pub fork_ends : {A : Type 0} (path : List ℕ) (made : Result A FileFault) (mid new : Option (List Access))
+    (message : Message) → IsForkFault path made message → new ≡ mid → Stops mid new message
+fork_ends path made mid new HostMemory fault same = same
+fork_ends path made mid new (Fork named why) fault same = same
+fork_ends path made mid new (Usage text) fault same = same
+fork_ends path made mid new (CannotRead named) fault same = absurd fault
+fork_ends path made mid new (Script named line kind) fault same = same
+fork_ends path made mid new (CannotWrite named) fault same = same
+fork_ends path made mid new (NotLaunched named app) fault same = same
+fork_ends path made mid new (Dump named why) fault same = same
+
+-- a fault that is passed on ends the reading
+pub ends_err : {X : Type 0} (mid new : Option (List Access)) (result : Result X ToolFault) (fault : ToolFault)
+    → result ≡ Err fault → Stops mid new (message_of fault) → Ends mid new result
+ends_err mid new result fault is stops = subst (λ r. Ends mid new r) (sym is) stops
+
+-- it does so after all that was read before
+pub stops_from : (mid all new : Option (List Access)) (message : Message) → mid ≡ all → Stops mid new message
+    → Stops all new message
+stops_from mid all new message same stops = subst (λ m. Stops m new message) same stops
+
+-- what is known of a fault that is passed on
+pub told_err : {X E : Type 0} (P : E → Type 0) (result : Result X E) (fault : E)
+    → result ≡ Err fault → P fault → IfErr result P
+told_err P result fault is h = subst (λ r. IfErr r P) (sym is) h
+
+-- what else is known of a fault
+pub also_err : {X : Type 0} (P Q : ToolFault → Type 0) (result : Result X ToolFault)
+    → ((fault : ToolFault) → P fault → Q fault) → IfErr result P → IfErr result Q
+also_err P Q (Ok x) next h = tt
+also_err P Q (Err fault) next h = next fault h
+
+-- what else is known of a call that did not fail
+pub also_on : {X E : Type 0} (P Q : Type 0) (result : Result X E) → (P → Q) → OnOk result P → OnOk result Q
+also_on P Q (Ok x) next h = next h
+also_on P Q (Err fault) next h = tt

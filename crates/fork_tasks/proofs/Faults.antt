@@ -1,0 +1,42 @@
+use Rattle.std.proofs.Common.{◌≡◌, ℕ, List, Option, Result, refl, sym, subst}
+use Rattle.fork_commands.specs.declared.fault.FileFault.{FileFault}
+use Rattle.fork_commands.specs.declared.fault.WorkFault.{WorkFault}
+use Rattle.fork_commands.specs.declared.fault.WorkFault.TheVariants.{File, HostMemory as NoMemory}
+use Rattle.fork_commands.specs.Faults.{Stops}
+use Rattle.fork_tasks.specs.Fault.{Message, Usage, CannotRead, Script, Fork, CannotWrite, HostMemory, NotLaunched, Dump, fork_message}
+use Rattle.fork_tasks.specs.Accesses.{Access, IsUnwritten}
+use Rattle.fork_tasks.specs.Fault.{IsForkFault, IsQuiet}
+
+-- What a fault says stays so as it is passed on.
+
+-- the fault of a file's bytes is reported with the file's path
+pub fork_stopped : {A : Type 0} (path : List ℕ) (fault : WorkFault) (wanted : Result A FileFault) (message : Message)
+    → Stops fault wanted → message ≡ fork_message path fault → IsForkFault path wanted message
+fork_stopped path NoMemory wanted message stops is = subst (λ m. IsForkFault path wanted m) (sym is) tt
+fork_stopped path (File fault) wanted message stops is = subst (λ m. IsForkFault path wanted m) (sym is) (refl, stops)
+
+-- nothing is said of what was printed where something can't be written
+pub loud_write : (path : List ℕ) (p q : Option (List ℕ)) (old new : Option (List Access)) (message : Message)
+    → IsUnwritten path old new message → IsQuiet p q message
+loud_write path p q old new HostMemory is = tt
+loud_write path p q old new (CannotWrite named) is = tt
+loud_write path p q old new (Fork named fault) is = absurd (let no : Fork named fault ≡ CannotWrite path = is.0 in cc)
+loud_write path p q old new (Usage text) is = absurd (let no : Usage text ≡ CannotWrite path = is.0 in cc)
+loud_write path p q old new (CannotRead named) is = absurd (let no : CannotRead named ≡ CannotWrite path = is.0 in cc)
+loud_write path p q old new (Script named line kind) is =
+    absurd (let no : Script named line kind ≡ CannotWrite path = is.0 in cc)
+loud_write path p q old new (NotLaunched named app) is =
+    absurd (let no : NotLaunched named app ≡ CannotWrite path = is.0 in cc)
+loud_write path p q old new (Dump named why) is =
+    absurd (let no : Dump named why ≡ CannotWrite path = is.0 in cc)
+
+-- nothing was printed
+pub quiet_silent : (p q : Option (List ℕ)) (message : Message) → q ≡ p → IsQuiet p q message
+quiet_silent p q HostMemory same = tt
+quiet_silent p q (CannotWrite named) same = tt
+quiet_silent p q (Fork named fault) same = same
+quiet_silent p q (Usage text) same = same
+quiet_silent p q (CannotRead named) same = same
+quiet_silent p q (Script named line kind) same = same
+quiet_silent p q (NotLaunched named app) same = same
+quiet_silent p q (Dump named why) same = same

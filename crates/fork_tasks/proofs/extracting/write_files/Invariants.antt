@@ -1,0 +1,13 @@
+use Rattle.std.proofs.Common.{◌≡◌, drop, map}
+use Rattle.fork_commands.specs.View.{view_file}
+use Rattle.fork_tasks.specs.Extracting.{write_in}
+use Rattle.fork_tasks.proofs.Writes.{Made}
+use Rattle.fork_tasks.proofs.extracting.write_files.Given as goal
+
+-- nothing is printed, and the files so far are written
+abbrev pub invariant-loop-file : goal.invariant-loop-file
+invariant-loop-file g l = record {
+  silent : g.H.Host.printed l.host ≡ g.H.Host.printed l.fn.host;
+  made : Made (map write_in (map view_file l.files)) (map write_in (map view_file (drop l.file-index l.files)))
+      (g.H.Host.accesses l.fn.host) (g.H.Host.accesses l.host);
+}

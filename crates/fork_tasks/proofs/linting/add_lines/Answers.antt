@@ -1,0 +1,11 @@
+use Rattle.fork_tasks.proofs.Linted.{next_line, every_line}
+use Rattle.fork_tasks.proofs.linting.add_lines.Goals as goal
+
+pub loop-fault-preserved : goal.loop-fault-preserved
+loop-fault-preserved c =
+    let said = c.in_ok-add_line.ensures in
+    next_line c.args.path.now c.args.faults.now c.loop-fault.fault-index _ _ _ _ said.0 c.loop-fault-test.true c.loop-fault.invariant
+    said.1
+
+pub returns : goal.returns
+returns c = every_line c.args.path.now c.args.faults.now c.loop-fault.fault-index _ _ c.loop-fault-test.false c.loop-fault.invariant

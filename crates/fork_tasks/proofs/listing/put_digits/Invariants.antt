@@ -1,0 +1,7 @@
+use Rattle.std.proofs.Common.{◌≡◌, ◌*◌, take}
+use Rattle.script_text.specs.Transcript.{hex}
+use Rattle.fork_tasks.proofs.listing.put_digits.Given as goal
+
+-- the digits of the bytes so far
+abbrev pub invariant-loop-i : goal.invariant-loop-i
+invariant-loop-i l = take (2 * l.i) l.digits ≡ hex (take l.i l.bytes)

@@ -1,0 +1,15 @@
+pub mod Fault
+pub mod Listing
+pub mod Printing
+pub mod Accesses
+pub mod Ending
+pub mod Delivering
+pub mod Converting
+pub mod Combining
+pub mod Extracting
+pub mod Packing
+pub mod Surveying
+pub mod Linting
+pub mod Declaring
+pub mod SourcePrinting
+pub mod Assembling

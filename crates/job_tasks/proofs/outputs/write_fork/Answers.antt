@@ -1,0 +1,20 @@
+use Rattle.std.proofs.Common.{◌≡◌, ◌∷◌, [], ℕ, List, Err, map, subst, rules}
+use Rattle.std.specs.Prelude.{string_bytes}
+use Rattle.res_calls.specs.View.{view_file}
+use Rattle.fork_tasks.specs.Accesses.{Write, StopsAt}
+use Rattle.job_tasks.specs.Outputs.{owner_source, kept, forks_within}
+use Rattle.job_tasks.specs.Running.{write_of}
+use Rattle.fork_tasks.proofs.Accesses.{told_err}
+use Rattle.fork_tasks.proofs.Writes.{front_at}
+use Rattle.job_tasks.proofs.outputs.write_fork.Goals as goal
+
+pub returns-in_err-write_kept-clause-stopped : goal.returns-in_err-write_kept-clause-stopped
+returns-in_err-write_kept-clause-stopped g c =
+    let path : List ℕ = string_bytes c.set_fork_path.new.path in
+    let bytes : List ℕ = kept (owner_source c.args.owner c.args.k) c.args.file.now.fork.items in
+    let all : Write path bytes ∷ [] ≡ map write_of (forks_within c.args.folder.now c.args.owner.name.now.0.items
+    (owner_source c.args.owner) c.args.k (view_file c.args.file.now ∷ [])) = search rules in
+    let same : c.from_residual.result ≡ Err c.in_err-write_kept.field-0.0 = search rules in
+    told_err _ _ _ same (subst (λ l. StopsAt l (g.H.Host.accesses c.args.host.now) (g.H.Host.accesses c.write_kept.new.host)
+    path c.in_err-write_kept.field-0.0) all
+    (front_at path bytes _ _ [] _ _ _ c.in_err-write_kept.ensures.front (search rules) (search rules)))

@@ -1,0 +1,11 @@
+use Rattle.std.proofs.Common.{◌≡◌, Err, rules}
+use Rattle.fork_tasks.specs.declared.fault.ToolFault.TheVariants.{HostMemory as NoMemory}
+use Rattle.fork_tasks.proofs.Accesses.{told_err}
+use Rattle.job_tasks.proofs.Played.{unprinted}
+use Rattle.job_tasks.proofs.playing.print_words.Goals as goal
+
+-- there is no memory to run the script
+pub returns-in_err-out-clause-undone : goal.returns-in_err-out-clause-undone
+returns-in_err-out-clause-undone g c =
+    let same : c.from_residual.result ≡ Err NoMemory = search rules in
+    told_err _ _ NoMemory same (unprinted _ _ _)

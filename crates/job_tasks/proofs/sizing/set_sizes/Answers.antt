@@ -1,0 +1,11 @@
+use Rattle.std.proofs.Common.{rules}
+use Rattle.std.proofs.lemmas.List.Edits.{map_over_more}
+use Rattle.std.proofs.lemmas.List.{take_all, drop_all}
+use Rattle.job_tasks.specs.Sizing.{sized}
+use Rattle.job_tasks.proofs.sizing.set_sizes.Goals as goal
+
+pub loop-i-preserved : goal.loop-i-preserved
+loop-i-preserved c = search (rules, map_over_more (sized c.args.sizes.now))
+
+pub returns : goal.returns
+returns c = search (rules, take_all, drop_all)

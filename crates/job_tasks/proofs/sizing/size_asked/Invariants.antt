@@ -1,0 +1,9 @@
+use Rattle.std.proofs.Common.{◌≡◌, drop}
+use Rattle.job_tasks.specs.Gathering.{name_of}
+use Rattle.job_tasks.specs.Sizing.{size_asked}
+use Rattle.job_tasks.proofs.sizing.size_asked.Given as goal
+
+-- where no size so far is for the application, the first that is, is among those to come
+abbrev pub invariant-loop-asked : goal.invariant-loop-asked
+invariant-loop-asked l = size_asked (name_of l.app) l.app.size (drop l.asked-index l.sizes)
+    ≡ size_asked (name_of l.app) l.app.size l.sizes

@@ -1,0 +1,12 @@
+pub mod Size
+pub mod Work
+pub mod Dumping
+pub mod Tasks
+pub mod Outputs
+pub mod Gathering
+pub mod Sizing
+pub mod Speaking
+pub mod Running
+pub mod Loading
+pub mod JobZones
+pub mod Playing
