@@ -19,6 +19,7 @@ PICTURES = {
     "kept_pointer_locked.svg": "heap --svg --steps 9..10 1024 examples/kept_pointer_locked.script",
     "compaction.svg": "heap --svg --steps 6..7 1024 examples/compaction.script",
     "purging.svg": "heap --svg --steps 4..5 1024 examples/purging.script",
+    "document.svg": "heap --svg 16384 examples/document.script",
     "grow_zone.svg": "heap --svg 1024 examples/grow_zone.script",
     "zone.svg": "zone --svg examples/memory.dump 0x600",
 }

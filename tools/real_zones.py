@@ -2,11 +2,12 @@
 """Lays heap zones as a real Macintosh does, and says what a reader is to print of them.
 
 usage: tools/real_zones.py [--seed N] [--count N] FOLDER
+       tools/real_zones.py [--seed N] [--count N] --scripts MACMEM
        tools/real_zones.py --examples
        tools/real_zones.py --large FILE
 
-Writes FOLDER/stdin, a line for each dump: list or draw, the form (24 or 32), the addresses of its first byte and of the zone, and its
-bytes, in hexadecimal; and FOLDER/stdout, what the program worked_zones is to print of them: the blocks, and the rule that is broken. Half of the
+Writes FOLDER/zones.dumps, a line for each dump: list, draw or script, the form (24 or 32), the addresses of its first byte and of the zone, and its
+bytes, in hexadecimal; and FOLDER/zones.listed, what is to be printed of them (crates/worked_cases/data): the blocks, and the rule that is broken. Half of the
 zones are sound, and one rule is broken in each of the others. The layout is that of Inside Macintosh: Memory, chapter 2, and of
 resource maps that of More Macintosh Toolbox, chapter 1; nothing of it is taken from the reader.
 
@@ -14,11 +15,17 @@ With --examples writes examples/memory.dump, the memory of a Macintosh with a sy
 examples/overrun.dump, in which a text was written past the end of a block of the application zone; and prints what macmem zone is to
 print of the two zones. The application zone has the map of a resource file.
 
+With --scripts has the program MACMEM print a script of each sound zone, runs it, and compares: each call is done, and the zone that
+"heap --plain" shows has the blocks that "zone --plain" lists, in their order, with their logical sizes, locked and purgeable.
+
 With --large writes FILE, a dump that is a zone of 16 MB with 100,000 blocks at the address 0x1000, in the form of 32 bits.
 """
 import argparse
 import os
 import random
+import subprocess
+import sys
+import tempfile
 
 FREE, NONRELOCATABLE, RELOCATABLE = 0, 1, 2
 UNKNOWN = 3
@@ -263,6 +270,42 @@ def picture_of(zone, fault):
     return text + "</svg>\n"
 
 
+NOTES = """# The blocks stand in the order of the dump, with their logical sizes, locked and purgeable
+# as there. hADDRESS is the handle of the master pointer at ADDRESS of the dump, pADDRESS a
+# pointer to the nonrelocatable block there; fADDRESS holds the place of the free block there,
+# until it is disposed of.
+# Not the same are: headers, of 16 bytes, and physical sizes, which are multiples of 16 (those of
+# free blocks are rounded up, and free neighbours are one block); the master pointers, of which
+# 64 stand in each block at the bottom (those that hold them in the dump are blocks as others);
+# addresses; what the blocks hold, which is 0; and which handles are those of resources.
+"""
+
+
+def here(block):
+    """The logical size of the block that is made for a block."""
+    return max(0, block.size - 16) if block.kind == FREE else block.logical
+
+
+def script_of(zone):
+    """The script that makes a zone anew."""
+    moving = sum(b.kind == RELOCATABLE for b in zone.blocks)
+    more = max(0, moving - 1) // 64
+    size = max(512, 272 * (1 + more) + sum(16 + (here(b) + 15) // 16 * 16 for b in zone.blocks))
+    making, ending = "MoreMasters\n" * more, ""
+    for block in zone.blocks:
+        if block.kind == RELOCATABLE:
+            name = "h%08X" % (zone.address + block.master)
+            making += "NewHandle %s %d\nHLock %s\n" % (name, block.logical, name)
+            making += "HPurge %s\n" % name if block.flags & 0x40 else ""
+            ending += "" if block.flags & 0x80 else "HUnlock %s\n" % name
+        else:
+            name = "%s%08X" % ("f" if block.kind == FREE else "p", zone.address + block.place)
+            making += "NewPtr %s %d\n" % (name, here(block))
+            ending += "DisposePtr %s\n" % name if block.kind == FREE else ""
+    head = "# The zone at %08X of a dump, of %d bits, made anew in a fresh partition of %d bytes.\n" % (zone.address, zone.form, size)
+    return head + NOTES + making + ending
+
+
 KINDS = (b"ICN#", b"CODE", b"snd ", b"\0\0\0\1", b"it's", b"a<b&", b"caf\x8E")
 
 
@@ -400,33 +443,93 @@ def write_large(path):
         file.write(Zone(32, 16, 0x1000, blocks).lay(draw))
 
 
+def printed(program, *words):
+    """What the program prints, which is to end with status 0."""
+    return subprocess.run([program, *words], check=True, stdout=subprocess.PIPE).stdout.decode("ascii")
+
+
+def fields_of(text):
+    return [line.split("\t") for line in text.splitlines() if line.startswith("block\t")]
+
+
+def joined(blocks):
+    """Blocks of which free neighbours are one: each has its kind, its logical size (of a free one the physical size), and its flags."""
+    tidied = []
+    for block in blocks:
+        if tidied and tidied[-1][0] == "free" == block[0]:
+            tidied[-1] = ("free", tidied[-1][1] + block[1], "-", "-")
+        elif block[0] != "free" or block[1]:
+            tidied.append(block)
+    return tidied
+
+
+def made_as(program, folder, zone):
+    """Whether the zone that the script of a zone makes is that zone."""
+    dump, script = os.path.join(folder, "dump"), os.path.join(folder, "script")
+    with open(dump, "wb") as file:
+        file.write(zone.bytes)
+    words = ("--base", "%d" % zone.address, dump, "%d" % zone.address)
+    text = printed(program, "zone", "--script", *words)
+    if text != script_of(zone):
+        return False
+    with open(script, "w") as file:
+        file.write(text)
+    size = text.split("partition of ")[1].split()[0]
+    codes = [line.split()[2] for line in printed(program, "script", size, script).splitlines()[1:-1]]
+    there = [("free", (int(f[2]) + 15) // 16 * 16, "-", "-") if f[4] == "free" else (f[4], int(f[3]), f[6], f[7])
+             for f in fields_of(printed(program, "zone", "--plain", *words))]
+    made = [("free", int(f[2]), "-", "-") if f[3] == "free" else (f[3], int(f[4]), f[6], f[7])
+            for f in fields_of(printed(program, "heap", "--plain", size, script)) if f[3] != "master pointers"]
+    left = sum(b[1] for b in made if b[0] == "free") - sum(b[1] for b in there if b[0] == "free")
+    return set(codes) == {"0"} and joined(there + [("free", left, "-", "-")]) == made
+
+
+def try_scripts(program, seed, count):
+    """Tries scripts of random zones, and of one with many blocks, and prints how many make their zones."""
+    draw = random.Random(seed)
+    well = 0
+    with tempfile.TemporaryDirectory() as folder:
+        for number in range(count):
+            zone = large_zone(draw) if number == 0 else random_zone(draw)
+            zone.lay(draw)
+            if made_as(program, folder, zone):
+                well += 1
+            else:
+                print("zone %d differs" % number)
+    print("scripts: %d of %d" % (well, count))
+    return well == count
+
+
 def main():
     parser = argparse.ArgumentParser()
     parser.add_argument("--seed", type=int, default=1984)
     parser.add_argument("--count", type=int, default=60)
     parser.add_argument("--examples", action="store_true")
     parser.add_argument("--large")
+    parser.add_argument("--scripts")
     parser.add_argument("folder", nargs="?")
     words = parser.parse_args()
     if words.examples:
         return write_examples()
     if words.large:
         return write_large(words.large)
+    if words.scripts:
+        return sys.exit(not try_scripts(words.scripts, words.seed, words.count))
     draw = random.Random(words.seed)
     dumps, texts = [], []
-    for number in range(words.count + 3):
-        is_drawn = number >= words.count
-        zone = large_zone(draw) if number == words.count + 2 else random_zone(draw)
+    for number in range(words.count + 9):
+        is_drawn, is_made = words.count <= number < words.count + 3, number >= words.count + 3
+        zone = large_zone(draw) if number in (words.count + 2, words.count + 8) else random_zone(draw)
         zone.lay(draw)
-        fault = "" if number % 2 == 0 else "\ndamaged at " + broken(zone, draw)
-        texts.append(picture_of(zone, fault) if is_drawn else text_of(zone) + fault)
+        fault = "" if number % 2 == 0 or is_made else "\ndamaged at " + broken(zone, draw)
+        texts.append(script_of(zone) if is_made else picture_of(zone, fault) if is_drawn else text_of(zone) + fault)
         below, above = 4 * draw.randint(0, 8), draw.randint(0, 20)
         dump = bytes(below) + bytes(zone.bytes) + bytes(above)
         dumps.append("%s %d %X %X %s\n" % (
-            "draw" if is_drawn else "list", zone.form, zone.address - below, zone.address, dump.hex().upper()))
-    with open(os.path.join(words.folder, "stdin"), "w") as file:
+            "script" if is_made else "draw" if is_drawn else "list", zone.form, zone.address - below, zone.address, dump.hex().upper()))
+    with open(os.path.join(words.folder, "zones.dumps"), "w") as file:
         file.writelines(dumps)
-    with open(os.path.join(words.folder, "stdout"), "w") as file:
+    with open(os.path.join(words.folder, "zones.listed"), "w") as file:
         file.writelines(texts)
 
 

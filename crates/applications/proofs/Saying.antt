@@ -9,13 +9,12 @@ use Rattle.mac_words.specs.declared.reply.Reply.{Reply}
 use Rattle.mac_words.specs.declared.call.Call.{Call}
 use Rattle.mac_words.specs.declared.call.Call.TheVariants as call
 use Rattle.mac_words.specs.declared.call.ControlCall.TheVariants as control
-use Rattle.mac_words.specs.declared.call.HeapCall.{HeapCall}
-use Rattle.mac_words.specs.declared.call.HeapCall.TheVariants as heap
 use Rattle.heap_calls.specs.State.{Memory}
 use Rattle.heap_calls.specs.Pointers.{pointed_at, show_pointer}
 use Rattle.heap_calls.specs.Answer.{Held, look_up, for_found, show, silent}
 use Rattle.heap_calls.specs.Busy.{barred, pointer_barred, unless_silent}
-use Rattle.heap_calls.specs.Table.{served}
+use Rattle.heap_calls.specs.Table.{Row, row, serve, served}
+use Rattle.heap_calls.specs.Table as table
 use Rattle.block_store.specs.Block.{content_of}
 use Rattle.script_text.specs.declared.word.CallWord.{CallWord}
 use Rattle.script_text.specs.Call.{word_of}
@@ -24,7 +23,7 @@ use Rattle.script_text.specs.Transcript.{Shown, Number, values_of, type_shown}
 use Rattle.script_text.specs.Transcript.{name_shown, bytes_shown, reply_line, grow_line}
 use Rattle.mac_words.specs.Told.{Told, Done, Given, Fetched, Number as Count, Numbers, Code, Bytes, Kind, Info, Entry}
 use Rattle.mac_words.specs.Told.{Refused}
-use Rattle.heap_calls.specs.Asked.{told_as}
+use Rattle.heap_calls.specs.Asked.{Asked}
 use Rattle.heap_calls.specs.Asked as asks
 use Rattle.applications.specs.Names.{bound_to}
 use Rattle.applications.specs.Trying.{Running, Blocks, asked, resource_asked, managers_of, program_of, once, code_told}
@@ -80,10 +79,26 @@ full-shows-none (Entry segment flag) full = refl
 full-shows-none (Bytes bytes) full = let f : false ≡ true = full in cc
 full-shows-none (Refused code) full = refl
 
--- what tells no bytes tells none again
-none-again : {T : Type 0} (tell : T → Told) → ((x : T) → bytes_told (tell x) ≡ None)
-    → (r : Result T OsErr) (q : Result T OsErr) → bytes_told (told_as tell r) ≡ bytes_told (told_as tell q)
-none-again tell none r q = told-none tell none r ∙ sym (told-none tell none q)
+-- a call of a row shows no bytes, whatever it returns
+abbrev ShowsNone : Row → Type 0
+ShowsNone (table.Plain {T = T} bar tell answer) = (x : T) → bytes_told (tell x) ≡ None
+ShowsNone (table.Quiet {T = T} bar tell answer) = (x : T) → bytes_told (tell x) ≡ None
+ShowsNone (table.Does {T = T} bar tell does) = (x : T) → bytes_told (tell x) ≡ None
+ShowsNone (table.Seeks {T = T} bar tell searches gone answer) = (x : T) → bytes_told (tell x) ≡ None
+ShowsNone (table.Compacts moves searches answer) = (x : ℕ) → bytes_told (Count x) ≡ None
+ShowsNone table.PurgesAll = (x : ℕ) → bytes_told (Count x) ≡ None
+ShowsNone table.LastCode = (x : OsErr) → bytes_told (Code x) ≡ None
+ShowsNone (table.Leaves left r) = ShowsNone r
+
+shows-none : (r : Row) → ShowsNone r → (m : Memory) → bytes_told (serve r m).0 ≡ None
+shows-none (table.Plain bar tell answer) none m = told-none tell none _
+shows-none (table.Quiet bar tell answer) none m = told-none tell none _
+shows-none (table.Does bar tell does) none m = told-none tell none _
+shows-none (table.Seeks bar tell searches gone answer) none m = told-none tell none _
+shows-none (table.Compacts moves searches answer) none m = told-none Count none _
+shows-none table.PurgesAll none m = refl
+shows-none table.LastCode none m = none m.log.code
+shows-none (table.Leaves left r) none m = shows-none r none m
 
 -- showing bytes changes nothing
 shown-same : (m : Memory) (r : Result Held OsErr) → (record m {
@@ -110,53 +125,17 @@ show_pointer-same pointer m = by_gate (pointer_barred pointer m)
     by_gate (Some code) = refl
 
 -- what a call of the heap's table tells in the state that it leaves shows the same bytes
-heap-again : (c : HeapCall) (r : Running)
-    → bytes_told (served (asked c r.names) (served (asked c r.names) r.memory).1).0
-    ≡ bytes_told (served (asked c r.names) r.memory).0
-heap-again (heap.NewHandle name size) r = none-again {T = ℕ} Given (λ x. refl) _ _
-heap-again (heap.NewEmptyHandle name) r = none-again {T = ℕ} Given (λ x. refl) _ _
-heap-again (heap.DisposeHandle name) r = none-again {T = Unit {0}} (λ x. Done) (λ x. refl) _ _
-heap-again (heap.GetHandleSize name) r = none-again {T = ℕ} Count (λ x. refl) _ _
-heap-again (heap.SetHandleSize name size) r = none-again {T = Unit {0}} (λ x. Done) (λ x. refl) _ _
-heap-again (heap.ReallocateHandle name size) r = none-again {T = Unit {0}} (λ x. Done) (λ x. refl) _ _
-heap-again (heap.EmptyHandle name) r = none-again {T = Unit {0}} (λ x. Done) (λ x. refl) _ _
-heap-again (heap.HLock name) r = none-again {T = Unit {0}} (λ x. Done) (λ x. refl) _ _
-heap-again (heap.HUnlock name) r = none-again {T = Unit {0}} (λ x. Done) (λ x. refl) _ _
-heap-again (heap.HPurge name) r = none-again {T = Unit {0}} (λ x. Done) (λ x. refl) _ _
-heap-again (heap.HNoPurge name) r = none-again {T = Unit {0}} (λ x. Done) (λ x. refl) _ _
-heap-again (heap.HGetState name) r = none-again {T = ℕ} Count (λ x. refl) _ _
-heap-again (heap.HSetState name state) r = none-again {T = Unit {0}} (λ x. Done) (λ x. refl) _ _
-heap-again (heap.MoveHHi name) r = none-again {T = Unit {0}} (λ x. Done) (λ x. refl) _ _
-heap-again (heap.HLockHi name) r = none-again {T = Unit {0}} (λ x. Done) (λ x. refl) _ _
-heap-again (heap.HandToHand name from) r = none-again {T = ℕ} Given (λ x. refl) _ _
-heap-again (heap.HandAndHand from to) r = none-again {T = Unit {0}} (λ x. Done) (λ x. refl) _ _
-heap-again (heap.PtrAndHand name bytes) r = none-again {T = Unit {0}} (λ x. Done) (λ x. refl) _ _
-heap-again (heap.NewPtr name size) r = none-again {T = ℕ} Given (λ x. refl) _ _
-heap-again (heap.DisposePtr name) r = none-again {T = Unit {0}} (λ x. Done) (λ x. refl) _ _
-heap-again (heap.GetPtrSize name) r = none-again {T = ℕ} Count (λ x. refl) _ _
-heap-again (heap.SetPtrSize name size) r = none-again {T = Unit {0}} (λ x. Done) (λ x. refl) _ _
-heap-again heap.FreeMem r = refl
-heap-again heap.MaxBlock r = refl
-heap-again heap.PurgeSpace r = refl
-heap-again (heap.CompactMem size) r = refl
-heap-again (heap.PurgeMem size) r = none-again {T = Unit {0}} (λ x. Done) (λ x. refl) _ _
-heap-again heap.MaxMem r = refl
-heap-again (heap.ReserveMem size) r = none-again {T = Unit {0}} (λ x. Done) (λ x. refl) _ _
-heap-again heap.MoreMasters r = none-again {T = Unit {0}} (λ x. Done) (λ x. refl) _ _
-heap-again heap.MemError r = refl
-heap-again (heap.Put name from bytes) r = none-again {T = Unit {0}} (λ x. Done) (λ x. refl) _ _
-heap-again (heap.Show name) r = ap (λ (m : Memory). bytes_told (served (asks.Show (bound_to name.0.items r.names)) m).0)
-    (show-same (bound_to name.0.items r.names) r.memory)
-heap-again (heap.PutPtr name from bytes) r = none-again {T = Unit {0}} (λ x. Done) (λ x. refl) _ _
-heap-again (heap.ShowPtr name) r = ap (λ (m : Memory). bytes_told
-    (served (asks.ShowPtr (bound_to name.0.items r.names)) m).0)
-    (show_pointer-same (bound_to name.0.items r.names) r.memory)
-heap-again (heap.Where name) r = none-again {T = ℕ} Count (λ x. refl) _ _
+heap-again : (a : Asked) (m : Memory) → bytes_told (served a (served a m).1).0 ≡ bytes_told (served a m).0
+heap-again (asks.Show handle) m =
+    ap (λ (n : Memory). bytes_told (served (asks.Show handle) n).0) (show-same handle m)
+heap-again (asks.ShowPtr pointer) m =
+    ap (λ (n : Memory). bytes_told (served (asks.ShowPtr pointer) n).0) (show_pointer-same pointer m)
+heap-again a m = shows-none (row a) (λ x. refl) (served a m).1 ∙ sym (shows-none (row a) (λ x. refl) m)
 
 -- what a call tells in the state that its try left shows the same bytes
 pub shown-again : (blocks : Blocks) (c : Call) (r : Running)
     → bytes_told (once [] c (once blocks c r).after).told ≡ bytes_told (once blocks c r).told
-shown-again blocks (call.Heap c) r = heap-again c r
+shown-again blocks (call.Heap c) r = heap-again (asked c r.names) r.memory
 shown-again blocks (call.Resource c) r = found-again (resource_asked c r.names) r.resources.purging (managers_of r)
 shown-again blocks (call.Segment c) r =
     jump-shows-none c (program_of (once blocks (call.Segment c) r).after) ∙ sym (jump-shows-none c (program_of r))

@@ -4,8 +4,6 @@ use Rattle.std.proofs.lemmas.Option.{same_Some}
 use Rattle.mac_words.specs.declared.code.OsErr.{OsErr}
 use Rattle.mac_words.specs.declared.call.Call.{Call}
 use Rattle.mac_words.specs.declared.call.Call.TheVariants as call
-use Rattle.mac_words.specs.declared.call.HeapCall.TheVariants as heap
-use Rattle.mac_words.specs.declared.resource_call.ResourceCall.TheVariants as resource
 use Rattle.mac_words.specs.Told.{Told, Refused}
 use Rattle.heap_calls.specs.Busy.{holds}
 use Rattle.script_text.specs.declared.script.Line.{Line}
@@ -54,19 +52,7 @@ asked-names blocks l r =
 
 -- where a call is refused no name is bound anew
 names-kept : (c : Call) (names : Bindings) → names_given c None names ≡ names
-names-kept (call.Heap (heap.NewHandle name size)) names = refl
-names-kept (call.Heap (heap.NewEmptyHandle name)) names = refl
-names-kept (call.Heap (heap.HandToHand name from)) names = refl
-names-kept (call.Heap (heap.NewPtr name size)) names = refl
-names-kept (call.Heap c) names = refl
-names-kept (call.Resource (resource.GetResource name ty id)) names = refl
-names-kept (call.Resource (resource.Get1Resource name ty id)) names = refl
-names-kept (call.Resource (resource.GetNamedResource name ty text)) names = refl
-names-kept (call.Resource (resource.Get1NamedResource name ty text)) names = refl
-names-kept (call.Resource (resource.Get1IndResource name ty index)) names = refl
-names-kept (call.Resource c) names = refl
-names-kept (call.Segment c) names = refl
-names-kept (call.Control c) names = refl
+names-kept c names = refl
 
 -- nor where a code is kept anew
 kept-names : (c : Call) (code : OsErr) (r : Running) → (kept_anew c code r).names ≡ r.names

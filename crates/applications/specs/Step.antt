@@ -160,27 +160,21 @@ number_given (Given n) = Some n
 number_given (Fetched handle read) = Some handle
 number_given told = None
 
--- The names at the end of a call that binds a name: the name is bound where the reply has a number.
-abbrev pub bound_anew : List ℕ → Option ℕ → Bindings → Bindings
-bound_anew name None names = names
-bound_anew name (Some n) names = bind name n names
-
--- The names after a call whose reply has the given number, or no number.
+-- The names after a call whose reply has the given number, or no number: the name is bound that the call binds.
 -- See decision 88 (names are bound after the last round).
 abbrev pub names_given : Call → Option ℕ → Bindings → Bindings
-names_given (call.Heap (heap.NewHandle name size)) given names = bound_anew name.0.items given names
-names_given (call.Heap (heap.NewEmptyHandle name)) given names = bound_anew name.0.items given names
-names_given (call.Heap (heap.HandToHand name from)) given names = bound_anew name.0.items given names
-names_given (call.Heap (heap.NewPtr name size)) given names = bound_anew name.0.items given names
-names_given (call.Resource (resource.GetResource name ty id)) given names = bound_anew name.0.items given names
-names_given (call.Resource (resource.Get1Resource name ty id)) given names = bound_anew name.0.items given names
-names_given (call.Resource (resource.GetNamedResource name ty text)) given names =
-    bound_anew name.0.items given names
-names_given (call.Resource (resource.Get1NamedResource name ty text)) given names =
-    bound_anew name.0.items given names
-names_given (call.Resource (resource.Get1IndResource name ty index)) given names =
-    bound_anew name.0.items given names
-names_given c given names = names
+names_given c None names = names
+names_given (call.Heap (heap.NewHandle name size)) (Some n) names = bind name.0.items n names
+names_given (call.Heap (heap.NewEmptyHandle name)) (Some n) names = bind name.0.items n names
+names_given (call.Heap (heap.HandToHand name from)) (Some n) names = bind name.0.items n names
+names_given (call.Heap (heap.PtrToHand name bytes)) (Some n) names = bind name.0.items n names
+names_given (call.Heap (heap.NewPtr name size)) (Some n) names = bind name.0.items n names
+names_given (call.Resource (resource.GetResource name ty id)) (Some n) names = bind name.0.items n names
+names_given (call.Resource (resource.Get1Resource name ty id)) (Some n) names = bind name.0.items n names
+names_given (call.Resource (resource.GetNamedResource name ty text)) (Some n) names = bind name.0.items n names
+names_given (call.Resource (resource.Get1NamedResource name ty text)) (Some n) names = bind name.0.items n names
+names_given (call.Resource (resource.Get1IndResource name ty index)) (Some n) names = bind name.0.items n names
+names_given c (Some n) names = names
 
 -- The application where the manager of a call has the code of the call again, after the codes of the grow-zone script's
 -- calls.

@@ -106,7 +106,7 @@ Blocks = List (List ℕ × List Line)
 
 -- A call of the heap's table, with the numbers that its names are bound to.
 abbrev pub asked : HeapCall → Bindings → Asked
-asked (heap.NewHandle name size) names = asks.NewHandle size
+asked (heap.NewHandle name size) names = asks.NewHandle (asks.Zeros size)
 asked (heap.NewEmptyHandle name) names = asks.NewEmptyHandle
 asked (heap.DisposeHandle name) names = asks.DisposeHandle (bound_to name.0.items names)
 asked (heap.GetHandleSize name) names = asks.GetHandleSize (bound_to name.0.items names)
@@ -122,6 +122,7 @@ asked (heap.HSetState name state) names = asks.HSetState (bound_to name.0.items 
 asked (heap.MoveHHi name) names = asks.MoveHHi (bound_to name.0.items names)
 asked (heap.HLockHi name) names = asks.HLockHi (bound_to name.0.items names)
 asked (heap.HandToHand name from) names = asks.HandToHand (bound_to from.value.0.items names)
+asked (heap.PtrToHand name bytes) names = asks.NewHandle (asks.CopyOf bytes.items)
 asked (heap.HandAndHand from to) names = asks.HandAndHand (bound_to from.0.items names) (bound_to to.value.0.items names)
 asked (heap.PtrAndHand name bytes) names = asks.PtrAndHand (bound_to name.0.items names) bytes.items
 asked (heap.NewPtr name size) names = asks.NewPtr size

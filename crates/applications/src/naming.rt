@@ -41,6 +41,7 @@ pub fn named(call: &HeapCall, names: &Names) -> (Option<usize>, Option<usize>)
         HeapCall::Where(name) => (names.number(name), None),
         HeapCall::NewHandle(..)
         | HeapCall::NewEmptyHandle(_)
+        | HeapCall::PtrToHand(..)
         | HeapCall::NewPtr(..)
         | HeapCall::FreeMem
         | HeapCall::MaxBlock

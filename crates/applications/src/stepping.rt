@@ -171,6 +171,7 @@ impl<'s, S: BlockStore> Application<'s, S> {
             Call::Heap(HeapCall::NewHandle(name, _)) => self.names.bind(name, number),
             Call::Heap(HeapCall::NewEmptyHandle(name)) => self.names.bind(name, number),
             Call::Heap(HeapCall::HandToHand(name, _)) => self.names.bind(name, number),
+            Call::Heap(HeapCall::PtrToHand(name, _)) => self.names.bind(name, number),
             Call::Heap(HeapCall::NewPtr(name, _)) => self.names.bind(name, number),
             Call::Resource(ResourceCall::GetResource(name, _, _)) => self.names.bind(name, number),
             Call::Resource(ResourceCall::Get1Resource(name, _, _)) => self.names.bind(name, number),

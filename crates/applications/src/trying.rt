@@ -135,6 +135,7 @@ fn answered<S: BlockStore, K: PurgeSink>(
         HeapCall::MoveHHi(_) => Ok(done(heap.move_h_hi(first))),
         HeapCall::HLockHi(_) => Ok(done(heap.h_lock_hi(first))),
         HeapCall::HandToHand(..) => given(heap.hand_to_hand(first, sink)),
+        HeapCall::PtrToHand(_, bytes) => given(heap.pointer_to_hand(bytes, sink)),
         HeapCall::HandAndHand(..) => completed(heap.hand_and_hand(first, second, sink)),
         HeapCall::PtrAndHand(_, bytes) => completed(heap.pointer_and_hand(first, bytes, sink)),
         HeapCall::NewPtr(_, size) => given(heap.new_pointer(*size, sink)),

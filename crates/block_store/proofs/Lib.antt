@@ -5,5 +5,4 @@ pub mod Plain
 pub mod Purged
 pub mod Content
 pub mod Nonrelocatable
-pub mod SlotLists
 pub mod Walks

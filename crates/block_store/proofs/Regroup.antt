@@ -9,7 +9,7 @@ pub mod Packed
 pub mod Repacked
 pub mod Lowered
 pub mod AllLowered
-mod LoweredExamples
+pub mod LoweredExamples
 pub mod Settling
 pub mod NextRuns
 pub mod MostRoom

@@ -4,8 +4,8 @@ use native.Mathlib.Nat.{ℕ_set}
 use Rattle.std.specs.Option.{option_map}
 use Rattle.mac_words.specs.Size.{padded}
 use Rattle.block_store.specs.declared.measures.TheConstants.{MASTERS_SIZE, UNIT}
-use Rattle.block_store.specs.Block.{Block, Free, Nonrelocatable, Masters, Relocatable, count, size, sizes, free_of, free_sum}
-use Rattle.block_store.specs.Block.{is_room, is_relocatable}
+use Rattle.block_store.specs.Block.{Block, Free, Nonrelocatable, Masters, Relocatable, count, size, sizes, free_of}
+use Rattle.block_store.specs.Block.{free_sum, is_room, is_relocatable}
 use Rattle.block_store.specs.Run.{Stretch, RunSpot, segments, runs, joined, has, settle}
 use Rattle.block_store.specs.Room.{spot}
 use Rattle.block_store.specs.Rest.{lowered_in_run}

@@ -1,8 +1,6 @@
-pub mod ListStore
 pub mod Stretch
 pub mod Purging
 pub mod RunScan
 pub mod NthRun
 pub mod Packing
-pub mod ListStoreLaws
 pub mod Joining

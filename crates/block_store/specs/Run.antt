@@ -2,7 +2,8 @@ use Rattle.std.specs.Prelude.{ℕ, ◌-◌, ◌==◌, Bool, true, false, not, �
 use Rattle.std.specs.Prelude.{filter, map, if◌then◌else◌, nat_le}
 use Rattle.std.specs.Option.{option_map}
 use Rattle.std.specs.List.{list_any}
-use Rattle.block_store.specs.Block.{Block, Free, Nonrelocatable, Masters, Relocatable, size, sizes, free_sum, is_mover, free}
+use Rattle.block_store.specs.Block.{Block, Free, Nonrelocatable, Masters, Relocatable, size, sizes, free_sum, is_mover}
+use Rattle.block_store.specs.Block.{free}
 
 -- The block may be part of a run of movable blocks: it is a free block or an unlocked relocatable block.
 abbrev pub in_run : Block → Bool

@@ -5,9 +5,9 @@ ghost use Rattle.std.specs.Prelude.{length, take, replicate, is_some, IsTrue, Is
 ghost use Rattle.std.specs.Prelude.{IsErr, MatchOption};
 ghost use Rattle.std.specs.Option.{option_map};
 ghost use Rattle.mac_words.specs.Size.{padded};
-ghost use Rattle.block_store.specs.Block.{Block, Free, Nonrelocatable, Masters, Relocatable, is_nonrelocatable, size, count, sizes};
-ghost use Rattle.block_store.specs.Block.{free_sum, is_room, is_relocatable, is_masters, no_flags, content_of};
-ghost use Rattle.block_store.specs.Block.{with_content, resized, tidy};
+ghost use Rattle.block_store.specs.Block.{Block, Free, Nonrelocatable, Masters, Relocatable, is_nonrelocatable, size};
+ghost use Rattle.block_store.specs.Block.{count, sizes, free_sum, is_room, is_relocatable, is_masters, no_flags, tidy};
+ghost use Rattle.block_store.specs.Block.{content_of, with_content, resized};
 ghost use Rattle.windows.specs.Writes.{written};
 ghost use Rattle.block_store.specs.Run.{has, has_free, settle, low, high, with_run, run_at, segments};
 ghost use Rattle.block_store.specs.Room.{spot, spot_at, filled, may_be_purged, lowest_purged, count_of};

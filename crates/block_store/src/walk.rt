@@ -9,8 +9,7 @@ ghost use Rattle.block_store.specs.Seen.{seen};
 ghost use Rattle.block_store.specs.Inner.Stretch.{is_free, names, opened_block};
 ghost use Rattle.block_store.specs.Walk.{Tells, seen_size};
 
-use crate::entries::padded_size;
-use crate::measures::MASTERS_SIZE;
+use crate::measures::{MASTERS_SIZE, padded_size};
 use crate::sparing::{Seen, Sparing};
 
 /// A walk, which reads the blocks of a zone one after another, without their bytes.

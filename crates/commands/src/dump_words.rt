@@ -3,9 +3,9 @@
 ghost use Rattle.std.specs.Prelude.{IfErr, IfOk};
 ghost use Rattle.fork_tasks.specs.Fault.{message_of, IsUsage};
 
-use crate::parsing::{argument, bad_value, flag, option, value};
+use crate::parsing::{Rule, Ruled, Word, bad_value, value, with_ruled_words};
 use crate::request::Request;
-use clap::{Arg, ArgAction, ArgMatches, Command};
+use clap::{ArgMatches, Command};
 use fork_tasks::ToolFault;
 use job_tasks::{Task, Work};
 use real_zone::Form;
@@ -54,6 +54,12 @@ draws the zone: rows of its bytes, lowest first, each with the address where it
 begins, in which each block has the bytes that it has in the zone. Of more than
 800 blocks neighbours that are small are drawn as one.
 
+  macmem zone --script examples/memory.dump 0x600 > zone.script
+
+prints a script that makes a zone of the same blocks, in the same order, with
+their logical sizes, locks and purgeability, in a fresh partition of the size that
+its first line says: macmem heap 768 zone.script shows it.
+
 The dump holds the bytes of memory, from the address BASE on: a file that QEMU's
 pmemsave, MAME's save or a monitor wrote. Addresses are decimal, or hexadecimal
 after 0x or $ ('$2A6' in quotes, since shells read $2).
@@ -69,8 +75,8 @@ a line below the totals has the first rule that is broken, as
 Without --24 and --32 the form is the one in which the zone is whole, or else
 the one in which more blocks stand one after the other.
 Status: 0 done; 1 with a line on the standard error where the dump has no such
-zone, as 'macmem: DUMP: no zone: 00000600: BkLim is bad'; 1 also where the zone
-breaks a rule or --find finds no zone.";
+zone, as 'macmem: DUMP: no zone: 00000600: BkLim is bad', which --script prints of
+any damage; 1 also where the zone breaks a rule or --find finds no zone.";
 
 /// The ways in which the command is used.
 const ZONE_USAGE: &str = "macmem zone [OPTIONS] <DUMP> <ADDRESS>
@@ -113,6 +119,11 @@ const SVG: &str = "svg";
 
 const SVG_HELP: &str = "Print the zone as a picture, in SVG";
 
+/// The name of the flag for a script, without its two hyphens.
+const SCRIPT: &str = "script";
+
+const SCRIPT_HELP: &str = "Print a script that makes the zone anew";
+
 /// The name of the flag for all that is wrong, without its two hyphens.
 const CHECK: &str = "check";
 
@@ -123,60 +134,71 @@ const FIND: &str = "find";
 
 const FIND_HELP: &str = "Print the zones that stand in the dump";
 
-/// Returns the flag for what is wrong with a zone.
-fn check_flag<'a>(alloc: Global) -> Result<Arg<'a>, AllocError> {
-    flag(alloc, CHECK, CHECK_HELP)
-        .conflicts_with(PLAIN)?
-        .conflicts_with(HEX)?
-        .conflicts_with(FIND)
-}
+/// The words that say how the dump is read, and how it is shown.
+const FORM_WORDS: [Ruled; 5] = [
+    (
+        Word::Flag(BITS_24, BITS_24_HELP),
+        &[Rule::Excludes(BITS_32), Rule::Excludes(FIND)],
+    ),
+    (
+        Word::Flag(BITS_32, BITS_32_HELP),
+        &[Rule::Excludes(BITS_24), Rule::Excludes(FIND)],
+    ),
+    (Word::Setting(BASE, "BASE", BASE_HELP), &[]),
+    (Word::Flag(PLAIN, PLAIN_HELP), &[]),
+    (Word::Flag(HEX, HEX_HELP), &[]),
+];
 
-/// Returns the flag for a picture.
-fn svg_flag<'a>(alloc: Global) -> Result<Arg<'a>, AllocError> {
-    flag(alloc, SVG, SVG_HELP)
-        .conflicts_with(PLAIN)?
-        .conflicts_with(HEX)?
-        .conflicts_with(CHECK)?
-        .conflicts_with(FIND)
-}
+/// The words that say what is made of a zone in place of a list.
+const MADE_WORDS: [Ruled; 3] = [
+    (
+        Word::Flag(SVG, SVG_HELP),
+        &[
+            Rule::Excludes(PLAIN),
+            Rule::Excludes(HEX),
+            Rule::Excludes(CHECK),
+            Rule::Excludes(FIND),
+        ],
+    ),
+    (
+        Word::Flag(SCRIPT, SCRIPT_HELP),
+        &[
+            Rule::Excludes(PLAIN),
+            Rule::Excludes(HEX),
+            Rule::Excludes(SVG),
+            Rule::Excludes(CHECK),
+            Rule::Excludes(FIND),
+        ],
+    ),
+    (
+        Word::Flag(CHECK, CHECK_HELP),
+        &[
+            Rule::Excludes(PLAIN),
+            Rule::Excludes(HEX),
+            Rule::Excludes(FIND),
+        ],
+    ),
+];
 
-/// Returns the flag for one of the two forms.
-fn form_flag<'a>(
-    alloc: Global,
-    name: &'a str,
-    help: &'a str,
-    other: &'a str,
-) -> Result<Arg<'a>, AllocError> {
-    flag(alloc, name, help)
-        .conflicts_with(other)?
-        .conflicts_with(FIND)
-}
-
-/// Returns the argument for the address of a zone.
-fn address_argument<'a>(alloc: Global) -> Result<Arg<'a>, AllocError> {
-    Arg::new(alloc, "ADDRESS")
-        .action(ArgAction::Set)
-        .help(ADDRESS_HELP)
-        .required_unless_present(FIND)?
-        .conflicts_with(FIND)
-}
+/// The words that say which zone is asked about.
+const WHICH_WORDS: [Ruled; 3] = [
+    (Word::Flag(FIND, FIND_HELP), &[]),
+    (Word::Required("DUMP", DUMP_HELP), &[]),
+    (
+        Word::Optional("ADDRESS", ADDRESS_HELP),
+        &[Rule::Excludes(FIND), Rule::Replaces(FIND)],
+    ),
+];
 
 /// Returns the command that reads a zone in a dump.
 pub fn zone_command<'a>(alloc: Global) -> Result<Command<'a>, AllocError> {
-    Command::new(alloc, "zone")
+    let command = Command::new(alloc, "zone")
         .about(ZONE_ABOUT)
         .after_help(ZONE_EXAMPLES)
-        .override_usage(ZONE_USAGE)
-        .arg(form_flag(alloc, BITS_24, BITS_24_HELP, BITS_32)?)?
-        .arg(form_flag(alloc, BITS_32, BITS_32_HELP, BITS_24)?)?
-        .arg(option(alloc, BASE, "BASE", BASE_HELP))?
-        .arg(flag(alloc, PLAIN, PLAIN_HELP))?
-        .arg(flag(alloc, HEX, HEX_HELP))?
-        .arg(svg_flag(alloc)?)?
-        .arg(check_flag(alloc)?)?
-        .arg(flag(alloc, FIND, FIND_HELP))?
-        .arg(argument(alloc, "DUMP", DUMP_HELP))?
-        .arg(address_argument(alloc)?)
+        .override_usage(ZONE_USAGE);
+    let command = with_ruled_words(alloc, command, &FORM_WORDS)?;
+    let command = with_ruled_words(alloc, command, &MADE_WORDS)?;
+    with_ruled_words(alloc, command, &WHICH_WORDS)
 }
 
 /// Returns the hexadecimal digits of an address, if it has a sign before them that says so.
@@ -257,6 +279,8 @@ fn question_in(matches: &ArgMatches<'_>, place: Place) -> Question {
         Question::Check(place)
     } else if matches.get_flag(SVG) {
         Question::Draw(place)
+    } else if matches.get_flag(SCRIPT) {
+        Question::Script(place)
     } else {
         Question::List(place, style_in(matches))
     }

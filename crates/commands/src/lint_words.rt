@@ -1,6 +1,6 @@
 //! The words of the command `lint`.
 
-use crate::parsing::{Word, flag, with_words};
+use crate::parsing::{Rule, Ruled, Word, with_ruled_words};
 use clap::{ArgMatches, Command};
 use fork_tasks::{Linting, TextKind};
 use std::alloc::{AllocError, Global};
@@ -46,19 +46,19 @@ const TYPES: &str = "types";
 
 const TYPES_HELP: &str = "File with declarations of types, for sources; may be repeated";
 
-const LINT_WORDS: [Word; 3] = [
-    Word::Flag(REZ, REZ_HELP),
-    Word::Settings(TYPES, "TYPES", TYPES_HELP),
-    Word::Several("FILE", TEXTS_HELP),
+const LINT_WORDS: [Ruled; 4] = [
+    (Word::Flag(JOB, JOB_HELP), &[Rule::Excludes(REZ)]),
+    (Word::Flag(REZ, REZ_HELP), &[]),
+    (Word::Settings(TYPES, "TYPES", TYPES_HELP), &[]),
+    (Word::Several("FILE", TEXTS_HELP), &[]),
 ];
 
 /// Returns the command as the parser has it.
 pub fn lint_command<'a>(alloc: Global) -> Result<Command<'a>, AllocError> {
     let command = Command::new(alloc, "lint")
         .about(LINT_ABOUT)
-        .after_help(LINT_EXAMPLES)
-        .arg(flag(alloc, JOB, JOB_HELP).conflicts_with(REZ)?)?;
-    with_words(alloc, command, &LINT_WORDS)
+        .after_help(LINT_EXAMPLES);
+    with_ruled_words(alloc, command, &LINT_WORDS)
 }
 
 /// Returns what all files are read as, if it is asked for.

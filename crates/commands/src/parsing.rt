@@ -134,6 +134,51 @@ pub fn with_words<'a>(
     Ok(command)
 }
 
+/// A rule on a word of a command.
+#[derive(Clone, Copy)]
+pub enum Rule {
+    /// It may not stand beside this word.
+    Excludes(&'static str),
+    /// It may not stand without this word.
+    Needs(&'static str),
+    /// It must stand where this word does not.
+    Replaces(&'static str),
+}
+
+/// A word with its rules.
+pub type Ruled = (Word, &'static [Rule]);
+
+/// Returns an argument to which a rule is added.
+fn with_rule<'a>(arg: Arg<'a>, rule: Rule) -> Result<Arg<'a>, AllocError> {
+    match rule {
+        Rule::Excludes(other) => arg.conflicts_with(other),
+        Rule::Needs(other) => arg.requires_arg(other),
+        Rule::Replaces(other) => arg.required_unless_present(other),
+    }
+}
+
+/// Returns a word as the parser has it, with its rules.
+fn ruled<'a>(alloc: Global, word: Word, rules: &[Rule]) -> Result<Arg<'a>, AllocError> {
+    let mut arg = spelled(alloc, word);
+    for rule in rules {
+        arg = with_rule(arg, *rule)?;
+    }
+    Ok(arg)
+}
+
+/// Returns a command with these words, in the order in which its help has them.
+pub fn with_ruled_words<'a>(
+    alloc: Global,
+    command: Command<'a>,
+    words: &[Ruled],
+) -> Result<Command<'a>, AllocError> {
+    let mut command = command;
+    for (word, rules) in words {
+        command = command.arg(ruled(alloc, *word, rules)?)?;
+    }
+    Ok(command)
+}
+
 /// Returns the value of an argument that the parser requires.
 pub fn value<'a>(matches: &ArgMatches<'a>, name: &str) -> &'a str {
     matches.get_str(name).unwrap_or("")

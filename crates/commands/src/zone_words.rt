@@ -3,18 +3,19 @@
 ghost use Rattle.std.specs.Prelude.{IfErr, IfOk};
 ghost use Rattle.fork_tasks.specs.Fault.{message_of, IsUsage};
 
-use crate::parsing::{SCRIPT_HELP, SIZE_HELP, SIZE_RULE, bad_value, flag, option, value};
-use crate::play_words::{
-    FILE, FILE_HELP, FILE_VALUE, FORK, OWN_HELP, SYSTEM, SYSTEM_HELP, gives_files, parts_in,
+use crate::parsing::{
+    Rule, Ruled, SCRIPT_HELP, SIZE_HELP, SIZE_RULE, Word, bad_value, value, with_ruled_words,
 };
+use crate::play_words::{FILE_WORD, OWN_WORD, SYSTEM_WORD, gives_files, parts_in};
 use crate::request::Request;
-use clap::{Arg, ArgAction, ArgGroup, ArgMatches, Command};
+use clap::{ArgGroup, ArgMatches, Command};
 use fork_tasks::ToolFault;
+use heap_view::Part;
 use job_tasks::{
     JobZone, Lines, PartitionSize, PlayWork, Playing, Task, ToldLines, Work, ZoneView,
 };
 use std::alloc::{AllocError, Global};
-use zone_view::Form;
+use zone_view::{Form, Strips};
 
 const HEAP_ABOUT: &str = "Runs a script up to a line and prints the blocks of its zone";
 
@@ -50,11 +51,14 @@ open file. The last line names the step after which the zone is shown: the last
 that was run, before the quit at the script's end.
 With --at the script is run up to and including the last call up to that line; 0
 is the launch. With --plain a tab stands between fields, there are no titles,
-and each line begins with 'block', 'total', 'largest' or 'after'. With --steps
-the picture has a strip for the zone after line FROM and one after each further
-call up to line TO, with an arrow for each block that moved from one to the
-next; with --text in place of --svg, each call from line FROM to line TO is
-printed in words, as 'macmem script --text' prints it.
+and each line begins with 'block', 'total', 'largest' or 'after'. With --svg a
+picture shows the zone as a strip and each block in a cell, or, of more than 60
+blocks, the strip wrapped into rows; --from and --to show a part of the zone.
+With --steps the picture has a strip for the zone after line FROM and one after
+each further call up to line TO that changed it, with --all after each, and an
+arrow for each block that moved from one to the next; with --text in place of
+--svg, each call from line FROM to line TO is printed in words, as 'macmem
+script --text' prints it.
 Faults are reported as 'macmem script' reports them; 'macmem lint SCRIPT' says
 in words what is wrong with each faulty line. The script has files by --fork,
 --system and --file, as by 'macmem script'.
@@ -99,15 +103,6 @@ const APP: &str = "app";
 
 const APP_HELP: &str = "Show the zone of this application of the job";
 
-/// Returns an argument that is required unless a job is given, and not allowed with one.
-fn unless_job<'a>(alloc: Global, name: &'a str, help: &'a str) -> Result<Arg<'a>, AllocError> {
-    Arg::new(alloc, name)
-        .action(ArgAction::Set)
-        .help(help)
-        .required_unless_present(JOB)?
-        .conflicts_with(JOB)
-}
-
 /// The name of the option for several moments, without its two hyphens.
 const STEPS: &str = "steps";
 
@@ -121,16 +116,75 @@ const TEXT_HELP: &str = "Print calls as written, and what moved and was purged; 
 /// The name of the two flags of which one says what is made of several moments.
 const STRIPS: &str = "strips";
 
+/// The name of the flag for moments at which nothing changed, without its two hyphens.
+const ALL: &str = "all";
+
+const ALL_HELP: &str = "Draw also calls that changed nothing, with --steps";
+
+/// The names of the options for the part of a zone that a picture shows, without their two hyphens.
+const FROM: &str = "from";
+
+const TO: &str = "to";
+
+const FROM_HELP: &str = "Draw the zone from this byte on";
+
+const TO_HELP: &str = "Draw the zone up to this byte";
+
+/// The rule for the bytes of a part, which is printed where the words are none.
+const PART_RULE: &str = "the bytes must be decimal numbers, that of --from less than that of --to";
+
 /// The rule for two lines, which is printed where the word is no two lines.
 const STEPS_RULE: &str = "FROM and TO must be decimal numbers, FROM at most TO";
 
-/// Returns the command with the options that give files to a script, which are not allowed with a job.
-fn with_files<'a>(alloc: Global, command: Command<'a>) -> Result<Command<'a>, AllocError> {
-    let files = option(alloc, FILE, FILE_VALUE, FILE_HELP).action(ArgAction::Append);
-    command
-        .arg(option(alloc, FORK, "FORK", OWN_HELP).conflicts_with(JOB)?)?
-        .arg(option(alloc, SYSTEM, "FORK", SYSTEM_HELP).conflicts_with(JOB)?)?
-        .arg(files.conflicts_with(JOB)?)
+/// The options that give files to a script, which are not allowed with a job.
+const FILE_WORDS: [Ruled; 3] = [
+    (OWN_WORD, &[Rule::Excludes(JOB)]),
+    (SYSTEM_WORD, &[Rule::Excludes(JOB)]),
+    (FILE_WORD, &[Rule::Excludes(JOB)]),
+];
+
+/// The words that say what is shown of the zone, and how.
+const SHOWN_WORDS: [Ruled; 5] = [
+    (Word::Setting(AT, "LINE", AT_HELP), &[]),
+    (Word::Flag(PLAIN, PLAIN_HELP), &[Rule::Excludes(SVG)]),
+    (Word::Flag(SVG, SVG_HELP), &[]),
+    (Word::Setting(FROM, "BYTE", FROM_HELP), &[Rule::Needs(SVG)]),
+    (Word::Setting(TO, "BYTE", TO_HELP), &[Rule::Needs(SVG)]),
+];
+
+/// The words for several moments.
+const MOMENT_WORDS: [Ruled; 3] = [
+    (
+        Word::Setting(STEPS, "FROM..TO", STEPS_HELP),
+        &[Rule::Excludes(AT), Rule::Excludes(JOB), Rule::Needs(STRIPS)],
+    ),
+    (
+        Word::Flag(ALL, ALL_HELP),
+        &[Rule::Excludes(TEXT), Rule::Needs(STEPS)],
+    ),
+    (
+        Word::Flag(TEXT, TEXT_HELP),
+        &[Rule::Excludes(PLAIN), Rule::Needs(STEPS)],
+    ),
+];
+
+/// The words that say whose zone is shown: that of an application of a job, or that of a script.
+const OWNER_WORDS: [Ruled; 4] = [
+    (Word::Setting(JOB, "JOB", JOB_HELP), &[Rule::Needs(APP)]),
+    (Word::Setting(APP, "NAME", APP_HELP), &[Rule::Needs(JOB)]),
+    (
+        Word::Optional("SIZE", SIZE_HELP),
+        &[Rule::Excludes(JOB), Rule::Replaces(JOB)],
+    ),
+    (
+        Word::Optional("SCRIPT", SCRIPT_HELP),
+        &[Rule::Excludes(JOB), Rule::Replaces(JOB)],
+    ),
+];
+
+/// Returns the two flags of which one says what is made of several moments.
+fn strips<'a>(alloc: Global) -> Result<ArgGroup<'a>, AllocError> {
+    ArgGroup::new(alloc, STRIPS).arg(SVG)?.arg(TEXT)
 }
 
 /// Returns the command that shows a zone.
@@ -139,37 +193,10 @@ pub fn heap_command<'a>(alloc: Global) -> Result<Command<'a>, AllocError> {
         .about(HEAP_ABOUT)
         .after_help(HEAP_EXAMPLES)
         .override_usage(HEAP_USAGE);
-    with_files(alloc, command)?
-        .arg(option(alloc, AT, "LINE", AT_HELP))?
-        .arg(flag(alloc, PLAIN, PLAIN_HELP).conflicts_with(SVG)?)?
-        .arg(flag(alloc, SVG, SVG_HELP))?
-        .arg(steps_option(alloc)?)?
-        .arg(text_flag(alloc)?)?
-        .group(strips(alloc)?)?
-        .arg(option(alloc, JOB, "JOB", JOB_HELP).requires_arg(APP)?)?
-        .arg(option(alloc, APP, "NAME", APP_HELP).requires_arg(JOB)?)?
-        .arg(unless_job(alloc, "SIZE", SIZE_HELP)?)?
-        .arg(unless_job(alloc, "SCRIPT", SCRIPT_HELP)?)
-}
-
-/// Returns the two flags of which one says what is made of several moments.
-fn strips<'a>(alloc: Global) -> Result<ArgGroup<'a>, AllocError> {
-    ArgGroup::new(alloc, STRIPS).arg(SVG)?.arg(TEXT)
-}
-
-/// Returns the option for several moments.
-fn steps_option<'a>(alloc: Global) -> Result<Arg<'a>, AllocError> {
-    option(alloc, STEPS, "FROM..TO", STEPS_HELP)
-        .requires_arg(STRIPS)?
-        .conflicts_with(AT)?
-        .conflicts_with(JOB)
-}
-
-/// Returns the flag for calls in words.
-fn text_flag<'a>(alloc: Global) -> Result<Arg<'a>, AllocError> {
-    flag(alloc, TEXT, TEXT_HELP)
-        .requires_arg(STEPS)?
-        .conflicts_with(PLAIN)
+    let command = with_ruled_words(alloc, command, &FILE_WORDS)?;
+    let command = with_ruled_words(alloc, command, &SHOWN_WORDS)?;
+    let command = with_ruled_words(alloc, command, &MOMENT_WORDS)?.group(strips(alloc)?)?;
+    with_ruled_words(alloc, command, &OWNER_WORDS)
 }
 
 /// Returns the fault of a value, with the rule that the value breaks.
@@ -180,14 +207,52 @@ fn bad(alloc: Global, name: &str, text: &str, rule: &str) -> Result<ToolFault, A
     bad_value(alloc, command, name, text, rule)
 }
 
-/// Returns the form in which the zone is shown.
-fn form_in(matches: &ArgMatches<'_>) -> Form {
-    if matches.get_flag(SVG) {
-        Form::Picture
-    } else if matches.get_flag(PLAIN) {
-        Form::Tabs
+/// Reads the number of a byte; where none is given, it is this one.
+fn byte_number(text: Option<&str>, otherwise: u32) -> Option<u32> {
+    match text {
+        Some(text) => text.parse::<u32>().ok(),
+        None => Some(otherwise),
+    }
+}
+
+/// Reads the part of a zone between two bytes, of which the first is less than the second.
+fn part_between(from: Option<&str>, to: Option<&str>) -> Option<Part> {
+    let (from, to) = (byte_number(from, 0)?, byte_number(to, u32::MAX)?);
+    if from < to {
+        Some(Part { from, to })
     } else {
-        Form::Columns
+        None
+    }
+}
+
+/// Returns the part of a zone that a picture shows: all of it, where no other is given.
+fn part_in(alloc: Global, matches: &ArgMatches<'_>) -> Result<Part, ToolFault>
+    ensures { IfErr result (λ fault. IsUsage (message_of fault)) }
+{
+    match part_between(matches.get_str(FROM), matches.get_str(TO)) {
+        Some(part) => Ok(part),
+        None => {
+            let text = matches.get_str(TO).unwrap_or("");
+            Err(bad(
+                alloc,
+                "BYTE",
+                matches.get_str(FROM).unwrap_or(text),
+                PART_RULE,
+            )?)
+        }
+    }
+}
+
+/// Returns the form in which the zone is shown.
+fn form_in(alloc: Global, matches: &ArgMatches<'_>) -> Result<Form, ToolFault>
+    ensures { IfErr result (λ fault. IsUsage (message_of fault)) }
+{
+    if matches.get_flag(SVG) {
+        Ok(Form::Picture(part_in(alloc, matches)?))
+    } else if matches.get_flag(PLAIN) {
+        Ok(Form::Tabs)
+    } else {
+        Ok(Form::Columns)
     }
 }
 
@@ -221,10 +286,13 @@ fn lines_in(alloc: Global, matches: &ArgMatches<'_>) -> Result<Lines, ToolFault>
     ensures { IfErr result (λ fault. IsUsage (message_of fault)) }
 {
     let Some(text) = matches.get_str(STEPS) else {
-        return Ok(Lines::One(line_in(alloc, matches)?, form_in(matches)));
+        let line = line_in(alloc, matches)?;
+        return Ok(Lines::One(line, form_in(alloc, matches)?));
     };
+    let part = part_in(alloc, matches)?;
+    let all = matches.get_flag(ALL);
     match two_lines(text) {
-        Some((from, to)) => Ok(Lines::Each(from, to)),
+        Some((from, to)) => Ok(Lines::Each(from, to, Strips { part, all })),
         None => Err(bad(alloc, "FROM..TO", text, STEPS_RULE)?),
     }
 }
@@ -232,7 +300,7 @@ fn lines_in(alloc: Global, matches: &ArgMatches<'_>) -> Result<Lines, ToolFault>
 /// Returns what is asked for of these lines: the zone, or the calls in words.
 fn zone_work<'a>(lines: Lines, in_words: bool) -> PlayWork<'a> {
     match lines {
-        Lines::Each(from, to) if in_words => PlayWork::Words(ToldLines::Each(from, to)),
+        Lines::Each(from, to, _) if in_words => PlayWork::Words(ToldLines::Each(from, to)),
         lines => PlayWork::Zone(lines),
     }
 }
@@ -287,7 +355,7 @@ fn job_zone<'a>(
         job,
         app: value(matches, APP),
         line: line_in(alloc, matches)?,
-        form: form_in(matches),
+        form: form_in(alloc, matches)?,
     })
 }
 

@@ -1,13 +1,28 @@
-use Rattle.std.specs.Prelude.{ℕ, Option, Result, Ok, Err, List}
+use Rattle.std.specs.Prelude.{ℕ, Option, Result, Ok, Err, List, length, replicate}
 use Rattle.mac_words.specs.declared.code.OsErr.{OsErr}
 use Rattle.mac_words.specs.Told.{Told, Refused}
 use Rattle.heap_calls.specs.State.{State, Memory}
 use Rattle.heap_calls.specs.Answer.{Answer, noting, searching, moving}
 
+-- The bytes of a new handle's block: so many bytes 0, or a copy of these bytes.
+-- See decision 233 (PtrToHand is NewHandle with a copy of bytes).
+pub data NewBytes : Type 0 where
+  Zeros : (size : ℕ) → NewBytes
+  CopyOf : (bytes : List ℕ) → NewBytes
+
+-- How many there are, and which.
+abbrev pub new_size : NewBytes → ℕ
+new_size (Zeros n) = n
+new_size (CopyOf x) = length x
+
+abbrev pub new_bytes : NewBytes → List ℕ
+new_bytes (Zeros n) = replicate n 0
+new_bytes (CopyOf x) = x
+
 -- A call of the Memory Manager's table, with the number that each of its names is bound to, `None` where the name is
 -- unbound.
 pub data Asked : Type 0 where
-  NewHandle : (size : ℕ) → Asked
+  NewHandle : (bytes : NewBytes) → Asked
   NewEmptyHandle : Asked
   DisposeHandle : (handle : Option ℕ) → Asked
   GetHandleSize : (handle : Option ℕ) → Asked

@@ -6,7 +6,7 @@ use Rattle.heap_calls.specs.Answer.{Held}
 use Rattle.heap_calls.specs.Pointers.{block_named}
 use Rattle.heap_calls.specs.Asked.{Asked, NewHandle, SetHandleSize, ReallocateHandle, HandToHand, HandAndHand}
 use Rattle.mac_words.specs.Told.{Told, Done, Given}
-use Rattle.heap_calls.specs.Asked.{PtrAndHand, NewPtr, SetPtrSize, Put, PutPtr}
+use Rattle.heap_calls.specs.Asked.{PtrAndHand, NewPtr, SetPtrSize, Put, PutPtr, new_bytes}
 
 -- The bytes last put into each handle's and each pointer's block, computed from the history of calls alone, without
 -- any block.
@@ -18,7 +18,7 @@ pub record HistoryEntry : Type 0 where
 
 -- The bytes last put into each block, after one more call.
 abbrev pub put_by : Asked → Told → (ℕ → List ℕ) → ℕ → List ℕ
-put_by (NewHandle n) (Given k) bytes h = if k == h then replicate n 0 else bytes h
+put_by (NewHandle new) (Given k) bytes h = if k == h then new_bytes new else bytes h
 put_by (SetHandleSize (Some k) n) Done bytes h = if k == h then resized_content n (bytes k) else bytes h
 put_by (Put (Some k) from x) Done bytes h = if k == h then written from x (bytes k) else bytes h
 put_by (PutPtr (Some k) from x) Done bytes h = if k == h then written from x (bytes k) else bytes h

@@ -10,7 +10,7 @@ use Rattle.moves.specs.Moves.{Move, Put, Base, Drop, Write, Did, did}
 use Rattle.moves.specs.Seeking.{Sought, no_room, seek, if_fits, seek_slot, then_seek, seek_size, around}
 use Rattle.heap_calls.specs.State.{Plain, Meaning, Handle, Pointer, State, Memory, used_slots, all_slots}
 use Rattle.heap_calls.specs.Answer.{Answer, Held, look_up, handle_at, nothing, silent, searching, moving}
-use Rattle.heap_calls.specs.Asked.{packing}
+use Rattle.heap_calls.specs.Asked.{NewBytes, Zeros, CopyOf, new_size, new_bytes, packing}
 use Rattle.heap_calls.specs.Pointers.{pointed_at}
 use Rattle.heap_calls.specs.Purging.{is_loose}
 use Rattle.heap_calls.specs.Gone.{Gone, gone_of}
@@ -106,9 +106,19 @@ made spared block s =
 abbrev pub next_block : List ℕ → State → Block
 next_block bytes s = Relocatable (length s.names) no_flags bytes
 
+-- A new handle with a block of new bytes.
+abbrev pub new_handle_with : NewBytes → State → Done ℕ
+new_handle_with new s = made nothing (λ zone. if_fits (new_size new)
+    (seek (Put (next_block (new_bytes new) s)) nothing zone)) s
+
 -- NewHandle: a new handle with a block of n bytes, all 0.
 abbrev pub new_handle : ℕ → State → Done ℕ
-new_handle n s = made nothing (λ zone. if_fits n (seek (Put (next_block (replicate n 0) s)) nothing zone)) s
+new_handle n s = new_handle_with (Zeros n) s
+
+-- PtrToHand: a new handle with a copy of bytes.
+-- See decision 233 (PtrToHand is NewHandle with a copy of bytes).
+abbrev pub pointer_to_hand : List ℕ → State → Done ℕ
+pointer_to_hand x s = new_handle_with (CopyOf x) s
 
 -- NewEmptyHandle: a new handle with no block.
 abbrev pub new_empty_handle : State → Done ℕ

@@ -194,7 +194,7 @@ done u = Done
 -- The table. A master pointer block that was made for a new handle stays where the call is then refused, and so does
 -- what PurgeMem purged.
 abbrev pub row : Asked → Row
-row (NewHandle size) = Leaves (slotted_zone nothing) (Does Open Given (rows.new_handle size))
+row (NewHandle new) = Leaves (slotted_zone nothing) (Does Open Given (rows.new_handle_with new))
 row NewEmptyHandle = Does Open Given rows.new_empty_handle
 row (DisposeHandle handle) = Plain (OnHandle handle) done (dispose_handle handle)
 row (GetHandleSize handle) = Plain (OnHandle handle) Number (get_handle_size handle)

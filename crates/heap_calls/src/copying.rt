@@ -9,7 +9,8 @@ ghost use Rattle.heap_calls.specs.Busy.{barred, unless};
 ghost use Rattle.heap_calls.specs.Inner.Given.{IsAnswer, KeepsNames};
 ghost use Rattle.heap_calls.specs.Inner.Copied.{IsCopy};
 ghost use Rattle.heap_calls.specs.Gone.{IsIdle, gone_unless};
-ghost use Rattle.heap_calls.specs.Rows.{hand_to_hand, doing, doing_silently, purges_made};
+ghost use Rattle.heap_calls.specs.Answer.{nothing};
+ghost use Rattle.heap_calls.specs.Rows.{hand_to_hand, pointer_to_hand, doing, doing_silently, purges_made};
 ghost use Rattle.heap_calls.specs.Refused.{LeavesCopying};
 ghost use Rattle.heap_calls.specs.Inner.Telling.{new_gone, LeavesSlot};
 ghost use Rattle.heap_calls.specs.Inner.NewBlock.{new_searches};
@@ -17,7 +18,7 @@ ghost use Rattle.heap_calls.specs.Inner.NewSlot.{HasMore};
 ghost use Rattle.heap_calls.specs.Inner.Numbered.{KeepsNonrelocatable};
 ghost use Rattle.heap_calls.specs.Inner.Packed.{Packs, new_moves};
 ghost use Rattle.heap_calls.specs.Gone.{Hears};
-ghost use Rattle.heap_calls.specs.Left.{Stops, Unreserved, copy_step};
+ghost use Rattle.heap_calls.specs.Left.{Stops, Unreserved, slot_step, copy_step};
 ghost use Rattle.std.specs.Prelude.{IsOk, Some};
 
 use crate::anchor::{Anchor, name_handle, slot_of};
@@ -26,7 +27,7 @@ use crate::heap::Heap;
 use crate::new_block::new_block;
 use crate::refusal::Refusal;
 use crate::sink::PurgeSink;
-use block_store::{BlockStore, Sparing};
+use block_store::{BlockStore, Flags, Sparing};
 use mac_words::OsErr;
 use std::alloc::AllocError;
 
@@ -57,6 +58,42 @@ impl<S: BlockStore> Heap<S> {
         }
         let answer = self.copy_handle(handle, sink);
         self.note_refusal(answer)
+    }
+
+    /// `PtrToHand`: allocates a relocatable block with a copy of bytes, and returns a handle to the block. It is refused
+    /// where `NewHandle` is refused, for as many bytes, and purges what `NewHandle` then purges. Where the host is out of
+    /// memory, all but the zone and the count of moves stays as it was; over a store that takes no host memory the whole
+    /// heap and the sink stay so too, except where the sink found the host out of memory after a new master pointer
+    /// block was made, which then stays.
+    pub fn pointer_to_hand<K: PurgeSink>(
+        &mut self,
+        bytes: &[u8],
+        sink: &mut K,
+    ) -> Result<usize, Refusal>
+        requires idle { IsIdle K.told K.waits sink.old }
+        ensures hears { Hears K.told K.waits K.listens (result ≢ Err Refusal.HostMemory) (purges_made (pointer_to_hand
+            bytes.now) self.old.memory.heap) sink.old sink.new }
+        ensures stops { result ≡ Err Refusal.HostMemory → Stops S.TAKES_HOST K.told K.listens KeepsNames (Unreserved
+            self.old.memory) (Some (slot_step nothing self.old.memory.heap)) self.old self.new sink.old sink.new }
+        ensures answer { IsAnswer (doing (pointer_to_hand bytes.now) self.old.memory) result self.new.memory }
+        ensures lies { self.new.memory.window ≡ self.old.memory.window }
+    {
+        let answer = self.copy_bytes(bytes, sink);
+        self.note_refusal(answer)
+    }
+
+    /// Makes a new handle with a copy of bytes, counts the searches for room, and reports the blocks that are purged to
+    /// a sink, if it listens.
+    fn copy_bytes<K: PurgeSink>(&mut self, bytes: &[u8], sink: &mut K) -> Result<usize, Refusal>
+        requires idle { IsIdle K.told K.waits sink.old }
+        ensures hears { Hears K.told K.waits K.listens (result ≢ Err Refusal.HostMemory) (purges_made (pointer_to_hand
+            bytes.now) self.old.memory.heap) sink.old sink.new }
+        ensures stops { result ≡ Err Refusal.HostMemory → Stops S.TAKES_HOST K.told K.listens KeepsNames (Unreserved
+            self.old.memory) (Some (slot_step nothing self.old.memory.heap)) self.old self.new sink.old sink.new }
+        ensures answer { IsAnswer (doing_silently (pointer_to_hand bytes.now) self.old.memory) result self.new.memory }
+        ensures lies { self.new.memory.window ≡ self.old.memory.window }
+    {
+        self.fill_handle(bytes, Flags::NONE, sink)
     }
 
     /// Makes a new handle with a copy of the bytes of another handle's block, counts the searches for room, and reports

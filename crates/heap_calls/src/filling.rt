@@ -169,7 +169,7 @@ impl<S: BlockStore> Heap<S> {
 
     /// Makes a new handle, an application's own, with a block of these bytes and properties, counts the searches for
     /// room, and reports the blocks that are purged to a sink, if it listens.
-    fn fill_handle<K: PurgeSink>(
+    pub(crate) fn fill_handle<K: PurgeSink>(
         &mut self,
         bytes: &[u8],
         flags: Flags,

@@ -2,5 +2,9 @@ pub mod Walking
 pub mod Passing
 pub mod Appending
 pub mod Moving
+pub mod Binned
+pub mod Gathering
+pub mod Whole
 mod Rows
 mod StepRows
+mod StripRows

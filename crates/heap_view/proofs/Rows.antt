@@ -7,7 +7,8 @@ use Rattle.heap_view.specs.declared.line.Shape.TheVariants as shape
 use Rattle.heap_view.specs.declared.style.Style.TheVariants as style
 use Rattle.heap_view.specs.declared.totals.Class.TheVariants as class
 use Rattle.heap_view.specs.Line.{Known, Line, lines, no_tag}
-use Rattle.heap_view.specs.Svg.{strip_block, cell_box, escaped}
+use Rattle.heap_view.specs.Drawing.{escaped}
+use Rattle.heap_view.specs.Svg.{cell_box}
 use Rattle.heap_view.specs.Text.{line_text, type_text}
 use Rattle.heap_view.specs.Totals.{counted, sized, largest_of}
 
@@ -76,11 +77,8 @@ line-tabs = refl
 types : (type_text (1 ∷ 65 ∷ 66 ∷ 67 ∷ []) ≡ codes "$01414243") × (type_text (codes "IT'S") ≡ codes "$49542753")
 types = (refl, refl)
 
-block-strip : strip_block held ≡ codes "<rect class=\"r l\" x=\"320\" width=\"128\" height=\"100%\"/>\n"
-unfolding strip_block digits
-block-strip = refl
-
-box-marked : cell_box held.shape ≡ codes "<rect class=\"c r l\" width=\"152\" height=\"68\"/>"
+-- a cell of a locked block
+box-marked : cell_box held.shape ≡ codes "<rect class=\"r l\" width=\"168\" height=\"68\"/>"
 unfolding digits
 box-marked = refl
 

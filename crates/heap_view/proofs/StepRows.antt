@@ -3,9 +3,10 @@ use Rattle.std.proofs.Common.{◌≡◌, ℕ, List, [], ◌∷◌, Some, None, r
 use Rattle.std.specs.Fmt.{digits}
 use Rattle.block_store.specs.Block.{no_flags}
 use Rattle.block_store.specs.declared.sparing.Seen.TheVariants as see
+use Rattle.heap_view.specs.declared.strip.Window.{Window}
+use Rattle.heap_view.specs.Drawing.{line_sizes}
 use Rattle.heap_view.specs.Line.{Known, Line, Tag, lines, no_tag}
-use Rattle.heap_view.specs.Steps.{arrow, arrow_of, arrows, extent_of, greatest_size, moment_caption}
-use Rattle.heap_view.specs.Svg.{line_sizes}
+use Rattle.heap_view.specs.Steps.{arrow, arrow_of, arrows, extent_of, greatest_size, moment_caption, passed_text, passed_words}
 
 abbrev numbered : ℕ → Tag
 numbered n = record { name = None; owner = None; number = Some n }
@@ -32,32 +33,58 @@ places : (extent_of lower 0 ≡ None) × (extent_of lower 1 ≡ Some (record { p
     × (extent_of lower 3 ≡ Some (record { place = 784; size = 128 }))
 places = (refl, refl, refl, refl)
 
+-- all of the zone, and its upper half
+abbrev whole : Window
+whole = record { from = 0; width = 1024 }
+
+abbrev half : Window
+half = record { from = 512; width = 512 }
+
 -- the arrow of the block that moved, from 592 of 1024 bytes to 720
-arrow-moved : arrow_of 1024 (extent_of lower) (record { place = 528; size = 128 }) (Some 2)
-    ≡ codes "<line x1=\"548\" x2=\"666\" y2=\"44\"/>\n"
+arrow-moved : arrow_of whole (extent_of lower) (record { place = 528; size = 128 }) (Some 2)
+    ≡ codes "<line x1=\"402\" x2=\"489\" y2=\"54\"/>\n"
 unfolding arrow digits
 arrow-moved = refl
 
+-- in the upper half, from 80 of 512 bytes to 208
+arrow-half : arrow_of half (extent_of lower) (record { place = 528; size = 128 }) (Some 2)
+    ≡ codes "<line x1=\"108\" x2=\"282\" y2=\"54\"/>\n"
+unfolding arrow digits
+arrow-half = refl
+
 -- none for a block that stayed, that was purged, or that is not known again
-arrow-none : (arrow_of 1024 (extent_of lower) (record { place = 400; size = 128 }) (Some 1) ≡ [])
-    × (arrow_of 1024 (extent_of lower) (record { place = 272; size = 128 }) (Some 0) ≡ [])
-    × (arrow_of 1024 (extent_of lower) (record { place = 0; size = 272 }) None ≡ [])
+arrow-none : (arrow_of whole (extent_of lower) (record { place = 400; size = 128 }) (Some 1) ≡ [])
+    × (arrow_of whole (extent_of lower) (record { place = 272; size = 128 }) (Some 0) ≡ [])
+    × (arrow_of whole (extent_of lower) (record { place = 0; size = 272 }) None ≡ [])
 arrow-none = (refl, refl, refl)
 
--- of all blocks only one has an arrow: the block that was made has none
-arrows-all : arrows 1024 (extent_of lower) upper ≡ codes "<line x1=\"548\" x2=\"666\" y2=\"44\"/>\n"
+-- of all blocks only one has an arrow: the block that was made has none; nor has one that does not stand alone
+arrows-all : (arrows whole 3 (extent_of lower) upper ≡ codes "<line x1=\"402\" x2=\"489\" y2=\"54\"/>\n")
+    × (arrows whole 200 (extent_of lower) upper ≡ [])
 unfolding arrow digits
-arrows-all = refl
+arrows-all = (refl, refl)
 
 -- back from the lower strip to the upper one, the block that was made has no arrow, since the upper one has none of it
-arrows-back : arrows 1024 (extent_of upper) lower ≡ codes "<line x1=\"666\" x2=\"548\" y2=\"44\"/>\n"
+arrows-back : arrows whole 3 (extent_of upper) lower ≡ codes "<line x1=\"489\" x2=\"402\" y2=\"54\"/>\n"
 unfolding arrow digits
 arrows-back = refl
 
 -- the scale is that of the largest zone
-scale-greatest : greatest_size (record { caption = codes "1 NewHandle 0"; lines = upper }
-    ∷ record { caption = codes "2 NewHandle 0"; lines = lower } ∷ record { caption = []; lines = [] } ∷ []) ≡ 1024
+scale-greatest : greatest_size (record { number = 1; caption = codes "1 NewHandle a 100"; passed = None; lines = upper }
+    ∷ record { number = 2; caption = codes "2 NewHandle b 100"; passed = None; lines = lower } ∷ record { number = 3; caption = []; passed = None; lines = [] } ∷ []) ≡ 1024
 scale-greatest = refl
 
-caption-escaped : moment_caption (codes "3 <NewHandle> 0") ≡ codes "<text x=\"-216\" y=\"70\">3 &lt;NewHandle&gt; 0</text>\n"
+caption-escaped : moment_caption (codes "3 <NewHandle> 0") ≡ codes "<text class=\"h\" y=\"-14\">3 &lt;NewHandle&gt; 0</text>\n"
+unfolding moment_caption
 caption-escaped = refl
+
+-- one call that changed nothing, and several
+passed-one : passed_text (Some (record { first = 9; last = 9 }))
+    ≡ codes "<text class=\"h\" x=\"696\" y=\"-14\" text-anchor=\"end\">9: nothing moved</text>\n"
+unfolding passed_words digits
+passed-one = refl
+
+passed-several : passed_text (Some (record { first = 9; last = 14 }))
+    ≡ codes "<text class=\"h\" x=\"696\" y=\"-14\" text-anchor=\"end\">9 to 14: nothing moved</text>\n"
+unfolding passed_words digits
+passed-several = refl

@@ -3,5 +3,8 @@ pub mod View
 pub mod Text
 pub mod Totals
 pub mod Inner
+pub mod Drawing
+pub mod Strip
 pub mod Svg
 pub mod Steps
+pub mod Quiet

@@ -40,7 +40,8 @@ is_relocatable shape.Nonrelocatable = false
 is_relocatable shape.Masters = false
 is_relocatable (shape.Relocatable flags) = true
 
--- The blocks of a class: of a kind; of the relocatable ones those that are locked, and those that may be purged; or all.
+-- The blocks of a class: of a kind; of the relocatable ones those that are locked, and those that may be purged; those that
+-- are neither locked nor purgeable, locked alone, or both; or all.
 abbrev pub in_class : Class → Shape → Bool
 in_class class.Free s = is_free s
 in_class class.Nonrelocatable s = is_nonrelocatable s
@@ -48,6 +49,9 @@ in_class class.Masters s = is_masters s
 in_class class.Relocatable s = is_relocatable s
 in_class class.Locked s = is_locked s
 in_class class.Purgeable s = is_purgeable s && not (is_locked s)
+in_class class.Unmarked s = is_relocatable s && not (is_locked s) && not (is_purgeable s)
+in_class class.LockedOnly s = is_locked s && not (is_purgeable s)
+in_class class.Both s = is_locked s && is_purgeable s
 in_class class.All s = true
 
 -- How many blocks of a class there are, and their physical sizes, summed.
@@ -80,6 +84,9 @@ class_text class.Masters = codes "master pointers"
 class_text class.Relocatable = codes "relocatable"
 class_text class.Locked = codes "locked"
 class_text class.Purgeable = codes "may be purged"
+class_text class.Unmarked = codes "relocatable"
+class_text class.LockedOnly = codes "locked"
+class_text class.Both = codes "locked and purgeable"
 class_text class.All = codes "zone"
 
 -- The line with the totals of a class; those of the kinds; and those of the marked blocks and of the whole zone.

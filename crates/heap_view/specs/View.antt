@@ -5,6 +5,7 @@ use Rattle.heap_view.specs.Line.{Known, Line, no_tag}
 use Rattle.heap_view.specs.Line as view
 use Rattle.heap_view.specs.Steps as steps
 use Rattle.heap_view.specs.declared.line.BlockLine.{BlockLine}
+use Rattle.heap_view.specs.declared.line.KeptLine.{KeptLine}
 use Rattle.heap_view.specs.declared.line.Moment.{Moment}
 use Rattle.heap_view.specs.declared.line.Tag.{Tag}
 
@@ -22,8 +23,17 @@ view_line l = record {
   tag = view_tag l.tag;
 }
 
+abbrev pub view_kept : KeptLine → Line
+view_kept l = record {
+  place = l.place;
+  size = l.size;
+  shape = l.shape;
+  bytes = l.bytes;
+  tag = record { name = option_map (λ n. n.0.items) l.name; owner = l.owner; number = l.number };
+}
+
 abbrev pub view_moment : Moment → steps.Moment
-view_moment m = record { caption = m.caption.items; lines = map view_line m.lines.items }
+view_moment m = record { number = m.number; caption = m.caption.items; passed = m.passed; lines = map view_kept m.lines.items }
 
 -- What a map has of a handle or a pointer; nothing is known of one that is not in the map.
 abbrev pub tag_in : Option Tag → view.Tag

@@ -3,20 +3,27 @@
 #![tactic(auto)]
 
 mod drawing;
+mod gather;
+mod kept;
+mod laws;
 mod line;
 mod lines;
 mod steps;
+mod strip;
 mod style;
 mod svg;
 mod text;
 mod totals;
 mod walk;
 
-pub use line::{BlockLine, Moment, Owner, Shape, Tag};
+pub use gather::add_moment;
+pub use kept::kept_of;
+pub use laws::{each_block_is_drawn, each_part_is_drawn, pictures_are_low};
+pub use line::{BlockLine, KeptLine, Moment, Owner, Passed, Shape, Tag};
 pub use lines::lines_of;
 pub use steps::write_steps_svg;
 pub use style::Style;
-pub use svg::write_svg;
+pub use svg::{Part, write_svg};
 pub use text::widest;
 pub use totals::{Class, Largest, largest_of, write_zone};
 pub use walk::blocks_of;

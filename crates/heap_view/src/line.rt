@@ -47,11 +47,34 @@ pub struct BlockLine<'a> {
     pub tag: Tag<'a>,
 }
 
+/// A block as it is shown beside those of other moments, with a name of its own.
+#[derive(Drop)]
+pub struct KeptLine {
+    pub place: u32,
+    pub size: u32,
+    pub shape: Shape,
+    pub bytes: u32,
+    pub name: Option<Label>,
+    pub owner: Option<Owner>,
+    pub number: Option<usize>,
+}
+
+/// Calls of a script after a moment that changed nothing, by the numbers of the first and the last line.
+#[derive(Clone, Copy, Debug)]
+pub struct Passed {
+    pub first: usize,
+    pub last: usize,
+}
+
 /// A moment of a zone, as it is shown beside others.
 #[derive(Drop)]
-pub struct Moment<'a> {
-    /// The words for the moment, of which the first 33 bytes are shown.
+pub struct Moment {
+    /// The number of the line of its call.
+    pub number: usize,
+    /// The words for the moment, of which the first 62 bytes are shown.
     pub caption: Vec<u8>,
+    /// The calls after it that changed nothing.
+    pub passed: Option<Passed>,
     /// The blocks of the zone, lowest first.
-    pub lines: Vec<BlockLine<'a>>,
+    pub lines: Vec<KeptLine>,
 }

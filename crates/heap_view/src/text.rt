@@ -59,7 +59,7 @@ fn marked(holds: bool, word: &[u8]) -> &[u8]
 }
 
 /// Returns a name, or `-` where there is none.
-fn name_text<'a>(name: Option<&'a Label>) -> &'a [u8]
+pub fn name_text<'a>(name: Option<&'a Label>) -> &'a [u8]
     ensures { result.now ≡ name_text (option_map (λ n. n.now.0.items) name.entry) }
 {
     match name {

@@ -29,6 +29,12 @@ pub enum Class {
     Locked,
     /// The relocatable blocks that are purgeable, and not locked.
     Purgeable,
+    /// The relocatable blocks that are neither locked nor purgeable.
+    Unmarked,
+    /// The relocatable blocks that are locked, and not purgeable.
+    LockedOnly,
+    /// The relocatable blocks that are locked and purgeable.
+    Both,
     All,
 }
 
@@ -54,12 +60,17 @@ fn is_in(class: Class, shape: Shape) -> bool
         Class::Relocatable => matches!(shape, Shape::Relocatable(_)),
         Class::Locked => is_locked(shape),
         Class::Purgeable => is_purgeable(shape) && !is_locked(shape),
+        Class::Unmarked => {
+            matches!(shape, Shape::Relocatable(_)) && !is_locked(shape) && !is_purgeable(shape)
+        }
+        Class::LockedOnly => is_locked(shape) && !is_purgeable(shape),
+        Class::Both => is_locked(shape) && is_purgeable(shape),
         Class::All => true,
     }
 }
 
 /// Returns the number of blocks of a class.
-fn count(class: Class, lines: &[BlockLine<'_>]) -> usize
+pub fn count(class: Class, lines: &[BlockLine<'_>]) -> usize
     ensures { result ≡ counted class (map view_line lines.now) }
 {
     let mut count = 0;
@@ -72,8 +83,9 @@ fn count(class: Class, lines: &[BlockLine<'_>]) -> usize
 }
 
 /// Returns the physical sizes of the blocks of a class, summed.
-fn bytes(class: Class, lines: &[BlockLine<'_>]) -> u128
-    ensures { result ≡ sized class (map view_line lines.now) }
+pub fn bytes(class: Class, lines: &[BlockLine<'_>]) -> u128
+    ensures sum { result ≡ sized class (map view_line lines.now) }
+    ensures small { result < 2 ^ 96 }
 {
     let mut bytes: u128 = 0;
     for line in lines {
@@ -147,7 +159,7 @@ pub fn largest_of<S: BlockStore>(store: &S, blocks: &[Seen]) -> Largest
 }
 
 /// Returns the word for a class.
-fn class_text(class: Class) -> &'static [u8]
+pub fn class_text(class: Class) -> &'static [u8]
     ensures { result.now ≡ class_text class }
 {
     match class {
@@ -157,6 +169,9 @@ fn class_text(class: Class) -> &'static [u8]
         Class::Relocatable => b"relocatable",
         Class::Locked => b"locked",
         Class::Purgeable => b"may be purged",
+        Class::Unmarked => b"relocatable",
+        Class::LockedOnly => b"locked",
+        Class::Both => b"locked and purgeable",
         Class::All => b"zone",
     }
 }

@@ -22,6 +22,7 @@ use Rattle.job_tasks.specs.Loading.{AppFork, Given, part_seen, path_of, own_path
 use Rattle.job_tasks.specs.Outputs.{Written, source_at, forks_within, log_within}
 use Rattle.job_tasks.specs.Running.{write_of}
 use Rattle.job_tasks.specs.Tasks.{IsScriptFault}
+use Rattle.job_tasks.specs.declared.work.Lines.{Lines}
 use Rattle.job_tasks.specs.declared.work.ToldLines.{ToldLines}
 use Rattle.job_tasks.specs.Work.{sight_of, telling_of}
 
@@ -96,6 +97,11 @@ abbrev pub words_of : Playing → ToldLines → List (List ℕ) → App → Reso
 words_of play lines texts app resources =
     telling_text (telling_of lines app.script.steps) resources play.size.bytes app.script (script_among texts)
 
+-- Its zone after the steps up to some lines, or a picture of moments.
+abbrev pub zone_shown : Playing → Lines → List (List ℕ) → App → Resources → List ℕ
+zone_shown play lines texts app resources =
+    sight_text (sight_of lines app.script.steps) resources play.size.bytes app.script (script_among texts)
+
 -- What the application leaves that takes all its steps alone, with these resources.
 abbrev pub leaves_alone : Playing → App → Resources → Alone
 leaves_alone play app resources = to_its_end resources play.size.bytes app.script
@@ -120,7 +126,7 @@ DoesPlay play (work.Words lines) texts app sources resources p q old new =
 DoesPlay play (work.Leavings folder) texts app sources resources p q old new =
     (q ≡ p) × (new ≡ and_then old (writes_alone folder.now sources (leaves_alone play app resources)))
 DoesPlay play (work.Zone lines) texts app sources resources p q old new =
-    Delivers Printed (sight_text (sight_of lines app.script.steps) resources play.size.bytes app.script) p q old new
+    Delivers Printed (zone_shown play lines texts app resources) p q old new
 
 -- It was not done to its end.
 abbrev pub IsPlayUndone : Playing → PlayWork → List (List ℕ) → App → List GivenSource → Resources
@@ -132,7 +138,7 @@ IsPlayUndone play (work.Words lines) texts app sources resources p q old new mes
 IsPlayUndone play (work.Leavings folder) texts app sources resources p q old new message = (q ≡ p)
     × StopsAmong (writes_alone folder.now sources (leaves_alone play app resources)) old new message
 IsPlayUndone play (work.Zone lines) texts app sources resources p q old new message =
-    IsUndelivered Printed (sight_text (sight_of lines app.script.steps) resources play.size.bytes app.script) p q old new message
+    IsUndelivered Printed (zone_shown play lines texts app resources) p q old new message
 
 -- All was read, and what was asked for was done. No other file was read or written.
 abbrev pub Plays : Playing → Option (List ℕ) → Option (List ℕ) → Option (List Access) → Option (List Access) → Type 0

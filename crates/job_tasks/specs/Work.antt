@@ -35,7 +35,7 @@ IsTranscriptOf n text out =
 -- to one line and after each further step up to another line, as a picture.
 abbrev pub sight_of : Lines → List Line → Sight
 sight_of (lines.One line form) steps = sight.Zone (steps_at line steps) form
-sight_of (lines.Each from to) steps = sight.Moments (steps_at (Some from) steps) (steps_at (Some to) steps)
+sight_of (lines.Each from to strips) steps = sight.Moments (steps_at (Some from) steps) (steps_at (Some to) steps) strips
 
 -- How much of the transcript of an application with these steps is told in words: all of it, to the end of the script; or the
 -- steps from one line to another.
@@ -46,7 +46,7 @@ telling_of (told.Each from to) steps = telling.Steps (steps_at (Some (from - 1))
 -- What is shown of a script's application, by the steps of the script's text.
 abbrev pub IsZoneOf : ZoneView → List ℕ → List ℕ → Type 0
 IsZoneOf asked text out = (script : ScriptParts) × (script_of text ≡ Ok (spelled script))
-    × (out ≡ sight_text (sight_of asked.lines script.steps) own_resources asked.size.bytes script)
+    × (out ≡ sight_text (sight_of asked.lines script.steps) own_resources asked.size.bytes script text)
 
 -- The listing of the resource fork in the bytes of a file: that of the content which the fork's bytes spell.
 abbrev pub IsListingOf : Spelling → List ℕ → List ℕ → Type 0

@@ -101,7 +101,8 @@ fn show_alone(
     ensures { IfOk result (λ text. text.items ≡ zone_behind form resources size.bytes script.now n) }
 {
     let region = Region::new(alloc, size.bytes as usize)?;
-    let (shown, region) = show_in_region(alloc, region, resources, script, Sight::Zone(n, form));
+    let sight = Sight::Zone(n, form);
+    let (shown, region) = show_in_region(alloc, region, resources, script, b"", sight);
     region.close();
     match shown {
         Ok(text) => Ok(text),

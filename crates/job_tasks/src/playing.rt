@@ -320,23 +320,24 @@ fn ran<W: Watch>(
 }
 
 /// Runs a script up to some lines in a fresh partition, which is a region of its own, and returns the zone as it then lies, or
-/// a picture of its moments.
+/// a picture of its moments. `text` is the text of the script.
 fn shown(
     alloc: Global,
     size: PartitionSize,
     resources: Resources,
     script: &Script,
+    text: &[u8],
     lines: Lines,
 ) -> Result<Vec<u8>, AllocError>
-    ensures { IfOk result (λ text. text.items
-        ≡ sight_text (sight_of lines script.now.steps) resources size.bytes script.now) }
+    ensures { IfOk result (λ out. out.items
+        ≡ sight_text (sight_of lines script.now.steps) resources size.bytes script.now text.now) }
 {
     let region = Region::new(alloc, size.bytes as usize)?;
     let sight = sight_of(lines, script);
-    let (shown, region) = show_in_region(alloc, region, resources, script, sight);
+    let (shown, region) = show_in_region(alloc, region, resources, script, text, sight);
     region.close();
     match shown {
-        Ok(text) => Ok(text),
+        Ok(out) => Ok(out),
         Err(fault) => Err(fault),
     }
 }
@@ -511,24 +512,25 @@ fn write_leavings<H: Host, W: Watch>(
     written(alloc, host, folder, &player.sources, given, room)
 }
 
-/// Runs a script up to some lines, and prints the zone.
+/// Runs a script up to some lines, and prints the zone. `text` is the text of the script.
 fn print_zone<H: Host>(
     alloc: Global,
     host: &mut H,
     play: &Playing<'_>,
     resources: Resources,
     script: &Script,
+    text: &[u8],
     lines: Lines,
 ) -> Result<(), ToolFault>
     ensures done { OnOk result (Delivers Printed
-        (sight_text (sight_of lines script.now.steps) resources play.now.size.bytes script.now)
+        (sight_text (sight_of lines script.now.steps) resources play.now.size.bytes script.now text.now)
         (H.printed host.old) (H.printed host.new) (H.accesses host.old) (H.accesses host.new)) }
     ensures undone { IfErr result (λ fault. IsUndelivered Printed
-        (sight_text (sight_of lines script.now.steps) resources play.now.size.bytes script.now)
+        (sight_text (sight_of lines script.now.steps) resources play.now.size.bytes script.now text.now)
         (H.printed host.old) (H.printed host.new) (H.accesses host.old) (H.accesses host.new) (message_of fault)) }
 {
-    let text = shown(alloc, play.size, resources, script, lines)?;
-    deliver(alloc, host, Target::Printed, text.as_slice())
+    let out = shown(alloc, play.size, resources, script, text, lines)?;
+    deliver(alloc, host, Target::Printed, out.as_slice())
 }
 
 /// An application, and the texts that were read for it, the script first.
@@ -577,7 +579,9 @@ fn do_work<H: Host, W: Watch>(
         PlayWork::Leavings(folder) => {
             write_leavings(alloc, host, play, resources, player, folder, watch)
         }
-        PlayWork::Zone(lines) => print_zone(alloc, host, play, resources, script, lines),
+        PlayWork::Zone(lines) => {
+            print_zone(alloc, host, play, resources, script, taken.script(), lines)
+        }
     }
 }
 

@@ -15,7 +15,7 @@ use std::alloc::{AllocError, Global};
 use zone_view::{Sight, Telling, show, tell};
 
 /// Runs a script as far as is to be shown, as `show` does, in a partition that fills a region, whatever the region's
-/// bytes were. Returns what is shown, and the region.
+/// bytes were. Returns what is shown, and the region. `text` is the text of the script.
 ///
 /// # Errors
 ///
@@ -25,26 +25,27 @@ pub fn show_in_region(
     region: Region,
     resources: Resources,
     script: &Script,
+    text: &[u8],
     sight: Sight,
 ) -> (Result<Vec<u8>, AllocError>, Region)
     requires home { region.out ≡ [] }
     requires even { length region.bytes % 16 ≡ 0 }
     requires low { LEAST_ZONE ≤ length region.bytes }
     requires high { length region.bytes ≤ GREATEST_ZONE }
-    ensures shown { IfOk result.0 (λ text. text.items
-        ≡ sight_text sight resources (length region.bytes) script.now) }
+    ensures shown { IfOk result.0 (λ out. out.items
+        ≡ sight_text sight resources (length region.bytes) script.now text.now) }
     ensures home { result.1.out ≡ [] }
 {
     let mut region = region;
     let len = region.len();
     let zone = RawZone::new(alloc, region.cut(0, len));
-    let (shown, zone) = show(alloc, zone, resources, script, sight);
+    let (shown, zone) = show(alloc, zone, resources, script, text, sight);
     region.join(zone.into_part());
     (shown, region)
 }
 
 /// Runs a script as far as is to be shown in a partition that fills a region, as an application without resources.
-/// Returns what is shown, and the region.
+/// Returns what is shown, and the region. `text` is the text of the script.
 ///
 /// # Errors
 ///
@@ -53,23 +54,24 @@ pub fn show_script(
     alloc: Global,
     region: Region,
     script: &Script,
+    text: &[u8],
     sight: Sight,
 ) -> (Result<Vec<u8>, AllocError>, Region)
     requires home { region.out ≡ [] }
     requires even { length region.bytes % 16 ≡ 0 }
     requires low { LEAST_ZONE ≤ length region.bytes }
     requires high { length region.bytes ≤ GREATEST_ZONE }
-    ensures shown { IfOk result.0 (λ text. text.items
-        ≡ sight_text sight own (length region.bytes) script.now) }
+    ensures shown { IfOk result.0 (λ out. out.items
+        ≡ sight_text sight own (length region.bytes) script.now text.now) }
     ensures home { result.1.out ≡ [] }
 {
     let resources = match own_resources(alloc) {
         Ok(resources) => resources,
         Err(fault) => return (Err(fault), region),
     };
-    let (shown, region) = show_in_region(alloc, region, resources, script, sight);
+    let (shown, region) = show_in_region(alloc, region, resources, script, text, sight);
     match shown {
-        Ok(text) => (Ok(text), region),
+        Ok(out) => (Ok(out), region),
         Err(fault) => (Err(fault), region),
     }
 }

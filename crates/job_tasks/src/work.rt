@@ -19,7 +19,7 @@ use fork_format::{Content, WriteFault, write_fork};
 use raw_region::Region;
 use script_text::{FaultKind, Script, ScriptFault, read_script};
 use std::alloc::{AllocError, Global};
-use zone_view::{Form as ZoneForm, Sight, Telling, steps_at};
+use zone_view::{Form as ZoneForm, Sight, Strips, Telling, steps_at};
 
 /// The form of a resource fork: what its bytes are to its content.
 #[derive(Clone, Copy)]
@@ -79,8 +79,8 @@ pub fn transcript_of<W: Watch>(
 pub enum Lines {
     /// After this line, or after the last step where no line is given, in a form.
     One(Option<usize>, ZoneForm),
-    /// After the first line, and after each further step up to the second line, as a picture.
-    Each(usize, usize),
+    /// After the first line, and after each further step up to the second line, as a picture that is drawn so.
+    Each(usize, usize, Strips),
 }
 
 /// The lines of its script that are told in words.
@@ -118,8 +118,12 @@ pub(crate) fn sight_of(lines: Lines, script: &Script) -> Sight
 {
     match lines {
         Lines::One(line, form) => Sight::Zone(steps_at(line, script), form),
-        Lines::Each(from, to) => {
-            Sight::Moments(steps_at(Some(from), script), steps_at(Some(to), script))
+        Lines::Each(from, to, strips) => {
+            Sight::Moments(
+                steps_at(Some(from), script),
+                steps_at(Some(to), script),
+                strips,
+            )
         }
     }
 }
@@ -138,7 +142,7 @@ pub fn zone_of(alloc: Global, asked: ZoneView, text: &[u8]) -> Result<Vec<u8>, S
         return Err(NO_MEMORY);
     };
     let sight = sight_of(asked.lines, &script);
-    let (shown, region) = show_script(alloc, region, &script, sight);
+    let (shown, region) = show_script(alloc, region, &script, text, sight);
     region.close();
     match shown {
         Ok(shown) => Ok(shown),

@@ -2,10 +2,11 @@
 
 use crate::forks::{NOTE, joined};
 use arrayvec::ArrayVec;
-use block_store::{BlockStore, ListStore};
+use block_store::BlockStore;
 use fork_format::{Content, read_fork, write_fork};
 use heap_calls::{Heap, NoSink, Refusal};
 use lint::script_faults;
+use list_store::ListStore;
 use mac_words::{Attrs, Name, OsErr, OsType, phys};
 use partitions::Grants;
 use res_map::ResFile;

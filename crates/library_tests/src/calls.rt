@@ -1,7 +1,7 @@
 //! A heap over a list of blocks, on which rows of a call and its expected result are run.
 
-use block_store::ListStore;
 use heap_calls::{Heap, NoSink, Refusal};
+use list_store::ListStore;
 use mac_words::OsErr;
 use std::alloc::{AllocError, Global};
 use std::process::Abort;

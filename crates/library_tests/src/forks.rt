@@ -198,3 +198,16 @@ fn one_type_has_5458_references_at_most(rt: HostRuntime) -> Result<(), Fail> {
     assert!(rt; write_fork(rt.alloc(), &more) == Err(WriteFault::TooLarge));
     Ok(())
 }
+
+#[test]
+fn a_content_has_each_type_once(rt: HostRuntime) -> Result<(), Fail> {
+    let mut twice = content_of(rt.alloc(), 1)?;
+    assert!(rt; fits(&twice));
+    let again = content_of(rt.alloc(), 1)?;
+    for group in again.groups {
+        twice.groups.push(group)?;
+    }
+    assert!(rt; !fits(&twice));
+    assert!(rt; write_fork(rt.alloc(), &twice) == Err(WriteFault::TooLarge));
+    Ok(())
+}

@@ -10,6 +10,8 @@ mod forks;
 #[cfg(test)]
 mod heaps;
 #[cfg(test)]
+mod maps;
+#[cfg(test)]
 mod memory;
 #[cfg(test)]
 mod recorder;

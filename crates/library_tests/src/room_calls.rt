@@ -6,8 +6,9 @@ use crate::calls::{
     Answer, BARRED, Call, Name, assert_rows, done, heap_of, made, number as counted,
 };
 use crate::recorder::Recorder;
-use block_store::{Flags, ListStore};
+use block_store::Flags;
 use heap_calls::{Heap, NoSink, PurgeSink};
+use list_store::ListStore;
 use std::alloc::{AllocError, Global};
 use std::process::Abort;
 
@@ -19,6 +20,7 @@ pub enum RoomCall {
     SetHandleSize(Name, u32),
     ReallocateHandle(Name, u32),
     HandToHand(Name),
+    PtrToHand(&'static [u8]),
     HandAndHand(Name, Name),
     PtrAndHand(Name, &'static [u8]),
     NewPointer(u32),
@@ -83,6 +85,7 @@ fn room_answer<K: PurgeSink>(heap: &mut Heap<ListStore>, call: RoomCall, sink: &
             done(heap.reallocate_handle(handle, size, sink))
         }
         RoomCall::HandToHand(handle) => made(heap.hand_to_hand(handle, sink)),
+        RoomCall::PtrToHand(bytes) => made(heap.pointer_to_hand(bytes, sink)),
         RoomCall::HandAndHand(from, to) => done(heap.hand_and_hand(from, to, sink)),
         RoomCall::PtrAndHand(handle, bytes) => done(heap.pointer_and_hand(handle, bytes, sink)),
         RoomCall::NewPointer(size) => made(heap.new_pointer(size, sink)),

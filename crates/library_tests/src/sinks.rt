@@ -52,6 +52,14 @@ fn the_lowest_blocks_that_serve_are_reported(rt: HostRuntime) -> Result<(), Fail
             &[TURQUOISE, VERMILION],
             &[1, 3, 4],
         ),
+        // A copy of 17 bytes takes as many.
+        (
+            &[],
+            RoomCall::PtrToHand(b"ultramarine, cyan"),
+            Answer::Made(4),
+            &[TURQUOISE, VERMILION],
+            &[1, 3, 4],
+        ),
         // 96 bytes: all three, once D has moved down.
         (
             &[],

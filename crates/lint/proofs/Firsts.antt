@@ -10,12 +10,11 @@ use Rattle.script_text.specs.declared.word.CallWord.{CallWord}
 use Rattle.script_text.specs.Reading.{◌>>=◌}
 use Rattle.script_text.specs.Token.{after_blanks}
 use Rattle.script_text.specs.Argument.{Label, Value, Letters, arguments}
-use Rattle.script_text.specs.Call.{may_stand, word_spelled, kinds as kinds_of}
+use Rattle.script_text.specs.Call.{meant, may_stand, word_spelled, kinds as kinds_of}
 use Rattle.script_text.specs.Script.{Above, Begun, Statement, Makes, is_new, with_statement, call_at, grow_at, begin_at}
 use Rattle.script_text.specs.Script.{at_line, end_at, with_token, with_text, read_at, read_from, longest_line, no_lines}
 use Rattle.script_text.specs.Script.{sets_missing, first_missing, lesser, unfinished, unless_unfinished, after_all, script_of}
 use Rattle.script_text.specs.Named.{put_named}
-use Rattle.lint.proofs.Keeping.{call_of}
 use Rattle.lint.specs.Faults.{noted, missing_lines, begun_lines, unfinished_at, faults_from, first, fault}
 use Rattle.lint.specs.Faults.{FirstIsTheReaders, script_faults}
 
@@ -70,6 +69,10 @@ call_numbered n above (Some b) w values numbered = record {
   begun = numbered.begun;
 }
 
+-- the call that a word names, by the values of its arguments
+abbrev call_of : CallWord → Result (List Value) FaultKind → Result (CallWord × List Value) FaultKind
+call_of w r = r >>= λ values. Ok (meant w, values)
+
 call_leaves : (n : ℕ) (above : Above) (w : CallWord) (rest : List ℕ) → Numbered n above
     → Leaves (n + 1) (call_at n above w rest)
 call_leaves n above w rest numbered =
@@ -77,7 +80,7 @@ call_leaves n above w rest numbered =
   where
     cases : (r : Result (List Value) FaultKind) → Leaves (n + 1) (call_of w r >>= λ call.
         Ok (with_statement (record { line = n; said = Makes call.0 call.1 }) above above.begun))
-    cases (Ok values) = call_numbered n above above.begun w values numbered
+    cases (Ok values) = call_numbered n above above.begun (meant w) values numbered
     cases (Err e) = tt
 
 begin_leaves : (n : ℕ) (above : Above) (values : List Value) → Numbered n above

@@ -1,10 +1,3 @@
-mod Digits
-mod Checking
-mod Keeping
-mod Judged
 mod Firsts
 mod Stepping
-mod Lengths
-mod JobInputs
-mod JobKnown
 mod Jobs

@@ -1,65 +1,115 @@
 -- Steps of the functions that judge lines.
-use Rattle.std.proofs.Common.{◌≡◌, ℕ, ◌+◌, false, List, [], ◌∷◌, ◌++◌, Some, None, Result, Ok, Err, refl, sym, ap, ◌∙◌}
+use Rattle.std.proofs.Common.{◌≡◌, ℕ, ◌+◌, true, false, List, [], ◌∷◌, ◌++◌, Option, Some, None, Result, Ok, Err, refl, sym, ap, subst}
+use Rattle.std.proofs.Common.{is_some, length, arith, ◌==◌}
+use Rattle.std.proofs.lemmas.Bool.{eqb-true}
 use Rattle.std.proofs.lemmas.List.{append_assoc}
+use Rattle.std.specs.Option.{ok_or, option_map}
 use Rattle.std.specs.Str.Lines.{lines}
 use Rattle.script_text.specs.declared.fault.FaultKind.{FaultKind}
-use Rattle.script_text.specs.declared.word.CallWord.{CallWord}
-use Rattle.script_text.specs.Reading.{◌>>=◌}
-use Rattle.script_text.specs.Argument.{Value, arguments}
-use Rattle.script_text.specs.Call.{kinds}
-use Rattle.script_text.specs.Script.{no_lines}
-use Rattle.lint.specs.Faults.{fault, script_faults}
-use Rattle.lint.specs.Judging.{Deed, States, Kept, done, is_setting, deed_of, arguments_judged, checked, line_judged}
-use Rattle.lint.specs.Judging.{judged_from, nothing_kept, unfinished_kept}
-use Rattle.std.proofs.Common.{true, length, arith, ◌==◌}
-use Rattle.std.proofs.lemmas.Bool.{eqb-true}
-use Rattle.lint.proofs.Checking.{checked_is, deed_of_other}
-use Rattle.lint.proofs.Judged.{judged_is}
+use Rattle.script_text.specs.declared.fault.FaultKind.TheVariants.{BadArgument}
+use Rattle.script_text.specs.Reading.{◌>>=◌, Fails, OnFault}
+use Rattle.script_text.specs.Script.{Above, Begun, read_at}
+use Rattle.lint.specs.Faults.{begun_lines, faults_from, unfinished_lines}
+use Rattle.script_text.specs.Argument.{Kind, Value, argument, value}
+use Rattle.script_text.specs.Token.{after_blanks, token_at}
+use Rattle.lint.specs.Judging.{kind_of, rest_after}
+use Rattle.lint.specs.Reading.{Halts, OnWrong, Says}
+use Rattle.lint.specs.declared.halt.Halt.{Halt}
+use Rattle.lint.specs.declared.halt.Halt.TheVariants as halt
+use Rattle.lint.specs.declared.wrong.Wrong.{Wrong}
+use Rattle.lint.specs.declared.wrong.Wrong.TheVariants as wrong
 
--- a call whose arguments are as they should be, and which sets no grow-zone script
-pub plain_judged : (w : CallWord) (rest : List ℕ) → is_setting w ≡ false → checked (kinds w) rest ≡ None
-    → arguments_judged w rest ≡ Ok States
-plain_judged w rest other none = cases (arguments (kinds w) rest) (sym (checked_is (kinds w) rest) ∙ none)
-  where
-    cases : (r : Result (List Value) FaultKind) → fault r ≡ None
-        → (r >>= λ values. Ok (deed_of w values)) ≡ Ok States
-    cases (Ok values) e = ap (λ deed. Ok deed) (deed_of_other w values other)
-    cases (Err k) e = absurd (cc)
+-- what is wrong is never that the host is out of memory
+wrong_fails : {Y : Type 0} (w : Wrong) (read : Result Y FaultKind) → Fails (kind_of w) read → read ≡ Err (kind_of w)
+wrong_fails wrong.NoMemory read fails = fails
+wrong_fails _ read fails = fails
 
--- a call with a faulty argument
-pub plain_faulty : (w : CallWord) (rest : List ℕ) (kind : FaultKind) → checked (kinds w) rest ≡ Some kind
-    → arguments_judged w rest ≡ Err kind
-plain_faulty w rest kind some = cases (arguments (kinds w) rest) (sym (checked_is (kinds w) rest) ∙ some)
-  where
-    cases : (r : Result (List Value) FaultKind) → fault r ≡ Some kind
-        → (r >>= λ values. Ok (deed_of w values)) ≡ Err kind
-    cases (Ok values) e = absurd (cc)
-    cases (Err k) e = cc
+wrong_faults : (X : Type 0) (holds : Type 0) (w : Wrong) → OnFault {X = X} (Err (kind_of w)) holds → holds
+wrong_faults X holds wrong.NoMemory kept = kept
+wrong_faults X holds _ kept = kept
 
--- a line that does something
-pub ok_line : (n : ℕ) (k new : Kept) (line : List ℕ) (deed : Deed) (front : List (ℕ × FaultKind))
-    → line_judged k line ≡ Ok deed → new ≡ done n k deed → (more : List (List ℕ))
-    → front ++ judged_from (n + 1) new more ≡ front ++ judged_from n k (line ∷ more)
-ok_line n k new line deed front judged made more = rw (judged, made) refl
+-- a line is halted by the fault of which something is said
+pub said_so : {Y : Type 0} (kind : FaultKind) (h : Halt) (read : Result Y FaultKind) → Says kind h → Fails kind read
+    → Halts h read
+said_so kind halt.HostMemory read says fails = tt
+said_so kind (halt.Wrong found) read says fails =
+    wrong_fails found.wrong read (subst (λ k. Fails k read) (sym says) fails)
+
+pub bad_so : {Y : Type 0} (h : Halt) (read : Result Y FaultKind) → Says BadArgument h → read ≡ Err BadArgument
+    → Halts h read
+bad_so h read says fails = said_so BadArgument h read says fails
+
+-- so it is where more is read after it
+pub said_on : {Y Z : Type 0} (kind : FaultKind) (h : Halt) (read : Result Y FaultKind) (go_on : Y → Result Z FaultKind)
+    → Says kind h → Fails kind read → Halts h (read >>= go_on)
+said_on kind halt.HostMemory read go_on says fails = tt
+said_on kind (halt.Wrong found) read go_on says fails =
+    ap (λ r. r >>= go_on) (said_so kind (halt.Wrong found) read says fails)
+
+-- what is found is there, whatever it is seen as
+pub found_some : {X Y : Type 0} (seen : X → Y) (found : Option X) (sought : Option Y) → option_map seen found ≡ sought
+    → is_some found ≡ is_some sought
+found_some seen None sought same = ap is_some same
+found_some seen (Some x) sought same = ap is_some same
+
+-- an argument whose token is read
+some_rest : (found : Option Value) (rest : List ℕ) → is_some found ≡ true
+    → Some rest ≡ rest_after (ok_or found BadArgument >>= λ v. Ok (v, rest))
+some_rest None rest there = absurd (cc)
+some_rest (Some v) rest there = refl
+
+pub argument_there : (k : Kind) (text token rest : List ℕ) → token_at (after_blanks text) ≡ Ok (token, rest)
+    → is_some (value k token) ≡ true → Some rest ≡ rest_after (argument k text)
+unfolding argument
+argument_there k text token rest cut there = rw cut (some_rest (value k token) rest there)
+
+-- an argument whose token is none
+none_rest : (found : Option Value) (rest : List ℕ) → is_some found ≡ false
+    → None ≡ rest_after (ok_or found BadArgument >>= λ v. Ok (v, rest))
+none_rest None rest there = refl
+none_rest (Some v) rest there = absurd (cc)
+
+pub argument_not : (k : Kind) (text token rest : List ℕ) → token_at (after_blanks text) ≡ Ok (token, rest)
+    → is_some (value k token) ≡ false → None ≡ rest_after (argument k text)
+unfolding argument
+argument_not k text token rest cut there = rw cut (none_rest (value k token) rest there)
+
+-- what a fault leaves is left where something is wrong
+pub left_so : (X Y : Type 0) (holds : Type 0) (kind : FaultKind) (h : Halt) → Says kind h
+    → OnFault {X = X} (Err kind) holds → OnWrong {X = Y} (Err h) holds
+left_so X Y holds kind halt.HostMemory says kept = tt
+left_so X Y holds kind (halt.Wrong found) says kept =
+    wrong_faults X holds found.wrong (subst (λ k. OnFault {X = X} (Err k) holds) (sym says) kept)
+
+-- a line that is read
+pub ok_line : (n : ℕ) (above new : Above) (line : List ℕ) (front : List (ℕ × FaultKind))
+    → read_at n above line ≡ Ok new → (more : List (List ℕ))
+    → front ++ faults_from (n + 1) new more ≡ front ++ faults_from n above (line ∷ more)
+ok_line n above new line front read more = rw read refl
 
 -- a faulty line
-pub err_line : (n : ℕ) (k : Kept) (line : List ℕ) (kind : FaultKind) (front new : List (ℕ × FaultKind))
-    → line_judged k line ≡ Err kind → new ≡ front ++ (n, kind) ∷ [] → (more : List (List ℕ))
-    → new ++ judged_from (n + 1) k more ≡ front ++ judged_from n k (line ∷ more)
-err_line n k line kind front new judged made more =
-    rw (judged, made) (append_assoc front ((n, kind) ∷ []) (judged_from (n + 1) k more))
+pub err_line : (n : ℕ) (above : Above) (line : List ℕ) (kind : FaultKind) (front new : List (ℕ × FaultKind))
+    → read_at n above line ≡ Err kind → new ≡ front ++ (n, kind) ∷ [] → (more : List (List ℕ))
+    → new ++ faults_from (n + 1) above more ≡ front ++ faults_from n above (line ∷ more)
+err_line n above line kind front new read made more =
+    rw (read, made) (append_assoc front ((n, kind) ∷ []) (faults_from (n + 1) above more))
 
 -- one more fault
 pub said_more : (front new rest : List (ℕ × FaultKind)) (f : ℕ × FaultKind) → new ≡ front ++ f ∷ []
     → new ++ rest ≡ front ++ f ∷ rest
 said_more front new rest f made = rw made (append_assoc front (f ∷ []) rest)
 
--- all lines
-pub all_judged : (text : List ℕ) → judged_from 1 nothing_kept (lines text) ≡ script_faults text
-unfolding script_faults
-all_judged text = judged_is 1 no_lines (lines text)
+-- a grow-zone script that is begun, and none
+pub begun_there : (begun : Option Begun) (n : ℕ) → Some n ≡ option_map (λ b. b.line) begun → begun_lines begun ≡ n ∷ []
+begun_there None n is = absurd (cc)
+begun_there (Some b) n is = let same : b.line ≡ n = cc in ap (λ m. m ∷ []) same
+
+pub begun_not : (begun : Option Begun) → None ≡ option_map (λ b. b.line) begun → begun_lines begun ≡ []
+begun_not None is = refl
+begun_not (Some b) is = absurd (cc)
 
 -- no lines
-pub at_end : (n : ℕ) (k : Kept) (rest : List ℕ) → (length rest == 0) ≡ true → judged_from n k (lines rest) ≡ unfinished_kept k
-at_end n k [] empty = refl
-at_end n k (b ∷ rest) empty = let no : ⊥ = omega (arith, eqb-true (length (b ∷ rest)) 0 empty) in absurd no
+pub at_end : (n : ℕ) (above : Above) (rest : List ℕ) → (length rest == 0) ≡ true
+    → faults_from n above (lines rest) ≡ unfinished_lines above
+at_end n above [] empty = refl
+at_end n above (b ∷ rest) empty = let no : ⊥ = omega (arith, eqb-true (length (b ∷ rest)) 0 empty) in absurd no

@@ -7,10 +7,6 @@ struct AbsentCall {
     instead: &'static str,
 }
 
-const NEW_HANDLE: &str = "use NewHandle, whose new bytes are 0";
-
-const NEW_POINTER: &str = "use NewPtr, whose new bytes are 0";
-
 const NO_ADDRESS: &str = "an address is an offset, and has no flags: leave the line out";
 
 const NO_STACK: &str = "a partition has no stack: leave the line out";
@@ -18,7 +14,7 @@ const NO_STACK: &str = "a partition has no stack: leave the line out";
 const ONE_ZONE: &str = "the partition is the one zone: leave the line out";
 
 /// The calls that are not here.
-const ABSENT: [AbsentCall; 24] = [
+const ABSENT: [AbsentCall; 27] = [
     AbsentCall {
         word: "ApplicationZone",
         instead: ONE_ZONE,
@@ -56,6 +52,14 @@ const ABSENT: [AbsentCall; 24] = [
         instead: ONE_ZONE,
     },
     AbsentCall {
+        word: "HClrRBit",
+        instead: "a handle has the resource bit while it is a resource's: use DetachResource",
+    },
+    AbsentCall {
+        word: "HSetRBit",
+        instead: "a handle has the resource bit while it is a resource's: use AddResource",
+    },
+    AbsentCall {
         word: "HandleZone",
         instead: ONE_ZONE,
     },
@@ -72,12 +76,12 @@ const ABSENT: [AbsentCall; 24] = [
         instead: ONE_ZONE,
     },
     AbsentCall {
-        word: "NewHandleClear",
-        instead: NEW_HANDLE,
+        word: "Munger",
+        instead: "use SetHandleSize, and Put with the bytes",
     },
     AbsentCall {
-        word: "NewPtrClear",
-        instead: NEW_POINTER,
+        word: "PtrToXHand",
+        instead: "use SetHandleSize, and Put with the bytes",
     },
     AbsentCall {
         word: "PtrZone",
@@ -96,10 +100,6 @@ const ABSENT: [AbsentCall; 24] = [
         instead: ONE_ZONE,
     },
     AbsentCall {
-        word: "SizeResource",
-        instead: "use GetResourceSizeOnDisk",
-    },
-    AbsentCall {
         word: "StackSpace",
         instead: NO_STACK,
     },
@@ -114,6 +114,14 @@ const ABSENT: [AbsentCall; 24] = [
     AbsentCall {
         word: "TempNewHandle",
         instead: "there is no temporary memory: use NewHandle",
+    },
+    AbsentCall {
+        word: "Unique1ID",
+        instead: "take an ID that no resource of the type has",
+    },
+    AbsentCall {
+        word: "UniqueID",
+        instead: "take an ID that no resource of the type has",
     },
 ];
 

@@ -1,30 +1,101 @@
-//! Judging the arguments of a line.
+//! The words of a faulty line, and which of its arguments is at fault.
 
-ghost use Rattle.std.specs.Prelude.{◌≡◌, ◌≤◌, [], ◌∷◌, length, map};
+ghost use Rattle.std.specs.Prelude.{◌≡◌, IfOk, Some, None};
+ghost use Rattle.std.specs.Option.{option_map};
 ghost use Rattle.script_text.specs.declared.fault.FaultKind.TheVariants.{BadArgument, LongLine};
-ghost use Rattle.script_text.specs.Argument.{Label as LabelKind, Letters, argument, arguments};
-ghost use Rattle.lint.specs.Judging.{Judges, argument_token, checked, kind_of, said};
+ghost use Rattle.script_text.specs.Argument.{argument};
+ghost use Rattle.lint.specs.Judging.{argument_of, first_wrong, kind_of, rest_after};
+ghost use Rattle.lint.specs.Reading.{Names, Says};
 ghost use Rattle.lint.specs.Roles.{kind};
+ghost use Rattle.lint.specs.declared.halt.Halt.TheVariants as halt;
 
-use crate::argument::{is_value, label_of};
+use crate::argument::is_value;
 use crate::form::Form;
+use crate::halt::Halt;
 use crate::role::Role;
-use crate::token::token;
 use crate::wrong::{Found, Wrong};
-use mac_words::Label;
-use script_text::{LONGEST_LINE, first_blank, trim};
+use script_text::{FaultKind, LONGEST_LINE, first_blank, first_token, trim};
+use std::alloc::{AllocError, Global};
 
-/// A name in a line.
-#[derive(Drop)]
-pub struct Name<'t> {
-    pub label: Label,
+/// A text in a line.
+#[derive(Clone, Copy)]
+pub struct Place<'t> {
     pub text: &'t [u8],
-    /// How many bytes of the line stand from the name on.
+    /// How many bytes of the line stand from the text on.
     pub left: usize,
 }
 
-/// Returns what stands in the place of an argument that has no token: a text in quotes and what follows it, up to the next
-/// blank; a text in quotes that is not closed; or the bytes up to the first blank.
+impl<'t> Place<'t> {
+    /// Says what is wrong there.
+    pub fn wrong(self, wrong: Wrong<'t>) -> Found<'t>
+        ensures left { result.left ≡ self.entry.left }
+        ensures wrong { result.wrong ≡ wrong.entry }
+    {
+        Found {
+            left: self.left,
+            wrong,
+        }
+    }
+
+    /// Says that a line is not read, since this is wrong there.
+    pub fn halt(self, wrong: Wrong<'t>) -> Halt<'t>
+        ensures { result ≡ halt.Wrong (record { left = self.entry.left; wrong = wrong.entry }) }
+    {
+        Halt::Wrong(Found {
+            left: self.left,
+            wrong,
+        })
+    }
+}
+
+/// A line by its words.
+#[derive(Clone, Copy)]
+pub struct Words<'t> {
+    /// The first word.
+    pub word: Place<'t>,
+    /// The text after the first word.
+    pub rest: &'t [u8],
+}
+
+impl<'t> Words<'t> {
+    /// Takes a line apart.
+    pub fn of(line: &'t [u8]) -> Words<'t> {
+        let text = trim(line);
+        let (word, rest) = text.split_at(first_blank(text));
+        Words {
+            word: Place {
+                text: word,
+                left: text.len(),
+            },
+            rest,
+        }
+    }
+
+    /// Returns what stands in the place of an argument, which are numbered from 1 on.
+    pub fn argument(self, number: usize) -> Place<'t> {
+        let mut rest = self.rest;
+        for _ in 1..number {
+            rest = after_argument(rest);
+        }
+        let text = trim(rest);
+        Place {
+            text: found_in(text),
+            left: text.len(),
+        }
+    }
+}
+
+/// Returns the text after an argument.
+fn after_argument(text: &[u8]) -> &[u8] {
+    match first_token(trim(text)) {
+        Ok((_, rest)) => rest,
+        Err(_) => text,
+    }
+}
+
+/// Returns what stands in the place of an argument that has no token: a text in quotes and what
+/// follows it, up to the next blank; a text in quotes that is not closed; or the bytes up to the
+/// first blank.
 fn uncut(text: &[u8]) -> &[u8] {
     let quoted = match text {
         [b'"', rest @ ..] => match rest.iter().position(|b| *b == b'"') {
@@ -39,16 +110,42 @@ fn uncut(text: &[u8]) -> &[u8] {
 
 /// Returns what stands in the place of an argument.
 fn found_in(text: &[u8]) -> &[u8] {
-    match token(text) {
-        Some((found, _)) => found,
-        None => uncut(text),
+    match first_token(text) {
+        Ok((found, _)) => found,
+        Err(_) => uncut(text),
+    }
+}
+
+/// Returns the text after the argument at the front of a text; none where no argument that stands
+/// for this is there.
+#[tactic(auto, unfolding(script_text::specs::Argument::argument))]
+fn after_value<'t>(
+    alloc: Global,
+    role: Role,
+    text: &'t [u8],
+) -> Result<Option<&'t [u8]>, AllocError>
+    ensures { IfOk result (λ rest.
+        option_map (λ r. r.now) rest ≡ rest_after (argument (kind role) text.now)) }
+{
+    match first_token(trim(text)) {
+        Ok((found, rest)) => {
+            if is_value(alloc, role, found)? {
+                Ok(Some(rest))
+            } else {
+                Ok(None)
+            }
+        }
+        Err(FaultKind::HostMemory) => Err(AllocError),
+        Err(_) => Ok(None),
     }
 }
 
 /// Says that an argument is missing or wrong; the text begins where the argument should.
-pub(crate) fn bad_argument<'t>(form: Form, number: usize, role: Role, text: &'t [u8]) -> Found<'t>
-    ensures { kind_of result.wrong ≡ BadArgument }
+fn bad_argument<'t>(form: Form, number: usize, role: Role, text: &'t [u8]) -> Found<'t>
+    ensures kind { kind_of result.wrong ≡ BadArgument }
+    ensures argument { argument_of result.wrong ≡ Some (number, role) }
 {
+    let text = trim(text);
     Found {
         left: text.len(),
         wrong: Wrong::Argument {
@@ -60,89 +157,54 @@ pub(crate) fn bad_argument<'t>(form: Form, number: usize, role: Role, text: &'t 
     }
 }
 
-/// Judges the argument at the front of a text, and returns its token and the text after it.
-fn judge_argument<'t>(
-    form: Form,
-    number: usize,
-    role: Role,
-    text: &'t [u8],
-) -> Result<(&'t [u8], &'t [u8]), Found<'t>>
-    ensures { Judges (λ x. (x.0.now, x.1.now)) result (argument_token (kind role) text.now) }
+/// Says that more follows the last argument of a form.
+fn extra<'t>(form: Form, text: &'t [u8]) -> Found<'t>
+    ensures kind { kind_of result.wrong ≡ BadArgument }
+    ensures argument { argument_of result.wrong ≡ None }
 {
-    let text = trim(text);
-    match token(text) {
-        Some((found, rest)) if is_value(role, found) => Ok((found, rest)),
-        _ => Err(bad_argument(form, number, role, text)),
+    let found = trim(text);
+    Found {
+        left: found.len(),
+        wrong: Wrong::Extra { form, found },
     }
 }
 
-/// Judges that a text is at its end, after the arguments of a form.
-pub fn judge_end<'t>(form: Form, text: &'t [u8]) -> Result<(), Found<'t>>
-    ensures { Judges (λ _. []) result (arguments [] text.now) }
-{
-    let text = trim(text);
-    if text.is_empty() {
-        return Ok(());
-    }
-    Err(Found {
-        left: text.len(),
-        wrong: Wrong::Extra { form, found: text },
-    })
-}
-
-/// Judges the arguments of a form.
-pub fn judge_arguments<'t>(form: Form, text: &'t [u8]) -> Result<(), Found<'t>>
-    ensures { said result ≡ checked (map kind form.roles.now) text.now }
+/// Says which argument of a form is the first that is missing or wrong; where none is, more follows
+/// the last one.
+fn wrong_argument<'t>(alloc: Global, form: Form, text: &'t [u8]) -> Result<Found<'t>, AllocError>
+    ensures kind { IfOk result (λ found. kind_of found.wrong ≡ BadArgument) }
+    ensures first { IfOk result (λ found.
+        argument_of found.wrong ≡ first_wrong 1 form.roles.now text.now) }
 {
     let mut rest = text;
     let mut number = 0;
     for role in form.roles {
         number += 1;
-        let (_, more) = judge_argument(form, number, *role, rest)?;
-        rest = more;
+        match after_value(alloc, *role, rest)? {
+            Some(more) => rest = more,
+            None => return Ok(bad_argument(form, number, *role, rest)),
+        }
     }
-    judge_end(form, rest)
+    Ok(extra(form, rest))
 }
 
-/// Judges the name at the front of a text, and returns it with the text after it.
-#[tactic(auto, unfolding(script_text::specs::Argument::argument))]
-pub fn first_name<'t>(
-    form: Form,
-    role: Role,
-    text: &'t [u8],
-) -> Result<(Name<'t>, &'t [u8]), Found<'t>>
-    ensures { Judges (λ x. (Letters x.0.label.0.items, x.1.now)) result (argument LabelKind text.now) }
+/// Says that a line is not read, since an argument of its form is wrong.
+pub fn bad_arguments<'t>(alloc: Global, form: Form, text: &'t [u8]) -> Halt<'t>
+    ensures kind { Says BadArgument result }
+    ensures first { Names (first_wrong 1 form.roles.now text.now) result }
 {
-    let text = trim(text);
-    if let Some((found, rest)) = token(text)
-        && let Some(label) = label_of(found)
-    {
-        let name = Name {
-            label,
-            text: found,
-            left: text.len(),
-        };
-        return Ok((name, rest));
+    match wrong_argument(alloc, form, text) {
+        Ok(found) => Halt::Wrong(found),
+        Err(_) => Halt::HostMemory,
     }
-    Err(bad_argument(form, 1, role, text))
 }
 
-/// Judges that a name is the one argument, and returns it.
-pub fn only_name<'t>(form: Form, role: Role, text: &'t [u8]) -> Result<Name<'t>, Found<'t>>
-    ensures { Judges (λ name. Letters name.label.0.items ∷ []) result (arguments (LabelKind ∷ []) text.now) }
+/// Says that a line is not read, since it is too long; what is too much stands at its end.
+pub fn long_line<'t>(line: &'t [u8]) -> Halt<'t>
+    ensures { Says LongLine result }
 {
-    let (name, rest) = first_name(form, role, text)?;
-    judge_end(form, rest)?;
-    Ok(name)
-}
-
-/// Says that a line is too long; what is too much stands at its end.
-pub(crate) fn long_line<'t>(line: &'t [u8]) -> Found<'t>
-    requires { 65535 ≤ length line.now }
-    ensures { kind_of result.wrong ≡ LongLine }
-{
-    Found {
-        left: line.len() - LONGEST_LINE,
+    Halt::Wrong(Found {
+        left: line.len().saturating_sub(LONGEST_LINE),
         wrong: Wrong::LongLine { length: line.len() },
-    }
+    })
 }

@@ -4,22 +4,16 @@
 
 mod absent;
 mod argument;
-mod arguments;
 mod form;
 mod halt;
 mod hint;
-mod inputs;
 mod job;
-mod job_word;
 mod judging;
-mod names;
 mod nearest;
-mod owners;
 mod role;
 mod script;
 mod shown;
 mod table;
-mod token;
 mod words;
 mod wrong;
 

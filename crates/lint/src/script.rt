@@ -1,379 +1,232 @@
 //! The faulty lines of a script.
 
-ghost use Rattle.std.specs.Prelude.{◌≡◌, ℕ, ◌+◌, List, ◌∷◌, ◌++◌, false, map, IfOk, OnOk, bytes_eq, codes};
-ghost use Rattle.std.specs.Option.{option_map};
-ghost use Rattle.script_text.specs.declared.fault.FaultKind.TheVariants.{BadArgument};
-ghost use Rattle.script_text.specs.Script.{is_new};
-ghost use Rattle.lint.specs.Faults.{FirstIsTheReaders, script_faults, unfinished_at};
-ghost use Rattle.lint.specs.Judging.{Kept, Judges, call_judged, grow_judged, end_judged, token_judged};
-ghost use Rattle.lint.specs.Judging.{line_judged, is_setting, is_named, missing_kept, nothing_kept, done};
-ghost use Rattle.script_text.specs.Call.{kinds};
-ghost use Rattle.lint.specs.Judging.{said, checked, begun_kept, unfinished_kept, judged_from, arguments_judged, is_begun_so, kind_of, Ends};
-ghost use Rattle.lint.specs.Seen.{deed_seen, name_seen, seen};
+ghost use Rattle.std.specs.Prelude.{◌≡◌, ℕ, ◌+◌, List, ◌∷◌, ◌++◌, map, IfOk, OnOk};
+ghost use Rattle.script_text.specs.declared.fault.FaultKind.TheVariants.{BadArgument, UnknownCall};
+ghost use Rattle.script_text.specs.Script.{read_at, statement};
+ghost use Rattle.lint.specs.Faults.{FirstIsTheReaders, script_faults, begun_lines, faults_from, missing_lines, unfinished_at};
+ghost use Rattle.lint.specs.Faults.{unfinished_lines};
+ghost use Rattle.lint.specs.Judging.{kind_of};
+ghost use Rattle.lint.specs.Reading.{OnWrong, Reads, Says};
+ghost use Rattle.lint.specs.Seen.{seen};
 
 use crate::form::Form;
-use crate::judging::{Name, judge_arguments, judge_end, long_line, only_name};
-use crate::names::Names;
+use crate::halt::Halt;
+use crate::judging::{Place, Words, bad_arguments, long_line};
 use crate::role::Role;
 use crate::table::form_of;
-use crate::wrong::{Fault, Found, Wrong, column};
-use mac_words::Label;
-use script_text::{CallWord, LONGEST_LINE, first_blank, next_line, trim};
+use crate::wrong::{Fault, Wrong};
+use script_text::{CallWord, FaultKind, Line, ScriptLines, first_token, is_label, next_line, trim};
 use std::alloc::{AllocError, Global};
-use std::marker::Model;
-
-static NAME: [Role; 1] = [Role::GrowZone];
 
 /// How the first line of a grow-zone script is written.
 fn grow_form() -> Form {
     Form {
         word: b"grow",
-        roles: &NAME,
+        roles: &[Role::GrowZone],
     }
 }
 
-/// How the last line of a grow-zone script is written.
-fn end_form() -> Form {
-    Form {
-        word: b"end",
-        roles: &[],
+/// Returns how a line with this first word is written. Of the words that are no calls, the last line of a grow-zone script
+/// has no argument.
+fn form_of_line(word: &[u8]) -> Form {
+    match CallWord::find(word) {
+        Some(word) => form_of(word),
+        None => Form {
+            word: b"end",
+            roles: &[],
+        },
     }
 }
 
-/// What a line does to what is kept of the lines.
-#[derive(Drop)]
-enum Deed<'t> {
-    /// The line states a call that sets no grow-zone script, or nothing.
-    States,
-    /// The line sets the grow-zone script of this name.
-    Sets(Name<'t>),
-    /// The line begins a grow-zone script of this name.
-    Grows(Name<'t>),
-    /// The line ends the grow-zone script that is begun.
-    Ends,
-}
-
-/// A name, and where it stands.
-#[derive(Drop)]
-struct Place<'t> {
-    line: usize,
-    column: usize,
-    label: Label,
-    text: &'t [u8],
-}
-
-impl<'t> Place<'t> {
-    fn new(line: usize, length: usize, name: Name<'t>) -> Place<'t>
-        ensures line { result.line ≡ line }
-        ensures label { result.label ≡ name.entry.label }
-    {
-        Place {
-            line,
-            column: column(length, name.left),
-            label: name.label,
-            text: name.text,
-        }
-    }
-
-    /// Makes the fault of the name.
-    fn fault(&self, wrong: Wrong<'t>) -> Fault<'t>
-        ensures line { result.line ≡ self.now.line }
-        ensures wrong { result.wrong ≡ wrong.entry }
-    {
-        Fault {
-            line: self.line,
-            column: self.column,
-            wrong,
-        }
-    }
-}
-
-/// What is kept of the lines that were judged.
-#[derive(Drop)]
-struct KeptLines<'t> {
-    /// The names of the grow-zone scripts.
-    names: Names,
-    /// The `grow` line whose `end` is still to come.
-    begun: Option<Place<'t>>,
-    /// The lines that set a grow-zone script.
-    sets: Vec<Place<'t>>,
-}
-
-impl<'t> Model for KeptLines<'t> {
-    ghost Value = { Kept };
-
-    ghost view = { λ k. record {
-      names = k.names;
-      begun = option_map name_seen k.begun;
-      sets = map name_seen k.sets.items;
-    } };
-}
-
-/// Reports whether a name is `none`, which stands for no grow-zone script.
-fn names_none(name: &Label) -> bool
-    ensures { result ≡ bytes_eq name.now.0.items (codes "none") }
-{
-    name.0.as_slice() == b"none".as_slice()
-}
-
-/// Reports whether a call sets a grow-zone script.
-fn sets(word: CallWord) -> bool
-    ensures { result ≡ is_setting word }
+/// Says why a first word is not known.
+fn unknown<'t>(word: &'t [u8]) -> Wrong<'t>
+    ensures { kind_of result ≡ UnknownCall }
 {
     match word {
-        CallWord::SetGrowZone => true,
-        _ => false,
+        b"end" => Wrong::EndOutside,
+        _ => Wrong::UnknownCall { word },
     }
 }
 
-/// Judges the arguments of a call alone.
-fn check_arguments<'t>(word: CallWord, rest: &'t [u8]) -> Result<(), Found<'t>>
-    ensures { said result ≡ checked (kinds word) rest.now }
+/// Says why a name is not that of a new grow-zone script.
+fn not_new<'t>(name: &'t [u8]) -> Wrong<'t>
+    ensures { kind_of result ≡ BadArgument }
 {
-    judge_arguments(form_of(word), rest)
+    match name {
+        b"none" => Wrong::NamedNone,
+        _ => Wrong::TakenName { name },
+    }
 }
 
-/// Judges the arguments of a call that sets no grow-zone script.
-fn judge_plain<'t>(word: CallWord, rest: &'t [u8]) -> Result<Deed<'t>, Found<'t>>
-    requires { is_setting word ≡ false }
-    ensures { Judges deed_seen result (arguments_judged word rest.now) }
+/// Says why a line `grow NAME` is refused: for its arguments; or its name is not new.
+fn bad_grow<'t>(alloc: Global, rest: &'t [u8]) -> Halt<'t>
+    ensures { Says BadArgument result }
 {
-    match check_arguments(word, rest) {
-        Ok(()) => Ok(Deed::States),
-        Err(found) => Err(found),
+    let text = trim(rest);
+    match first_token(text) {
+        Ok((name, more)) if is_label(name) && trim(more).is_empty() => {
+            let place = Place {
+                text: name,
+                left: text.len(),
+            };
+            place.halt(not_new(name))
+        }
+        _ => bad_arguments(alloc, grow_form(), rest),
     }
 }
 
-/// Judges the arguments of a call.
-fn judge_called<'t>(word: CallWord, rest: &'t [u8]) -> Result<Deed<'t>, Found<'t>>
-    ensures { Judges deed_seen result (arguments_judged word rest.now) }
+/// Says why a line with a known first word is refused.
+fn bad_line<'t>(alloc: Global, words: Words<'t>) -> Halt<'t>
+    ensures { Says BadArgument result }
 {
-    match word {
-        CallWord::SetGrowZone => {
-            let name = only_name(form_of(word), Role::GrowZone, rest)?;
-            Ok(Deed::Sets(name))
-        }
-        _ => judge_plain(word, rest),
+    match words.word.text {
+        b"grow" => bad_grow(alloc, words.rest),
+        word => bad_arguments(alloc, form_of_line(word), words.rest),
     }
 }
 
-impl<'t> KeptLines<'t> {
-    /// Keeps what stands before the first line.
-    fn new(alloc: Global) -> KeptLines<'t>
-        ensures { result ≡ nothing_kept }
-    {
-        KeptLines {
-            names: Names::new(alloc),
-            begun: None,
-            sets: Vec::new(alloc),
-        }
-    }
-
-    /// Judges a call, whose word stands `left` bytes before the end of the line.
-    fn judge_call(&self, word: CallWord, left: usize, rest: &'t [u8]) -> Result<Deed<'t>, Found<'t>>
-        ensures { Judges deed_seen result (call_judged self.now word rest.now) }
-    {
-        if self.begun.is_some() && !word.is_allowed() {
-            return Err(Found {
-                left,
-                wrong: Wrong::NotAllowed { word: word.text() },
-            });
-        }
-        judge_called(word, rest)
-    }
-
-    /// Reports whether a name may be that of a new grow-zone script.
-    fn is_new(&self, name: &Label) -> bool
-        ensures { result ≡ is_new name.now.0.items self.now.names }
-    {
-        !names_none(name) && !self.names.has(name)
-    }
-
-    /// Judges a line `grow NAME`, whose word stands `left` bytes before the end of the line.
-    fn judge_grow(&self, left: usize, rest: &'t [u8]) -> Result<Deed<'t>, Found<'t>>
-        ensures { Judges deed_seen result (grow_judged self.now rest.now) }
-    {
-        if self.begun.is_some() {
-            return Err(Found {
-                left,
-                wrong: Wrong::NotAllowed { word: b"grow" },
-            });
-        }
-        let name = only_name(grow_form(), Role::GrowZone, rest)?;
-        if self.is_new(&name.label) {
-            return Ok(Deed::Grows(name));
-        }
-        Err(Found {
-            left: name.left,
-            wrong: not_new(&name),
-        })
-    }
-
-    /// Judges a line `end`, whose word stands `left` bytes before the end of the line.
-    fn judge_ending(&self, left: usize, rest: &'t [u8]) -> Result<Deed<'t>, Found<'t>>
-        ensures { Judges deed_seen result (end_judged self.now rest.now) }
-    {
-        if self.begun.is_none() {
-            return Err(Found {
-                left,
-                wrong: Wrong::EndOutside,
-            });
-        }
-        judge_end(end_form(), rest)?;
-        Ok(Deed::Ends)
-    }
-
-    /// Judges a line by its first token and the rest of the line.
-    #[tactic(auto, unfolding(crate::specs::Judging::token_judged))]
-    fn judge_words(
-        &self,
-        left: usize,
-        token: &'t [u8],
-        rest: &'t [u8],
-    ) -> Result<Deed<'t>, Found<'t>>
-        ensures { Judges deed_seen result (token_judged self.now token.now rest.now) }
-    {
-        match token {
-            b"grow" => self.judge_grow(left, rest),
-            b"end" => self.judge_ending(left, rest),
-            _ => match CallWord::find(token) {
-                Some(word) => self.judge_call(word, left, rest),
-                None => Err(Found {
-                    left,
-                    wrong: Wrong::UnknownCall { word: token },
-                }),
-            },
-        }
-    }
-
-    /// Judges a line.
-    #[tactic(auto, unfolding(crate::specs::Judging::line_judged))]
-    fn judge(&self, line: &'t [u8]) -> Result<Deed<'t>, Found<'t>>
-        ensures { Judges deed_seen result (line_judged self.now line.now) }
-    {
-        if line.len() > LONGEST_LINE {
-            return Err(long_line(line));
-        }
-        let text = trim(line);
-        match text {
-            [] | [b'#', ..] => Ok(Deed::States),
-            _ => {
-                let (token, rest) = text.split_at(first_blank(text));
-                self.judge_words(text.len(), token, rest)
-            }
-        }
-    }
-
-    /// Adds the name of the grow-zone script that is begun to the names.
-    fn end(&mut self) -> Result<(), AllocError>
-        ensures { OnOk result (self.new ≡ done 0 self.old Ends) }
-    {
-        if let Some(begun) = self.begun.take() {
-            self.names.add(begun.label)?;
-        }
-        Ok(())
-    }
-
-    /// Keeps what a line of `length` bytes does.
-    fn keep(&mut self, line: usize, length: usize, deed: Deed<'t>) -> Result<(), AllocError>
-        ensures { OnOk result (self.new ≡ done line self.old (deed_seen deed.entry)) }
-    {
-        match deed {
-            Deed::States => Ok(()),
-            Deed::Sets(name) => {
-                self.sets.push(Place::new(line, length, name))?;
-                Ok(())
-            }
-            Deed::Grows(name) => {
-                self.begun = Some(Place::new(line, length, name));
-                Ok(())
-            }
-            Deed::Ends => self.end(),
-        }
-    }
-
-    /// Reports whether there is a grow-zone script of this name, or the name is `none`.
-    fn is_named(&self, name: &Label) -> bool
-        ensures { result ≡ is_named self.now name.now.0.items }
-    {
-        names_none(name) || self.names.has(name) || is_begun(&self.begun, name)
-    }
-}
-
-/// Says which lines set a grow-zone script that is nowhere in the text.
-fn say_missing<'t>(
-    kept: &KeptLines<'t>,
-    sets: &[Place<'t>],
-    faults: &mut Vec<Fault<'t>>,
-) -> Result<(), AllocError>
-    ensures { OnOk result (map seen faults.new.items
-        ≡ map seen faults.old.items ++ map unfinished_at (missing_kept kept.now (map name_seen sets.now))) }
+/// Says why a line is refused.
+fn refused<'t>(alloc: Global, kind: FaultKind, line: &'t [u8]) -> Halt<'t>
+    ensures { Says kind result }
 {
-    for place in sets {
-        if !kept.is_named(&place.label) {
-            faults.push(place.fault(Wrong::NoGrowZone { name: place.text }))?;
-        }
+    let words = Words::of(line);
+    let word = words.word.text;
+    match kind {
+        FaultKind::HostMemory => Halt::HostMemory,
+        FaultKind::LongLine => long_line(line),
+        FaultKind::UnknownCall => words.word.halt(unknown(word)),
+        FaultKind::NotAllowed => words.word.halt(Wrong::NotAllowed { word }),
+        FaultKind::BadArgument => bad_line(alloc, words),
     }
-    Ok(())
 }
 
-/// Says which `grow` line has no `end`.
-fn say_begun<'t>(begun: &Option<Place<'t>>, faults: &mut Vec<Fault<'t>>) -> Result<(), AllocError>
-    ensures { OnOk result (map seen faults.new.items
-        ≡ map seen faults.old.items ++ map unfinished_at (begun_kept (option_map name_seen begun.now))) }
+/// Reads a line, or says why it is refused.
+fn judge<'t>(
+    alloc: Global,
+    above: &mut ScriptLines,
+    number: usize,
+    line: &'t [u8],
+) -> Result<(), Halt<'t>>
+    ensures read { Reads (λ _. above.new) result (read_at number above.old line.now) }
+    ensures unchanged { OnWrong result (above.new ≡ above.old) }
 {
-    if let Some(place) = begun {
-        faults.push(place.fault(Wrong::NoEnd { name: place.text }))?;
+    match above.read(number, line) {
+        Ok(()) => Ok(()),
+        Err(kind) => Err(refused(alloc, kind, line)),
     }
-    Ok(())
 }
 
-/// Says which lines are at fault because of what does not follow.
-fn say_unfinished<'t>(kept: &KeptLines<'t>, faults: &mut Vec<Fault<'t>>) -> Result<(), AllocError>
-    ensures { OnOk result (map seen faults.new.items ≡ map seen faults.old.items ++ unfinished_kept kept.now) }
-{
-    say_missing(kept, &kept.sets, faults)?;
-    say_begun(&kept.begun, faults)
-}
-
-/// Judges a line, and says its fault or keeps what it does.
+/// Reads a line, or says its fault.
 fn take_line<'t>(
-    kept: &mut KeptLines<'t>,
+    alloc: Global,
+    above: &mut ScriptLines,
     faults: &mut Vec<Fault<'t>>,
     number: usize,
     line: &'t [u8],
 ) -> Result<(), AllocError>
-    ensures { OnOk result ((more : List (List ℕ)) → map seen faults.new.items ++ judged_from (number + 1) kept.new more
-        ≡ map seen faults.old.items ++ judged_from number kept.old (line.now ∷ more)) }
+    ensures { OnOk result ((more : List (List ℕ)) → map seen faults.new.items ++ faults_from (number + 1) above.new more
+        ≡ map seen faults.old.items ++ faults_from number above.old (line.now ∷ more)) }
 {
-    match kept.judge(line) {
-        Ok(deed) => kept.keep(number, line.len(), deed),
-        Err(found) => {
+    match judge(alloc, above, number, line) {
+        Ok(()) => Ok(()),
+        Err(Halt::HostMemory) => Err(AllocError),
+        Err(Halt::Wrong(found)) => {
             faults.push(Fault::at(number, line.len(), found))?;
             Ok(())
         }
     }
 }
 
-/// Says why a name is not that of a new grow-zone script.
-fn not_new<'t>(name: &Name<'t>) -> Wrong<'t>
-    ensures { kind_of result ≡ BadArgument }
-{
-    if names_none(&name.label) {
-        Wrong::NamedNone
-    } else {
-        Wrong::TakenName { name: name.text }
+/// The lines of a text, one after another.
+#[derive(Drop)]
+struct Lines<'t> {
+    /// The number of the last line that was taken, from 1 on.
+    number: usize,
+    line: &'t [u8],
+    rest: &'t [u8],
+}
+
+impl<'t> Lines<'t> {
+    /// Begins before the first line.
+    fn of(text: &'t [u8]) -> Lines<'t> {
+        Lines {
+            number: 0,
+            line: &[],
+            rest: text,
+        }
+    }
+
+    /// Goes on to the line of this number, and returns what the line names: its first argument.
+    fn name(&mut self, number: usize) -> Place<'t> {
+        for _ in self.number..number {
+            if !self.rest.is_empty() {
+                let (line, more) = next_line(self.rest);
+                self.line = line;
+                self.rest = more;
+            }
+        }
+        self.number = number;
+        Words::of(self.line).argument(1)
     }
 }
 
-/// Reports whether the grow-zone script that is begun has this name.
-fn is_begun<'t>(begun: &Option<Place<'t>>, name: &Label) -> bool
-    ensures { result ≡ is_begun_so name.now.0.items (option_map name_seen begun.now) }
+/// Makes the fault of a name in a line.
+fn fault_of<'t>(number: usize, lines: &Lines<'t>, place: Place<'t>, wrong: Wrong<'t>) -> Fault<'t>
+    ensures line { result.line ≡ number }
+    ensures wrong { result.wrong ≡ wrong.entry }
 {
-    match begun {
-        Some(begun) => name.0.as_slice() == begun.label.0.as_slice(),
-        None => false,
+    Fault::at(number, lines.line.len(), place.wrong(wrong))
+}
+
+/// Says which of the lines of calls set a grow-zone script that is nowhere in the text.
+fn say_missing<'t>(
+    above: &ScriptLines,
+    steps: &[Line],
+    text: &'t [u8],
+    faults: &mut Vec<Fault<'t>>,
+) -> Result<(), AllocError>
+    ensures { OnOk result (map seen faults.new.items
+        ≡ map seen faults.old.items ++ map unfinished_at (missing_lines above.now (map statement steps.now))) }
+{
+    let mut lines = Lines::of(text);
+    for step in steps {
+        if above.sets_missing(&step.call) {
+            let place = lines.name(step.number);
+            let wrong = Wrong::NoGrowZone { name: place.text };
+            faults.push(fault_of(step.number, &lines, place, wrong))?;
+        }
     }
+    Ok(())
+}
+
+/// Says which `grow` line has no `end`.
+fn say_begun<'t>(
+    above: &ScriptLines,
+    text: &'t [u8],
+    faults: &mut Vec<Fault<'t>>,
+) -> Result<(), AllocError>
+    ensures { OnOk result (map seen faults.new.items
+        ≡ map seen faults.old.items ++ map unfinished_at (begun_lines above.now.begun)) }
+{
+    if let Some(number) = above.begun_line() {
+        let mut lines = Lines::of(text);
+        let place = lines.name(number);
+        let wrong = Wrong::NoEnd { name: place.text };
+        faults.push(fault_of(number, &lines, place, wrong))?;
+    }
+    Ok(())
+}
+
+/// Says which lines are at fault because of what does not follow.
+fn say_unfinished<'t>(
+    above: &ScriptLines,
+    text: &'t [u8],
+    faults: &mut Vec<Fault<'t>>,
+) -> Result<(), AllocError>
+    ensures { OnOk result (map seen faults.new.items ≡ map seen faults.old.items ++ unfinished_lines above.now) }
+{
+    say_missing(above, above.steps(), text, faults)?;
+    say_begun(above, text, faults)
 }
 
 /// Returns the faulty lines of a script, each with what is wrong with it: first the lines that the reader of a line
@@ -387,17 +240,17 @@ fn is_begun<'t>(begun: &Option<Place<'t>>, name: &Label) -> bool
 pub fn script_faults<'t>(alloc: Global, text: &'t [u8]) -> Result<Vec<Fault<'t>>, AllocError>
     ensures { IfOk result (λ faults. map seen faults.items ≡ script_faults text.now) }
 {
-    let mut kept = KeptLines::new(alloc);
+    let mut above = ScriptLines::new(alloc);
     let mut faults = Vec::new(alloc);
     let mut number = 0;
     let mut rest = text;
     while !rest.is_empty() {
         let (line, more) = next_line(rest);
         number += 1;
-        take_line(&mut kept, &mut faults, number, line)?;
+        take_line(alloc, &mut above, &mut faults, number, line)?;
         rest = more;
     }
-    say_unfinished(&kept, &mut faults)?;
+    say_unfinished(&above, text, &mut faults)?;
     Ok(faults)
 }
 

@@ -14,6 +14,7 @@ pub fn roles_of(word: CallWord) -> &'static [Role]
 {
     match word {
         CallWord::NewHandle
+        | CallWord::NewHandleClear
         | CallWord::SetHandleSize
         | CallWord::ReallocateHandle
         | CallWord::SetResourceSize => &[Role::Handle, Role::Size],
@@ -38,12 +39,17 @@ pub fn roles_of(word: CallWord) -> &'static [Role]
         | CallWord::GetResInfo
         | CallWord::GetResAttrs
         | CallWord::GetResourceSizeOnDisk
+        | CallWord::SizeResource
+        | CallWord::MaxSizeRsrc
         | CallWord::Show => &[Role::Handle],
         CallWord::HSetState | CallWord::SetResAttrs => &[Role::Handle, Role::Byte],
         CallWord::HandToHand => &[Role::Target, Role::Source],
         CallWord::HandAndHand => &[Role::Source, Role::Target],
-        CallWord::PtrAndHand => &[Role::Handle, Role::Bytes],
-        CallWord::NewPtr | CallWord::SetPtrSize => &[Role::Pointer, Role::Size],
+        CallWord::PtrToHand | CallWord::PtrAndHand => &[Role::Handle, Role::Bytes],
+        CallWord::NewPtr | CallWord::NewPtrClear | CallWord::SetPtrSize => &[
+            Role::Pointer,
+            Role::Size,
+        ],
         CallWord::DisposePtr | CallWord::GetPtrSize | CallWord::ShowPtr => &[Role::Pointer],
         CallWord::FreeMem
         | CallWord::MaxBlock

@@ -56,6 +56,8 @@ pub enum HeapCall {
     HLockHi(Label),
     /// Binds the first name to a new handle, whose block is a copy of the block of the second.
     HandToHand(Label, Box<Label>),
+    /// Binds the name to a new handle, whose block is a copy of the bytes.
+    PtrToHand(Label, Vec<u8>),
     /// Appends the bytes of the first handle's block to the block of the second.
     HandAndHand(Label, Box<Label>),
     /// Appends bytes to a handle's block.

@@ -139,6 +139,16 @@ impl RawZone {
         part
     }
 
+    /// Returns the bytes of the part as they are: headers, contents and master pointers.
+    ///
+    /// *Inside Macintosh: Memory*, chapter 2, "Memory Blocks".
+    pub fn image(&self) -> &[u8]
+        ensures { LaysOut result.now (⟦<RawZone as BlockStore>⟧.zone self.now)
+            (⟦<RawZone as BlockStore>⟧.rest self.now).slots }
+    {
+        self.part.bytes()
+    }
+
     /// Packs the run at a place, without counting the moves.
     fn pack(&mut self, run: u32) -> PackedRun
         requires { IsSome (run_at run (zone_of self.old)) }

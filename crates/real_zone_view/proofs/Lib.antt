@@ -1,3 +1,4 @@
 pub mod Named
 pub mod Appending
 pub mod Binned
+pub mod Scripted

@@ -8,6 +8,8 @@ ghost use Rattle.real_zone_view.specs.Damages.{damaged_text};
 ghost use Rattle.real_zone_view.specs.Text.{title_text};
 ghost use Rattle.real_zone_view.specs.Totals.{zone_text};
 ghost use Rattle.real_zone_view.specs.declared.dump.Question.TheVariants as question;
+ghost use Rattle.zone_scripts.specs.Copied.{parts_in};
+ghost use Rattle.zone_scripts.specs.Text.{script_text};
 
 use crate::damages::{push_damaged, push_damages};
 use crate::dump::{Answer, DumpFault, DumpView, Place, Question, ViewFault};
@@ -16,9 +18,11 @@ use crate::style::Style;
 use crate::text::push_title;
 use crate::view::{push_drawn, push_zone};
 use real_zone::{
-    Damage, Form, LaidZone, Rule, check_zone, find_zones, judged_form, laid_zone, zone_size,
+    Damage, Form, LaidZone, RealZone, Rule, ZoneFault, check_zone, find_zones, judged_form,
+    laid_zone, read_zone, zone_size,
 };
 use std::alloc::{AllocError, Global};
+use zone_scripts::{ScriptFault, script_of};
 
 /// Returns the form in which a zone is judged.
 fn form_for(alloc: Global, place: Place, dump: &[u8], base: u32) -> Result<Form, AllocError>
@@ -176,6 +180,44 @@ fn draw(alloc: Global, place: Place, dump: &[u8], base: u32) -> Result<Answer, V
     })
 }
 
+/// Returns the script of a zone that keeps all rules.
+fn script_of_zone(alloc: Global, zone: &RealZone<'_>) -> Result<Vec<u8>, ViewFault>
+    ensures text { IfOk result (λ text. text.items ≡ script_text zone.now.form zone.now.address
+        (parts_in zone.now.form zone.now.address zone.now.bytes.now)) }
+    ensures allowed { IfOk result (λ text. spec.room_fault zone.now.form zone.now.address zone.now.bytes.now ≡ None) }
+    ensures fault { IfErr result (λ fault. spec.Tells fault (spec.room_fault zone.now.form zone.now.address zone.now.bytes.now)) }
+{
+    match script_of(alloc, zone) {
+        Ok(text) => Ok(text),
+        Err(ScriptFault::TooLarge) => Err(ViewFault::Dump(DumpFault::TooLarge {
+            address: zone.address,
+        })),
+        Err(ScriptFault::HostMemory) => Err(ViewFault::HostMemory),
+    }
+}
+
+/// Makes a script of a zone.
+#[tactic(auto, using(crate::proofs::Scripted::sound_fault))]
+fn script(alloc: Global, place: Place, dump: &[u8], base: u32) -> Result<Answer, ViewFault>
+    ensures text { IfOk result (λ answer. answer.text.items ≡ spec.answer_to (question.Script place) base dump.now) }
+    ensures good { IfOk result (λ answer. answer.is_good ≡ spec.is_good_to (question.Script place) base dump.now) }
+    ensures allowed { IfOk result (λ answer. spec.fault_to (question.Script place) base dump.now ≡ None) }
+    ensures fault { IfErr result (λ fault. spec.Tells fault (spec.fault_to (question.Script place) base dump.now)) }
+{
+    let form = form_for(alloc, place, dump, base)?;
+    match read_zone(alloc, dump, base, place.address, form) {
+        Ok(zone) => {
+            let text = script_of_zone(alloc, &zone)?;
+            Ok(Answer {
+                text,
+                is_good: true,
+            })
+        }
+        Err(ZoneFault::Damaged(damage)) => Err(ViewFault::Dump(DumpFault::Damaged { damage })),
+        Err(ZoneFault::HostMemory) => Err(ViewFault::HostMemory),
+    }
+}
+
 /// Checks a zone.
 fn check(alloc: Global, place: Place, dump: &[u8], base: u32) -> Result<Answer, ViewFault>
     ensures text { IfOk result (λ answer. answer.text.items ≡ spec.answer_to (question.Check place) base dump.now) }
@@ -223,21 +265,22 @@ fn answer_to(alloc: Global, asked: DumpView, dump: &[u8]) -> Result<Answer, View
     match asked.question {
         Question::List(place, style) => list(alloc, place, style, dump, asked.base),
         Question::Draw(place) => draw(alloc, place, dump, asked.base),
+        Question::Script(place) => script(alloc, place, dump, asked.base),
         Question::Check(place) => check(alloc, place, dump, asked.base),
         Question::Find(style) => find(alloc, style, dump, asked.base),
     }
 }
 
-/// Answers a question about the bytes of a dump: lists the blocks of a zone with their totals, or draws them; a line for each rule that a
-/// zone breaks; or the zones that stand in the dump.
+/// Answers a question about the bytes of a dump: lists the blocks of a zone with their totals, or draws them; a script that makes the zone
+/// anew; a line for each rule that a zone breaks; or the zones that stand in the dump.
 ///
 /// Of a damaged zone the blocks are listed or drawn that are passed: all, or those before the first whose physical size is wrong. After the totals
 /// stands the first rule that is broken.
 ///
 /// # Errors
 ///
-/// The dump goes past the last address, the zone record would not lie in it, or its bkLim is bad, so that no block could be listed; or the
-/// host is out of memory.
+/// The dump goes past the last address, the zone record would not lie in it, or its bkLim is bad, so that no block could be listed; a
+/// script is asked for, and the zone breaks a rule or needs a partition that is larger than any can be; or the host is out of memory.
 #[tactic(auto, unfolding(crate::specs::Answers::dump_fault))]
 pub fn answer(alloc: Global, asked: DumpView, dump: &[u8]) -> Result<Answer, ViewFault>
     ensures text { IfOk result (λ answer. answer.text.items ≡ spec.answer_text asked dump.now) }

@@ -24,6 +24,8 @@ pub enum Question {
     List(Place, Style),
     /// The zone at an address as a picture, in SVG.
     Draw(Place),
+    /// A script that makes the zone at an address anew.
+    Script(Place),
     /// All that is wrong with the zone at an address.
     Check(Place),
     /// The zones that stand in the dump.
@@ -63,6 +65,12 @@ pub enum DumpFault {
     Damaged {
         /// The rule, and where it is broken.
         damage: Damage,
+    },
+    /// No partition has room for the blocks of the zone at an address.
+    #[error("{address:08X}: a script would need more than 134217728 bytes")]
+    TooLarge {
+        /// The address.
+        address: u32,
     },
 }
 

@@ -6,6 +6,9 @@ use Rattle.std.specs.Ordering.{nat_cmp, match_ordering}
 use Rattle.std.proofs.lemmas.Bool.{and_parts}
 use Rattle.std.specs.Prelude.{bytes_eq, unwrap_or}
 use Rattle.std.specs.Map.{lookup}
+use Rattle.script_text.specs.declared.word.CallWord.{CallWord}
+use Rattle.script_text.specs.declared.word.CallWord.TheVariants as word
+use Rattle.script_text.specs.Call.{meant, may_stand}
 use Rattle.script_text.specs.Named.{put_named}
 use Rattle.script_text.specs.Script.{AllAllowed, are_allowed, block_of}
 use Rattle.script_text.specs.declared.script.Line.{Line}
@@ -39,3 +42,8 @@ allowed_put name lines (b ∷ blocks) all one =
     cases first behind added Less = rw (one, first) behind
     cases first behind added Equal = rw (one) behind
     cases first behind added Greater = rw (first) added
+
+-- another name of a call may stand in one just where the call may
+pub meant_stands : (w : CallWord) → may_stand (meant w) ≡ may_stand w
+meant_stands word.NewHandleClear = refl
+meant_stands _ = refl

@@ -9,7 +9,8 @@ use Rattle.script_text.specs.declared.job_word.JobWord.TheVariants as word
 use Rattle.script_text.specs.declared.job.Event.TheVariants.{Launch, Step, Turn, Quit, Rest}
 use Rattle.script_text.specs.Token.{after_blanks, token_at}
 use Rattle.script_text.specs.Argument.{argument}
-use Rattle.script_text.specs.Job.{job_of, spelling, with_line, with_token, word_spelled, System, App, File}
+use Rattle.script_text.specs.Stating.{job_line, spelling, token_line, word_spelled}
+use Rattle.script_text.specs.Job.{job_of, with_line, System, App, File}
 use Rattle.script_text.specs.DeskLog.{launch_of, refusal_of, end_of, fork_of}
 
 -- each word is found by its spelling
@@ -26,7 +27,7 @@ good : job_of (codes "# first\nmemory 4096\n\napp one \"f1\" \"s1\"\nsystem \"s\
           ∷ File 1 (codes "Doc") (codes "d") ∷ [];
       events = Launch 1 ∷ Step 0 ∷ Turn 0 ∷ Rest ∷ Quit 1 ∷ [];
     })
-unfolding job_of with_line with_token word_spelled argument token_at after_blanks is_utf8 chars encode
+unfolding job_of with_line job_line token_line word_spelled argument token_at after_blanks is_utf8 chars encode
 good = refl
 
 -- no line to read; a memory that is too small, and one that is no multiple of 16; no memory, and two; no call of a job
@@ -37,7 +38,7 @@ faulty_memory : (job_of [] ≡ Err (1, BadArgument))
     × (job_of (codes "rest") ≡ Err (1, BadArgument))
     × (job_of (codes "memory 512\nmemory 512") ≡ Err (2, BadArgument))
     × (job_of (codes "FreeMem") ≡ Err (1, UnknownCall))
-unfolding job_of with_line with_token word_spelled argument token_at after_blanks is_utf8 chars encode
+unfolding job_of with_line job_line token_line word_spelled argument token_at after_blanks is_utf8 chars encode
 faulty_memory = (refl, refl, refl, refl, refl, refl, refl)
 
 -- a second System; a path in hexadecimal, and one that isn't UTF-8; an application's name twice; a file of no application;
@@ -51,7 +52,7 @@ faulty_lines : (job_of (codes "memory 512\nsystem \"s\"\nsystem \"s\"") ≡ Err 
     × (job_of (codes "memory 512\napp a \"\" \"\"\nfile a \"A\" \"\"\nfile a $41 \"\"") ≡ Err (4, BadArgument))
     × (job_of (codes "memory 512\nlaunch a") ≡ Err (2, BadArgument))
     × (job_of (codes "memory 512\nrest\nsystem \"s\"") ≡ Err (3, BadArgument))
-unfolding job_of with_line with_token word_spelled argument token_at after_blanks is_utf8 chars encode
+unfolding job_of with_line job_line token_line word_spelled argument token_at after_blanks is_utf8 chars encode
 faulty_lines = (refl, refl, refl, refl, refl, refl, refl, refl, refl)
 
 -- the lines of desk.log

@@ -35,6 +35,7 @@ row word.HSetState = (codes "HSetState", Label ∷ Byte ∷ [])
 row word.MoveHHi = (codes "MoveHHi", Label ∷ [])
 row word.HLockHi = (codes "HLockHi", Label ∷ [])
 row word.HandToHand = (codes "HandToHand", Label ∷ Label ∷ [])
+row word.PtrToHand = (codes "PtrToHand", Label ∷ Bytes ∷ [])
 row word.HandAndHand = (codes "HandAndHand", Label ∷ Label ∷ [])
 row word.PtrAndHand = (codes "PtrAndHand", Label ∷ Bytes ∷ [])
 row word.NewPtr = (codes "NewPtr", Label ∷ Size ∷ [])
@@ -95,6 +96,19 @@ row word.ShowPtr = (codes "ShowPtr", Label ∷ [])
 row word.Where = (codes "Where", Label ∷ [])
 row word.WaitNextEvent = (codes "WaitNextEvent", [])
 row word.ExitToShell = (codes "ExitToShell", [])
+row word.NewHandleClear = (codes "NewHandleClear", Label ∷ Size ∷ [])
+row word.NewPtrClear = (codes "NewPtrClear", Label ∷ Size ∷ [])
+row word.SizeResource = (codes "SizeResource", Label ∷ [])
+row word.MaxSizeRsrc = (codes "MaxSizeRsrc", Label ∷ [])
+
+-- The word of the call that a word names: some calls have another name.
+-- See decision 232 (another name of a call is a word for the call).
+abbrev pub meant : CallWord → CallWord
+meant word.NewHandleClear = word.NewHandle
+meant word.NewPtrClear = word.NewPtr
+meant word.SizeResource = word.GetResourceSizeOnDisk
+meant word.MaxSizeRsrc = word.GetResourceSizeOnDisk
+meant w = w
 
 -- The spelling of a call.
 abbrev pub spelling : CallWord → List ℕ
@@ -122,6 +136,7 @@ heap_spoken (heap.HSetState h byte) = (word.HSetState, Letters h.0.items ∷ Num
 heap_spoken (heap.MoveHHi h) = (word.MoveHHi, Letters h.0.items ∷ [])
 heap_spoken (heap.HLockHi h) = (word.HLockHi, Letters h.0.items ∷ [])
 heap_spoken (heap.HandToHand b a) = (word.HandToHand, Letters b.0.items ∷ Letters a.value.0.items ∷ [])
+heap_spoken (heap.PtrToHand h bytes) = (word.PtrToHand, Letters h.0.items ∷ Raw bytes.items ∷ [])
 heap_spoken (heap.HandAndHand a b) = (word.HandAndHand, Letters a.0.items ∷ Letters b.value.0.items ∷ [])
 heap_spoken (heap.PtrAndHand h bytes) = (word.PtrAndHand, Letters h.0.items ∷ Raw bytes.items ∷ [])
 heap_spoken (heap.NewPtr p size) = (word.NewPtr, Letters p.0.items ∷ Number size ∷ [])
@@ -230,8 +245,8 @@ is_allowed c = may_stand (word_of c)
 unfoldable pub word_spelled : List ℕ → Option CallWord
 word_spelled token = find (λ w. bytes_eq (spelling w) token) WORDS
 
--- The word of a call and the values of its arguments, which a text spells.
+-- The word of a call and the values of its arguments, which a text spells, by the word before it.
 abbrev pub call_read : CallWord → List ℕ → Result (CallWord × List Value) FaultKind
 call_read word text = do
   values ← arguments (kinds word) text
-  Ok (word, values)
+  Ok (meant word, values)

@@ -1,6 +1,6 @@
 use Rattle.std.specs.Prelude.{◌≡◌, ℕ, true, false, Option, IfSome, List, bytes_eq, codes}
 use Rattle.script_text.specs.declared.job.Event.{Event}
-use Rattle.script_text.specs.declared.script.Begun.{Begun}
+use Rattle.script_text.specs.declared.script_lines.Begun.{Begun}
 use Rattle.script_text.specs.declared.script.Line.{Line}
 use Rattle.script_text.specs.Job.{Input}
 use Rattle.script_text.specs.JobFacts.{IsMemory, AreInOrder, AreEventsOf}

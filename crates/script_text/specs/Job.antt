@@ -1,24 +1,22 @@
-use Rattle.std.specs.Prelude.{ℕ, ◌+◌, ◌%◌, ◌==◌, nat_le, nat_lt, Bool, true, false, ◌&&◌, not, Option, Some, None, is_some}
-use Rattle.std.specs.Prelude.{Result, Ok, Err, List, [], ◌∷◌, ◌++◌, map, length, take, drop, bytes_eq, codes, find}
-use Rattle.std.specs.Prelude.{if◌then◌else◌}
+use Rattle.std.specs.Prelude.{◌≡◌, ℕ, ◌+◌, ◌%◌, ◌==◌, nat_le, nat_lt, Bool, true, false, ◌&&◌, not, Option, Some, None, is_some}
+use Rattle.std.specs.Prelude.{Result, Ok, Err, List, [], ◌∷◌, ◌++◌, map, length, take, drop, bytes_eq, if◌then◌else◌}
 use Rattle.std.specs.List.{list_any, filter_map, position_from}
 use Rattle.std.specs.Option.{ok_or, is_none}
 use Rattle.std.specs.Str.Lines.{lines}
 use Rattle.windows.specs.declared.list.TheConstants.{GREATEST_MEMORY}
 use Rattle.script_text.specs.declared.fault.FaultKind.{FaultKind}
-use Rattle.script_text.specs.declared.fault.FaultKind.TheVariants.{UnknownCall, BadArgument, LongLine}
+use Rattle.script_text.specs.declared.fault.FaultKind.TheVariants.{BadArgument}
 use Rattle.script_text.specs.declared.job.Event.{Event}
 use Rattle.script_text.specs.declared.job.Event.TheVariants as event
 use Rattle.script_text.specs.declared.job.Input as declared
 use Rattle.script_text.specs.declared.job.Input.TheVariants as input
 use Rattle.script_text.specs.declared.job.JobText.{JobText}
-use Rattle.script_text.specs.declared.job_word.JobWord.{JobWord}
-use Rattle.script_text.specs.declared.job_word.JobWord.TheVariants as word
-use Rattle.script_text.specs.declared.job_word.TheConstants.{JOB_WORDS}
+use Rattle.script_text.specs.declared.job_lines.Refusal.{Refusal}
+use Rattle.script_text.specs.declared.job_lines.Refusal.TheVariants as refusals
 use Rattle.script_text.specs.Reading.{◌>>=◌}
-use Rattle.script_text.specs.Token.{place, is_blank, after_blanks}
-use Rattle.script_text.specs.Argument.{Label, Size, File as FileKind, Path, Value, Letters, Number, Raw, arguments}
-use Rattle.script_text.specs.Script.{at_line, longest_line}
+use Rattle.script_text.specs.Script.{at_line}
+use Rattle.script_text.specs.Stating as said
+use Rattle.script_text.specs.Stating.{Stated, job_line}
 
 -- Jobs.
 
@@ -98,22 +96,6 @@ is_memory n = nat_le least_memory n && nat_le n greatest_memory && n % 16 == 0
 
 -- The text of a job.
 
--- The spelling of the word with which a line of a job begins.
-abbrev pub spelling : JobWord → List ℕ
-spelling word.Memory = codes "memory"
-spelling word.System = codes "system"
-spelling word.App = codes "app"
-spelling word.File = codes "file"
-spelling word.Launch = codes "launch"
-spelling word.Step = codes "step"
-spelling word.Turn = codes "turn"
-spelling word.Quit = codes "quit"
-spelling word.Rest = codes "rest"
-
--- The word that a token spells.
-unfoldable pub word_spelled : List ℕ → Option JobWord
-word_spelled token = find (λ w. bytes_eq (spelling w) token) JOB_WORDS
-
 -- What the lines so far have stated.
 pub record Above : Type 0 where
   pub memory : Option ℕ
@@ -136,88 +118,36 @@ with_event above e =
 
 -- The memory, which is stated once.
 -- See decision 119 (the first line of a job that is not skipped is `memory`).
-abbrev pub memory_said : Above → List Value → Result Above FaultKind
-memory_said above (Number n ∷ []) =
-    if is_none above.memory && is_memory n
-    then Ok (record { memory = Some n; inputs = above.inputs; events = above.events })
+abbrev pub with_size : Above → ℕ → Result Above FaultKind
+with_size above size =
+    if is_none above.memory && is_memory size
+    then Ok (record { memory = Some size; inputs = above.inputs; events = above.events })
     else Err BadArgument
-memory_said above _ = Err BadArgument
 
--- The System file, by its path.
-abbrev pub system_said : Above → List Value → Result Above FaultKind
-system_said above (Raw path ∷ []) = with_input above (System path)
-system_said above _ = Err BadArgument
+-- What is stated of an application above, which is named.
+abbrev pub of_app : Above → List ℕ → (ℕ → Result Above FaultKind) → Result Above FaultKind
+of_app above name go_on = ok_or (app_named name above.inputs) BadArgument >>= go_on
 
--- An application: its name, its fork's path and its script's path.
-abbrev pub app_said : Above → List Value → Result Above FaultKind
-app_said above (Letters name ∷ Raw fork ∷ Raw script ∷ []) = with_input above (App name fork script)
-app_said above _ = Err BadArgument
+-- What a line states, after what stands above it.
+abbrev pub with_stated : Above → Stated → Result Above FaultKind
+with_stated above (said.Memory size) = with_size above size
+with_stated above (said.System path) = with_input above (System path)
+with_stated above (said.App name fork script) = with_input above (App name fork script)
+with_stated above (said.File owner name path) = of_app above owner (λ app. with_input above (File app name path))
+with_stated above (said.Launch name) = of_app above name (λ app. with_event above (event.Launch app))
+with_stated above (said.Step name) = of_app above name (λ app. with_event above (event.Step app))
+with_stated above (said.Turn name) = of_app above name (λ app. with_event above (event.Turn app))
+with_stated above (said.Quit name) = of_app above name (λ app. with_event above (event.Quit app))
+with_stated above said.Rest = with_event above event.Rest
 
--- A file: the name of an application above, the file's name, and its path.
-abbrev pub file_said : Above → List Value → Result Above FaultKind
-file_said above (Letters name ∷ Raw file ∷ Raw path ∷ []) =
-    ok_or (app_named name above.inputs) BadArgument >>= λ app. with_input above (File app file path)
-file_said above _ = Err BadArgument
+-- One more line, if it states something.
+abbrev pub with_any : Above → Option Stated → Result Above FaultKind
+with_any above None = Ok above
+with_any above (Some stated) = with_stated above stated
 
--- The number of an application above, by its name.
-abbrev pub owner_said : Above → List Value → Result ℕ FaultKind
-owner_said above (Letters name ∷ []) = ok_or (app_named name above.inputs) BadArgument
-owner_said above _ = Err BadArgument
-
--- The number of the application that the line of an event names.
-abbrev pub owner_at : Above → List ℕ → Result ℕ FaultKind
-owner_at above rest = arguments (Label ∷ []) rest >>= owner_said above
-
--- A line `memory N`, by the text after its first token.
-abbrev pub memory_line : Above → List ℕ → Result Above FaultKind
-memory_line above rest = arguments (Size ∷ []) rest >>= memory_said above
-
--- A line `system PATH`, by the text after its first token.
-abbrev pub system_line : Above → List ℕ → Result Above FaultKind
-system_line above rest = arguments (Path ∷ []) rest >>= system_said above
-
--- A line `app NAME FORK SCRIPT`, by the text after its first token.
-abbrev pub app_line : Above → List ℕ → Result Above FaultKind
-app_line above rest = arguments (Label ∷ Path ∷ Path ∷ []) rest >>= app_said above
-
--- A line `file NAME FILE PATH`, by the text after its first token.
-abbrev pub file_line : Above → List ℕ → Result Above FaultKind
-file_line above rest = arguments (Label ∷ FileKind ∷ Path ∷ []) rest >>= file_said above
-
--- The line of an event of an application, by the text after its first token.
-abbrev pub event_line : (ℕ → Event) → Above → List ℕ → Result Above FaultKind
-event_line make above rest = owner_at above rest >>= λ app. with_event above (make app)
-
--- A line `rest`, by the text after its first token.
-abbrev pub rest_line : Above → List ℕ → Result Above FaultKind
-rest_line above rest = arguments [] rest >>= λ _. with_event above event.Rest
-
--- One more line, by its word and the text after its first token.
-abbrev pub with_word : Above → JobWord → List ℕ → Result Above FaultKind
-with_word above word.Memory rest = memory_line above rest
-with_word above word.System rest = system_line above rest
-with_word above word.App rest = app_line above rest
-with_word above word.File rest = file_line above rest
-with_word above word.Launch rest = event_line event.Launch above rest
-with_word above word.Step rest = event_line event.Step above rest
-with_word above word.Turn rest = event_line event.Turn above rest
-with_word above word.Quit rest = event_line event.Quit above rest
-with_word above word.Rest rest = rest_line above rest
-
--- One more line, by its first token and the text after it.
-unfoldable pub with_token : Above → List ℕ → List ℕ → Result Above FaultKind
-with_token above token rest = ok_or (word_spelled token) UnknownCall >>= λ word. with_word above word rest
-
--- One more line, by its text after the leading blanks; an empty line and a comment are skipped.
-abbrev pub with_text : Above → List ℕ → Result Above FaultKind
-with_text above [] = Ok above
-with_text above (c ∷ rest) =
-    if c == 35 then Ok above
-    else with_token above (take (place is_blank (c ∷ rest)) (c ∷ rest)) (drop (place is_blank (c ∷ rest)) (c ∷ rest))
-
--- One more line, or its fault; a line that is too long has that fault before any other.
+-- One more line, or its fault.
 unfoldable pub with_line : Above → List ℕ → Result Above FaultKind
-with_line above line = if nat_lt longest_line (length line) then Err LongLine else with_text above (after_blanks line)
+with_line above line = job_line line >>= with_any above
 
 -- All lines, from the n-th on, or the first faulty one.
 abbrev pub with_lines : ℕ → Above → List (List ℕ) → Result Above (ℕ × FaultKind)
@@ -244,6 +174,12 @@ unfoldable pub job_of : List ℕ → Result Job (ℕ × FaultKind)
 job_of text = after_all (with_lines 1 nothing (lines text))
 
 -- The values of the code, as the definitions see them.
+
+-- The result of adding a line, seen by `view`, is that of a reading, unless the host is out of memory.
+abbrev pub Adds : {X Y : Type 0} → (X → Y) → Result X Refusal → Result Y FaultKind → Type 0
+Adds view (Ok x) read = read ≡ Ok (view x)
+Adds view (Err refusals.HostMemory) read = Unit {0}
+Adds view (Err (refusals.Misfit misfit)) read = read ≡ Err BadArgument
 
 -- An input of the code, as an `Input` of the definitions.
 abbrev pub input_seen : declared.Input → Input

@@ -5,6 +5,7 @@ pub mod Argument
 pub mod Call
 pub mod Named
 pub mod Script
+pub mod Stating
 pub mod Job
 pub mod JobFacts
 pub mod Known

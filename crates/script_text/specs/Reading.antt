@@ -23,6 +23,15 @@ abbrev pub Gives : {X Y : Type 0} → (X → Y) → Result X FaultKind → Resul
 Gives view (Ok x) read = read ≡ Ok (view x)
 Gives view (Err kind) read = Fails kind read
 
+-- What holds where the text has a fault.
+abbrev pub OnFault : {X : Type 0} → Result X FaultKind → Type 0 → Type 0
+OnFault (Ok x) holds = Unit {0}
+OnFault (Err kinds.HostMemory) holds = Unit {0}
+OnFault (Err kinds.UnknownCall) holds = holds
+OnFault (Err kinds.BadArgument) holds = holds
+OnFault (Err kinds.NotAllowed) holds = holds
+OnFault (Err kinds.LongLine) holds = holds
+
 -- What a function found in a token, seen by `view`, is what is sought.
 abbrev pub Finds : {X Y : Type 0} → (X → Y) → Option X → Option Y → Type 0
 Finds view found sought = option_map view found ≡ sought

@@ -8,7 +8,7 @@ use Rattle.std.specs.Str.Lines.{lines}
 use Rattle.mac_words.specs.declared.call.Call.{Call}
 use Rattle.script_text.specs.declared.fault.FaultKind.{FaultKind}
 use Rattle.script_text.specs.declared.fault.FaultKind.TheVariants.{UnknownCall, BadArgument, NotAllowed, LongLine}
-use Rattle.script_text.specs.declared.script.Begun as declared
+use Rattle.script_text.specs.declared.script_lines.Begun as declared
 use Rattle.script_text.specs.declared.script.Line.{Line}
 use Rattle.script_text.specs.declared.word.CallWord.{CallWord}
 use Rattle.script_text.specs.declared.word.CallWord.TheVariants as word
@@ -111,14 +111,19 @@ abbrev pub grow_at : ℕ → Above → List ℕ → Result Above FaultKind
 grow_at n above rest =
     if is_some above.begun then Err NotAllowed else (arguments (Label ∷ []) rest >>= begin_at n above)
 
--- A line `end`, by the text after `end`: outside a grow-zone script the word is no call.
-abbrev pub end_at : Above → Option Begun → List ℕ → Result Above FaultKind
-end_at above None rest = Err UnknownCall
-end_at above (Some b) rest = arguments [] rest >>= λ _. Ok (record {
+-- The grow-zone script whose `end` comes is a whole one.
+abbrev pub ended : Above → Option Begun → Above
+ended above None = above
+ended above (Some b) = record {
   steps = above.steps;
   blocks = put_named b.name b.statements above.blocks;
   begun = None;
-})
+}
+
+-- A line `end`, by the text after `end`: outside a grow-zone script the word is no call.
+abbrev pub end_at : Above → Option Begun → List ℕ → Result Above FaultKind
+end_at above None rest = Err UnknownCall
+end_at above (Some b) rest = arguments [] rest >>= λ _. Ok (ended above (Some b))
 
 -- One more line, the n-th, by its first token and the text after it.
 unfoldable pub with_token : ℕ → Above → List ℕ → List ℕ → Result Above FaultKind

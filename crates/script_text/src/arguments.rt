@@ -6,7 +6,7 @@ ghost use Rattle.script_text.specs.Reading.{Gives};
 
 use crate::argument::{Argument, path_in};
 use crate::fault::FaultKind;
-use crate::token::{token, trim};
+use crate::token::{first_token, trim};
 use std::alloc::Global;
 
 /// Reads the argument at the front of a text, and returns it with the text after it; a bad argument where there is
@@ -15,7 +15,7 @@ use std::alloc::Global;
 pub fn first<A: Argument + Drop>(alloc: Global, text: &[u8]) -> Result<(A, &[u8]), FaultKind>
     ensures { Gives (λ x. (A.seen x.0, x.1.now)) result (argument A.kind text.now) }
 {
-    let (token, rest) = token(trim(text))?;
+    let (token, rest) = first_token(trim(text))?;
     match A::find(alloc, token)? {
         Some(found) => Ok((found, rest)),
         None => Err(FaultKind::BadArgument),
@@ -27,7 +27,7 @@ pub fn first<A: Argument + Drop>(alloc: Global, text: &[u8]) -> Result<(A, &[u8]
 pub fn path(text: &[u8]) -> Result<(&str, &[u8]), FaultKind>
     ensures { Gives (λ x. (Raw x.0.now, x.1.now)) result (argument Path text.now) }
 {
-    let (token, rest) = token(trim(text))?;
+    let (token, rest) = first_token(trim(text))?;
     match path_in(token) {
         Some(path) => Ok((path, rest)),
         None => Err(FaultKind::BadArgument),
@@ -43,6 +43,24 @@ pub fn none(text: &[u8]) -> Result<(), FaultKind>
     } else {
         Err(FaultKind::BadArgument)
     }
+}
+
+/// Reads a path, after which the text must be at its end.
+pub fn last_path(text: &[u8]) -> Result<&str, FaultKind>
+    ensures { Gives (λ path. Raw path.now ∷ []) result (arguments (Path ∷ []) text.now) }
+{
+    let (path, rest) = path(text)?;
+    none(rest)?;
+    Ok(path)
+}
+
+/// Reads two paths, after which the text must be at its end.
+pub fn two_paths(text: &[u8]) -> Result<(&str, &str), FaultKind>
+    ensures { Gives (λ x. Raw x.0.now ∷ Raw x.1.now ∷ []) result (arguments (Path ∷ Path ∷ []) text.now) }
+{
+    let (path, rest) = path(text)?;
+    let other = last_path(rest)?;
+    Ok((path, other))
 }
 
 /// Reads one argument, after which the text must be at its end.

@@ -5,6 +5,7 @@ ghost use Rattle.script_text.specs.Job.{Input as Stated, input_seen, app_names, 
 ghost use Rattle.script_text.specs.Known.{IsKnown};
 
 use crate::job::Input;
+use crate::job_lines::Misfit;
 use crate::owners::Owners;
 use std::alloc::{AllocError, Global};
 use std::marker::Model;
@@ -49,6 +50,19 @@ impl<'t> Inputs<'t> {
         ensures { result ≡ may_follow self.now (input_seen input.now) }
     {
         self.owners.fits(input)
+    }
+
+    /// Returns why an input that does not fit may not follow these.
+    pub fn misfit(&self, input: &Input) -> Misfit {
+        match input {
+            Input::System { .. } => Misfit::SecondSystem,
+            Input::App { name, .. } if self.find_app(name.0.as_slice()).is_some() => {
+                Misfit::TakenApplication
+            }
+            Input::App { .. } => Misfit::ManyApplications,
+            Input::File { app, name, .. } if self.owners.has_file(*app, name) => Misfit::TakenFile,
+            Input::File { .. } => Misfit::ManyFiles,
+        }
     }
 
     /// Adds an input that may follow these. Nothing is added where the host is out of memory.

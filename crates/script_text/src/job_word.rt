@@ -1,7 +1,7 @@
 //! The words with which the lines of a job begin.
 
 ghost use Rattle.std.specs.Prelude.{◌≡◌};
-ghost use Rattle.script_text.specs.Job.{spelling, word_spelled};
+ghost use Rattle.script_text.specs.Stating.{spelling, word_spelled};
 
 /// The word with which a line of a job begins.
 #[derive(Clone, Copy)]
@@ -17,7 +17,8 @@ pub enum JobWord {
     Rest,
 }
 
-static JOB_WORDS: [JobWord; 9] = [
+/// The words of a job.
+pub static JOB_WORDS: [JobWord; 9] = [
     JobWord::Memory,
     JobWord::System,
     JobWord::App,
@@ -48,7 +49,7 @@ impl JobWord {
     }
 
     /// Returns the word that a token spells.
-    #[tactic(auto, unfolding(crate::specs::Job::word_spelled))]
+    #[tactic(auto, unfolding(crate::specs::Stating::word_spelled))]
     pub fn find(token: &[u8]) -> Option<JobWord>
         ensures { result ≡ word_spelled token.now }
     {

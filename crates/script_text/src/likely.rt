@@ -32,8 +32,9 @@ static OF_EIGHT: [CallWord; 5] = [
     CallWord::ResError,
 ];
 
-static OF_NINE: [CallWord; 6] = [
+static OF_NINE: [CallWord; 7] = [
     CallWord::NewHandle,
+    CallWord::PtrToHand,
     CallWord::HGetState,
     CallWord::HSetState,
     CallWord::UnloadSeg,
@@ -57,7 +58,7 @@ static OF_TEN: [CallWord; 13] = [
     CallWord::SetResLoad,
 ];
 
-static OF_ELEVEN: [CallWord; 14] = [
+static OF_ELEVEN: [CallWord; 16] = [
     CallWord::GetResource,
     CallWord::EmptyHandle,
     CallWord::HandAndHand,
@@ -72,12 +73,15 @@ static OF_ELEVEN: [CallWord; 14] = [
     CallWord::SetResAttrs,
     CallWord::SetResPurge,
     CallWord::ExitToShell,
+    CallWord::NewPtrClear,
+    CallWord::MaxSizeRsrc,
 ];
 
-static OF_TWELVE: [CallWord; 3] = [
+static OF_TWELVE: [CallWord; 4] = [
     CallWord::CloseResFile,
     CallWord::Get1Resource,
     CallWord::LoadResource,
+    CallWord::SizeResource,
 ];
 
 static OF_THIRTEEN: [CallWord; 7] = [
@@ -90,8 +94,9 @@ static OF_THIRTEEN: [CallWord; 7] = [
     CallWord::WaitNextEvent,
 ];
 
-static OF_FOURTEEN: [CallWord; 3] = [
+static OF_FOURTEEN: [CallWord; 4] = [
     CallWord::NewEmptyHandle,
+    CallWord::NewHandleClear,
     CallWord::DetachResource,
     CallWord::RemoveResource,
 ];

@@ -171,6 +171,14 @@ impl Owners {
         find_owner(&self.apps, name)
     }
 
+    /// Reports whether an application has a file of this name, its fork among its files.
+    pub fn has_file(&self, app: usize, name: &FileName) -> bool {
+        match self.apps.get(app) {
+            Some(owner) => owner.has(name),
+            None => false,
+        }
+    }
+
     /// Reports whether an input may follow those of which this is known.
     pub fn fits(&self, input: &Input) -> bool
         ensures { result ≡ may_join self.now (input_seen input.now) }

@@ -1,26 +1,17 @@
 //! Reading scripts.
 
-ghost use Rattle.std.specs.Prelude.{◌≡◌, false, true, List, [], ◌∷◌, ◌++◌, map, IsTrue, IfOk, OnOk, codes, bytes_eq};
-ghost use Rattle.std.specs.Option.{option_map};
+ghost use Rattle.std.specs.Prelude.{◌≡◌, true, IfOk};
 ghost use Rattle.std.specs.Str.Lines.{lines};
-ghost use Rattle.script_text.specs.Call.{is_allowed};
-ghost use Rattle.script_text.specs.Script.{ScriptParts, AllAllowed, NoneIsUnused, are_allowed, block_of, Above};
-ghost use Rattle.script_text.specs.Script.{call_at};
-ghost use Rattle.script_text.specs.Script.{grow_at, end_at};
-ghost use Rattle.script_text.specs.Script.{is_new, with_token, read_at, read_from, no_lines, is_begun, is_there};
-ghost use Rattle.script_text.specs.Script.{sets_missing, first_missing, lesser, unfinished, script_of};
-ghost use Rattle.script_text.specs.Script.{said_as, statement, blocks_seen, begun_seen, spelled};
-ghost use Rattle.script_text.specs.Inner.{IsKept};
-ghost use Rattle.script_text.specs.Reading.{Gives, GivesAt};
+ghost use Rattle.script_text.specs.Script.{ScriptParts, AllAllowed, NoneIsUnused, are_allowed, block_of};
+ghost use Rattle.script_text.specs.Script.{read_from, no_lines, script_of, spelled};
+ghost use Rattle.script_text.specs.Reading.{GivesAt};
 
-use crate::arguments::{none, one};
 use crate::blocks::Blocks;
 use crate::fault::{FaultKind, ScriptFault};
-use crate::lines::{LONGEST_LINE, next_line};
-use crate::token::{first_blank, trim};
-use crate::word::CallWord;
-use mac_words::{Call, ControlCall, Label};
-use std::alloc::{AllocError, Global};
+use crate::lines::next_line;
+use crate::script_lines::ScriptLines;
+use mac_words::{Call, Label};
+use std::alloc::Global;
 use std::hash::{DefaultHasher, Hasher};
 use std::marker::Model;
 
@@ -81,201 +72,11 @@ impl Script {
     }
 }
 
-/// A grow-zone script whose `end` is still to come.
-#[derive(Drop)]
-struct Begun {
-    /// The number of its `grow` line.
-    line: usize,
-    name: Label,
-    lines: Vec<Line>,
-}
-
-/// What the lines read so far have stated.
-#[derive(Drop)]
-struct Reader {
-    alloc: Global,
-    steps: Vec<Line>,
-    blocks: Blocks,
-    begun: Option<Begun>,
-}
-
-impl Model for Reader {
-    ghost Value = { Above };
-
-    ghost view = { λ r. record {
-      steps = map statement r.steps.items;
-      blocks = blocks_seen r.blocks;
-      begun = option_map begun_seen r.begun;
-    } };
-
-    ghost invariant = { λ r. IsKept r.blocks r.begun };
-}
-
-/// Reports whether a name is `none`, which stands for no grow-zone script.
-fn names_none(name: &Label) -> bool
-    ensures { result ≡ bytes_eq name.now.0.items (codes "none") }
-{
-    name.0.as_slice() == b"none".as_slice()
-}
-
-fn has_name(begun: &Option<Begun>, name: &Label) -> bool
-    ensures { result ≡ is_begun name.now.0.items (option_map begun_seen begun.now) }
-{
-    match begun {
-        Some(begun) => name.0.as_slice() == begun.name.0.as_slice(),
-        None => false,
-    }
-}
-
-impl Reader {
-    /// Adds a call as a step, or as a line of the grow-zone script whose `end` is still to come.
-    fn take(&mut self, number: usize, word: CallWord, rest: &[u8]) -> Result<(), FaultKind>
-        ensures { Gives (λ _. self.new) result (call_at number self.old word rest.now) }
-    {
-        if self.begun.is_some() && !word.is_allowed() {
-            return Err(FaultKind::NotAllowed);
-        }
-        let call = word.read(self.alloc, rest)?;
-        let line = Line { number, call };
-        match &mut self.begun {
-            Some(begun) => begun.lines.push(line)?,
-            None => {
-                self.steps.reserve(1)?;
-                self.steps.push_reserved(line);
-            }
-        }
-        Ok(())
-    }
-
-    /// Begins a grow-zone script at a line `grow NAME`.
-    #[tactic(auto, using(crate::proofs::Naming::has_seen))]
-    fn begin(&mut self, number: usize, rest: &[u8]) -> Result<(), FaultKind>
-        ensures { Gives (λ _. self.new) result (grow_at number self.old rest.now) }
-    {
-        if self.begun.is_some() {
-            return Err(FaultKind::NotAllowed);
-        }
-        let name: Label = one(self.alloc, rest)?;
-        if names_none(&name) || self.blocks.has(&name) {
-            return Err(FaultKind::BadArgument);
-        }
-        self.begun = Some(Begun {
-            line: number,
-            name,
-            lines: Vec::new(self.alloc),
-        });
-        Ok(())
-    }
-
-    /// Ends the grow-zone script that is begun at a line `end`.
-    #[tactic(auto, using(crate::proofs::Naming::put_seen))]
-    fn finish(&mut self, rest: &[u8]) -> Result<(), FaultKind>
-        ensures { Gives (λ _. self.new) result (end_at self.old self.old.begun rest.now) }
-    {
-        let Some(begun) = self.begun.take() else {
-            return Err(FaultKind::UnknownCall);
-        };
-        none(rest)?;
-        self.blocks.add(begun.name, begun.lines)?;
-        Ok(())
-    }
-
-    /// Reads a line by its first token and the rest of the line.
-    #[tactic(auto, unfolding(crate::specs::Script::with_token))]
-    fn read_words(&mut self, number: usize, token: &[u8], rest: &[u8]) -> Result<(), FaultKind>
-        ensures { Gives (λ _. self.new) result (with_token number self.old token.now rest.now) }
-    {
-        match token {
-            b"grow" => self.begin(number, rest),
-            b"end" => self.finish(rest),
-            _ => match CallWord::find(token) {
-                Some(word) => self.take(number, word, rest),
-                None => Err(FaultKind::UnknownCall),
-            },
-        }
-    }
-
-    /// Reads a line.
-    #[tactic(auto, unfolding(crate::specs::Script::read_at))]
-    fn read(&mut self, number: usize, line: &[u8]) -> Result<(), FaultKind>
-        ensures { Gives (λ _. self.new) result (read_at number self.old line.now) }
-    {
-        if line.len() > LONGEST_LINE {
-            return Err(FaultKind::LongLine);
-        }
-        let text = trim(line);
-        match text {
-            [] | [b'#', ..] => Ok(()),
-            _ => {
-                let (token, rest) = text.split_at(first_blank(text));
-                self.read_words(number, token, rest)
-            }
-        }
-    }
-
-    /// Reports whether there is a grow-zone script of this name, or the name is `none`.
-    #[tactic(auto, using(crate::proofs::Naming::has_seen))]
-    fn is_there(&self, name: &Label) -> bool
-        ensures { result ≡ is_there self.now name.now.0.items }
-    {
-        names_none(name) || self.blocks.has(name) || has_name(&self.begun, name)
-    }
-
-    /// Reports whether a call sets a grow-zone script that is not there.
-    fn is_missing_for(&self, call: &Call) -> bool
-        ensures { result ≡ sets_missing self.now (said_as call.now) }
-    {
-        match call {
-            Call::Control(ControlCall::SetGrowZone(name)) => !self.is_there(name),
-            _ => false,
-        }
-    }
-
-    /// Returns the number of the first line that sets a grow-zone script that is not there, or that is a `grow` line
-    /// without `end`.
-    fn unfinished(&self) -> Option<usize>
-        ensures { result ≡ unfinished self.now }
-    {
-        lesser_of(
-            first_missing_for(self, &self.steps),
-            self.begun.as_ref().map(|begun| begun.line),
-        )
-    }
-}
-
-/// Returns the lesser of two line numbers; where there is only one, that one.
-fn lesser_of(one: Option<usize>, other: Option<usize>) -> Option<usize>
-    ensures { result ≡ lesser one other }
-{
-    match (one, other) {
-        (Some(one), Some(other)) => Some(one.min(other)),
-        (Some(one), None) => Some(one),
-        (None, other) => other,
-    }
-}
-
-/// Returns the number of the first of these lines that sets a grow-zone script that is not there.
-fn first_missing_for(reader: &Reader, lines: &[Line]) -> Option<usize>
-    ensures { result ≡ first_missing reader.now (map statement lines.now) }
-{
-    for line in lines {
-        if reader.is_missing_for(&line.call) {
-            return Some(line.number);
-        }
-    }
-    None
-}
-
 /// Reads the lines of a text in order.
-fn read_lines(alloc: Global, text: &[u8]) -> Result<Reader, ScriptFault>
+fn read_lines(alloc: Global, text: &[u8]) -> Result<ScriptLines, ScriptFault>
     ensures { GivesAt (λ reader. reader) result (read_from 1 no_lines (lines text.now)) }
 {
-    let mut reader = Reader {
-        alloc,
-        steps: Vec::new(alloc),
-        blocks: Blocks::new(alloc),
-        begun: None,
-    };
+    let mut reader = ScriptLines::new(alloc);
     let mut number = 0;
     let mut rest = text;
     while !rest.is_empty() {

@@ -72,7 +72,7 @@ fn ends_token(text: &[u8]) -> bool
 /// Returns the token at the front of a text, and the text after it; a bad argument where the token does not end at a
 /// blank or at the end of the text.
 #[tactic(auto, unfolding(crate::specs::Token::token_at))]
-pub fn token(text: &[u8]) -> Result<(&[u8], &[u8]), FaultKind>
+pub fn first_token(text: &[u8]) -> Result<(&[u8], &[u8]), FaultKind>
     ensures { Gives (λ cut. (cut.0.now, cut.1.now)) result (token_at text.now) }
 {
     let len = length_of(text);

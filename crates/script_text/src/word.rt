@@ -1,7 +1,7 @@
 //! The words of the calls.
 
 ghost use Rattle.std.specs.Prelude.{◌≡◌, [], ◌∷◌, true, Some, IfOk, IfSome, bytes_eq};
-ghost use Rattle.script_text.specs.Call.{spelling, kinds, spoken, word_of, may_stand, word_spelled, call_read};
+ghost use Rattle.script_text.specs.Call.{spelling, kinds, meant, spoken, word_of, may_stand, word_spelled, call_read};
 ghost use Rattle.script_text.specs.Reading.{Gives};
 ghost use Rattle.script_text.specs.declared.word.CallWord as declared;
 
@@ -31,6 +31,7 @@ pub enum CallWord {
     MoveHHi,
     HLockHi,
     HandToHand,
+    PtrToHand,
     HandAndHand,
     PtrAndHand,
     NewPtr,
@@ -91,10 +92,15 @@ pub enum CallWord {
     Where,
     WaitNextEvent,
     ExitToShell,
+    NewHandleClear,
+    NewPtrClear,
+    SizeResource,
+    MaxSizeRsrc,
 }
 
 /// The calls by the part of the toolbox that they belong to: for each its word, the enums that hold the call, what reads its
-/// arguments, and a line of help. The list after them has the words of the calls that a grow-zone script may hold.
+/// arguments, and a line of help. After them stand the other names of calls, each with the word of the call that it names. The
+/// list at the end has the words of the calls that a grow-zone script may hold.
 macro_rules! calls {
     ($part:ident $($given:expr),*) => {
         $part! { $($given),* ;
@@ -131,6 +137,8 @@ macro_rules! calls {
                     "moves the block to the top of its run and locks it";
                 HandToHand = Heap HeapCall two(b, a)
                     "binds b to a new handle with a copy of the bytes of a";
+                PtrToHand = Heap HeapCall two(h, bytes)
+                    "allocates a relocatable block with a copy of bytes";
                 HandAndHand = Heap HeapCall two(a, b)
                     "appends the bytes of a to b";
                 PtrAndHand = Heap HeapCall two(h, bytes)
@@ -264,6 +272,16 @@ macro_rules! calls {
                 ExitToShell = Control ControlCall none()
                     "quits: updates and closes its files, the last opened first";
             }
+            also "Other names of calls; a transcript has the call's own" {
+                NewHandleClear = NewHandle Heap HeapCall two(h, size)
+                    "NewHandle, whose new bytes are 0";
+                NewPtrClear = NewPtr Heap HeapCall two(p, size)
+                    "NewPtr, whose new bytes are 0";
+                SizeResource = GetResourceSizeOnDisk Resource ResourceCall one(h)
+                    "GetResourceSizeOnDisk";
+                MaxSizeRsrc = GetResourceSizeOnDisk Resource ResourceCall one(h)
+                    "GetResourceSizeOnDisk, since stored data has no room to spare";
+            }
             [EmptyHandle DisposeHandle DisposePtr HPurge HNoPurge HUnlock ReleaseResource UnloadSeg]
         }
     };
@@ -273,9 +291,12 @@ macro_rules! words {
     (
         ;
         $($owner:literal { $($word:ident = $group:ident $calls:ident $read:ident $names:tt $what:literal;)* })*
+        also $also:literal {
+            $($other:ident = $own:ident $table:ident $kind:ident $by:ident $named:tt $same:literal;)*
+        }
         [$($held:ident)*]
     ) => {
-        [$($(CallWord::$word,)*)*]
+        [$($(CallWord::$word,)*)* $(CallWord::$other,)*]
     };
 }
 
@@ -283,9 +304,31 @@ macro_rules! spelling_of {
     (
         $given:expr;
         $($owner:literal { $($word:ident = $group:ident $calls:ident $read:ident $names:tt $what:literal;)* })*
+        also $also:literal {
+            $($other:ident = $own:ident $table:ident $kind:ident $by:ident $named:tt $same:literal;)*
+        }
         [$($held:ident)*]
     ) => {
-        match $given { $($(CallWord::$word => stringify!($word).as_bytes(),)*)* }
+        match $given {
+            $($(CallWord::$word => stringify!($word).as_bytes(),)*)*
+            $(CallWord::$other => stringify!($other).as_bytes(),)*
+        }
+    };
+}
+
+macro_rules! own_word {
+    (
+        $given:expr;
+        $($owner:literal { $($word:ident = $group:ident $calls:ident $read:ident $names:tt $what:literal;)* })*
+        also $also:literal {
+            $($other:ident = $own:ident $table:ident $kind:ident $by:ident $named:tt $same:literal;)*
+        }
+        [$($held:ident)*]
+    ) => {
+        match $given {
+            $($(CallWord::$word => CallWord::$word,)*)*
+            $(CallWord::$other => CallWord::$own,)*
+        }
     };
 }
 
@@ -311,9 +354,15 @@ macro_rules! read_of {
     (
         $given:expr, $alloc:expr, $text:expr;
         $($owner:literal { $($word:ident = $group:ident $calls:ident $read:ident $names:tt $what:literal;)* })*
+        also $also:literal {
+            $($other:ident = $own:ident $table:ident $kind:ident $by:ident $named:tt $same:literal;)*
+        }
         [$($held:ident)*]
     ) => {
-        match $given { $($(CallWord::$word => arm!($given, $alloc, $text; $word $group $calls $read $names),)*)* }
+        match $given {
+            $($(CallWord::$word => arm!($given, $alloc, $text; $word $group $calls $read $names),)*)*
+            $(CallWord::$other => arm!($given, $alloc, $text; $own $table $kind $by $named),)*
+        }
     };
 }
 
@@ -321,6 +370,7 @@ macro_rules! word_of_call {
     (
         $given:expr;
         $($owner:literal { $($word:ident = $group:ident $calls:ident $read:ident $names:tt $what:literal;)* })*
+        also $also:literal $others:tt
         [$($held:ident)*]
     ) => {
         match $given { $($(Call::$group($calls::$word { .. }) => CallWord::$word,)*)* }
@@ -331,10 +381,15 @@ macro_rules! listed {
     (
         ;
         $($owner:literal { $($word:ident = $group:ident $calls:ident $read:ident ($($name:ident),*) $what:literal;)* })*
+        also $also:literal {
+            $($other:ident = $own:ident $table:ident $kind:ident $by:ident ($($named:ident),*)
+            $same:literal;)*
+        }
         [$($held:ident)*]
     ) => {
         concat!(
             $($owner, ":\n", $("  ", stringify!($word), $(" ", stringify!($name),)* ": ", $what, "\n",)*)*
+            $also, ":\n", $("  ", stringify!($other), $(" ", stringify!($named),)* ": ", $same, "\n",)*
             "Grow-zone scripts, anywhere in a script; 'SetGrowZone none' sets no script:\n",
             "  grow NAME .. end, each on a line of its own, with lines of these calls between them:\n",
             "   ", $(" ", stringify!($held),)* "\n",
@@ -369,6 +424,7 @@ macro_rules! is_held {
     (
         $given:expr;
         $($owner:literal { $($word:ident = $group:ident $calls:ident $read:ident $names:tt $what:literal;)* })*
+        also $also:literal $others:tt
         [$($held:ident)*]
     ) => {
         matches!($given, $(CallWord::$held)|*)
@@ -380,7 +436,7 @@ macro_rules! is_held {
 pub const CALLS: &str = calls!(listed);
 
 /// The words of all calls, in the order of the tables.
-pub static WORDS: [CallWord; 76] = calls!(words);
+pub static WORDS: [CallWord; 81] = calls!(words);
 
 /// Returns the word that a token spells, if the word is one of the few of the token's length that are tried first.
 fn likely_word(token: &[u8]) -> Option<CallWord>
@@ -417,6 +473,13 @@ impl CallWord {
         calls!(spelling_of self)
     }
 
+    /// Returns the call's own word, where the word is another name of a call.
+    pub fn meant(self) -> CallWord
+        ensures { result ≡ meant self }
+    {
+        calls!(own_word self)
+    }
+
     /// Reports whether a grow-zone script may hold the call.
     pub fn is_allowed(self) -> bool
         ensures { result ≡ may_stand self }
@@ -436,18 +499,20 @@ impl CallWord {
     }
 
     /// Makes the call of a word that takes no argument. The text must then be blank.
+    #[tactic(auto, using(crate::proofs::Allowed::meant_stands))]
     fn of_none<F: FnOnce() -> Call>(self, text: &[u8], make: F) -> Result<Call, FaultKind>
         requires callable { F.IsAlwaysCallable make }
         requires kinds { kinds self ≡ [] }
-        requires made { (call : Call) → F.post make call → spoken call ≡ (self, []) }
+        requires made { (call : Call) → F.post make call → spoken call ≡ (meant self, []) }
         ensures call { Gives spoken result (call_read self text.now) }
-        ensures word { IfOk result (λ call. word_of call ≡ self) }
+        ensures word { IfOk result (λ call. may_stand (word_of call) ≡ may_stand self) }
     {
         none(text)?;
         Ok(make())
     }
 
     /// Reads the one argument of a word from a text and makes the call.
+    #[tactic(auto, using(crate::proofs::Allowed::meant_stands))]
     fn of_one<A: Argument + Drop, F: FnOnce(A) -> Call>(
         self,
         alloc: Global,
@@ -456,15 +521,16 @@ impl CallWord {
     ) -> Result<Call, FaultKind>
         requires callable { F.IsAlwaysCallable make }
         requires kinds { kinds self ≡ A.kind ∷ [] }
-        requires made { (a : A) → (call : Call) → F.post make a call → spoken call ≡ (self, A.seen a ∷ []) }
+        requires made { (a : A) → (call : Call) → F.post make a call → spoken call ≡ (meant self, A.seen a ∷ []) }
         ensures call { Gives spoken result (call_read self text.now) }
-        ensures word { IfOk result (λ call. word_of call ≡ self) }
+        ensures word { IfOk result (λ call. may_stand (word_of call) ≡ may_stand self) }
     {
         let a = one(alloc, text)?;
         Ok(make(a))
     }
 
     /// Reads the two arguments of a word from a text and makes the call.
+    #[tactic(auto, using(crate::proofs::Allowed::meant_stands))]
     fn of_two<A: Argument + Drop, B: Argument + Drop, F: FnOnce(A, B) -> Call>(
         self,
         alloc: Global,
@@ -473,15 +539,16 @@ impl CallWord {
     ) -> Result<Call, FaultKind>
         requires callable { F.IsAlwaysCallable make }
         requires kinds { kinds self ≡ A.kind ∷ B.kind ∷ [] }
-        requires made { (a : A) → (b : B) → (call : Call) → F.post make a b call → spoken call ≡ (self, A.seen a ∷ B.seen b ∷ []) }
+        requires made { (a : A) → (b : B) → (call : Call) → F.post make a b call → spoken call ≡ (meant self, A.seen a ∷ B.seen b ∷ []) }
         ensures call { Gives spoken result (call_read self text.now) }
-        ensures word { IfOk result (λ call. word_of call ≡ self) }
+        ensures word { IfOk result (λ call. may_stand (word_of call) ≡ may_stand self) }
     {
         let (a, b) = two(alloc, text)?;
         Ok(make(a, b))
     }
 
     /// Reads the three arguments of a word from a text and makes the call.
+    #[tactic(auto, using(crate::proofs::Allowed::meant_stands))]
     fn of_three<
         A: Argument + Drop,
         B: Argument + Drop,
@@ -490,15 +557,16 @@ impl CallWord {
     >(self, alloc: Global, text: &[u8], make: F) -> Result<Call, FaultKind>
         requires callable { F.IsAlwaysCallable make }
         requires kinds { kinds self ≡ A.kind ∷ B.kind ∷ C.kind ∷ [] }
-        requires made { (a : A) → (b : B) → (c : C) → (call : Call) → F.post make a b c call → spoken call ≡ (self, A.seen a ∷ B.seen b ∷ C.seen c ∷ []) }
+        requires made { (a : A) → (b : B) → (c : C) → (call : Call) → F.post make a b c call → spoken call ≡ (meant self, A.seen a ∷ B.seen b ∷ C.seen c ∷ []) }
         ensures call { Gives spoken result (call_read self text.now) }
-        ensures word { IfOk result (λ call. word_of call ≡ self) }
+        ensures word { IfOk result (λ call. may_stand (word_of call) ≡ may_stand self) }
     {
         let (a, b, c) = three(alloc, text)?;
         Ok(make(a, b, c))
     }
 
     /// Reads the four arguments of a word from a text and makes the call.
+    #[tactic(auto, using(crate::proofs::Allowed::meant_stands))]
     fn of_four<
         A: Argument + Drop,
         B: Argument + Drop,
@@ -508,9 +576,9 @@ impl CallWord {
     >(self, alloc: Global, text: &[u8], make: F) -> Result<Call, FaultKind>
         requires callable { F.IsAlwaysCallable make }
         requires kinds { kinds self ≡ A.kind ∷ B.kind ∷ C.kind ∷ D.kind ∷ [] }
-        requires made { (a : A) → (b : B) → (c : C) → (d : D) → (call : Call) → F.post make a b c d call → spoken call ≡ (self, A.seen a ∷ B.seen b ∷ C.seen c ∷ D.seen d ∷ []) }
+        requires made { (a : A) → (b : B) → (c : C) → (d : D) → (call : Call) → F.post make a b c d call → spoken call ≡ (meant self, A.seen a ∷ B.seen b ∷ C.seen c ∷ D.seen d ∷ []) }
         ensures call { Gives spoken result (call_read self text.now) }
-        ensures word { IfOk result (λ call. word_of call ≡ self) }
+        ensures word { IfOk result (λ call. may_stand (word_of call) ≡ may_stand self) }
     {
         let (a, b, c, d) = four(alloc, text)?;
         Ok(make(a, b, c, d))
@@ -519,7 +587,7 @@ impl CallWord {
     /// Reads the arguments of a word from a text and makes the call.
     pub(crate) fn read(self, alloc: Global, text: &[u8]) -> Result<Call, FaultKind>
         ensures call { Gives spoken result (call_read self text.now) }
-        ensures word { IfOk result (λ call. word_of call ≡ self) }
+        ensures word { IfOk result (λ call. may_stand (word_of call) ≡ may_stand self) }
     {
         calls!(read_of self, alloc, text)
     }

@@ -1,11 +1,11 @@
 -- Worked lines, by computation.
-use Rattle.std.proofs.Common.{◌≡◌, ℕ, Bool, true, false, List, [], ◌∷◌, Option, Some, None, refl, codes}
+use Rattle.std.proofs.Common.{◌≡◌, ℕ, true, false, List, [], ◌∷◌, Option, Some, None, refl, codes}
 use Rattle.std.specs.Fmt.{digits}
 use Rattle.script_text.specs.Token.{after_blanks}
-use Rattle.transcript_words.specs.Changes.{Standing, Placed, changes}
+use Rattle.transcript_words.specs.Changes.{Placed, changes}
 use Rattle.transcript_words.specs.Code.{code_words}
 use Rattle.transcript_words.specs.Source.{source}
-use Rattle.transcript_words.specs.Words.{step_words}
+use Rattle.transcript_words.specs.Words.{call_words, step_words}
 
 abbrev one : List (List ℕ)
 one = source (codes "grow less\nEmptyHandle picture\nend\n NewHandle list 500\n\nGetResource icon 'ICN#' 128\n")
@@ -21,6 +21,11 @@ grown : step_words one (codes "; moved text 400 -> 272; purged picture") (codes 
     ≡ codes "+2 EmptyHandle picture -> noErr\n4 NewHandle list 500 -> noErr; moved text 400 -> 272; purged picture\n"
 unfolding after_blanks code_words
 grown = refl
+
+-- the call alone
+call : call_words one (codes "+2 EmptyHandle 0\n4 NewHandle 0\n") ≡ codes "4 NewHandle list 500 -> noErr"
+unfolding after_blanks code_words
+call = refl
 
 abbrev block : ℕ → ℕ → Option (List ℕ) → Placed
 block n at name = record { number = n; place = at; name = name }

@@ -1,4 +1,4 @@
-use Rattle.std.specs.Prelude.{ℕ, ◌+◌, ℤ, List, [], ◌∷◌, ◌++◌, codes, decimal, drop}
+use Rattle.std.specs.Prelude.{ℕ, ℤ, List, [], ◌∷◌, ◌++◌, codes, decimal, drop}
 use Rattle.std.specs.Fmt.{signed_decimal}
 use Rattle.std.specs.Str.Lines.{lines}
 use Rattle.transcript_words.specs.Code.{code_words}
@@ -27,6 +27,14 @@ lines_words source between (l ∷ later) = between ++ line_words source l ++ lin
 -- A step in words: the lines of its transcript, of which the last is that of its call, and in it what the step changed.
 abbrev pub step_words : List (List ℕ) → List ℕ → List ℕ → List ℕ
 step_words source changes told = lines_words source [] (lines told) ++ changes ++ codes "\n"
+
+-- The last of some lines, and the call of a step in words: what the last line of its transcript says.
+abbrev pub last_line : List ℕ → List (List ℕ) → List ℕ
+last_line line [] = line
+last_line line (l ∷ later) = last_line l later
+
+abbrev pub call_words : List (List ℕ) → List ℕ → List ℕ
+call_words source told = line_words source (last_line [] (lines told))
 
 -- The launch in a partition of so many bytes, and the end with a code.
 abbrev pub launch_words : ℕ → List ℕ

@@ -10,4 +10,4 @@ mod text;
 pub use changes::{Placed, Standing, placed_in, write_changes};
 pub use code::code_name;
 pub use source::{Source, source_of};
-pub use text::{write_end, write_launch, write_step};
+pub use text::{write_call, write_end, write_launch, write_step};

@@ -1,8 +1,10 @@
 //! A transcript in words.
 
-ghost use Rattle.std.specs.Prelude.{◌≡◌, ◌++◌, OnOk, drop};
+ghost use Rattle.std.specs.Prelude.{◌≡◌, ◌++◌, [], OnOk, drop};
+ghost use Rattle.std.specs.Str.Lines.{lines};
 ghost use Rattle.transcript_words.specs.View.{view_lines};
-ghost use Rattle.transcript_words.specs.Words.{later_words, result_words, line_words, step_words, launch_words, end_words};
+ghost use Rattle.transcript_words.specs.Words.{later_words, result_words, line_words, step_words, last_line, call_words, launch_words};
+ghost use Rattle.transcript_words.specs.Words.{end_words};
 
 use crate::code::push_code;
 use crate::source::{Source, after_word, first_word};
@@ -63,6 +65,27 @@ pub fn write_step(
     }
     text.extend_from_slice(changes)?;
     text.extend_from_slice(b"\n")
+}
+
+/// Appends the call of a step in words, of whose transcript it is the last line: as it was written, with its result.
+pub fn write_call(text: &mut Vec<u8>, source: &Source<'_>, told: &[u8]) -> Result<(), AllocError>
+    ensures { OnOk result (text.new.items ≡ text.old.items ++ call_words (view_lines source.now) told.now) }
+{
+    push_line(text, source, last_line(told))
+}
+
+/// Returns the last line of a text, without its end.
+fn last_line(told: &[u8]) -> &[u8]
+    ensures { result.now ≡ last_line [] (lines told.now) }
+{
+    let mut rest = told;
+    let mut last: &[u8] = b"";
+    while !rest.is_empty() {
+        let (line, later) = next_line(rest);
+        last = line;
+        rest = later;
+    }
+    last
 }
 
 /// Appends the line of a launch in a partition of `size` bytes.

@@ -4,6 +4,7 @@ use crate::words::tokens_of;
 use anyhow::{Result, bail};
 use rez_declarations::read_type;
 use std::alloc::Global;
+use std::process::Abort;
 
 const UNREAD: [(&str, &str); 6] = [
     ("data", "line 1: a declaration is needed"),
@@ -147,13 +148,22 @@ const UNSOUND: [(&str, &str); 32] = [
     ),
 ];
 
-/// Declarations at their limits.
-const SOUND: [&str; 5] = [
-    "type 'TEST' { fill byte [ 256 ] ; } ;",
-    "type 'TEST' { bitstring [ 1 ] ; bitstring [ 31 ] ; } ;",
-    "type 'TEST' { array [ 1 ] { array [ 1 ] { array [ 1 ] { array [ 1 ] { array [ 1 ] { array [ 1 ] { array [ 1 ] { array [ 1 ] { byte ; } ; } ; } ; } ; } ; } ; } ; } ; } ;",
-    "type 'TEST' { string [ 65535 ] ; array [ 65535 ] { string [ 255 ] ; } ; string [ 256 ] ; } ;",
-    "type 'TEST' { switch { case a : key byte = 1 ; string ; case b : key byte = 2 ; } ; } ;",
+/// Declarations at their limits, which have no fault.
+const SOUND: [(&str, &str); 5] = [
+    ("type 'TEST' { fill byte [ 256 ] ; } ;", ""),
+    ("type 'TEST' { bitstring [ 1 ] ; bitstring [ 31 ] ; } ;", ""),
+    (
+        "type 'TEST' { array [ 1 ] { array [ 1 ] { array [ 1 ] { array [ 1 ] { array [ 1 ] { array [ 1 ] { array [ 1 ] { array [ 1 ] { byte ; } ; } ; } ; } ; } ; } ; } ; } ; } ;",
+        "",
+    ),
+    (
+        "type 'TEST' { string [ 65535 ] ; array [ 65535 ] { string [ 255 ] ; } ; string [ 256 ] ; } ;",
+        "",
+    ),
+    (
+        "type 'TEST' { switch { case a : key byte = 1 ; string ; case b : key byte = 2 ; } ; } ;",
+        "",
+    ),
 ];
 
 /// Returns why a declaration is refused; nothing where it is read.
@@ -176,31 +186,37 @@ fn many_fields(alloc: Global, fields: usize) -> Result<String> {
     Ok(text)
 }
 
-#[test]
-fn declarations_are_not_read(rt: HostRuntime) -> Result<()> {
-    let alloc = rt.alloc();
-    for (text, reason) in UNREAD {
-        assert_eq!(rt; reason_of(alloc, text)?.as_str(), reason, "of {text}");
+/// Asserts that declarations are refused, each for its reason; an empty reason is that of one that is read.
+fn assert_reasons(rt: &impl Abort, alloc: Global, rows: &[(&str, &str)]) -> Result<()> {
+    for (text, reason) in rows {
+        assert_eq!(rt; reason_of(alloc, text)?.as_str(), *reason, "of {text}");
     }
     Ok(())
 }
 
 #[test]
+fn declarations_are_not_read(rt: HostRuntime) -> Result<()> {
+    assert_reasons(&rt, rt.alloc(), &UNREAD)
+}
+
+#[test]
 fn declarations_are_not_sound(rt: HostRuntime) -> Result<()> {
+    assert_reasons(&rt, rt.alloc(), &UNSOUND)
+}
+
+#[test]
+fn declarations_at_their_limits_are_sound(rt: HostRuntime) -> Result<()> {
+    assert_reasons(&rt, rt.alloc(), &SOUND)
+}
+
+#[test]
+fn declarations_have_512_fields_at_most(rt: HostRuntime) -> Result<()> {
     let alloc = rt.alloc();
-    for (text, reason) in UNSOUND {
-        assert_eq!(rt; reason_of(alloc, text)?.as_str(), reason, "of {text}");
-    }
-    for text in SOUND {
-        assert_eq!(rt; reason_of(alloc, text)?.as_str(), "", "of {text}");
-    }
-    for (fields, reason) in [(512, ""), (513, "line 1: more than 512 fields")] {
-        let text = many_fields(alloc, fields)?;
-        assert_eq!(rt;
-            reason_of(alloc, text.as_str())?.as_str(),
-            reason,
-            "of {fields} fields"
-        );
-    }
-    Ok(())
+    let most = many_fields(alloc, 512)?;
+    let more = many_fields(alloc, 513)?;
+    let rows = [
+        (most.as_str(), ""),
+        (more.as_str(), "line 1: more than 512 fields"),
+    ];
+    assert_reasons(&rt, alloc, &rows)
 }

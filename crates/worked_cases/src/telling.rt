@@ -1,13 +1,22 @@
 //! A transcript in the form of rows: each call as the script spells the call, with its answer.
 
+use script_text::CallWord;
 use std::alloc::{AllocError, Global};
 
-/// Returns the line of a script that has the given number, where the line begins with `word`.
+/// Reports whether a word of a script names the call that has this word in a transcript.
+fn names(first: &str, word: &str) -> bool {
+    match CallWord::find(first.as_bytes()) {
+        Some(found) => found.meant().text() == word.as_bytes(),
+        None => false,
+    }
+}
+
+/// Returns the line of a script that has the given number, where the line begins with a name of the call `word`.
 fn call_at<'s>(script: &'s [&'s str], number: &str, word: &str) -> Option<&'s str> {
     let index = number.parse::<usize>().ok()?.checked_sub(1)?;
     let call = script.get(index)?;
     match call.split_whitespace().next() {
-        Some(first) if first == word => Some(*call),
+        Some(first) if names(first, word) => Some(*call),
         _ => None,
     }
 }

@@ -31,6 +31,14 @@ impl Count {
         self.tried == self.well
     }
 
+    /// Counts a case that was tried.
+    pub fn note(&mut self, well: bool) {
+        self.add(Count {
+            tried: 1,
+            well: usize::from(well),
+        });
+    }
+
     pub fn add(&mut self, other: Count) {
         self.tried = self.tried.saturating_add(other.tried);
         self.well = self.well.saturating_add(other.well);
@@ -227,10 +235,7 @@ pub fn try_cases(alloc: Global, name: &str, cases: &[Case], text: &mut String) -
             "{name}:{}: {}",
             case.line, case.title
         ))?;
-        count.add(Count {
-            tried: 1,
-            well: usize::from(well),
-        });
+        count.note(well);
     }
     Ok(count)
 }

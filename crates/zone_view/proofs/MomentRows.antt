@@ -1,37 +1,48 @@
 -- Worked moments of an application, by computation.
-use Rattle.std.proofs.Common.{◌≡◌, List, [], ◌∷◌, Some, None, refl, codes, replicate}
-use Rattle.std.specs.Fmt.{digits}
-use Rattle.block_store.specs.Block.{Free, Nonrelocatable, Masters, Relocatable, no_flags}
-use Rattle.applications.specs.Trying.{Running}
-use Rattle.heap_view.specs.Line.{Line}
-use Rattle.heap_view.specs.Steps.{arrow, arrows, extent_of}
+use Rattle.std.proofs.Common.{◌≡◌, ℕ, true, false, List, [], ◌∷◌, Some, None, map, refl, codes}
+use Rattle.block_store.specs.Block.{Free, Masters, Relocatable, no_flags}
+use Rattle.script_text.specs.Token.{after_blanks}
+use Rattle.heap_view.specs.Line.{Line, Tag}
+use Rattle.heap_view.specs.Quiet.{gathered}
+use Rattle.heap_view.specs.Steps.{Moment}
+use Rattle.transcript_words.specs.Code.{code_words}
+use Rattle.transcript_words.specs.Source.{source}
 use Rattle.zone_view.specs.Known.{given}
-use Rattle.zone_view.specs.Moments.{moment, numbered}
+use Rattle.zone_view.specs.Moments.{words_after}
 use Rattle.zone_view.specs.Shown.{zone_lines}
 
--- a call that found no room, after a line of its grow-zone script
-caption : (r : Running) → (moment (codes "+8 DisposeHandle 0\n8 NewHandle -108\n") r).caption ≡ codes "8 NewHandle -108"
-caption r = refl
+-- a call that found no room, after a line of its grow-zone script; and no call
+words-refused : words_after (source (codes "grow g\nDisposeHandle a\nend\nNewHandle b 500\n")) 1
+    (codes "launch 0 1024\n+2 DisposeHandle 0\n4 NewHandle -108\n") ≡ codes "4 NewHandle b 500 -> memFullErr (-108)"
+unfolding after_blanks code_words
+words-refused = refl
 
--- the pointer 0, the handles 1 and 2, and free bytes
+words-launch : words_after [] 0 (codes "launch 0 1024\n") ≡ codes "launch"
+words-launch = refl
+
+abbrev numbered : ℕ → Tag
+numbered n = record { name = Some (codes "a"); owner = None; number = given n }
+
+-- the handle 1 before its block moved, and after; and locked
 abbrev before : List Line
-before = zone_lines numbered (Masters ∷ Nonrelocatable 0 (replicate 100 0) ∷ Relocatable 1 no_flags (replicate 100 0)
-    ∷ Relocatable 2 no_flags (replicate 100 0) ∷ Free 368 ∷ [])
+before = zone_lines numbered (Masters ∷ Free 128 ∷ Relocatable 1 no_flags [] ∷ Free 608 ∷ [])
 
--- the block of handle 1 is gone, and that of handle 2 has moved down
 abbrev behind : List Line
-behind = zone_lines numbered (Masters ∷ Nonrelocatable 0 (replicate 100 0) ∷ Relocatable 2 no_flags (replicate 100 0)
-    ∷ Relocatable 3 no_flags (replicate 100 0) ∷ Free 368 ∷ [])
+behind = zone_lines numbered (Masters ∷ Relocatable 1 no_flags [] ∷ Free 736 ∷ [])
 
-places : (extent_of behind 0 ≡ Some (record { place = 272; size = 128 })) × (extent_of behind 1 ≡ None)
-    × (extent_of behind 2 ≡ Some (record { place = 400; size = 128 }))
-    × (extent_of behind 3 ≡ Some (record { place = 528; size = 128 }))
-places = (refl, refl, refl, refl)
+abbrev locked : List Line
+locked = zone_lines numbered (Masters ∷ Relocatable 1 (record { locked = true; purgeable = false }) [] ∷ Free 736 ∷ [])
 
--- from the middle at 592 of 1024 bytes to that at 464, in a strip 948 wide
-arrow-moved : arrows 1024 (extent_of behind) before ≡ codes "<line x1=\"548\" x2=\"429\" y2=\"44\"/>\n"
-unfolding arrow digits
-arrow-moved = refl
+abbrev at : ℕ → List Line → Moment
+at n lines = record { number = n; caption = []; passed = None; lines = lines }
+
+-- calls that change nothing are noted at the moment before them
+moments-gathered : gathered false [] (at 0 before ∷ at 3 behind ∷ at 4 behind ∷ at 7 behind ∷ at 8 locked ∷ [])
+    ≡ at 0 before ∷ record { number = 3; caption = []; passed = Some (record { first = 4; last = 7 }); lines = behind } ∷ at 8 locked ∷ []
+moments-gathered = refl
+
+moments-all : map (λ (m : Moment). m.number) (gathered true [] (at 0 before ∷ at 3 behind ∷ at 4 behind ∷ [])) ≡ 0 ∷ 3 ∷ 4 ∷ []
+moments-all = refl
 
 -- no block is known by a number that is never given
 never-given : given 18446744073709551616 ≡ None

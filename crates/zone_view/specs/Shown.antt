@@ -43,7 +43,7 @@ zone_lines known zone = block_lines known 0 zone
 abbrev pub lines_shown : Form → List Line → Largest → List ℕ → List ℕ
 lines_shown form.Columns lines largest behind = zone_text (style.Columns (widest lines)) lines largest behind
 lines_shown form.Tabs lines largest behind = zone_text style.Tabs lines largest behind
-lines_shown form.Picture lines largest behind = zone_svg lines behind
+lines_shown (form.Picture part) lines largest behind = zone_svg part lines behind
 
 -- The zone of an application.
 abbrev pub zone_shown : Form → Running → List ℕ → List ℕ

@@ -1,5 +1,7 @@
 //! The form in which a zone is shown.
 
+use heap_view::Part;
+
 /// The form in which a zone is shown.
 #[derive(Clone, Copy, Debug, PartialEq, Eq)]
 pub enum Form {
@@ -7,6 +9,6 @@ pub enum Form {
     Columns,
     /// For other programs: fields with a tab between them.
     Tabs,
-    /// A picture as SVG.
-    Picture,
+    /// A picture of a part of the zone as SVG.
+    Picture(Part),
 }

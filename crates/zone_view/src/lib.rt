@@ -12,7 +12,7 @@ mod words;
 
 pub use behind::{show_behind, steps_at};
 pub use form::Form;
-pub use moments::show_moments;
+pub use moments::{Strips, show_moments};
 pub use shown::show_zone;
 pub use sight::{Sight, show};
 pub use words::{Telling, tell};

@@ -1,68 +1,101 @@
 //! The moments of an application: its zone as it lies after each of some steps of its script.
 
-ghost use Rattle.std.specs.Prelude.{◌≡◌, ◌++◌, ◌-◌, [], take, drop, map, IfOk, OnOk};
+ghost use Rattle.std.specs.Prelude.{◌≡◌, ◌∷◌, ◌++◌, ◌-◌, [], take, drop, map, IfOk, OnOk};
 ghost use Rattle.block_store.specs.Block.{fresh, sizes};
 ghost use Rattle.applications.specs.Application.{lines_told};
 ghost use Rattle.applications.specs.Step.{course_of};
+ghost use Rattle.heap_view.specs.Quiet.{gathered};
 ghost use Rattle.heap_view.specs.Steps.{steps_svg};
-ghost use Rattle.heap_view.specs.View.{view_line, view_moment};
-ghost use Rattle.zone_view.specs.Moments.{numbered, moment, moments_of, moments_behind, moments_svg};
+ghost use Rattle.heap_view.specs.View.{view_kept, view_moment};
+ghost use Rattle.transcript_words.specs.View.{view_lines};
+ghost use Rattle.transcript_words.specs.Words.{call_words};
+ghost use Rattle.zone_view.specs.Known.{tag};
+ghost use Rattle.zone_view.specs.Moments.{moment, moments_of, moments_behind, moments_svg, words_after};
 ghost use Rattle.zone_view.specs.Shown.{zone_lines};
 
-use crate::behind::{first, step_told};
+use crate::behind::first;
+use crate::known::{names_of, owners_of};
 use crate::shown::seen_in;
 use applications::{Application, Unwatched};
 use block_store::BlockStore;
-use heap_calls::Heap;
-use heap_view::{BlockLine, Moment, write_steps_svg};
+use heap_view::{KeptLine, Moment, Part, add_moment, kept_of, write_steps_svg};
 use res_calls::Resources;
 use script_text::{Line, Script, write_launch};
 use std::alloc::{AllocError, Global};
-use std::collections::BTreeMap;
+use transcript_words::{Source, source_of, write_call};
 
-/// Returns the lines of the blocks of a heap's zone, of which the numbers of their handles and pointers are known alone.
-fn numbered_lines<'n, S: BlockStore>(
-    alloc: Global,
-    heap: &Heap<S>,
-) -> Result<Vec<BlockLine<'n>>, AllocError>
-    ensures { IfOk result (λ lines. map view_line lines.items ≡ zone_lines numbered heap.now.memory.heap.zone) }
-{
-    let names = BTreeMap::new(alloc);
-    let owners = BTreeMap::new(alloc);
-    let seen = seen_in(alloc, heap, &names, &owners)?;
-    Ok(seen.lines)
+/// How moments are drawn.
+#[derive(Clone, Copy, Debug)]
+pub struct Strips {
+    /// The part of the zone that is shown.
+    pub part: Part,
+    /// Whether also moments are drawn at which nothing changed.
+    pub all: bool,
 }
 
-/// Returns the moment of an application whose transcript ends with these lines.
-fn moment_of<'n, S: BlockStore>(
+/// Returns the lines of the blocks of an application's zone, with their names.
+fn named_lines<S: BlockStore>(
     alloc: Global,
     application: &Application<'_, S>,
-    lines: &[u8],
-) -> Result<Moment<'n>, AllocError>
-    ensures { IfOk result (λ m. view_moment m ≡ moment lines.now application.now) }
+) -> Result<Vec<KeptLine>, AllocError>
+    ensures { IfOk result (λ lines. map view_kept lines.items
+        ≡ zone_lines (tag application.now) application.now.memory.heap.zone) }
 {
-    let caption = step_told(alloc, lines)?;
-    let lines = numbered_lines(alloc, application.heap())?;
-    Ok(Moment { caption, lines })
+    let bound = application.names().bound(alloc)?;
+    let names = names_of(alloc, bound.as_slice())?;
+    let owners = owners_of(alloc, application.resources().open_files())?;
+    let seen = seen_in(alloc, application.heap(), &names, &owners)?;
+    let lines = kept_of(alloc, seen.lines.as_slice())?;
+    Ok(lines)
 }
 
-/// Takes the lines of a script in order, to the last or to the end of the application, and appends the moment after
-/// each.
-fn take_moments<'s, 'n, S: BlockStore>(
+/// Returns the moment of an application after the call of a line, with the words for it.
+fn moment_of<S: BlockStore>(
+    alloc: Global,
+    application: &Application<'_, S>,
+    number: usize,
+    caption: Vec<u8>,
+) -> Result<Moment, AllocError>
+    ensures { IfOk result (λ m. view_moment m ≡ moment number caption.items application.now) }
+{
+    let lines = named_lines(alloc, application)?;
+    Ok(Moment {
+        number,
+        caption,
+        passed: None,
+        lines,
+    })
+}
+
+/// Returns the call of a step in words, whose transcript is given.
+fn call_of(alloc: Global, source: &Source<'_>, told: &[u8]) -> Result<Vec<u8>, AllocError>
+    ensures { IfOk result (λ words. words.items ≡ call_words (view_lines source.now) told.now) }
+{
+    let mut words = Vec::new(alloc);
+    write_call(&mut words, source, told)?;
+    Ok(words)
+}
+
+/// Takes the lines of a script in order, to the last or to the end of the application, and adds the moment after each.
+fn take_moments<'s, S: BlockStore>(
     alloc: Global,
     application: &mut Application<'s, S>,
     script: &'s Script,
+    source: &Source<'_>,
     lines: &[Line],
-    moments: &mut Vec<Moment<'n>>,
+    all: bool,
+    moments: &mut Vec<Moment>,
 ) -> Result<(), AllocError>
-    ensures taken { OnOk result (map view_moment moments.new.items ≡ map view_moment moments.old.items
-        ++ moments_of script.now.blocks lines.now application.old) }
+    ensures taken { OnOk result (map view_moment moments.new.items ≡ gathered all (map view_moment moments.old.items)
+        (moments_of (view_lines source.now) script.now.blocks lines.now application.old)) }
     ensures lies { application.new.memory.window ≡ application.old.memory.window }
 {
     for line in lines {
         let mut told = Vec::new(alloc);
         let exit = application.step(script, line, &mut told)?;
-        moments.push(moment_of(alloc, application, told.as_slice())?)?;
+        let caption = call_of(alloc, source, told.as_slice())?;
+        let moment = moment_of(alloc, application, line.number, caption)?;
+        add_moment(moments, all, moment)?;
         if exit.is_some() {
             return Ok(());
         }
@@ -70,27 +103,65 @@ fn take_moments<'s, 'n, S: BlockStore>(
     Ok(())
 }
 
-/// Takes the first lines of a script in order, and returns the moment after them, and those after each of the lines
-/// that follow. `transcript` is the transcript so far.
-fn run_to_moments<'s, 'n, S: BlockStore>(
+/// Returns the words for the moment after the first steps, so many, whose transcript is given.
+fn words_after(
+    alloc: Global,
+    source: &Source<'_>,
+    n: usize,
+    transcript: &[u8],
+) -> Result<Vec<u8>, AllocError>
+    ensures { IfOk result (λ words. words.items ≡ words_after (view_lines source.now) n transcript.now) }
+{
+    if n == 0 {
+        let mut words = Vec::new(alloc);
+        words.extend_from_slice(b"launch")?;
+        Ok(words)
+    } else {
+        call_of(alloc, source, transcript)
+    }
+}
+
+/// Returns the moment after the first steps, so many, whose transcript is given, alone.
+fn first_moment<S: BlockStore>(
+    alloc: Global,
+    application: &Application<'_, S>,
+    source: &Source<'_>,
+    n: usize,
+    transcript: &[u8],
+) -> Result<Vec<Moment>, AllocError>
+    ensures { IfOk result (λ moments. map view_moment moments.items
+        ≡ moment 0 (words_after (view_lines source.now) n transcript.now) application.now ∷ []) }
+{
+    let caption = words_after(alloc, source, n, transcript)?;
+    let first = moment_of(alloc, application, 0, caption)?;
+    let mut moments = Vec::new(alloc);
+    moments.push(first)?;
+    Ok(moments)
+}
+
+/// Takes the first lines of a script in order, which are those of the first `n` steps, and returns the moment after them, and
+/// those after each of the lines that follow. `transcript` is the transcript so far.
+fn run_to_moments<'s, S: BlockStore>(
     alloc: Global,
     application: &mut Application<'s, S>,
     script: &'s Script,
+    source: &Source<'_>,
+    n: usize,
     lines: &[Line],
     later: &[Line],
+    all: bool,
     transcript: &mut Vec<u8>,
-) -> Result<Vec<Moment<'n>>, AllocError>
+) -> Result<Vec<Moment>, AllocError>
     ensures taken { IfOk result (λ moments. map view_moment moments.items
-        ≡ moments_behind script.now.blocks later.now
+        ≡ gathered all [] (moments_behind (view_lines source.now) script.now.blocks n later.now
         (transcript.old.items ++ lines_told (course_of script.now.blocks lines.now application.old).lines)
-        (course_of script.now.blocks lines.now application.old)) }
+        (course_of script.now.blocks lines.now application.old))) }
     ensures lies { application.new.memory.window ≡ application.old.memory.window }
 {
     let exit = application.run(script, lines, transcript, &mut Unwatched)?;
-    let mut moments = Vec::new(alloc);
-    moments.push(moment_of(alloc, application, transcript.as_slice())?)?;
+    let mut moments = first_moment(alloc, application, source, n, transcript.as_slice())?;
     if exit.is_none() {
-        take_moments(alloc, application, script, later, &mut moments)?;
+        take_moments(alloc, application, script, source, later, all, &mut moments)?;
     }
     Ok(moments)
 }
@@ -100,18 +171,32 @@ fn run_and_draw<'s, S: BlockStore>(
     alloc: Global,
     application: &mut Application<'s, S>,
     script: &'s Script,
+    source: &Source<'_>,
+    n: usize,
     lines: &[Line],
     later: &[Line],
+    strips: Strips,
     transcript: &mut Vec<u8>,
 ) -> Result<Vec<u8>, AllocError>
-    ensures shown { IfOk result (λ text. text.items ≡ steps_svg (moments_behind script.now.blocks later.now
+    ensures shown { IfOk result (λ text. text.items
+        ≡ steps_svg strips.part (gathered strips.all [] (moments_behind (view_lines source.now) script.now.blocks n later.now
         (transcript.old.items ++ lines_told (course_of script.now.blocks lines.now application.old).lines)
-        (course_of script.now.blocks lines.now application.old))) }
+        (course_of script.now.blocks lines.now application.old)))) }
     ensures lies { application.new.memory.window ≡ application.old.memory.window }
 {
-    let moments = run_to_moments(alloc, application, script, lines, later, transcript)?;
+    let moments = run_to_moments(
+        alloc,
+        application,
+        script,
+        source,
+        n,
+        lines,
+        later,
+        strips.all,
+        transcript,
+    )?;
     let mut text = Vec::new(alloc);
-    write_steps_svg(alloc, &mut text, moments.as_slice())?;
+    write_steps_svg(alloc, &mut text, strips.part, moments.as_slice())?;
     Ok(text)
 }
 
@@ -134,7 +219,8 @@ pub(crate) fn between(script: &Script, from: usize, to: usize) -> &[Line]
 
 /// Runs the first `to` steps of a script, as an application with these resources in the store of a fresh zone, which is
 /// its partition, and returns a picture of the zone: a strip for how it lies after the first `from` steps, and one for
-/// each further step, up to the one at which the application ends. The store is returned in its place.
+/// each further step at which it changes, up to the one at which the application ends. `text` is the text that `script` was
+/// read from. The store is returned in its place.
 ///
 /// # Errors
 ///
@@ -144,17 +230,22 @@ pub fn show_moments<S: BlockStore>(
     store: S,
     resources: Resources,
     script: &Script,
+    text: &[u8],
     from: usize,
     to: usize,
+    strips: Strips,
 ) -> (Result<Vec<u8>, AllocError>, S)
     requires zone { S.zone store ≡ fresh (sizes (S.zone store)) }
     requires unused { (S.rest store).unused ≡ 64 }
     requires all { (S.rest store).all ≡ 64 }
     requires moves { (S.rest store).moves ≡ 0 }
-    ensures shown { IfOk result.0 (λ text. text.items
-        ≡ moments_svg resources (sizes (S.zone store)) script.now from to) }
+    ensures shown { IfOk result.0 (λ out. out.items
+        ≡ moments_svg strips resources (sizes (S.zone store)) script.now text.now from to) }
     ensures window { (S.rest result.1).window ≡ (S.rest store).window }
 {
+    let Ok(source) = source_of(alloc, text) else {
+        return (Err(AllocError), store);
+    };
     let mut transcript = Vec::new(alloc);
     let Ok(()) = write_launch(&mut transcript, store.len()) else {
         return (Err(AllocError), store);
@@ -169,8 +260,11 @@ pub fn show_moments<S: BlockStore>(
         alloc,
         &mut application,
         script,
+        &source,
+        from,
         lines,
         later,
+        strips,
         &mut transcript,
     );
     let (store, files) = application.into_parts();

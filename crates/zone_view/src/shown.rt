@@ -74,8 +74,8 @@ fn write_in(
             write_zone(alloc, text, Style::Tabs, lines, seen.largest, behind)?;
             Ok(())
         }
-        Form::Picture => {
-            write_svg(alloc, text, lines, behind)?;
+        Form::Picture(part) => {
+            write_svg(alloc, text, part, lines, behind)?;
             Ok(())
         }
     }

@@ -1,53 +1,15 @@
-use Rattle.std.proofs.Common.{◌≡◌, ℕ, ◌+◌, ◌≤◌, ◌<◌, List, ◌∷◌, ◌++◌, length, take, drop, get_or, sym, ◌∙◌, ap, subst}
-use Rattle.std.proofs.Common.{slice_set, Option, None, Some}
-use Rattle.std.proofs.lemmas.List.{take-append-drop}
+use Rattle.std.proofs.Common.{ℕ, ◌≤◌}
+use Rattle.std.proofs.Common.{Option, None, Some}
 use Rattle.std.specs.Option.{IsSomeAnd}
 use Rattle.std.specs.Bool.{IsTrue}
-use Rattle.block_store.specs.Block.{Block, Free, size, sizes, is_room}
-use Rattle.block_store.specs.Room.{Spot, spot_at}
-use Rattle.block_store.specs.declared.entries.StoredBlock.{StoredBlock}
-use Rattle.block_store.specs.declared.entries.StoredBlock.TheVariants as entry
-use Rattle.block_store.specs.Inner.ListStore.{block_of, blocks_of, nth_spot}
-use Rattle.block_store.proofs.Zone.Listing.{drop-blocks, entry_fits}
-use Rattle.block_store.proofs.Zone.Spots.{from_entry, room-size, blocks-carved, sizes-carved}
+use Rattle.block_store.specs.Block.{size, is_room}
+use Rattle.block_store.specs.Room.{Spot}
+use Rattle.block_store.proofs.Zone.Spots.{room-size}
 
 -- The entry at a place, and a block that fits into it.
-
--- the entry of an index, in which a block has room
-pub record FitsAt (es : List StoredBlock) (i : ℕ) (e : StoredBlock) (new : Block) : Type 0 where
-  pub within : i < length es
-  pub room : size new ≤ size (block_of e)
-  pub below : sizes (take i (blocks_of es)) + size (block_of e) ≤ sizes (blocks_of es)
-  pub whole : take i (blocks_of es) ++ block_of e ∷ drop (i + 1) (blocks_of es) ≡ blocks_of es
-
-pub fits-at : (es now : List StoredBlock) (place i : ℕ) (e : StoredBlock) (new : Block) → now ≡ es
-    → (i < length now) × (spot_at place (blocks_of now) ≡ nth_spot i (blocks_of now)) → e ≡ get_or es i e
-    → IsSomeAnd (spot_at place (blocks_of es)) (λ s. size new ≤ size s.here) → FitsAt es i e new
-fits-at es now place i e new same found is room =
-    let within : i < length es = subst (λ (l : List StoredBlock). i < length l) same found.0 in
-    record {
-      within = within;
-      room = from_entry es now place i e (λ s. size new ≤ size s.here) same found is room;
-      below = entry_fits es i e within is;
-      whole = ap (λ l. take i (blocks_of es) ++ l) (sym (drop-blocks es i e within is))
-          ∙ take-append-drop i (blocks_of es);
-    }
 
 -- a Free block has room
 pub room-fits : (p : ℕ) (o : Option Spot) → IsSomeAnd o (λ s. IsTrue (is_room p s.here))
     → IsSomeAnd o (λ s. p ≤ size s.here)
 room-fits p None room = absurd room
 room-fits p (Some s) room = room-size p s.here room
-
--- the block in its place, and what it leaves above it
-pub carved-at : (es inserted : List StoredBlock) (i left : ℕ) (e new : StoredBlock) → FitsAt es i e (block_of new)
-    → inserted ≡ take (i + 1) es ++ entry.Free left ∷ drop (i + 1) es → size (block_of new) + left ≡ size (block_of e)
-    → (blocks_of (slice_set inserted i new) ≡ take i (blocks_of es)
-    ++ block_of new ∷ Free left ∷ drop (i + 1) (blocks_of es))
-    × (sizes (blocks_of (slice_set inserted i new)) ≡ sizes (blocks_of es))
-carved-at es inserted i left e new fits is all =
-    let after = ap (λ l. blocks_of (slice_set l i new)) is ∙ blocks-carved es i left new fits.within in (
-      after,
-      ap sizes after ∙ sizes-carved (take i (blocks_of es)) (drop (i + 1) (blocks_of es)) (block_of e)
-          (block_of new) left all ∙ ap sizes fits.whole,
-    )

@@ -9,8 +9,9 @@ use Rattle.std.proofs.lemmas.List.Elements.{filter-append}
 use Rattle.std.specs.Option.{option_map, IfSome, IsSome, IsSomeAnd}
 use Rattle.mac_words.specs.Size.{padded}
 use Rattle.windows.specs.Writes.{written}
-use Rattle.block_store.specs.Block.{Block, Free, Nonrelocatable, Masters, Relocatable, size, sizes, is_room, is_relocatable}
-use Rattle.block_store.specs.Block.{is_nonrelocatable, content_of, with_content, resized, resized_content, tidy, add}
+use Rattle.block_store.specs.Block.{Block, Free, Nonrelocatable, Masters, Relocatable, size, sizes, is_room, resized}
+use Rattle.block_store.specs.Block.{is_relocatable, is_nonrelocatable, content_of, with_content, resized_content, tidy}
+use Rattle.block_store.specs.Block.{add}
 use Rattle.block_store.specs.Run.{has}
 use Rattle.block_store.specs.Room.{Spot, spot, spot_at, filled}
 use Rattle.block_store.specs.Grow.{freed}

@@ -3,8 +3,8 @@ use Rattle.std.proofs.Common.{filter, length, refl, sym, ◌∙◌, ap, cond, su
 use Rattle.std.proofs.lemmas.Option.{none-some, same_Some}
 use Rattle.std.proofs.lemmas.Bool.Decides.{nat_tests}
 use Rattle.std.specs.Option.{option_map}
-use Rattle.block_store.specs.Block.{Block, Free, Nonrelocatable, Masters, Relocatable, size, sizes, free, free_sum, is_mover}
-use Rattle.block_store.specs.Block.{is_relocatable, add, tidy, content_of, with_content, resized}
+use Rattle.block_store.specs.Block.{Block, Free, Nonrelocatable, Masters, Relocatable, size, sizes, free, free_sum}
+use Rattle.block_store.specs.Block.{is_mover, is_relocatable, add, tidy, content_of, with_content, resized}
 use Rattle.block_store.specs.Run.{RunSpot, in_run, run_at, with_run, movers, others, settle, low, high, has_free}
 use Rattle.block_store.specs.Room.{Spot, raised, spot_at, filled, may_be_purged, lowest_purged}
 use Rattle.block_store.specs.Grow.{growth, taken, grow_up, freed}

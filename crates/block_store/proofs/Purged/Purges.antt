@@ -1,19 +1,17 @@
 use Rattle.std.proofs.Common.{◌≡◌, ℕ, ◌+◌, ◌-◌, ◌*◌, ◌≤◌, ◌<◌, zero, suc, Bool, true, false, ◌&&◌, List, [], ◌∷◌, ◌++◌}
 use Rattle.std.proofs.Common.{length, take, drop, refl, sym, ◌∙◌, ap, cond, arith, Option, Some, None, nat_lt}
-use Rattle.std.proofs.Common.{append_assoc, subst}
+use Rattle.std.proofs.Common.{subst}
 use Rattle.std.proofs.lemmas.Option.{none-some, same_Some}
 use Rattle.std.proofs.lemmas.Bool.{cond-true, cond-false, lt-ltb}
-use Rattle.std.specs.Option.{option_map, IfSome, IsSome}
-use Rattle.block_store.specs.Block.{Block, Free, Nonrelocatable, Masters, Relocatable, size, sizes, total, count, is_masters}
-use Rattle.block_store.specs.Block.{is_relocatable, tidy, add}
-use Rattle.block_store.specs.Room.{Spot, raised, spot_at, may_be_purged, lowest_purged}
+use Rattle.std.specs.Option.{IfSome, IsSome}
+use Rattle.block_store.specs.Block.{Block, Free, Nonrelocatable, Masters, Relocatable, size, sizes, total, count, tidy}
+use Rattle.block_store.specs.Block.{is_masters, is_relocatable, add}
+use Rattle.block_store.specs.Room.{spot_at, may_be_purged, lowest_purged}
 use Rattle.block_store.specs.Seen.{with_flags}
 use Rattle.block_store.specs.Slot.{Slot}
 use Rattle.block_store.specs.declared.flags.Flags.{Flags}
-use Rattle.block_store.specs.declared.entries.StoredBlock.{StoredBlock}
 use Rattle.block_store.specs.Grow.{freed}
 use Rattle.block_store.specs.Sparing.{spared, opened, purged}
-use Rattle.block_store.specs.Inner.ListStore.{nth_spot, blocks_of}
 use Rattle.block_store.specs.Inner.Stretch.{is_free, opened_block}
 use Rattle.block_store.specs.Inner.Purging.{left_past}
 use Rattle.block_store.specs.declared.sparing.Sparing.{Sparing}
@@ -110,26 +108,6 @@ lowest_purged-end sp (b ∷ bs) left zero le = absurd (let z : suc (length bs) �
 lowest_purged-end sp (b ∷ bs) left (suc i) le = ap (λ l. b ∷ l) (lowest_purged-end sp bs left i
     (let z : suc (length bs) ≤ suc i = le in omega arith))
 
--- the parts of the spot of an index
-pub nth_spot-parts : (i : ℕ) (bs : List Block) (s : Spot) → nth_spot i bs ≡ Some s
-    → (take (suc i) bs ≡ s.below ++ s.here ∷ []) × (drop (suc i) bs ≡ s.above)
-nth_spot-parts i [] s e = absurd (none-some _ e)
-nth_spot-parts zero (b ∷ bs) s e = let same = same_Some _ _ e in
-    (ap (λ (s : Spot). s.below ++ s.here ∷ []) same, ap (λ (s : Spot). s.above) same)
-nth_spot-parts (suc i) (b ∷ bs) s e = cases (nth_spot i bs) (nth_spot-parts i bs) e
-  where
-    cases : (o : Option Spot) → ((s : Spot) → o ≡ Some s → (take (suc i) bs ≡ s.below ++ s.here ∷ [])
-        × (drop (suc i) bs ≡ s.above)) → option_map (raised b) o ≡ Some s
-        → (b ∷ take (suc i) bs ≡ s.below ++ s.here ∷ []) × (drop (suc i) bs ≡ s.above)
-    cases None rest e = absurd (none-some _ e)
-    cases (Some s') rest e =
-        let same = same_Some _ _ e in
-        let parts = rest s' refl in (
-          ap (λ l. b ∷ l) parts.0 ∙ ap (λ (s : Spot). s.below ++ s.here ∷ []) same,
-          parts.1
-              ∙ ap (λ (s : Spot). s.above) same,
-        )
-
 -- a block that is Free or is purged, among blocks of which the lowest are purged
 free_is : (b : Block) → is_free b ≡ true → b ≡ Free (size b)
 free_is (Free n) e = refl
@@ -199,28 +177,6 @@ sizes-opened sparing.Nothing bs = refl
 sizes-opened (sparing.One slot) bs = refl
 sizes-opened (sparing.Two slot other) bs = refl
 sizes-opened (sparing.Freed slot) bs = size-freed (is_relocatable slot) bs
-
--- the blocks above an index are changed
-pub changed_above : (es es' : List StoredBlock) (place i : ℕ) (change : List Block → List Block) (zone' : List Block)
-    → es' ≡ es → (i < length es') × (spot_at place (blocks_of es') ≡ nth_spot i (blocks_of es'))
-    → zone' ≡ tidy (take (i + 1) (blocks_of es) ++ change (drop (i + 1) (blocks_of es)))
-    → IfSome (spot_at place (blocks_of es)) (λ s. zone' ≡ tidy (s.below ++ s.here ∷ change s.above))
-changed_above es es' place i change zone' same found after =
-    let spotted : spot_at place (blocks_of es) ≡ nth_spot i (blocks_of es) =
-    subst (λ (l : List StoredBlock). spot_at place (blocks_of l) ≡ nth_spot i (blocks_of l)) same found.1 in
-    subst (λ (o : Option Spot). IfSome o (λ s. zone' ≡ tidy (s.below ++ s.here ∷ change s.above))) (sym spotted)
-    (cases (nth_spot i (blocks_of es)) (nth_spot-parts i (blocks_of es)))
-  where
-    cases : (o : Option Spot) → ((s : Spot) → o ≡ Some s → (take (suc i) (blocks_of es) ≡ s.below ++ s.here ∷ [])
-        × (drop (suc i) (blocks_of es) ≡ s.above)) → IfSome o (λ s. zone' ≡ tidy (s.below ++ s.here ∷ change s.above))
-    cases None parts = tt
-    cases (Some s) parts =
-        let p = parts s refl in
-        after ∙ ap (λ n. tidy (take n (blocks_of es) ++ change (drop n (blocks_of es))))
-        (let z : i + 1 ≡ suc i = omega arith in z)
-        ∙ ap (λ l. tidy (l ++ change (drop (suc i) (blocks_of es)))) p.0
-        ∙ ap (λ l. tidy ((s.below ++ s.here ∷ []) ++ change l)) p.1
-        ∙ ap tidy (append_assoc s.below (s.here ∷ []) (change s.above))
 
 -- the purged blocks no longer pass, the others are counted as before
 pub count-lowest_purged : (test : Block → Bool) → ((n : ℕ) → test (Free n) ≡ false)

@@ -1,8 +1,8 @@
 use Rattle.std.proofs.Common.{◌≡◌, ℕ, ◌+◌, ◌≤◌, ◌<◌, zero, suc, Bool, true, false, ◌||◌, List, [], ◌∷◌}
 use Rattle.std.proofs.Common.{refl, sym, ◌∙◌, ap, cond, arith, Option, Some, None, is_some, nat_le, max}
 use Rattle.std.proofs.lemmas.Bool.{le-leb, leb-true, cond-true, cond-false}
-use Rattle.block_store.specs.Block.{Block, Free, Nonrelocatable, Masters, Relocatable, size, is_room}
-use Rattle.block_store.specs.Block.{free_of, free_sum, add, tidy}
+use Rattle.block_store.specs.Block.{Block, Free, Nonrelocatable, Masters, Relocatable, size, is_room, free_of, add}
+use Rattle.block_store.specs.Block.{free_sum, tidy}
 use Rattle.block_store.specs.Run.{in_run, has, has_free, run_spot, segments, Segments}
 use Rattle.block_store.specs.Room.{may_be_purged, lowest_purged, purge, count_of}
 use Rattle.block_store.specs.Compact.{has_room, largest_free, largest_run}

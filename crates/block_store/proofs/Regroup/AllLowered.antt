@@ -3,8 +3,7 @@ use Rattle.std.proofs.Common.{append_assoc, refl, sym, ◌∙◌, ap, cond, subs
 use Rattle.std.proofs.lemmas.Bool.{cond-false}
 use Rattle.std.proofs.lemmas.Bool.Decides.{nat_tests}
 use Rattle.std.proofs.lemmas.List.{append-nil}
-use Rattle.block_store.specs.Block.{Block, size, sizes, total, count, free, free_sum}
-use Rattle.block_store.specs.Block.{is_relocatable, tidy}
+use Rattle.block_store.specs.Block.{Block, size, sizes, total, count, free, free_sum, is_relocatable, tidy}
 use Rattle.block_store.specs.Run.{Stretch, segments, runs, joined, movers, settle}
 use Rattle.block_store.specs.Rest.{lowered_in_run}
 use Rattle.block_store.specs.Compact.{distance, stands_lower, lowered, settled_runs, settled, lowered_in_runs}

@@ -4,7 +4,8 @@ use Rattle.std.proofs.lemmas.Option.{none-some}
 use Rattle.std.proofs.lemmas.Bool.{le-leb, leb-true, lt-leb}
 use Rattle.std.specs.Option.{option_map, option_or}
 use Rattle.std.specs.Prelude.{option_and_then}
-use Rattle.block_store.specs.Block.{Block, Free, Nonrelocatable, Masters, Relocatable, free_sum, free, is_room, add, tidy}
+use Rattle.block_store.specs.Block.{Block, Free, Nonrelocatable, Masters, Relocatable, free_sum, free, is_room, add}
+use Rattle.block_store.specs.Block.{tidy}
 use Rattle.block_store.specs.Run.{has, has_free, movers, settle, with_run, change_run, RunSpot}
 use Rattle.block_store.specs.Room.{Spot, spot, place}
 use Rattle.block_store.proofs.Zone.Tidy.{spot-passes}

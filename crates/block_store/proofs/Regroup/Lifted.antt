@@ -6,9 +6,8 @@ use Rattle.std.proofs.lemmas.List.Elements.{filter-append}
 use Rattle.std.proofs.lemmas.Bool.{false≢true, cond-true, cond-false}
 use Rattle.std.proofs.lemmas.Bool.Decides.{eqb_tells, nat_tests}
 use Rattle.block_store.specs.declared.flags.Flags.{Flags}
-use Rattle.block_store.specs.Block.{Block, Free, Nonrelocatable, Masters, Relocatable, is_mover, is_relocatable, size, total}
-use Rattle.block_store.specs.Block.{count}
-use Rattle.block_store.specs.Block.{free, free_of, free_sum, sizes, add, tidy}
+use Rattle.block_store.specs.Block.{Block, Free, Nonrelocatable, Masters, Relocatable, is_mover, is_relocatable, size}
+use Rattle.block_store.specs.Block.{total, count, free, free_of, free_sum, sizes, add, tidy}
 use Rattle.block_store.specs.Run.{RunSpot, in_run, has, movers, settle, low, high, with_run, run_at}
 use Rattle.block_store.specs.Room.{raised, spot_at}
 use Rattle.block_store.specs.Inner.Packing.{Loose}

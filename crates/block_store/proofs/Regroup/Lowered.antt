@@ -5,8 +5,8 @@ use Rattle.std.proofs.lemmas.Bool.Decides.{Decides-eqb, nat_tests}
 use Rattle.std.proofs.lemmas.List.{append-nil}
 use Rattle.std.specs.Option.{option_map, IfSome}
 use Rattle.block_store.specs.declared.flags.Flags.{Flags}
-use Rattle.block_store.specs.Block.{Block, Free, Nonrelocatable, Masters, Relocatable, size, sizes, total, count, free, free_sum}
-use Rattle.block_store.specs.Block.{is_mover, is_relocatable, add, tidy}
+use Rattle.block_store.specs.Block.{Block, Free, Nonrelocatable, Masters, Relocatable, size, sizes, total, count, free}
+use Rattle.block_store.specs.Block.{free_sum, is_mover, is_relocatable, add, tidy}
 use Rattle.block_store.specs.Run.{RunSpot, has, movers, settle, with_run, run_at}
 use Rattle.block_store.specs.Room.{Spot, raised, spot}
 use Rattle.block_store.specs.Rest.{lowered_in_run}

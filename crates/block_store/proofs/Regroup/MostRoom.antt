@@ -5,7 +5,8 @@ use Rattle.std.proofs.lemmas.Bool.Decides.{nat_tests}
 use Rattle.std.specs.Prelude.{option_and_then}
 use Rattle.std.specs.Option.{option_map, option_or, IfSome, IsSome}
 use Rattle.mac_words.specs.Size.{phys, padded}
-use Rattle.block_store.specs.Block.{Block, Free, Nonrelocatable, Masters, Relocatable, free_of, free_sum, is_room, tidy, rename}
+use Rattle.block_store.specs.Block.{Block, Free, Nonrelocatable, Masters, Relocatable, free_of, free_sum, is_room}
+use Rattle.block_store.specs.Block.{tidy, rename}
 use Rattle.block_store.specs.Run.{in_run, Stretch, Segments, segments, runs, joined, RunSpot, run_raised, lowest_run}
 use Rattle.block_store.specs.Run.{has, run_spot, with_run, change_run, has_free, settle}
 use Rattle.block_store.specs.Room.{Spot, raised, rename_spot, spot, place}

@@ -5,9 +5,8 @@ use Rattle.std.specs.Option.{option_map, IfSome}
 use Rattle.block_store.specs.Block.{Block, size, sizes}
 use Rattle.block_store.specs.Find.{IsEdge}
 use Rattle.block_store.specs.Run.{Stretch, Segments, joined, RunSpot, run_raised, run_at, segments, settle}
-use Rattle.block_store.specs.Compact.{beyond, place_behind, next_run, settled_runs}
+use Rattle.block_store.specs.Compact.{beyond, place_behind, next_run, settled_runs, settled}
 use Rattle.block_store.specs.Inner.NthRun.{nth_run_of, nth_run, FindsRun}
-use Rattle.block_store.specs.Compact.{settled}
 use Rattle.block_store.specs.Inner.Packing.{Loose}
 use Rattle.block_store.proofs.Nonrelocatable.Placing.{sizes-settle}
 use Rattle.block_store.proofs.Regroup.Parts.{AreParts, in-parts, in-settle, segments-alone, segments-joined}

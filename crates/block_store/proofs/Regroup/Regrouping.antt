@@ -4,8 +4,8 @@ use Rattle.std.proofs.lemmas.List.{append-nil}
 use Rattle.std.proofs.lemmas.Option.{none-some, same_Some}
 use Rattle.std.proofs.lemmas.Bool.{cond-true, cond-false}
 use Rattle.std.specs.Option.{option_map}
-use Rattle.block_store.specs.Block.{Block, Free, Nonrelocatable, Masters, Relocatable, sizes, free_sum, free, is_mover, add}
-use Rattle.block_store.specs.Block.{tidy}
+use Rattle.block_store.specs.Block.{Block, Free, Nonrelocatable, Masters, Relocatable, sizes, free_sum, free, is_mover}
+use Rattle.block_store.specs.Block.{add, tidy}
 use Rattle.block_store.specs.Run.{in_run, others, high, settle, RunSpot, run_raised, run_from, run_at, segments}
 use Rattle.block_store.specs.Run.{Segments, joined, Stretch}
 use Rattle.block_store.proofs.Zone.Apart.{Apart, tidy-apart, apart-tidied, apart-next, longer, barrier-alone}

@@ -5,14 +5,14 @@ use Rattle.std.proofs.lemmas.Option.{none-some, same_Some}
 use Rattle.std.specs.Option.{option_map, IsSome, IfSome, IsSomeAnd}
 use Rattle.std.specs.Result.{OnOk, OnErr}
 use Rattle.std.specs.Bool.{IsTrue}
-use Rattle.block_store.specs.Block.{Block, Free, Nonrelocatable, Masters, Relocatable, size, sizes, total, count, free, free_sum}
-use Rattle.block_store.specs.Block.{is_masters, is_relocatable, add, tidy}
+use Rattle.block_store.specs.Block.{Block, Free, Nonrelocatable, Masters, Relocatable, size, sizes, total, count, free}
+use Rattle.block_store.specs.Block.{free_sum, is_masters, is_relocatable, add, tidy}
 use Rattle.block_store.specs.Run.{RunSpot, has, has_free, movers, settle, low, high, with_run, run_at}
 use Rattle.block_store.specs.Room.{Spot, raised, spot}
 use Rattle.block_store.specs.Compact.{distance, NoneRises, Aligned, Placed}
 use Rattle.block_store.specs.Slot.{Slot}
 use Rattle.block_store.specs.Inner.Packing.{Loose}
-use Rattle.block_store.proofs.Zone.Tidy.{Adds, total-tidy}
+use Rattle.block_store.proofs.Zone.Tidy.{Adds, total-tidy, add-joined}
 use Rattle.block_store.proofs.Zone.Apart.{tidy-tidy}
 use Rattle.block_store.proofs.Zone.Leading.{count-none, none-count}
 use Rattle.block_store.proofs.Content.Filling.{Lawful}
@@ -21,7 +21,6 @@ use Rattle.block_store.proofs.Nonrelocatable.Placing.{placed-settled, placed-hoi
 use Rattle.block_store.proofs.Regroup.RunLists.{run_at-parts}
 use Rattle.block_store.proofs.Regroup.Packed.{total-run, settle-total, low-total, high-total, free-enough}
 use Rattle.block_store.proofs.Plain.Options.{the_some, some_there}
-use Rattle.block_store.proofs.Zone.Tidy.{add-joined}
 
 -- What a run's change keeps.
 

@@ -4,8 +4,8 @@ use Rattle.std.proofs.lemmas.Bool.{and_parts, and_from, le-leb, leb-true, cond-t
 use Rattle.std.proofs.lemmas.List.{append-nil}
 use Rattle.std.proofs.lemmas.List.Folds.{list_any-append}
 use Rattle.std.specs.Option.{option_map}
-use Rattle.block_store.specs.Block.{Block, Free, Nonrelocatable, Masters, Relocatable, is_relocatable, size, sizes, free_of}
-use Rattle.block_store.specs.Block.{free_sum, add, tidy}
+use Rattle.block_store.specs.Block.{Block, Free, Nonrelocatable, Masters, Relocatable, is_relocatable, size, sizes}
+use Rattle.block_store.specs.Block.{free_of, free_sum, add, tidy}
 use Rattle.block_store.specs.Run.{in_run, has, has_free, RunSpot, run_raised, lowest_run, run_spot, segments, Segments}
 use Rattle.block_store.specs.Run.{joined}
 use Rattle.block_store.specs.Room.{may_be_purged, lowest_purged}

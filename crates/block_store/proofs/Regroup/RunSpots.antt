@@ -1,16 +1,12 @@
-use Rattle.std.proofs.Common.{◌≡◌, ℕ, ◌+◌, ◌-◌, ◌<◌, zero, suc, Bool, true, false, ◌==◌, List, [], ◌∷◌, ◌++◌, take}
-use Rattle.std.proofs.Common.{drop, length, ◌≤◌, subst, refl, sym, ◌∙◌, ap, cond, arith, Option, Some, None, nat_le}
+use Rattle.std.proofs.Common.{◌≡◌, ℕ, ◌+◌, ◌-◌, ◌<◌, zero, suc, Bool, true, false, ◌==◌, List, [], ◌∷◌, ◌++◌}
+use Rattle.std.proofs.Common.{drop, ◌≤◌, refl, sym, ◌∙◌, ap, cond, arith, Option, Some, None, nat_le}
 use Rattle.std.proofs.lemmas.Option.{none-some, same_Some}
 use Rattle.std.proofs.lemmas.Bool.{cond-true, cond-false}
 use Rattle.std.proofs.lemmas.Bool.Decides.{nat_tests}
-use Rattle.std.proofs.lemmas.List.{take_all, drop-map, length-drop}
-use Rattle.std.specs.Option.{option_map, IfSome}
+use Rattle.std.specs.Option.{option_map}
 use Rattle.block_store.specs.Block.{Block, Free, Nonrelocatable, Masters, Relocatable, size, sizes}
 use Rattle.block_store.specs.Run.{in_run, RunSpot, run_raised, lowest_run, run_spot, run_from, run_at, segments}
 use Rattle.block_store.specs.Run.{Segments, Stretch, joined}
-use Rattle.block_store.specs.Room.{Spot, raised, spot_at}
-use Rattle.block_store.specs.declared.entries.StoredBlock.{StoredBlock}
-use Rattle.block_store.specs.Inner.ListStore.{block_of, blocks_of, nth_spot}
 use Rattle.block_store.specs.Find.{FindsLowestRun}
 use Rattle.block_store.specs.Inner.NthRun.{nth_run_of, nth_run, FindsRun}
 use Rattle.block_store.proofs.Zone.Totals.{total-append}
@@ -120,31 +116,6 @@ finds_nth i zone None is = has_place (λ (s : RunSpot). sizes s.below) (λ k. ru
 finds_nth i zone (Some place) is = has_place (λ (s : RunSpot). sizes s.below) (λ k. run_at k zone) (nth_run i zone)
     (run_at-nth i zone) (Some place) is
 
--- what is above the block of an index
-nth-above : (i : ℕ) (bs : List Block) (P : List Block → Type 0) → P (drop (suc i) bs)
-    → IfSome (nth_spot i bs) (λ s. P s.above)
-nth-above i [] P holds = tt
-nth-above zero (b ∷ bs) P holds = holds
-nth-above (suc i) (b ∷ bs) P holds = cases (nth_spot i bs) (nth-above i bs P holds)
-  where
-    cases : (o : Option Spot) → IfSome o (λ s. P s.above) → IfSome (option_map (raised b) o) (λ s. P s.above)
-    cases None h = tt
-    cases (Some s) h = h
-
--- what is above the block of a place
-pub above-place : (es : List StoredBlock) (place i : ℕ) (P : List Block → Type 0)
-    → spot_at place (blocks_of es) ≡ nth_spot i (blocks_of es) → P (drop (i + 1) (blocks_of es))
-    → IfSome (spot_at place (blocks_of es)) (λ s. P s.above)
-above-place es place i P found holds =
-    subst (λ (o : Option Spot). IfSome o (λ s. P s.above)) (sym found)
-    (nth-above i (blocks_of es) P (subst (λ n. P (drop n (blocks_of es))) (let z : i + 1 ≡ suc i = omega arith in
-    z) holds))
-
--- the entries from an index on
-pub blocks-from : (es : List StoredBlock) (n : ℕ) → blocks_of (take (length es - n) (drop n es)) ≡ drop n (blocks_of es)
-blocks-from es n = ap blocks_of (take_all (length es - n) (drop n es)
-    (let z : length (drop n es) ≡ length es - n = length-drop n es in omega arith)) ∙ sym (drop-map block_of n es)
-
 pub sizes-drop : (n : ℕ) (bs : List Block) → sizes (drop n bs) ≤ sizes bs
 sizes-drop zero bs = omega arith
 sizes-drop (suc n) [] = omega arith
@@ -173,8 +144,3 @@ lowest_run-passes passes run (p ∷ parts) r e = cases (passes run) refl (lowest
 pub run_spot-passes : (passes : List Block → Bool) (zone : List Block) (r : RunSpot) → run_spot passes zone ≡ Some r
     → passes r.run ≡ true
 run_spot-passes passes zone r e = lowest_run-passes passes (segments zone).first (segments zone).rest r e
-
--- the entries from an index on take no more bytes than all
-pub sizes-from : (es : List StoredBlock) (n : ℕ) → sizes (blocks_of (take (length es - n) (drop n es))) ≤ sizes
-    (blocks_of es)
-sizes-from es n = let from = ap sizes (blocks-from es n) in let less = sizes-drop n (blocks_of es) in omega arith

@@ -7,14 +7,13 @@ use Rattle.std.proofs.lemmas.Bool.Decides.{nat_tests}
 use Rattle.std.specs.Option.{option_map, IfSome}
 use Rattle.block_store.specs.Block.{Block, Free, Nonrelocatable, Masters, Relocatable, size, sizes, free_sum, free}
 use Rattle.block_store.specs.Block.{tidy}
-use Rattle.block_store.specs.Run.{in_run, Stretch, Segments, segments, runs, joined, RunSpot, run_raised, run_at}
-use Rattle.block_store.specs.Run.{with_run, has, movers, settle}
+use Rattle.block_store.specs.Run.{in_run, Stretch, Segments, segments, runs, joined, RunSpot, run_raised, run_at, has}
+use Rattle.block_store.specs.Run.{with_run, movers, settle}
 use Rattle.block_store.specs.Room.{Spot, raised, spot}
 use Rattle.block_store.specs.Find.{FindsLowest}
 use Rattle.block_store.specs.Rest.{Rest, IsRest, KeepsSlots, with_moves, counted, lowered_in_run}
-use Rattle.block_store.specs.Compact.{beyond, settled_runs, settled, lowered_in_runs, has_room}
+use Rattle.block_store.specs.Compact.{beyond, settled_runs, settled, lowered_in_runs, has_room, runs_settled}
 use Rattle.block_store.specs.Inner.NthRun.{nth_run_of, nth_run, FindsRun}
-use Rattle.block_store.specs.Compact.{runs_settled}
 use Rattle.block_store.proofs.Zone.Apart.{Apart, tidy-apart, apart-tidied, barrier-alone, apart-above}
 use Rattle.block_store.proofs.Zone.Totals.{total-append}
 use Rattle.block_store.proofs.Zone.Zones.{joined-segments}

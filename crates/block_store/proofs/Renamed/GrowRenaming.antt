@@ -3,8 +3,8 @@ use Rattle.std.proofs.Common.{Some, None, nat_le}
 use Rattle.std.proofs.lemmas.List.{map-append}
 use Rattle.std.specs.Option.{option_map, option_or}
 use Rattle.std.specs.Prelude.{option_and_then}
-use Rattle.block_store.specs.Block.{Block, Free, Nonrelocatable, Masters, Relocatable, size, free_sum, free_of, free, rename}
-use Rattle.block_store.specs.Block.{rename_block, is_mover, resized}
+use Rattle.block_store.specs.Block.{Block, Free, Nonrelocatable, Masters, Relocatable, size, free_sum, free_of, free}
+use Rattle.block_store.specs.Block.{rename, rename_block, is_mover, resized}
 use Rattle.block_store.specs.Run.{Stretch, segments, joined, has_free, movers}
 use Rattle.block_store.specs.Room.{Spot, rename_spot, spot, filled, room}
 use Rattle.block_store.specs.Grow.{growth, grow_up, taken_low, grow_nonrelocatable, grow_mover, grow_at, grow}

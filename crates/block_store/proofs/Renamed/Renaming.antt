@@ -3,8 +3,8 @@ use Rattle.std.proofs.Common.{ap, cond, map, Option, Some, None, filter}
 use Rattle.std.proofs.lemmas.List.{map-append}
 use Rattle.std.specs.Option.{option_map, option_or}
 use Rattle.std.specs.Prelude.{option_and_then}
-use Rattle.block_store.specs.Block.{Block, Free, Nonrelocatable, Masters, Relocatable, size, total, free_sum, free_of, rename}
-use Rattle.block_store.specs.Block.{rename_block, free, is_mover, is_room, is_purgeable, add, tidy}
+use Rattle.block_store.specs.Block.{Block, Free, Nonrelocatable, Masters, Relocatable, size, total, free_sum, free_of}
+use Rattle.block_store.specs.Block.{rename, rename_block, free, is_mover, is_room, is_purgeable, add, tidy}
 use Rattle.block_store.specs.Run.{settle, in_run, Stretch, Segments, segments, joined, RunSpot, run_raised, lowest_run}
 use Rattle.block_store.specs.Run.{run_spot, with_run, change_run, has_free, has, others}
 use Rattle.block_store.specs.Room.{Spot, rename_spot, spot, raised, filled, place, put_in_place, lowest_purged, purge}

@@ -2,14 +2,13 @@ use Rattle.std.proofs.Common.{◌≡◌, ℕ, zero, suc, Bool, true, false, ◌|
 use Rattle.std.proofs.Common.{Some, filter}
 use Rattle.std.proofs.lemmas.Bool.{or_parts}
 use Rattle.std.proofs.lemmas.List.Folds.{list_any-append}
-use Rattle.block_store.specs.Block.{Block, Free, size, free_sum, free, tidy, is_mover}
+use Rattle.block_store.specs.Block.{Block, Free, size, free_sum, free, tidy, is_mover, is_relocatable}
 use Rattle.block_store.specs.Run.{has, settle, with_run, RunSpot, run_spot}
 use Rattle.block_store.specs.Room.{may_be_purged, lowest_purged}
 use Rattle.block_store.specs.Grow.{freed}
 use Rattle.block_store.specs.Sparing.{spared, opened, purged}
 use Rattle.block_store.specs.declared.sparing.Sparing.{Sparing}
 use Rattle.block_store.specs.declared.sparing.Sparing.TheVariants as sparing
-use Rattle.block_store.specs.Block.{is_relocatable}
 use Rattle.block_store.proofs.Zone.Tidy.{has-tidy}
 use Rattle.block_store.proofs.Zone.Passing.{none-append}
 use Rattle.block_store.proofs.Regroup.RunLists.{run_spot-parts}

@@ -3,13 +3,12 @@ use Rattle.std.proofs.Common.{sym, ◌∙◌, ap, cond, arith, Option, Some, Non
 use Rattle.std.proofs.lemmas.Bool.{cond-true, cond-false, and_parts, leb-true}
 use Rattle.std.proofs.lemmas.Option.{option_and_then_some}
 use Rattle.std.specs.Option.{option_map, option_or}
-use Rattle.block_store.specs.Block.{Block, Free, Nonrelocatable, Masters, Relocatable, size, sizes, total, count, free, free_sum}
-use Rattle.block_store.specs.Block.{is_mover, is_room, is_relocatable, add, tidy, resized}
+use Rattle.block_store.specs.Block.{Block, Free, Nonrelocatable, Masters, Relocatable, size, sizes, total, count, free}
+use Rattle.block_store.specs.Block.{free_sum, is_mover, is_room, is_relocatable, add, tidy, resized}
 use Rattle.block_store.specs.Run.{in_run, Stretch, segments, joined, change_run, has, has_free, movers, others, settle}
 use Rattle.block_store.specs.Run.{high, low}
 use Rattle.block_store.specs.Room.{Spot, spot, raised, filled, place, put_in_place, put_at_base, lowest_purged, purge}
-use Rattle.block_store.specs.Room.{may_be_purged}
-use Rattle.block_store.specs.Room.{room}
+use Rattle.block_store.specs.Room.{may_be_purged, room}
 use Rattle.block_store.specs.Grow.{growth, taken, taken_low, grow_up, grow_nonrelocatable, freed, move_away, grow_last}
 use Rattle.block_store.specs.Grow.{grow_mover, grow}
 use Rattle.block_store.specs.Compact.{settled_runs, settled}

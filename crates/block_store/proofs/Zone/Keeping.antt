@@ -7,8 +7,8 @@ use Rattle.block_store.specs.Block.{Block, Free, size, total, count, free, free_
 use Rattle.block_store.specs.Run.{Stretch, segments, joined, change_run, has, has_free, movers, others, settle, high}
 use Rattle.block_store.specs.Run.{low, RunSpot}
 use Rattle.block_store.specs.Inner.Packing.{Loose}
-use Rattle.block_store.specs.Room.{Spot, spot, filled, place, put_in_place, put_at_base, lowest_purged, purge}
-use Rattle.block_store.specs.Room.{may_be_purged, room}
+use Rattle.block_store.specs.Room.{Spot, spot, filled, place, put_in_place, put_at_base, lowest_purged, purge, room}
+use Rattle.block_store.specs.Room.{may_be_purged}
 use Rattle.block_store.specs.Grow.{growth, taken, taken_low, grow_up, grow_nonrelocatable, freed, move_away, grow_last}
 use Rattle.block_store.specs.Grow.{grow_mover, grow}
 use Rattle.block_store.specs.Compact.{settled_runs, settled}

@@ -495,33 +495,7 @@ only-purgeable-go (asked.HSetState handle byte) m once h keeps =
     flagged-stays h (λ f. record { locked = byte / 128 % 2 == 1; purgeable = byte / 64 % 2 == 1 }) handle m.heap
 only-purgeable-go (asked.HLockHi handle) m once h keeps = spared-stays h (asked.HLockHi handle) m once
     (stays-rises h (λ f. record f { locked = true }) unlocked-none)
-only-purgeable-go (asked.NewHandle n) m once h keeps = spared-stays h (asked.NewHandle n) m once tt
-only-purgeable-go asked.NewEmptyHandle m once h keeps = spared-stays h asked.NewEmptyHandle m once tt
-only-purgeable-go (asked.GetHandleSize handle) m once h keeps = spared-stays h (asked.GetHandleSize handle) m once tt
-only-purgeable-go (asked.SetHandleSize handle n) m once h keeps =
-    spared-stays h (asked.SetHandleSize handle n) m once tt
-only-purgeable-go (asked.HGetState handle) m once h keeps = spared-stays h (asked.HGetState handle) m once tt
-only-purgeable-go (asked.MoveHHi handle) m once h keeps = spared-stays h (asked.MoveHHi handle) m once tt
-only-purgeable-go (asked.HandToHand handle) m once h keeps = spared-stays h (asked.HandToHand handle) m once tt
-only-purgeable-go (asked.HandAndHand from to) m once h keeps = spared-stays h (asked.HandAndHand from to) m once tt
-only-purgeable-go (asked.PtrAndHand handle x) m once h keeps = spared-stays h (asked.PtrAndHand handle x) m once tt
-only-purgeable-go (asked.NewPtr n) m once h keeps = spared-stays h (asked.NewPtr n) m once tt
-only-purgeable-go (asked.GetPtrSize pointer) m once h keeps = spared-stays h (asked.GetPtrSize pointer) m once tt
-only-purgeable-go (asked.SetPtrSize pointer n) m once h keeps = spared-stays h (asked.SetPtrSize pointer n) m once tt
-only-purgeable-go asked.FreeMem m once h keeps = spared-stays h asked.FreeMem m once tt
-only-purgeable-go asked.MaxBlock m once h keeps = spared-stays h asked.MaxBlock m once tt
-only-purgeable-go asked.PurgeSpace m once h keeps = spared-stays h asked.PurgeSpace m once tt
-only-purgeable-go (asked.CompactMem n) m once h keeps = spared-stays h (asked.CompactMem n) m once tt
-only-purgeable-go (asked.PurgeMem n) m once h keeps = spared-stays h (asked.PurgeMem n) m once tt
-only-purgeable-go asked.MaxMem m once h keeps = spared-stays h asked.MaxMem m once tt
-only-purgeable-go (asked.ReserveMem n) m once h keeps = spared-stays h (asked.ReserveMem n) m once tt
-only-purgeable-go asked.MoreMasters m once h keeps = spared-stays h asked.MoreMasters m once tt
-only-purgeable-go asked.MemError m once h keeps = spared-stays h asked.MemError m once tt
-only-purgeable-go (asked.Put handle i x) m once h keeps = spared-stays h (asked.Put handle i x) m once tt
-only-purgeable-go (asked.Show handle) m once h keeps = spared-stays h (asked.Show handle) m once tt
-only-purgeable-go (asked.PutPtr pointer i x) m once h keeps = spared-stays h (asked.PutPtr pointer i x) m once tt
-only-purgeable-go (asked.ShowPtr pointer) m once h keeps = spared-stays h (asked.ShowPtr pointer) m once tt
-only-purgeable-go (asked.Where name) m once h keeps = spared-stays h (asked.Where name) m once tt
+only-purgeable-go a m once h keeps = spared-stays h a m once tt
 
 -- 1 for a Masters block
 abbrev pub masters : Block → ℕ
@@ -579,29 +553,4 @@ masters-spared (asked.HNoPurge handle) = masters-rises (λ f. record f { purgeab
 masters-spared (asked.HSetState handle byte) = masters-rises
     (λ f. record { locked = byte / 128 % 2 == 1; purgeable = byte / 64 % 2 == 1 })
 masters-spared (asked.HLockHi handle) = masters-rises (λ f. record f { locked = true })
-masters-spared (asked.NewHandle n) = tt
-masters-spared asked.NewEmptyHandle = tt
-masters-spared (asked.GetHandleSize handle) = tt
-masters-spared (asked.SetHandleSize handle n) = tt
-masters-spared (asked.HGetState handle) = tt
-masters-spared (asked.MoveHHi handle) = tt
-masters-spared (asked.HandToHand handle) = tt
-masters-spared (asked.HandAndHand from to) = tt
-masters-spared (asked.PtrAndHand handle x) = tt
-masters-spared (asked.NewPtr n) = tt
-masters-spared (asked.GetPtrSize pointer) = tt
-masters-spared (asked.SetPtrSize pointer n) = tt
-masters-spared asked.FreeMem = tt
-masters-spared asked.MaxBlock = tt
-masters-spared asked.PurgeSpace = tt
-masters-spared (asked.CompactMem n) = tt
-masters-spared (asked.PurgeMem n) = tt
-masters-spared asked.MaxMem = tt
-masters-spared (asked.ReserveMem n) = tt
-masters-spared asked.MoreMasters = tt
-masters-spared asked.MemError = tt
-masters-spared (asked.Put handle i x) = tt
-masters-spared (asked.Show handle) = tt
-masters-spared (asked.PutPtr pointer i x) = tt
-masters-spared (asked.ShowPtr pointer) = tt
-masters-spared (asked.Where name) = tt
+masters-spared a = tt

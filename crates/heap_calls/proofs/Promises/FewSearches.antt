@@ -43,7 +43,7 @@ use Rattle.moves.proofs.Refused.{Refuses, seek-refused, fits-refused}
 use Rattle.moves.proofs.Rows.{seek-few, resized-few}
 use Rattle.heap_calls.specs.Rows as rows
 use Rattle.heap_calls.specs.Rows.{work, is_unused}
-use Rattle.heap_calls.proofs.Same.NewBlocks.{new_handle-same, hand_to_hand-same}
+use Rattle.heap_calls.proofs.Same.NewBlocks.{made-same, hand_to_hand-same}
 use Rattle.heap_calls.proofs.Same.Resizing.{held-spot, pointer-spot}
 use Rattle.block_store.proofs.Zone.Keeping.{tidied, freed-is, unless-le, based-le}
 
@@ -275,12 +275,13 @@ unsearched zone n fits = (0, omega arith, sym (counted-none n))
 -- the row of a call searches at most once more than there are blocks, where one is a Masters block
 pub row_few : (a : Asked) (m : Memory) → 0 < count is_masters m.heap.zone
     → row_searches a m.heap ≤ length m.heap.zone + 1
-row_few (asked.NewHandle n) m masters =
-    subst (λ (k : ℕ). k ≤ length m.heap.zone + 1) (new_handle-same n m.heap).looks
-    (slot-blocks nothing m.heap
-    (λ ready. if is_some (phys n) then block_searches nothing (replicate n 0) ready else 0) masters
-    (λ r. only-if (is_some (phys n)) (block_searches nothing (replicate n 0) r) (count_of nothing r.zone + 1)
-    (room-few (put_in_place (Relocatable (length r.names) no_flags (replicate n 0))) nothing r.zone)))
+row_few (asked.NewHandle x) m masters =
+    let bytes = asked.new_bytes x in
+    let fits = is_some (phys (asked.new_size x)) in
+    subst (λ (k : ℕ). k ≤ length m.heap.zone + 1) (made-same nothing bytes fits m.heap).looks
+    (slot-blocks nothing m.heap (λ ready. if fits then block_searches nothing bytes ready else 0) masters
+    (λ r. only-if fits (block_searches nothing bytes r) (count_of nothing r.zone + 1)
+    (room-few (put_in_place (Relocatable (length r.names) no_flags bytes)) nothing r.zone)))
 row_few asked.NewEmptyHandle m masters = cases (is_unused m.heap)
   where
     cases : (t : Bool) → (did nothing (seek_slot t nothing m.heap.zone).path m.heap.zone).searches

@@ -217,10 +217,11 @@ module _ (s : State) (bytes : ℕ → List ℕ) (known : Known s bytes) (tells :
 -- each call keeps what is known, with the bytes that it put
 pub step-known : (a : Asked) (m : Memory) (bytes : ℕ → List ℕ) → Known m.heap bytes
     → Known (answered a m).1.heap (put_by a (answered a m).0 bytes)
-step-known (asked.NewHandle n) m bytes known =
-    let new = next_block (replicate n 0) m.heap in
-    known-made m.heap bytes known (λ t. put_by (asked.NewHandle n) t bytes) (λ code. refl) nothing
-    (λ z. if_fits n (seek (Put new) nothing z)) (replicate n 0)
+step-known (asked.NewHandle x) m bytes known =
+    let n = asked.new_size x in
+    let new = next_block (asked.new_bytes x) m.heap in
+    known-made m.heap bytes known (λ t. put_by (asked.NewHandle x) t bytes) (λ code. refl) nothing
+    (λ z. if_fits n (seek (Put new) nothing z)) (asked.new_bytes x)
     (λ z. fits-refused nothing n (seek (Put new) nothing z) (seek-refused nothing (Put new) z))
     (λ z of none. if-more of nothing none (is_some (phys n)) (Put new) (λ y. tt) z) refl
 step-known asked.NewEmptyHandle m bytes known =

@@ -205,35 +205,7 @@ leaves-locked h place zone once is (asked.HSetState (Some k) byte) keeps =
     locks_too : (t : Bool) → not t ≡ false → t ≡ true
     locks_too true e = refl
     locks_too false e = let f : true ≡ false = e in cc
-leaves-locked h place zone once is (asked.NewHandle n) keeps = tt
-leaves-locked h place zone once is asked.NewEmptyHandle keeps = tt
-leaves-locked h place zone once is (asked.GetHandleSize handle) keeps = tt
-leaves-locked h place zone once is (asked.SetHandleSize handle n) keeps = tt
-leaves-locked h place zone once is (asked.ReallocateHandle handle n) keeps = tt
-leaves-locked h place zone once is (asked.EmptyHandle handle) keeps = tt
-leaves-locked h place zone once is (asked.HGetState handle) keeps = tt
-leaves-locked h place zone once is (asked.MoveHHi handle) keeps = tt
-leaves-locked h place zone once is (asked.HLockHi handle) keeps = tt
-leaves-locked h place zone once is (asked.HandToHand handle) keeps = tt
-leaves-locked h place zone once is (asked.HandAndHand from to) keeps = tt
-leaves-locked h place zone once is (asked.PtrAndHand handle x) keeps = tt
-leaves-locked h place zone once is (asked.NewPtr n) keeps = tt
-leaves-locked h place zone once is (asked.GetPtrSize pointer) keeps = tt
-leaves-locked h place zone once is (asked.SetPtrSize pointer n) keeps = tt
-leaves-locked h place zone once is asked.FreeMem keeps = tt
-leaves-locked h place zone once is asked.MaxBlock keeps = tt
-leaves-locked h place zone once is asked.PurgeSpace keeps = tt
-leaves-locked h place zone once is (asked.CompactMem n) keeps = tt
-leaves-locked h place zone once is (asked.PurgeMem n) keeps = tt
-leaves-locked h place zone once is asked.MaxMem keeps = tt
-leaves-locked h place zone once is (asked.ReserveMem n) keeps = tt
-leaves-locked h place zone once is asked.MoreMasters keeps = tt
-leaves-locked h place zone once is asked.MemError keeps = tt
-leaves-locked h place zone once is (asked.Put handle i x) keeps = tt
-leaves-locked h place zone once is (asked.Show handle) keeps = tt
-leaves-locked h place zone once is (asked.PutPtr pointer i x) keeps = tt
-leaves-locked h place zone once is (asked.ShowPtr pointer) keeps = tt
-leaves-locked h place zone once is (asked.Where name) keeps = tt
+leaves-locked h place zone once is a keeps = tt
 
 pub stays-locked : (a : Asked) (m : Memory) → OneBlockEach m.heap.zone → StaysLocked a m
 stays-locked a m once h place keeps is =

@@ -321,11 +321,13 @@ LeavesSo a m x =
 
 -- each call, refused, leaves its heap so
 pub refused_leaves : (a : Asked) (m : Memory) → LeavesSo a m (answered a m)
-refused_leaves (asked.NewHandle n) m =
-    noted Given given-tells (answer_made (rows.new_handle n) m.heap) m (answered (asked.NewHandle n) m).1 (slotted_zone
-    nothing m.heap)
-    (made-leaves nothing (λ z. if_fits n (seek (Put (next_block (replicate n 0) m.heap)) nothing z)) m.heap
-    (λ z. fits-refused nothing n _ (seek-refused nothing (Put (next_block (replicate n 0) m.heap)) z))) refl refl refl
+refused_leaves (asked.NewHandle x) m =
+    let n = asked.new_size x in
+    let new = next_block (asked.new_bytes x) m.heap in
+    noted Given given-tells (answer_made (rows.new_handle_with x) m.heap) m (answered (asked.NewHandle x) m).1
+    (slotted_zone nothing m.heap)
+    (made-leaves nothing (λ z. if_fits n (seek (Put new) nothing z)) m.heap
+    (λ z. fits-refused nothing n _ (seek-refused nothing (Put new) z))) refl refl refl
 refused_leaves asked.NewEmptyHandle m =
     noted Given given-tells (answer_made rows.new_empty_handle m.heap) m (answered asked.NewEmptyHandle m).1 m.heap.zone
     (given-leaves nothing (seek_slot (is_unused m.heap) nothing m.heap.zone) m.heap (Handle Plain)

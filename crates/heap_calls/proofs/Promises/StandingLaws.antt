@@ -84,35 +84,7 @@ leaves-nonrelocatable p zone (asked.HNoPurge (Some k)) keeps = λ at found. flag
 leaves-nonrelocatable p zone (asked.HSetState None byte) keeps = tt
 leaves-nonrelocatable p zone (asked.HSetState (Some k) byte) keeps = λ at found. flagged-nonrelocatable p
     (λ f. record { locked = byte / 128 % 2 == 1; purgeable = byte / 64 % 2 == 1 }) at.here
-leaves-nonrelocatable p zone (asked.NewHandle n) keeps = tt
-leaves-nonrelocatable p zone asked.NewEmptyHandle keeps = tt
-leaves-nonrelocatable p zone (asked.GetHandleSize handle) keeps = tt
-leaves-nonrelocatable p zone (asked.SetHandleSize handle n) keeps = tt
-leaves-nonrelocatable p zone (asked.ReallocateHandle handle n) keeps = tt
-leaves-nonrelocatable p zone (asked.EmptyHandle handle) keeps = tt
-leaves-nonrelocatable p zone (asked.HGetState handle) keeps = tt
-leaves-nonrelocatable p zone (asked.MoveHHi handle) keeps = tt
-leaves-nonrelocatable p zone (asked.HLockHi handle) keeps = tt
-leaves-nonrelocatable p zone (asked.HandToHand handle) keeps = tt
-leaves-nonrelocatable p zone (asked.HandAndHand from to) keeps = tt
-leaves-nonrelocatable p zone (asked.PtrAndHand handle x) keeps = tt
-leaves-nonrelocatable p zone (asked.NewPtr n) keeps = tt
-leaves-nonrelocatable p zone (asked.GetPtrSize pointer) keeps = tt
-leaves-nonrelocatable p zone (asked.SetPtrSize pointer n) keeps = tt
-leaves-nonrelocatable p zone asked.FreeMem keeps = tt
-leaves-nonrelocatable p zone asked.MaxBlock keeps = tt
-leaves-nonrelocatable p zone asked.PurgeSpace keeps = tt
-leaves-nonrelocatable p zone (asked.CompactMem n) keeps = tt
-leaves-nonrelocatable p zone (asked.PurgeMem n) keeps = tt
-leaves-nonrelocatable p zone asked.MaxMem keeps = tt
-leaves-nonrelocatable p zone (asked.ReserveMem n) keeps = tt
-leaves-nonrelocatable p zone asked.MoreMasters keeps = tt
-leaves-nonrelocatable p zone asked.MemError keeps = tt
-leaves-nonrelocatable p zone (asked.Put handle i x) keeps = tt
-leaves-nonrelocatable p zone (asked.Show handle) keeps = tt
-leaves-nonrelocatable p zone (asked.PutPtr pointer i x) keeps = tt
-leaves-nonrelocatable p zone (asked.ShowPtr pointer) keeps = tt
-leaves-nonrelocatable p zone (asked.Where name) keeps = tt
+leaves-nonrelocatable p zone a keeps = tt
 
 pub stays-nonrelocatable : (a : Asked) (m : Memory) → OneBlockEach m.heap.zone → NextIsNew m.heap → StaysNonrelocatable a m
 stays-nonrelocatable a m once new p place keeps is =

@@ -111,11 +111,11 @@ module _ (M : (Block → Bool) → Move → List Block → Type 0) (s : State) (
 -- each row
 pub row-along : (M : (Block → Bool) → Move → List Block → Type 0) (s : State) (a : Asked) → Allows M s a
     → Keeps M (row a) s
-row-along M s (asked.NewHandle n) law =
-    let new = next_block (replicate n 0) s in
-    made-along M s (asked.NewHandle n) law nothing (λ z. if_fits n (seek (Put new) nothing z))
-    (λ z. along-if (M nothing) nothing (is_some (phys n)) (seek (Put new) nothing z) z
-    (put-along M s (asked.NewHandle n) law nothing new (refl, refl) z))
+row-along M s (asked.NewHandle x) law =
+    let new = next_block (asked.new_bytes x) s in
+    made-along M s (asked.NewHandle x) law nothing (λ z. if_fits (asked.new_size x) (seek (Put new) nothing z))
+    (λ z. along-if (M nothing) nothing (is_some (phys (asked.new_size x))) (seek (Put new) nothing z) z
+    (put-along M s (asked.NewHandle x) law nothing new (refl, refl) z))
 row-along M s asked.NewEmptyHandle law = slot-along M s asked.NewEmptyHandle law nothing
 row-along M s (asked.SetHandleSize handle n) law =
     found-along M s (asked.SetHandleSize handle n) law (look_up handle s) _ (λ held e.

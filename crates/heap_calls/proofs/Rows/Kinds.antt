@@ -35,7 +35,7 @@ of-path P does leaves table.LastCode path = let f : false ≡ true = path in cc
 pub by-kind : (P : Asked → Type 0) → ((a : Asked) → has_path (row a) ≡ true → P a)
     → ((n : ℕ) → P (asked.PurgeMem n)) → P asked.MaxMem → ((a : Asked) → may_purge (row a) ≡ false → P a)
     → (a : Asked) → P a
-by-kind P path purge max rest (asked.NewHandle n) = path (asked.NewHandle n) refl
+by-kind P path purge max rest (asked.NewHandle x) = path (asked.NewHandle x) refl
 by-kind P path purge max rest asked.NewEmptyHandle = path asked.NewEmptyHandle refl
 by-kind P path purge max rest (asked.SetHandleSize handle n) = path (asked.SetHandleSize handle n) refl
 by-kind P path purge max rest (asked.ReallocateHandle handle n) = path (asked.ReallocateHandle handle n) refl

@@ -103,10 +103,10 @@ module _ (of : Block → ℕ) (none : (k : ℕ) → of (Free k) ≡ 0) (masters 
     found-most (Ok k) call each = each k
 
     pub row-most : (a : Asked) → PurgesMost of (row a) s
-    row-most (asked.NewHandle n) =
-        let new = next_block (replicate n 0) s in
-        made-most nothing (λ z. if_fits n (seek (Put new) nothing z))
-        (λ z. if-most of nothing none (is_some (phys n)) (Put new) (λ y. refl) z)
+    row-most (asked.NewHandle x) =
+        let new = next_block (asked.new_bytes x) s in
+        made-most nothing (λ z. if_fits (asked.new_size x) (seek (Put new) nothing z))
+        (λ z. if-most of nothing none (is_some (phys (asked.new_size x))) (Put new) (λ y. refl) z)
     row-most asked.NewEmptyHandle = omega (arith, slot-even nothing)
     row-most (asked.SetHandleSize handle n) = found-most (look_up handle s) _
         (λ held. size-most of (is_relocatable held.number) none n s.zone held.at)

@@ -1,4 +1,4 @@
-use Rattle.std.proofs.Common.{◌≡◌, ℕ, ◌+◌, ◌<◌, Bool, true, false, List, [], ◌∷◌, ◌++◌, length, replicate}
+use Rattle.std.proofs.Common.{◌≡◌, ℕ, ◌+◌, ◌-◌, ◌<◌, Bool, true, false, List, [], ◌∷◌, ◌++◌, length, replicate}
 use Rattle.std.proofs.Common.{Option, Some, None, Result, Ok, Err, refl, sym, ◌∙◌, ap, cond, arith, is_some}
 use Rattle.std.specs.Option.{option_map}
 use Rattle.std.specs.Prelude.{unwrap_or}
@@ -7,9 +7,11 @@ use Rattle.mac_words.specs.Size.{phys}
 use Rattle.mac_words.specs.declared.code.OsErr.{OsErr}
 use Rattle.mac_words.specs.declared.code.TheConstants.OsErr.{MEM_FULL}
 use Rattle.mac_words.proofs.Plain.{is_some-map}
+use Rattle.mac_words.specs.Size.{padded}
 use Rattle.block_store.specs.Block.{Block, Free, Nonrelocatable, Masters, size, is_relocatable, is_room, content_of}
+use Rattle.block_store.specs.Block.{no_flags}
 use Rattle.block_store.specs.Run.{RunSpot, run_spot, has_free}
-use Rattle.block_store.specs.Room.{spot, filled, place, put_in_place, put_at_base, room}
+use Rattle.block_store.specs.Room.{spot, filled, place, put_in_place, put_at_base, room, purge, count_of}
 use Rattle.block_store.proofs.Regroup.MostRoom.{placed-is}
 use Rattle.moves.specs.Moves.{Put, Base, place_lowers, lowered_in}
 use Rattle.moves.specs.Seeking.{Sought, no_room, seek, if_fits, seek_slot, then_seek}
@@ -29,11 +31,13 @@ use Rattle.heap_calls.specs.Searches.{room_searches, slot_searches, ready_search
 use Rattle.heap_calls.specs.Searches.{new_handle_searches, new_empty_handle_searches}
 use Rattle.heap_calls.specs.Moves.{run_moves, as_it_is, place_moves, put_moves, block_moves, new_handle_moves}
 use Rattle.heap_calls.specs.Gone.{Gone, room_gone, slot_gone, ready_gone}
-use Rattle.heap_calls.specs.Gone.{found_gone}
+use Rattle.heap_calls.specs.Gone.{found_gone, made_gone}
+use Rattle.heap_calls.specs.Inside.{new_filled}
 use Rattle.heap_calls.specs.Rows as rows
 use Rattle.heap_calls.specs.Rows.{Done, work, heap_after, purged_by, is_unused, next_block}
 use Rattle.heap_calls.proofs.Same.Agreeing.{Agrees, BothAgree, seek-agrees, agrees-if, fits-agrees, then-agrees}
 use Rattle.heap_calls.proofs.Same.Agreeing.{on_some}
+use Rattle.heap_calls.proofs.Numbering.Looking.{tries-same}
 
 -- The calls that make a block: each table is what is read off the row's path.
 
@@ -228,6 +232,52 @@ new_handle-same n s =
       tells = ap (λ (m : ℕ). slot_gone nothing s ++ ready_gone (slotted nothing s) (λ ready. cond (is_some (phys m))
           (room_gone (length ready.names) (put_in_place (next_block (replicate n 0) ready)) nothing ready.zone) []))
           (length-replicate n 0) ∙ same.tells;
+    }
+
+-- searches for a block's place, and the moves that make it, see only the block's size
+module _ (a b : Block) (sized : size a ≡ size b) (spared : Block → Bool) (zone : List Block)
+  where
+    sized-searches : room_searches (put_in_place a) spared zone ≡ room_searches (put_in_place b) spared zone
+    sized-searches = tries-same (λ k. put_in_place a (purge k spared zone)) (λ k. put_in_place b (purge k spared zone))
+        (λ k. found (purge k spared zone)) (count_of spared zone)
+      where
+        found : (z : List Block) → is_some (put_in_place a z) ≡ is_some (put_in_place b z)
+        found z = is_some-map (filled a) (place (size a) z) ∙ ap (λ n. is_some (place n z)) sized
+            ∙ sym (is_some-map (filled b) (place (size b) z))
+
+    sized-moves : put_moves a spared zone ≡ put_moves b spared zone
+    sized-moves = ap (λ (k : ℕ). place_moves (size a) (purge (k - 1) spared zone)) sized-searches
+        ∙ ap (λ (n : ℕ). place_moves n (purge (room_searches (put_in_place b) spared zone - 1) spared zone)) sized
+
+-- and so what is counted for bytes is what is counted for as many bytes 0
+zeros-size : (x : List ℕ) (r : State) → size (next_block (replicate (length x) 0) r) ≡ size (next_block x r)
+zeros-size x r = ap padded (length-replicate (length x) 0)
+
+ready-same : (o : Option State) (f g : State → ℕ) → ((r : State) → f r ≡ g r)
+    → ready_searches o f ≡ ready_searches o g
+ready-same None f g same = refl
+ready-same (Some r) f g same = same r
+
+-- PtrToHand
+pub pointer_to_hand-same : (x : List ℕ) (s : State) → Same (new_filled Plain no_flags x s)
+    (new_handle_searches (length x) s) (new_handle_moves (length x) s) (made_gone nothing x s)
+    (rows.pointer_to_hand x s) s
+pointer_to_hand-same x s =
+    let fits = is_some (phys (length x)) in
+    let same = made-same nothing x fits s in
+    record {
+      answers = same.answers;
+      looks = ap (λ (k : ℕ). slot_searches nothing s + k) (ready-same (slotted nothing s)
+          (λ r. cond fits (block_searches nothing (replicate (length x) 0) r) 0)
+          (λ r. cond fits (block_searches nothing x r) 0)
+          (λ r. ap (λ (k : ℕ). cond fits k 0) (sized-searches (next_block (replicate (length x) 0) r) (next_block x r)
+          (zeros-size x r) nothing r.zone))) ∙ same.looks;
+      lowers = ready-same (slotted nothing s)
+          (λ r. cond fits (block_moves nothing (replicate (length x) 0) r) 0)
+          (λ r. cond fits (block_moves nothing x r) 0)
+          (λ r. ap (λ (k : ℕ). cond fits k 0) (sized-moves (next_block (replicate (length x) 0) r) (next_block x r)
+          (zeros-size x r) nothing r.zone)) ∙ same.lowers;
+      tells = same.tells;
     }
 
 -- NewEmptyHandle

@@ -1,8 +1,11 @@
-use Rattle.std.proofs.Common.{◌≡◌, ℕ, Option, List, sym}
+use Rattle.std.proofs.Common.{◌≡◌, ℕ, Option, List, length}
+use Rattle.block_store.specs.Block.{no_flags}
 use Rattle.mac_words.specs.Size.{phys}
-use Rattle.heap_calls.specs.State.{State, Memory}
+use Rattle.heap_calls.specs.State.{Plain, Memory}
+use Rattle.heap_calls.specs.Gone.{made_gone}
+use Rattle.heap_calls.specs.Inside.{new_filled, new_inside}
 use Rattle.heap_calls.proofs.Tables.Replies as tables
-use Rattle.heap_calls.specs.Answer.{silent, searching, moving}
+use Rattle.heap_calls.specs.Answer.{silent, searching, moving, nothing}
 use Rattle.heap_calls.specs.Searches.{new_handle_searches, new_empty_handle_searches}
 use Rattle.heap_calls.proofs.Tables.Searches.{more_masters_searches, new_pointer_searches, reserve_searches}
 use Rattle.heap_calls.proofs.Tables.Searches.{set_handle_size_searches, set_pointer_size_searches}
@@ -18,6 +21,7 @@ use Rattle.heap_calls.specs.Moves.{new_handle_moves}
 use Rattle.heap_calls.specs.Rows as rows
 use Rattle.heap_calls.specs.Rows.{doing_silently, purges_made}
 use Rattle.heap_calls.proofs.Same.NewBlocks.{new_handle-same, new_empty_handle-same, more_masters-same}
+use Rattle.heap_calls.proofs.Same.NewBlocks.{pointer_to_hand-same}
 use Rattle.heap_calls.proofs.Same.NewBlocks.{new_pointer-same, reserve_mem-same, hand_to_hand-same}
 use Rattle.heap_calls.proofs.Same.Resizing.{set_handle_size-same, set_pointer_size-same, hand_and_hand-same}
 use Rattle.heap_calls.proofs.Same.Resizing.{pointer_and_hand-same, reallocate_handle-same}
@@ -29,6 +33,11 @@ pub new_handle-silent : (n : ℕ) (m : Memory) → doing_silently (rows.new_hand
     (searching (new_handle_searches n m.heap) (silent (tables.new_handle n) m))
 new_handle-silent n m = packs-silently (tables.new_handle n) (new_handle_searches n) (rows.new_handle n) m
     (new_handle_gone n m.heap) (new_handle_moves n) (new_handle-same n m.heap)
+
+pub pointer_to_hand-silent : (x : List ℕ) (m : Memory) → doing_silently (rows.pointer_to_hand x) m ≡ new_inside Plain
+    no_flags x m
+pointer_to_hand-silent x m = packs-silently (new_filled Plain no_flags x) (new_handle_searches (length x))
+    (rows.pointer_to_hand x) m (made_gone nothing x m.heap) (new_handle_moves (length x)) (pointer_to_hand-same x m.heap)
 
 pub new_empty_handle-silent : (m : Memory) → doing_silently rows.new_empty_handle m ≡ searching
     (new_empty_handle_searches m.heap) (silent tables.new_empty_handle m)

@@ -29,7 +29,7 @@ pub step-searches : (step : Step) (m : Memory) → 0 < count is_masters m.heap.z
     → (n : ℕ) × (n ≤ length m.heap.zone + 1) × ((stepped step m).log.searches ≡ counted m.log.searches n)
 step-searches (NewFilled role flags bytes) m masters fits =
     let same = (new_handle-same (length bytes) m.heap).looks in
-    let few = row_few (asked.NewHandle (length bytes)) m masters in
+    let few = row_few (asked.NewHandle (asked.Zeros (length bytes))) m masters in
     (new_handle_searches (length bytes) m.heap, omega (arith, same, few), refl)
 step-searches (NewEmpty role) m masters fits =
     let same = (new_empty_handle-same m.heap).looks in

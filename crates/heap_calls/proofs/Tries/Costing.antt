@@ -116,7 +116,7 @@ copying-costs (Ok held) s = slotted-costs (is_relocatable held.number) s
 
 -- each zone that a refused call leaves
 pub left-costs : (a : Asked) (s : State) → CostsAtMostMasters s.zone (zone_left a s)
-left-costs (asked.NewHandle n) s = slotted-costs nothing s
+left-costs (asked.NewHandle x) s = slotted-costs nothing s
 left-costs (asked.HandToHand handle) s = copying-costs (look_up handle s) s
 left-costs (asked.PurgeMem n) s = purged-costs (blocks_purged (phys n) s.zone) s.zone
 left-costs a s = same-costs s.zone

@@ -52,7 +52,7 @@ copying-le (Err code) s = omega arith
 copying-le (Ok held) s = slotted-le (is_relocatable held.number) s
 
 left-le : (a : Asked) (s : State) → staying (zone_left a s) ≤ staying s.zone
-left-le (asked.NewHandle n) s = slotted-le nothing s
+left-le (asked.NewHandle x) s = slotted-le nothing s
 left-le (asked.HandToHand handle) s = copying-le (look_up handle s) s
 left-le (asked.PurgeMem n) s = purged-le staying_of no-free (blocks_purged (phys n) s.zone) nothing s.zone
 left-le a s = omega arith

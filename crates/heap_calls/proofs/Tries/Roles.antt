@@ -210,7 +210,7 @@ unpointed-keeps (Some p) s = by_name (slice_get s.names p) refl
 
 -- each call's row
 row-keeps : (a : Asked) (m : Memory) → Keeps m.heap (answered a m).1.heap
-row-keeps (asked.NewHandle n) m = given-keeps (Handle Plain) refl _ m.heap
+row-keeps (asked.NewHandle x) m = given-keeps (Handle Plain) refl _ m.heap
 row-keeps asked.NewEmptyHandle m = given-keeps (Handle Plain) refl _ m.heap
 row-keeps (asked.DisposeHandle handle) m = disposed-keeps handle m.heap
 row-keeps (asked.SetHandleSize handle n) m = done-found (look_up handle m.heap) m.heap _ (λ held h. refl)

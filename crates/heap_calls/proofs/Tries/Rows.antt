@@ -5,7 +5,7 @@ use Rattle.block_store.specs.Rest.{Site}
 use Rattle.heap_calls.specs.State.{Memory, fresh_memory}
 use Rattle.heap_calls.specs.Asked.{Asked, NewHandle, DisposeHandle, EmptyHandle, HPurge, HLock, HandAndHand, MemError}
 use Rattle.mac_words.specs.Told.{Done, Bytes, Code, Refused}
-use Rattle.heap_calls.specs.Asked.{Show, NewPtr}
+use Rattle.heap_calls.specs.Asked.{Show, NewPtr, Zeros}
 use Rattle.heap_calls.specs.Busy.{idle, busied, eased, is_busy, with_busy}
 use Rattle.heap_calls.specs.Table.{served}
 use Rattle.heap_calls.specs.Refused.{refused_zone}
@@ -20,7 +20,7 @@ after (a ∷ calls) m = after calls (served a m).1
 
 -- handles 0 and 1 with 4 bytes each
 abbrev two : Site → Memory
-two window = after (NewHandle 4 ∷ NewHandle 4 ∷ []) (fresh_memory 1024 window)
+two window = after (NewHandle (Zeros 4) ∷ NewHandle (Zeros 4) ∷ []) (fresh_memory 1024 window)
 
 -- the first of them is busy
 abbrev busy : Site → Memory
@@ -97,10 +97,10 @@ locked-stays : (window : Site)
 locked-stays window = refl
 
 -- a call that is refused for want of room
-no-room : (window : Site) → (served (NewHandle 700) (three window)).0 ≡ Refused MEM_FULL
+no-room : (window : Site) → (served (NewHandle (Zeros 700)) (three window)).0 ≡ Refused MEM_FULL
 no-room window = refl
 
-as-much-stays : (window : Site) → staying (served (NewHandle 700) (three window)).1.heap.zone ≡ 112
+as-much-stays : (window : Site) → staying (served (NewHandle (Zeros 700)) (three window)).1.heap.zone ≡ 112
 as-much-stays window = refl
 
 -- a block of 32 bytes that is disposed of makes 32 bytes more

@@ -23,7 +23,7 @@ told (Busy n ∷ lines) m = told lines (with_busy (busied n m.log.busy) m)
 told (Idle n ∷ lines) m = told lines (with_busy (eased n m.log.busy) m)
 
 -- a busy handle bars its calls, keeps its bytes, and is had again
-a_busy_handle : (window : Site) → told (Ask (asks.NewHandle 2) ∷ Ask (asks.Put (Some 0) 0 (72 ∷ 105 ∷ [])) ∷ Busy 0
+a_busy_handle : (window : Site) → told (Ask (asks.NewHandle (asks.Zeros 2)) ∷ Ask (asks.Put (Some 0) 0 (72 ∷ 105 ∷ [])) ∷ Busy 0
     ∷ Ask (asks.GetHandleSize (Some 0)) ∷ Ask asks.MemError ∷ Ask asks.FreeMem ∷ Ask (asks.Show (Some 0))
     ∷ Ask (asks.Put (Some 0) 0 (78 ∷ 111 ∷ [])) ∷ Ask asks.MemError ∷ Ask (asks.HLock (Some 0))
     ∷ Ask (asks.DisposeHandle (Some 0)) ∷ Ask asks.MemError ∷ Idle 0 ∷ Ask (asks.Show (Some 0))
@@ -33,7 +33,7 @@ a_busy_handle : (window : Site) → told (Ask (asks.NewHandle 2) ∷ Ask (asks.P
 a_busy_handle window = refl
 
 -- what isn't there goes first, then what is busy, then what is emptied or locked
-the_order_of_refusals : (window : Site) → told (Ask (asks.NewHandle 10) ∷ Ask asks.NewEmptyHandle ∷ Ask (asks.NewPtr 10)
+the_order_of_refusals : (window : Site) → told (Ask (asks.NewHandle (asks.Zeros 10)) ∷ Ask asks.NewEmptyHandle ∷ Ask (asks.NewPtr 10)
     ∷ Ask (asks.HLock (Some 0)) ∷ Busy 0 ∷ Busy 1 ∷ Busy 2 ∷ Ask (asks.GetHandleSize None)
     ∷ Ask (asks.GetHandleSize (Some 2)) ∷ Ask (asks.GetHandleSize (Some 1)) ∷ Ask (asks.EmptyHandle (Some 0)) ∷ Idle 0
     ∷ Idle 1 ∷ Ask (asks.GetHandleSize (Some 1)) ∷ Ask (asks.EmptyHandle (Some 0)) ∷ Ask (asks.DisposeHandle (Some 0))
@@ -43,7 +43,7 @@ the_order_of_refusals : (window : Site) → told (Ask (asks.NewHandle 10) ∷ As
 the_order_of_refusals window = refl
 
 -- the second handle of HandAndHand is asked for where the first has a block
-two_handles : (window : Site) → told (Ask (asks.NewHandle 10) ∷ Ask (asks.NewHandle 10) ∷ Busy 1
+two_handles : (window : Site) → told (Ask (asks.NewHandle (asks.Zeros 10)) ∷ Ask (asks.NewHandle (asks.Zeros 10)) ∷ Busy 1
     ∷ Ask (asks.HandAndHand (Some 0) (Some 1)) ∷ Busy 0 ∷ Ask (asks.HandAndHand (Some 0) (Some 1)) ∷ Idle 0
     ∷ Ask (asks.EmptyHandle (Some 0)) ∷ Ask (asks.HandAndHand (Some 0) (Some 1))
     ∷ Ask (asks.ReallocateHandle (Some 0) 10) ∷ Idle 1 ∷ Ask (asks.GetHandleSize (Some 1))

@@ -6,7 +6,7 @@ use Rattle.block_store.specs.Run.{has}
 use Rattle.heap_calls.specs.State.{State, Handle, Pointer, Plain, fresh_heap}
 use Rattle.heap_calls.specs.Answer.{put, show}
 use Rattle.heap_calls.specs.Purging.{h_purge, purge_mem}
-use Rattle.heap_calls.specs.Asked.{NewHandle, PurgeMem, NewPtr, Put}
+use Rattle.heap_calls.specs.Asked.{NewHandle, Zeros, PurgeMem, NewPtr, Put}
 use Rattle.heap_calls.specs.Refused.{code_left}
 use Rattle.heap_calls.specs.Table.{zone_left}
 use Rattle.heap_calls.specs.Staying.{ease}
@@ -38,14 +38,14 @@ no-room = refl
 block-emptied : (show (Some 0) (answer_made (rows.new_handle 700) full).1).0 ≡ Err NIL_HANDLE
 block-emptied = refl
 
-masters-left : zone_left (NewHandle 700) full ≡ Masters ∷ Masters ∷ Free 480 ∷ []
+masters-left : zone_left (NewHandle (Zeros 700)) full ≡ Masters ∷ Masters ∷ Free 480 ∷ []
 masters-left = refl
 
 -- the new block takes its bytes from what can be had
 had-before : ease full.zone ≡ 752
 had-before = refl
 
-had-after : ease (zone_left (NewHandle 700) full) ≡ 480
+had-after : ease (zone_left (NewHandle (Zeros 700)) full) ≡ 480
 had-after = refl
 
 -- a search for a block alone leaves it

@@ -32,7 +32,7 @@ start own system window = record {
 }
 
 -- a resource is added once, and written
-add-and-update : (window : Site) → tells (heap_line (asks.NewHandle 2)
+add-and-update : (window : Site) → tells (heap_line (asks.NewHandle (asks.Zeros 2))
     ∷ heap_line (asks.Put (Some 0) 0 (72 ∷ 105 ∷ [])) ∷ line (AddResource (Some 0) text (pos 128) [])
     ∷ line (AddResource (Some 0) text (pos 128) []) ∷ line (GetResAttrs (Some 0))
     ∷ line (GetResourceSizeOnDisk (Some 0)) ∷ line (UpdateResFile 2) ∷ line (GetResAttrs (Some 0))
@@ -64,7 +64,7 @@ removed : (window : Site) → tells (line (GetResource text (pos 1)) ∷ line (R
 removed window = refl
 
 -- a resource is added to the file that is current: none to the System's
-added-to-system : (window : Site) → tells (heap_line (asks.NewHandle 2) ∷ line (UseResFile 0)
+added-to-system : (window : Site) → tells (heap_line (asks.NewHandle (asks.Zeros 2)) ∷ line (UseResFile 0)
     ∷ line (AddResource (Some 0) text (pos 1) []) ∷ []) (start (opened_map []) (opened_map []) window)
     ≡ Given 0 ∷ Done ∷ Refused WRITE_PERMISSION ∷ []
 added-to-system window = refl
@@ -94,7 +94,7 @@ made-once window = refl
 
 -- what was added is read again once its file was closed
 read-again : (window : Site) → tells (line (CreateResFile (98 ∷ [])) ∷ line (OpenResFile (98 ∷ []))
-    ∷ heap_line (asks.NewHandle 2) ∷ heap_line (asks.Put (Some 0) 0 (72 ∷ 105 ∷ []))
+    ∷ heap_line (asks.NewHandle (asks.Zeros 2)) ∷ heap_line (asks.Put (Some 0) 0 (72 ∷ 105 ∷ []))
     ∷ line (AddResource (Some 0) text (pos 128) (78 ∷ [])) ∷ line (CloseResFile 3)
     ∷ line (GetResource text (pos 128)) ∷ line (OpenResFile (98 ∷ [])) ∷ line (GetNamedResource text (110 ∷ []))
     ∷ heap_line (asks.Show (Some 1)) ∷ line (GetResAttrs (Some 1)) ∷ [])

@@ -1,5 +1,5 @@
 use Rattle.std.proofs.Common.{◌≡◌, ◌+◌, ◌*◌, ◌≤◌, map, drop}
-use Rattle.heap_view.specs.Svg.{line_sizes}
+use Rattle.heap_view.specs.Drawing.{line_sizes}
 use Rattle.heap_view.specs.View.{view_line}
 use Rattle.heap_view.proofs.drawing.line_sizes.Given as goal
 

@@ -1,5 +1,5 @@
 use Rattle.std.proofs.Common.{◌≡◌, ◌++◌, drop}
-use Rattle.heap_view.specs.Svg.{escaped}
+use Rattle.heap_view.specs.Drawing.{escaped}
 use Rattle.heap_view.proofs.drawing.push_escaped.Given as goal
 
 -- what is written, before the bytes that are still to be written

@@ -1,5 +1,5 @@
 use Rattle.std.proofs.Common.{refl}
-use Rattle.heap_view.specs.Svg.{svg_style}
+use Rattle.heap_view.specs.Drawing.{svg_style}
 use Rattle.heap_view.proofs.drawing.svg_style.Goals as goal
 
 pub returns : goal.returns

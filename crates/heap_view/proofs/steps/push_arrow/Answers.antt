@@ -1,14 +1,12 @@
 use Rattle.std.proofs.Common.{◌++◌, ◌∙◌, ℕ, ap, codes}
-use Rattle.heap_view.proofs.Appending.{also}
+use Rattle.heap_view.specs.Drawing.{attribute}
 use Rattle.heap_view.specs.Steps.{arrow}
-use Rattle.heap_view.specs.Svg.{attribute}
+use Rattle.heap_view.proofs.Appending.{also}
 use Rattle.heap_view.proofs.steps.push_arrow.Goals as goal
 
 pub returns : goal.returns
 unfolding arrow
 returns c =
-    let one = c.in_ok-push_attribute.ensures
-    ∙ ap (λ (n : ℕ). c.put.new.text.items ++ attribute (codes "x1") n) c.middle.ensures in
-    let other = c.in_ok-push_attribute-2.ensures
-    ∙ ap (λ (n : ℕ). c.push_attribute.new.text.items ++ attribute (codes "x2") n) c.middle-2.ensures in
+    let one = c.in_ok-push_attribute.ensures ∙ ap (λ (x : ℕ). c.put.new.text.items ++ attribute (codes "x1") x) c.middle.ensures in
+    let other = c.in_ok-push_attribute-2.ensures ∙ ap (λ (x : ℕ). c.push_attribute.new.text.items ++ attribute (codes "x2") x) c.middle-2.ensures in
     also c.args.text.now.items _ _ (also c.args.text.now.items _ _ (also c.args.text.now.items _ _ c.in_ok-put.ensures one) other) c.in_ok-put-2.ensures

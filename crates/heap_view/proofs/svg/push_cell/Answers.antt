@@ -1,5 +1,5 @@
-use Rattle.heap_view.proofs.Appending.{also}
 use Rattle.heap_view.specs.Svg.{cell}
+use Rattle.heap_view.proofs.Appending.{also}
 use Rattle.heap_view.proofs.svg.push_cell.Goals as goal
 
 pub returns : goal.returns

@@ -5,7 +5,7 @@ use Rattle.job_tasks.proofs.Played.{unprinted}
 use Rattle.job_tasks.proofs.playing.print_zone.Goals as goal
 
 -- there is no memory to run the script
-pub returns-in_err-text-clause-undone : goal.returns-in_err-text-clause-undone
-returns-in_err-text-clause-undone g c =
+pub returns-in_err-out-clause-undone : goal.returns-in_err-out-clause-undone
+returns-in_err-out-clause-undone g c =
     let same : c.from_residual.result ≡ Err NoMemory = search rules in
     told_err _ _ NoMemory same (unprinted _ _ _)

@@ -33,7 +33,7 @@ returns-clause-shown c =
     let whole : sizes (zone_of c.new-zone.result) ≡ length c.args.region.bytes =
     ap sizes c.new-zone.ensures.zone ∙ sizes-fresh (length c.cut.result.bytes) (omega (arith, low, long)) ∙ long in
     subst (λ (n : ℕ). IfOk c.show-shown.result.0
-    (λ text. text.items ≡ sight_text c.args.sight c.args.resources n c.args.script.now)) whole
+    (λ out. out.items ≡ sight_text c.args.sight c.args.resources n c.args.script.now c.args.text.now)) whole
     c.show-shown.ensures.shown
 
 pub returns-clause-home : goal.returns-clause-home

@@ -1,12 +1,11 @@
 use Rattle.std.proofs.Common.{◌≡◌, ◌++◌, map, drop}
-use Rattle.lint.specs.Faults.{unfinished_at}
-use Rattle.lint.specs.Judging.{missing_kept}
-use Rattle.lint.specs.Seen.{name_seen, seen}
+use Rattle.script_text.specs.Script.{statement}
+use Rattle.lint.specs.Faults.{missing_lines, unfinished_at}
+use Rattle.lint.specs.Seen.{seen}
 use Rattle.lint.proofs.script.say_missing.Given as goal
 
--- the faults so far, and those of the lines that are still to be looked at, are those of all of them
-abbrev pub invariant-loop-place : goal.invariant-loop-place
-invariant-loop-place l =
-    map seen l.faults.items
-    ++ map unfinished_at (missing_kept l.kept (map name_seen (drop l.place-index l.sets)))
-    ≡ map seen l.fn.faults.items ++ map unfinished_at (missing_kept l.kept (map name_seen l.sets))
+-- the faults so far, and those of the steps that are still to be looked at, are those of all of them
+abbrev pub invariant-loop-step : goal.invariant-loop-step
+invariant-loop-step l =
+    map seen l.faults.items ++ map unfinished_at (missing_lines l.above (map statement (drop l.step-index l.steps)))
+    ≡ map seen l.fn.faults.items ++ map unfinished_at (missing_lines l.above (map statement l.steps))

@@ -1,4 +1,4 @@
-use Rattle.std.proofs.Common.{◌≡◌, ◌++◌, ℕ, List, map, length}
+use Rattle.std.proofs.Common.{◌≡◌, ◌++◌, map, length}
 use Rattle.transcript_words.specs.Source.{source}
 use Rattle.transcript_words.proofs.source.source_of.Given as goal
 

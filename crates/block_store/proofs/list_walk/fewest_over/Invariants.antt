@@ -1,9 +1,0 @@
-use Rattle.std.proofs.Common.{◌≡◌, ◌<◌, ℕ, false}
-use Rattle.block_store.specs.Fewest.{serves}
-use Rattle.block_store.specs.Inner.ListStore.{blocks_of}
-use Rattle.block_store.proofs.list_walk.fewest_over.Given as goal
-
--- none of those so far serves
-abbrev pub invariant-loop-purges : goal.invariant-loop-purges
-invariant-loop-purges l =
-    (k : ℕ) → k < l.purges → serves l.bytes l.sparing (blocks_of l.entries) k ≡ false

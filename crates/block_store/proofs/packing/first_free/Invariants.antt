@@ -1,9 +1,0 @@
-use Rattle.std.proofs.Common.{◌≡◌, drop}
-use Rattle.block_store.specs.Run.{has}
-use Rattle.block_store.specs.Inner.Stretch.{is_free}
-use Rattle.block_store.specs.Inner.ListStore.{blocks_of}
-use Rattle.block_store.proofs.packing.first_free.Given as goal
-
--- what is Free is among the rest
-abbrev pub invariant-loop-i : goal.invariant-loop-i
-invariant-loop-i l = has is_free (drop l.i (blocks_of l.entries)) ≡ has is_free (blocks_of l.entries)

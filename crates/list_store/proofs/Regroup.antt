@@ -1,0 +1,2 @@
+pub mod RunSpots
+pub mod Packed

@@ -1,0 +1,8 @@
+use Rattle.std.proofs.Common.{◌≡◌, take}
+use Rattle.block_store.specs.Block.{free_sum}
+use Rattle.list_store.specs.Lists.{blocks_of}
+use Rattle.list_store.proofs.entries.free_total.Given as goal
+
+-- the Free bytes so far
+abbrev pub invariant-loop-entry : goal.invariant-loop-entry
+invariant-loop-entry l = l.total ≡ free_sum (take l.entry-index (blocks_of l.entries))

@@ -1,0 +1,15 @@
+use Rattle.std.proofs.Common.{◌≡◌, ◌≤◌, ◌++◌, length, take, drop}
+use Rattle.block_store.specs.Block.{tidy}
+use Rattle.list_store.specs.Lists.{blocks_of}
+use Rattle.list_store.proofs.entries.tidy_entries.Given as goal
+
+-- what is above is tidy
+abbrev pub invariant-loop-i : goal.invariant-loop-i
+invariant-loop-i l = record {
+  within : l.i ≤ length l.initial.entries.items;
+  above : blocks_of l.entries.items ≡ take l.i (blocks_of l.initial.entries.items)
+      ++ tidy (drop l.i (blocks_of l.initial.entries.items));
+}
+
+abbrev pub decreases-loop-i : goal.decreases-loop-i
+decreases-loop-i l = l.i

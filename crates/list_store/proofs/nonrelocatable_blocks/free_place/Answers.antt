@@ -1,0 +1,11 @@
+use Rattle.std.proofs.Common.{◌∙◌, ap, arith}
+use Rattle.block_store.specs.Block.{sizes, is_nonrelocatable}
+use Rattle.list_store.specs.Lists.{blocks_of}
+use Rattle.block_store.proofs.Zone.Listing.{size-freed}
+use Rattle.list_store.proofs.nonrelocatable_blocks.free_place.Goals as goal
+
+pub tidy_entries-requires : goal.tidy_entries-requires
+tidy_entries-requires c = omega (
+  arith,
+  ap sizes c.free_nonrelocatable.ensures ∙ size-freed (is_nonrelocatable c.args.place) (blocks_of c.args.entries.now.items),
+)

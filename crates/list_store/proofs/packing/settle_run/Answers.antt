@@ -1,0 +1,29 @@
+use Rattle.std.proofs.Common.{◌≡◌, ◌-◌, ◌∙◌, sym, ap, subst, Option}
+use Rattle.std.specs.Option.{IfSome}
+use Rattle.block_store.specs.Rest.{lowered_in_run}
+use Rattle.block_store.specs.Run.{RunSpot}
+use Rattle.list_store.specs.Lists.{blocks_of}
+use Rattle.block_store.specs.Inner.Packing.{run_between}
+use Rattle.block_store.proofs.Regroup.RunLists.{run_at-parts}
+use Rattle.list_store.proofs.Regroup.Packed.{blocks-part, found-between}
+use Rattle.list_store.proofs.packing.settle_run.Goals as goal
+
+pub pack_between-requires-clause-loose : goal.pack_between-requires-clause-loose
+pack_between-requires-clause-loose c =
+    let zone = blocks_of c.args.entries.now.items in
+    let r = run_between c.run_bounds-start.result.0 c.run_bounds-start.result.1 zone in
+    (run_at-parts c.args.place zone r (found-between c.args.entries.now.items _ c.args.place c.run_bounds-start.result.0
+    c.run_bounds-start.result.1 c.deref.ensures.value c.run_bounds-start.ensures.run)).loose
+
+pub returns-clause-lowered : goal.returns-clause-lowered
+returns-clause-lowered c =
+    let zone = blocks_of c.args.entries.now.items in
+    let start = c.run_bounds-start.result.0 in
+    let end = c.run_bounds-start.result.1 in
+    let found = found-between c.args.entries.now.items _ c.args.place start end c.deref.ensures.value
+    c.run_bounds-start.ensures.run in
+    let P : Option RunSpot → Type 0 = λ o. IfSome o (λ (r : RunSpot). c.count_lowered-lowered.result ≡ lowered_in_run
+    r.run) in
+    subst P (sym found) (c.count_lowered-lowered.ensures
+    ∙ ap lowered_in_run (blocks-part c.args.entries.now.items c.deref-2.result.now start (end - start)
+    c.deref-2.ensures.value))

@@ -1,0 +1,31 @@
+use Rattle.std.proofs.Common.{length, ap}
+use Rattle.std.proofs.lemmas.Result.{on_err_weaker}
+use Rattle.list_store.specs.Lists.{blocks_of, slots_of}
+use Rattle.block_store.proofs.Nonrelocatable.Blocks.{lawful-nonrelocatable}
+use Rattle.list_store.proofs.store.ListStoreBlockStore.carve_nonrelocatable.Goals as goal
+
+pub invariant_of-self : goal.invariant_of-self
+invariant_of-self c =
+    let self = c.args.self.now in
+    let lawful = lawful-nonrelocatable c.fill.result (slots_of self.slots.items) self.bytes (length self.slots.items)
+    (blocks_of self.blocks.items) (blocks_of c.fill.new.entries.items) c.args.place c.args.size
+    c.in_ok-content.content.items (record {
+      covered = self.covered;
+      masters = self.masters;
+      no_block = self.no_block;
+      once = self.once;
+      tidied = self.tidied;
+      aligned = self.aligned;
+      placed = self.placed;
+    }) c.in_ok-content.ensures c.requires
+    c.fill.ensures.ok (on_err_weaker c.fill.result (ap blocks_of) c.fill.ensures.err) in
+    record {
+      covered = lawful.covered;
+      small = self.small;
+      masters = lawful.masters;
+      no_block = lawful.no_block;
+      once = lawful.once;
+      tidied = lawful.tidied;
+      aligned = lawful.aligned;
+      placed = lawful.placed;
+    }

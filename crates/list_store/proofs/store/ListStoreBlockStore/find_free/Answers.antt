@@ -1,0 +1,9 @@
+use Rattle.std.proofs.Common.{◌∙◌, ap, subst}
+use Rattle.block_store.specs.Block.{is_room}
+use Rattle.block_store.specs.Find.{FindsLowest}
+use Rattle.list_store.specs.Lists.{blocks_of}
+use Rattle.list_store.proofs.store.ListStoreBlockStore.find_free.Goals as goal
+
+pub returns : goal.returns
+returns c = subst (λ z. FindsLowest (is_room c.args.bytes) z c.find_free_in.result)
+    (c.walk_over.ensures ∙ ap blocks_of c.deref.ensures.value) c.find_free_in.ensures

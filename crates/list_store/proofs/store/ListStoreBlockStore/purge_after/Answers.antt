@@ -1,0 +1,30 @@
+use Rattle.std.proofs.Common.{length}
+use Rattle.list_store.specs.Lists.{blocks_of, slots_of}
+use Rattle.block_store.specs.Sparing.{spared}
+use Rattle.block_store.proofs.Purged.Purges.{lawful-purged_above}
+use Rattle.list_store.proofs.store.ListStoreBlockStore.purge_after.Goals as goal
+
+pub invariant_of-self : goal.invariant_of-self
+invariant_of-self c =
+    let self = c.args.self.now in
+    let lawful = lawful-purged_above (slots_of self.slots.items) self.bytes (length self.slots.items)
+    (blocks_of self.blocks.items) (blocks_of c.purge_above.new.entries.items) c.args.place c.args.purges
+    (spared c.args.sparing) (record {
+      covered = self.covered;
+      masters = self.masters;
+      no_block = self.no_block;
+      once = self.once;
+      tidied = self.tidied;
+      aligned = self.aligned;
+      placed = self.placed;
+    }) c.requires c.purge_above.ensures in
+    record {
+      covered = lawful.covered;
+      small = self.small;
+      masters = lawful.masters;
+      no_block = lawful.no_block;
+      once = lawful.once;
+      tidied = lawful.tidied;
+      aligned = lawful.aligned;
+      placed = lawful.placed;
+    }

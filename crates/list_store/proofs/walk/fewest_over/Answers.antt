@@ -1,0 +1,15 @@
+use Rattle.std.proofs.Common.{◌≡◌, ◌≤◌, false, rules, arith}
+use Rattle.std.proofs.lemmas.Bool.Decides.{nat_tests}
+use Rattle.block_store.specs.Sparing.{most_purges}
+use Rattle.block_store.specs.Fewest.{serves}
+use Rattle.list_store.specs.Lists.{blocks_of}
+use Rattle.block_store.proofs.Purged.Fewest.{none-serve}
+use Rattle.list_store.proofs.walk.fewest_over.Goals as goal
+
+pub returns-else-is_some : goal.returns-else-is_some
+returns-else-is_some c =
+    let zone = blocks_of c.args.entries.now in
+    let most : most_purges c.args.sparing zone ≤ c.loop-purges.purges =
+    grind (arith, nat_tests, c.purgeable_in-most.ensures, c.loop-purges-test.true, c.walk_over.ensures) in
+    let here : serves c.args.bytes c.args.sparing zone c.loop-purges.purges ≡ false = search rules in
+    none-serve c.args.bytes c.args.sparing zone c.loop-purges.purges most c.loop-purges.invariant here

@@ -1,0 +1,15 @@
+use Rattle.std.proofs.Common.{◌≡◌, ◌≤◌, false, rules, arith}
+use Rattle.std.proofs.lemmas.Bool.Decides.{nat_tests}
+use Rattle.block_store.specs.Sparing.{most_purges}
+use Rattle.block_store.specs.Fewest.{serves_block}
+use Rattle.list_store.specs.Lists.{blocks_of}
+use Rattle.block_store.proofs.Purged.Fewest.{none-serve_block}
+use Rattle.list_store.proofs.walk.fewest_over_block.Goals as goal
+
+pub returns-else-has_run_of : goal.returns-else-has_run_of
+returns-else-has_run_of c =
+    let zone = blocks_of c.args.entries.now in
+    let most : most_purges c.args.sparing zone ≤ c.loop-count.count =
+    grind (arith, nat_tests, c.purgeable_in-most.ensures, c.loop-count-test.true, c.walk_over.ensures) in
+    let here : serves_block c.args.number c.args.bytes c.args.sparing zone c.loop-count.count ≡ false = search rules in
+    none-serve_block c.args.number c.args.bytes c.args.sparing zone c.loop-count.count most c.loop-count.invariant here

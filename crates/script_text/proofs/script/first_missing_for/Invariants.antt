@@ -1,8 +1,0 @@
-use Rattle.std.proofs.Common.{◌≡◌, drop, map}
-use Rattle.script_text.specs.Script.{first_missing, statement}
-use Rattle.script_text.proofs.script.first_missing_for.Given as goal
-
--- the lines that are still to be looked at give what all of them give
-abbrev pub invariant-loop-line : goal.invariant-loop-line
-invariant-loop-line l = first_missing l.reader (map statement (drop l.line-index l.lines)) ≡ first_missing l.reader
-    (map statement l.lines)

@@ -1,0 +1,89 @@
+use Rattle.std.proofs.Common.{◌≡◌, ℕ, ◌+◌, zero, suc, Bool, true, false, List, [], ◌∷◌, ◌++◌, refl, sym, ◌∙◌, ap, cond}
+use Rattle.std.proofs.Common.{Some}
+use Rattle.std.specs.Option.{option_map}
+use Rattle.std.proofs.lemmas.Bool.{cond-true, cond-false, or_parts}
+use Rattle.std.proofs.lemmas.List.{map-append}
+use Rattle.block_store.specs.declared.flags.Flags.{Flags}
+use Rattle.block_store.specs.Block.{Block, Free, Nonrelocatable, Masters, Relocatable, size, add, tidy, is_relocatable, is_nonrelocatable}
+use Rattle.block_store.specs.Run.{has}
+use Rattle.block_store.specs.Room.{spot, raised}
+use Rattle.block_store.specs.Grow.{freed}
+use Rattle.block_store.proofs.Zone.Apart.{tidy-tidy}
+use Rattle.block_store.proofs.Zone.Joining.{joined-free}
+use Rattle.block_store.proofs.Zone.Parted.{tidy-parted}
+use Rattle.block_store.proofs.Zone.Tidy.{has-tidy}
+use Rattle.block_store.proofs.Regroup.Packed.{tidy-below, tidy-free}
+
+-- One block of a zone, found by its name and changed.
+
+-- the first block that passes
+pub spot-first : (test : Block → Bool) (below : List Block) (b : Block) (above : List Block) → has test below ≡ false
+    → test b ≡ true → spot test (below ++ b ∷ above) ≡ Some (record { below = below; here = b; above = above })
+spot-first test [] b above none is = cond-true (test b) _ _ is
+spot-first test (c ∷ below) b above none is =
+    let parts = or_parts (test c) (has test below) none in
+    cond-false (test c) _ _ parts.0 ∙ ap (option_map (raised c)) (spot-first test below b above parts.1 is)
+
+-- no block passes, so none is freed
+pub freed-none : (test : Block → Bool) (bs : List Block) → has test bs ≡ false → freed test bs ≡ bs
+freed-none test [] none = refl
+freed-none test (b ∷ bs) none =
+    let parts = or_parts (test b) (has test bs) none in
+    ap (λ c. c ∷ freed test bs) (cond-false (test b) (Free (size b)) b parts.0) ∙ ap (λ l. b ∷ l) (freed-none test bs parts.1)
+
+tidy-added : (b : Block) (bs above : List Block) → tidy (add b bs ++ above) ≡ tidy (b ∷ bs ++ above)
+tidy-added (Free zero) bs above = refl
+tidy-added (Free (suc n)) [] above = refl
+tidy-added (Free (suc n)) (Free m ∷ bs) above =
+    tidy-free (suc n + m) (bs ++ above) ∙ sym (joined-free (suc n) m (bs ++ above))
+tidy-added (Free (suc n)) (Nonrelocatable id content ∷ bs) above = refl
+tidy-added (Free (suc n)) (Masters ∷ bs) above = refl
+tidy-added (Free (suc n)) (Relocatable id flags content ∷ bs) above = refl
+tidy-added (Nonrelocatable id content) bs above = refl
+tidy-added Masters bs above = refl
+tidy-added (Relocatable id flags content) bs above = refl
+
+-- what is tidied twice
+pub tidied-below : (below above : List Block) → tidy (tidy below ++ above) ≡ tidy (below ++ above)
+tidied-below [] above = refl
+tidied-below (b ∷ below) above = tidy-added b (tidy below) above ∙ ap (add b) (tidied-below below above)
+
+pub tidied-both : (below : List Block) (b : Block) (above : List Block)
+    → tidy (tidy below ++ b ∷ tidy above) ≡ tidy (below ++ b ∷ above)
+tidied-both below b above = tidied-below below (b ∷ tidy above)
+    ∙ tidy-below below (b ∷ tidy above) (b ∷ above) (ap (add b) (tidy-tidy above))
+
+-- the block of a handle in a zone
+pub spot-relocatable : (n : ℕ) (flags : Flags) (content : List ℕ) (below above : List Block)
+    → (is_relocatable n (Relocatable n flags content) ≡ true) → has (is_relocatable n) below ≡ false
+    → spot (is_relocatable n) (tidy (below ++ Relocatable n flags content ∷ above))
+    ≡ Some (record { below = tidy below; here = Relocatable n flags content; above = tidy above })
+spot-relocatable n flags content below above is none =
+    ap (spot (is_relocatable n)) (tidy-parted below (Relocatable n flags content) above refl)
+    ∙ spot-first (is_relocatable n) (tidy below) (Relocatable n flags content) (tidy above)
+    (has-tidy (is_relocatable n) (λ k. refl) below ∙ none) is
+
+-- and of a pointer
+pub spot-nonrelocatable : (n : ℕ) (content : List ℕ) (below above : List Block)
+    → (is_nonrelocatable n (Nonrelocatable n content) ≡ true) → has (is_nonrelocatable n) below ≡ false
+    → spot (is_nonrelocatable n) (tidy (below ++ Nonrelocatable n content ∷ above))
+    ≡ Some (record { below = tidy below; here = Nonrelocatable n content; above = tidy above })
+spot-nonrelocatable n content below above is none =
+    ap (spot (is_nonrelocatable n)) (tidy-parted below (Nonrelocatable n content) above refl)
+    ∙ spot-first (is_nonrelocatable n) (tidy below) (Nonrelocatable n content) (tidy above)
+    (has-tidy (is_nonrelocatable n) (λ k. refl) below ∙ none) is
+
+-- a pointer's block that is freed
+pub freed-nonrelocatable : (n : ℕ) (content : List ℕ) (below above : List Block)
+    → (is_nonrelocatable n (Nonrelocatable n content) ≡ true) → has (is_nonrelocatable n) below ≡ false
+    → has (is_nonrelocatable n) above ≡ false
+    → tidy (freed (is_nonrelocatable n) (tidy (below ++ Nonrelocatable n content ∷ above)))
+    ≡ tidy (below ++ Free (size (Nonrelocatable n content)) ∷ above)
+freed-nonrelocatable n content below above is none none' =
+    let a = has-tidy (is_nonrelocatable n) (λ k. refl) below ∙ none in
+    let b = has-tidy (is_nonrelocatable n) (λ k. refl) above ∙ none' in
+    ap (λ z. tidy (freed (is_nonrelocatable n) z)) (tidy-parted below (Nonrelocatable n content) above refl)
+    ∙ ap tidy (map-append (λ c. cond (is_nonrelocatable n c) (Free (size c)) c) (tidy below) (Nonrelocatable n content ∷ tidy above)
+    ∙ ap (λ c. freed (is_nonrelocatable n) (tidy below) ++ c ∷ freed (is_nonrelocatable n) (tidy above)) (cond-true (is_nonrelocatable n (Nonrelocatable n content)) (Free (size (Nonrelocatable n content))) (Nonrelocatable n content) is)
+    ∙ (λ i. freed-none (is_nonrelocatable n) (tidy below) a i ++ Free (size (Nonrelocatable n content)) ∷ freed-none (is_nonrelocatable n) (tidy above) b i))
+    ∙ tidied-both below (Free (size (Nonrelocatable n content))) above

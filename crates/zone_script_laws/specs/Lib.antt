@@ -1,0 +1,4 @@
+pub mod Runs
+pub mod Spoken
+pub mod Stated
+pub mod Shown
