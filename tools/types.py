@@ -15,7 +15,8 @@ import sys
 TABLE = "types/types.r"
 CRATE = "crates/rez_table/src/lib.rt"
 
-BEGIN = """//! The types of resources that are declared before the first line of a source. The file is made by tools/types.py.
+BEGIN = """//! The types of resources that are declared before the first line of a source. The file is made by
+//! tools/types.py.
 #![tactic(auto)]
 
 ghost use Rattle.std.specs.Prelude.{◌≡◌};

@@ -144,39 +144,8 @@ some_ends (Some e) ends = refl
 -- a call of a grow-zone script writes no file
 pub allowed_keeps : (c : Call) (names : Bindings) → is_allowed c ≡ true → writes_files (deed_of c names) ≡ false
 allowed_keeps (call.Heap c) names is = refl
-allowed_keeps (call.Resource (resource.OpenResFile name)) names is = refl
-allowed_keeps (call.Resource (resource.CreateResFile name)) names is = cc
-allowed_keeps (call.Resource (resource.CloseResFile number)) names is = cc
-allowed_keeps (call.Resource (resource.UpdateResFile number)) names is = cc
-allowed_keeps (call.Resource (resource.UseResFile number)) names is = refl
-allowed_keeps (call.Resource resource.CurResFile) names is = refl
-allowed_keeps (call.Resource (resource.HomeResFile name)) names is = refl
-allowed_keeps (call.Resource (resource.GetResource name ty id)) names is = refl
-allowed_keeps (call.Resource (resource.Get1Resource name ty id)) names is = refl
-allowed_keeps (call.Resource (resource.GetNamedResource name ty text)) names is = refl
-allowed_keeps (call.Resource (resource.Get1NamedResource name ty text)) names is = refl
-allowed_keeps (call.Resource resource.Count1Types) names is = refl
-allowed_keeps (call.Resource (resource.Get1IndType index)) names is = refl
-allowed_keeps (call.Resource (resource.Count1Resources ty)) names is = refl
-allowed_keeps (call.Resource (resource.Get1IndResource name ty index)) names is = refl
-allowed_keeps (call.Resource (resource.LoadResource name)) names is = refl
 allowed_keeps (call.Resource (resource.ReleaseResource name)) names is = refl
-allowed_keeps (call.Resource (resource.DetachResource name)) names is = refl
-allowed_keeps (call.Resource (resource.AddResource name ty id text)) names is = refl
-allowed_keeps (call.Resource (resource.RemoveResource name)) names is = refl
-allowed_keeps (call.Resource (resource.ChangedResource name)) names is = refl
-allowed_keeps (call.Resource (resource.WriteResource name)) names is = refl
-allowed_keeps (call.Resource (resource.GetResInfo name)) names is = refl
-allowed_keeps (call.Resource (resource.SetResInfo name id text)) names is = refl
-allowed_keeps (call.Resource (resource.GetResAttrs name)) names is = refl
-allowed_keeps (call.Resource (resource.SetResAttrs name attrs)) names is = refl
-allowed_keeps (call.Resource (resource.GetResourceSizeOnDisk name)) names is = refl
-allowed_keeps (call.Resource (resource.ReadPartialResource name offset count)) names is = refl
-allowed_keeps (call.Resource (resource.WritePartialResource name offset bytes)) names is = refl
-allowed_keeps (call.Resource (resource.SetResourceSize name size)) names is = refl
-allowed_keeps (call.Resource (resource.SetResPurge on)) names is = refl
-allowed_keeps (call.Resource (resource.SetResLoad on)) names is = refl
-allowed_keeps (call.Resource resource.ResError) names is = refl
+allowed_keeps (call.Resource c) names is = cc
 allowed_keeps (call.Segment c) names is = refl
 allowed_keeps (call.Control c) names is = refl
 
@@ -218,39 +187,10 @@ told-done (Ok u) = inl refl
 told-done (Err code) = inr (code, refl)
 
 found-tells : (a : ResourceAsked) (s : Managers) → writes a ≡ true → TellsCode (finds.served a s).told
-found-tells (finds.OpenResFile name) s is = cc
 found-tells (finds.CreateResFile name) s is = told-done _
 found-tells (finds.CloseResFile number) s is = told-done _
 found-tells (finds.UpdateResFile number) s is = told-done _
-found-tells (finds.UseResFile number) s is = cc
-found-tells finds.CurResFile s is = cc
-found-tells (finds.HomeResFile handle) s is = cc
-found-tells (finds.GetResource kind id) s is = cc
-found-tells (finds.Get1Resource kind id) s is = cc
-found-tells (finds.GetNamedResource kind name) s is = cc
-found-tells (finds.Get1NamedResource kind name) s is = cc
-found-tells finds.Count1Types s is = cc
-found-tells (finds.Get1IndType index) s is = cc
-found-tells (finds.Count1Resources kind) s is = cc
-found-tells (finds.Get1IndResource kind index) s is = cc
-found-tells (finds.LoadResource handle) s is = cc
-found-tells (finds.ReleaseResource handle) s is = cc
-found-tells (finds.DetachResource handle) s is = cc
-found-tells (finds.AddResource handle kind id name) s is = cc
-found-tells (finds.RemoveResource handle) s is = cc
-found-tells (finds.ChangedResource handle) s is = cc
-found-tells (finds.WriteResource handle) s is = cc
-found-tells (finds.GetResInfo handle) s is = cc
-found-tells (finds.SetResInfo handle id name) s is = cc
-found-tells (finds.GetResAttrs handle) s is = cc
-found-tells (finds.SetResAttrs handle attrs) s is = cc
-found-tells (finds.GetResourceSizeOnDisk handle) s is = cc
-found-tells (finds.ReadPartialResource handle from n) s is = cc
-found-tells (finds.WritePartialResource handle from x) s is = cc
-found-tells (finds.SetResourceSize handle n) s is = cc
-found-tells (finds.SetResPurge on) s is = cc
-found-tells (finds.SetResLoad on) s is = cc
-found-tells finds.ResError s is = cc
+found-tells a s is = cc
 
 tells : (blocks : Blocks) (c : Call) (r : Running) → writes_files (deed_of c r.names) ≡ true
     → TellsCode (once blocks c r).told

@@ -11,10 +11,10 @@ use Rattle.windows.specs.Writes.{piece, written}
 use Rattle.heap_calls.specs.Answer.{code_of}
 use Rattle.heap_calls.specs.Gone.{Gone}
 use Rattle.res_map.specs.Split.{Split, place}
-use Rattle.res_map.specs.Map.{Map, is_changed, is_protected, nth, types}
-use Rattle.res_calls.specs.Files.{File, OpenFile, Resources, Found, file_named, file_of, open_at, current_references}
+use Rattle.res_map.specs.Map.{Map, is_changed, is_protected}
+use Rattle.res_calls.specs.Files.{File, OpenFile, Resources, Found, file_named, file_of, open_at}
 use Rattle.res_calls.specs.Fetch.{Managers, Answer, Fetched, done, refused, is_system}
-use Rattle.res_calls.specs.Rows.{on_found, on_open, on_resource, resource_of, bars, told_type, open_fork, open_unless}
+use Rattle.res_calls.specs.Rows.{on_found, on_open, on_resource, resource_of, bars, told_or, open_fork, open_unless}
 use Rattle.res_calls.specs.Rows.{keep_error, with_resources}
 use Rattle.res_calls.specs.Rows.{open_named, greatest_number, map_in, open_map, if_updated, Info}
 use Rattle.res_calls.specs.Changing.{most_files, create_named, on_known, on_removable, if_changeable}
@@ -64,8 +64,9 @@ found-shows-none (asks.GetNamedResource kind name) s quiet = told-none {T = Fetc
 found-shows-none (asks.Get1NamedResource kind name) s quiet = told-none {T = Fetched} tell_fetched (λ x. refl) _
 found-shows-none asks.Count1Types s quiet = refl
 found-shows-none (asks.Get1IndType index) s quiet = told-none {T = ℕ} Kind (λ x. refl) _
-found-shows-none (asks.Count1Resources kind) s quiet = refl
-found-shows-none (asks.Get1IndResource kind index) s quiet = told-none {T = Fetched} tell_fetched (λ x. refl) _
+found-shows-none (asks.CountResources among kind) s quiet = refl
+found-shows-none (asks.GetIndResource among kind index) s quiet = told-none {T = Fetched} tell_fetched (λ x. refl) _
+found-shows-none (asks.UniqueID among kind) s quiet = told-none {T = ℕ} Number (λ x. refl) _
 found-shows-none (asks.LoadResource handle) s quiet = told-none {T = Fetched} tell_fetched (λ x. refl) _
 found-shows-none (asks.ReleaseResource handle) s quiet = told-none {T = Unit {0}} (λ x. Done) (λ x. refl) _
 found-shows-none (asks.DetachResource handle) s quiet = told-none {T = Unit {0}} (λ x. Done) (λ x. refl) _
@@ -90,39 +91,8 @@ abbrev ShowsPart : ResourceAsked → Type 0
 ShowsPart a = (handle : Option ℕ) × (from : ℕ) × (n : ℕ) × (a ≡ asks.ReadPartialResource handle from n)
 
 quiet-or-part : (a : ResourceAsked) → (is_quiet a ≡ true) ⊎ ShowsPart a
-quiet-or-part (asks.OpenResFile name) = inl refl
-quiet-or-part (asks.CreateResFile name) = inl refl
-quiet-or-part (asks.CloseResFile number) = inl refl
-quiet-or-part (asks.UpdateResFile number) = inl refl
-quiet-or-part (asks.UseResFile number) = inl refl
-quiet-or-part asks.CurResFile = inl refl
-quiet-or-part (asks.HomeResFile handle) = inl refl
-quiet-or-part (asks.GetResource kind id) = inl refl
-quiet-or-part (asks.Get1Resource kind id) = inl refl
-quiet-or-part (asks.GetNamedResource kind name) = inl refl
-quiet-or-part (asks.Get1NamedResource kind name) = inl refl
-quiet-or-part asks.Count1Types = inl refl
-quiet-or-part (asks.Get1IndType index) = inl refl
-quiet-or-part (asks.Count1Resources kind) = inl refl
-quiet-or-part (asks.Get1IndResource kind index) = inl refl
-quiet-or-part (asks.LoadResource handle) = inl refl
-quiet-or-part (asks.ReleaseResource handle) = inl refl
-quiet-or-part (asks.DetachResource handle) = inl refl
-quiet-or-part (asks.AddResource handle kind id name) = inl refl
-quiet-or-part (asks.RemoveResource handle) = inl refl
-quiet-or-part (asks.ChangedResource handle) = inl refl
-quiet-or-part (asks.WriteResource handle) = inl refl
-quiet-or-part (asks.GetResInfo handle) = inl refl
-quiet-or-part (asks.SetResInfo handle id name) = inl refl
-quiet-or-part (asks.GetResAttrs handle) = inl refl
-quiet-or-part (asks.SetResAttrs handle attrs) = inl refl
-quiet-or-part (asks.GetResourceSizeOnDisk handle) = inl refl
 quiet-or-part (asks.ReadPartialResource handle from n) = inr (handle, from, n, refl)
-quiet-or-part (asks.WritePartialResource handle from x) = inl refl
-quiet-or-part (asks.SetResourceSize handle n) = inl refl
-quiet-or-part (asks.SetResPurge on) = inl refl
-quiet-or-part (asks.SetResLoad on) = inl refl
-quiet-or-part asks.ResError = inl refl
+quiet-or-part a = inl refl
 
 -- reading a part changes nothing but the code that ResError tells
 read_part-after : (handle : Option ℕ) (from n : ℕ) (s : Managers) → (read_partial_resource handle from n s).after ≡ s
@@ -266,9 +236,9 @@ made-none : (name : List ℕ) (file : Option (Split File)) (s : Managers) → (c
 made-none name None s = either-none (nat_le most_files (length s.resources.files)) _ _ refl refl
 made-none name (Some at) s = either-none (length at.here.fork == 0) _ _ refl refl
 
-type-none : (kind : Option ℕ) (s : Managers) → (told_type kind s).reading ≡ None
-type-none None s = refl
-type-none (Some kind) s = refl
+told-one-none : (code : OsErr) (o : Option ℕ) (s : Managers) → (told_or code o s).reading ≡ None
+told-one-none code None s = refl
+told-one-none code (Some n) s = refl
 
 -- only calls that read resources read one again
 reads-again : (a : ResourceAsked) (s : Managers)
@@ -282,17 +252,9 @@ reads-again (asks.UpdateResFile number) s = sym (on_open-none (file_of number s.
     (λ at. either-none (number == 0) _ _ refl
     (updated-none (update s.memory.heap at s.resources) s _ (λ r. refl))))
 reads-again (asks.UseResFile number) s = sym (on_open-none (file_of number s.resources) s _ (λ at. refl))
-reads-again asks.CurResFile s = refl
 reads-again (asks.HomeResFile handle) s = sym (on_found-none (resource_of handle s.resources) s _ (λ at. refl))
-reads-again (asks.GetResource kind id) s = refl
-reads-again (asks.Get1Resource kind id) s = refl
-reads-again (asks.GetNamedResource kind name) s = refl
-reads-again (asks.Get1NamedResource kind name) s = refl
-reads-again asks.Count1Types s = refl
-reads-again (asks.Get1IndType index) s = sym (type-none (nth index (types (current_references s.resources))) s)
-reads-again (asks.Count1Resources kind) s = refl
-reads-again (asks.Get1IndResource kind index) s = refl
-reads-again (asks.LoadResource handle) s = refl
+reads-again (asks.Get1IndType index) s = sym (told-one-none _ _ s)
+reads-again (asks.UniqueID among kind) s = sym (told-one-none _ _ s)
 reads-again (asks.ReleaseResource handle) s = sym (on_found-none (resource_of handle s.resources) s _
     (λ at. either-none (bars handle s.memory) _ _ refl (either-none (is_changed at.reference.here) _ _ refl refl)))
 reads-again (asks.DetachResource handle) s = sym (on_found-none (resource_of handle s.resources) s _
@@ -321,9 +283,7 @@ reads-again (asks.WritePartialResource handle from x) s = sym (on_found-none (re
     (λ at. restored-none (write_refusal from (length x) at) handle (written from x) at s))
 reads-again (asks.SetResourceSize handle n) s = sym (on_found-none (resource_of handle s.resources) s _
     (λ at. restored-none (size_refusal n at) handle (resized_datum n) at s))
-reads-again (asks.SetResPurge on) s = refl
-reads-again (asks.SetResLoad on) s = refl
-reads-again asks.ResError s = refl
+reads-again a s = refl
 
 -- a try that tells what a call came to is that of the definitions
 is_tried : (tried : Tried) (a : ResourceAsked) (s : Managers) (r : Running)

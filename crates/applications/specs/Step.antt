@@ -173,6 +173,7 @@ names_given (call.Resource (resource.GetResource name ty id)) (Some n) names = b
 names_given (call.Resource (resource.Get1Resource name ty id)) (Some n) names = bind name.0.items n names
 names_given (call.Resource (resource.GetNamedResource name ty text)) (Some n) names = bind name.0.items n names
 names_given (call.Resource (resource.Get1NamedResource name ty text)) (Some n) names = bind name.0.items n names
+names_given (call.Resource (resource.GetIndResource name ty index)) (Some n) names = bind name.0.items n names
 names_given (call.Resource (resource.Get1IndResource name ty index)) (Some n) names = bind name.0.items n names
 names_given c (Some n) names = names
 

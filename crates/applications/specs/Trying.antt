@@ -30,7 +30,7 @@ use Rattle.res_calls.specs.Asked as finds
 use Rattle.res_calls.specs.Gone as purges
 use Rattle.res_calls.specs.Own.{own_datum}
 use Rattle.res_calls.specs.Purging.{heard, stored_gone}
-use Rattle.res_calls.specs.Rows.{preloaded}
+use Rattle.res_calls.specs.Rows.{Current, EachFile, preloaded}
 use Rattle.segments.specs.Table as jumps
 use Rattle.segments.specs.Table.{table_in}
 use Rattle.segments.specs.Calls.{Program, code_type}
@@ -119,6 +119,7 @@ asked (heap.HPurge name) names = asks.HPurge (bound_to name.0.items names)
 asked (heap.HNoPurge name) names = asks.HNoPurge (bound_to name.0.items names)
 asked (heap.HGetState name) names = asks.HGetState (bound_to name.0.items names)
 asked (heap.HSetState name state) names = asks.HSetState (bound_to name.0.items names) state
+asked (heap.HandleZone name) names = asks.HandleZone (bound_to name.0.items names)
 asked (heap.MoveHHi name) names = asks.MoveHHi (bound_to name.0.items names)
 asked (heap.HLockHi name) names = asks.HLockHi (bound_to name.0.items names)
 asked (heap.HandToHand name from) names = asks.HandToHand (bound_to from.value.0.items names)
@@ -129,6 +130,7 @@ asked (heap.NewPtr name size) names = asks.NewPtr size
 asked (heap.DisposePtr name) names = asks.DisposePtr (bound_to name.0.items names)
 asked (heap.GetPtrSize name) names = asks.GetPtrSize (bound_to name.0.items names)
 asked (heap.SetPtrSize name size) names = asks.SetPtrSize (bound_to name.0.items names) size
+asked (heap.PtrZone name) names = asks.PtrZone (bound_to name.0.items names)
 asked heap.FreeMem names = asks.FreeMem
 asked heap.MaxBlock names = asks.MaxBlock
 asked heap.PurgeSpace names = asks.PurgeSpace
@@ -163,8 +165,12 @@ resource_asked (resource.Get1NamedResource name ty text) names =
     finds.Get1NamedResource (type_number ty) text.value.0.items
 resource_asked resource.Count1Types names = finds.Count1Types
 resource_asked (resource.Get1IndType index) names = finds.Get1IndType index
-resource_asked (resource.Count1Resources ty) names = finds.Count1Resources (type_number ty)
-resource_asked (resource.Get1IndResource name ty index) names = finds.Get1IndResource (type_number ty) index
+resource_asked (resource.CountResources ty) names = finds.CountResources EachFile (type_number ty)
+resource_asked (resource.Count1Resources ty) names = finds.CountResources Current (type_number ty)
+resource_asked (resource.GetIndResource name ty index) names = finds.GetIndResource EachFile (type_number ty) index
+resource_asked (resource.Get1IndResource name ty index) names = finds.GetIndResource Current (type_number ty) index
+resource_asked (resource.UniqueID ty) names = finds.UniqueID EachFile (type_number ty)
+resource_asked (resource.Unique1ID ty) names = finds.UniqueID Current (type_number ty)
 resource_asked (resource.LoadResource name) names = finds.LoadResource (bound_to name.0.items names)
 resource_asked (resource.ReleaseResource name) names = finds.ReleaseResource (bound_to name.0.items names)
 resource_asked (resource.DetachResource name) names = finds.DetachResource (bound_to name.0.items names)

@@ -20,8 +20,9 @@ use std::marker::Model;
 /// The resource type of segments.
 const CODE: OsType = OsType(*b"CODE");
 
-/// A running application: its heap, its resources, its jump table, the numbers to which the names of its script are
-/// bound, and the lines of its grow-zone script, or no lines where no grow-zone script is set.
+/// A running application: its heap, its resources, its jump table, the numbers to which the names
+/// of its script are bound, and the lines of its grow-zone script, or no lines where no grow-zone
+/// script is set.
 #[derive(Drop)]
 pub struct Application<'s, S: BlockStore> {
     pub(crate) alloc: Global,
@@ -51,20 +52,23 @@ impl<'s, S: BlockStore> Model for Application<'s, S> {
 }
 
 impl<'s, S: BlockStore> Application<'s, S> {
-    /// Launches an application with these resources in the store of a fresh zone, which is its partition: the jump
-    /// table is read from 'CODE' 0, and the resources of the application's fork that have resPreload are preloaded.
+    /// Launches an application with these resources in the store of a fresh zone, which is its
+    /// partition: the jump table is read from 'CODE' 0, and the resources of the application's fork
+    /// that have resPreload are preloaded.
     ///
     /// *Inside Macintosh: Processes*, chapter 2, "Launching Applications".
     ///
     /// # Errors
     ///
-    /// Returns the store, in its place, where the host is out of memory; the resources are released.
+    /// Returns the store, in its place, where the host is out of memory; the resources are
+    /// released.
     pub fn launch_with(alloc: Global, store: S, resources: Resources) -> Result<Self, S>
         requires zone { S.zone store ≡ fresh (sizes (S.zone store)) }
         requires unused { (S.rest store).unused ≡ 64 }
         requires all { (S.rest store).all ≡ 64 }
         requires moves { (S.rest store).moves ≡ 0 }
-        ensures launched { IfOk result (λ a. a ≡ launched_with resources (sizes (S.zone store)) (S.rest store).window) }
+        ensures launched { IfOk result (λ a. a
+            ≡ launched_with resources (sizes (S.zone store)) (S.rest store).window) }
         ensures back { IfErr result (λ back. (S.rest back).window ≡ (S.rest store).window) }
     {
         let mut resources = resources;
@@ -127,12 +131,13 @@ impl<'s, S: BlockStore> Application<'s, S> {
 }
 
 impl<'s, S: BlockStore + Drop> Application<'s, S> {
-    /// Launches an application that is only a script, with no resources, in the store of a fresh zone, which is its
-    /// partition.
+    /// Launches an application that is only a script, with no resources, in the store of a fresh
+    /// zone, which is its partition.
     ///
     /// # Errors
     ///
-    /// Returns an error where the host is out of memory for the application's resource fork; the store is released.
+    /// Returns an error where the host is out of memory for the application's resource fork; the
+    /// store is released.
     pub fn launch(alloc: Global, store: S) -> Result<Self, AllocError>
         requires zone { S.zone store ≡ fresh (sizes (S.zone store)) }
         requires unused { (S.rest store).unused ≡ 64 }

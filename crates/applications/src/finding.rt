@@ -24,12 +24,12 @@ use std::alloc::{AllocError, Global};
 impl<'s, S: BlockStore> Application<'s, S> {
     /// Tries a call of the Resource Manager.
     pub(crate) fn find(&mut self, call: &ResourceCall) -> Result<Tried, AllocError>
-        ensures tried { IfOk result (λ tried. IsTried tried (resource_tried (finds.served (resource_asked call.now
-            self.old.names) (managers_of self.old)) self.old)) }
+        ensures tried { IfOk result (λ tried. IsTried tried (resource_tried (finds.served
+            (resource_asked call.now self.old.names) (managers_of self.old)) self.old)) }
         ensures after { OnOk result (self.new ≡ storing self.old.resources.purging
             (gone_for (resource_asked call.now self.old.names) (managers_of self.old))
-            (resource_tried (finds.served (resource_asked call.now self.old.names) (managers_of self.old))
-            self.old).after) }
+            (resource_tried (finds.served (resource_asked call.now self.old.names)
+            (managers_of self.old)) self.old).after) }
         ensures files { OnErr result (self.new.resources.files ≡ self.old.resources.files) }
         ensures lies { self.new.memory.window ≡ self.old.memory.window }
     {
@@ -39,20 +39,21 @@ impl<'s, S: BlockStore> Application<'s, S> {
         tried
     }
 
-    /// Tries a call of the Resource Manager over the heap and the resources of the application. The blocks that the
-    /// call purges are offered to the sink, if it listens.
+    /// Tries a call of the Resource Manager over the heap and the resources of the application. The
+    /// blocks that the call purges are offered to the sink, if it listens.
     fn answer_resource<K: PurgeSink>(
         &mut self,
         call: &ResourceCall,
         sink: &mut K,
     ) -> Result<Tried, AllocError>
         requires idle { IsIdle K.told K.waits sink.old }
-        ensures told { IfOk result (λ tried. TellsServed tried (finds.served (resource_asked call.now self.old.names)
-            (managers_of self.old)) (fetches (resource_asked call.now self.old.names))) }
-        ensures after { OnOk result (self.new ≡ (resource_tried (finds.served (resource_asked call.now self.old.names)
-            (managers_of self.old)) self.old).after) }
-        ensures hears { Hears K.told K.waits K.listens (IsOk result) (gone_for (resource_asked call.now self.old.names)
-            (managers_of self.old)) sink.old sink.new }
+        ensures told { IfOk result (λ tried. TellsServed tried
+            (finds.served (resource_asked call.now self.old.names) (managers_of self.old))
+            (fetches (resource_asked call.now self.old.names))) }
+        ensures after { OnOk result (self.new ≡ (resource_tried (finds.served
+            (resource_asked call.now self.old.names) (managers_of self.old)) self.old).after) }
+        ensures hears { Hears K.told K.waits K.listens (IsOk result) (gone_for
+            (resource_asked call.now self.old.names) (managers_of self.old)) sink.old sink.new }
         ensures files { OnErr result (self.new.resources.files ≡ self.old.resources.files) }
         ensures lies { self.new.memory.window ≡ self.old.memory.window }
     {
@@ -75,8 +76,8 @@ pub(crate) fn shown_in<'a, S: BlockStore>(
     names: &Names,
     call: &ResourceCall,
 ) -> Option<&'a [u8]>
-    ensures { option_map (λ bytes. bytes.now) result ≡ bytes_told (finds.served (resource_asked call.now names.now)
-        (managers resources.now heap.now.memory)).told }
+    ensures { option_map (λ bytes. bytes.now) result ≡ bytes_told (finds.served
+        (resource_asked call.now names.now) (managers resources.now heap.now.memory)).told }
 {
     match call {
         ResourceCall::ReadPartialResource(name, offset, count) => {
@@ -88,8 +89,8 @@ pub(crate) fn shown_in<'a, S: BlockStore>(
     }
 }
 
-/// Answers a call of the Resource Manager in `resources` and `heap`; the names of the call are bound as `names` says. The
-/// blocks that the call purges are offered to the sink, if it listens.
+/// Answers a call of the Resource Manager in `resources` and `heap`; the names of the call are
+/// bound as `names` says. The blocks that the call purges are offered to the sink, if it listens.
 #[tactic(auto, using(crate::proofs::Hearing::hears_nothing, crate::proofs::Hearing::hears_tried))]
 fn answered<S: BlockStore, K: PurgeSink>(
     alloc: Global,
@@ -100,12 +101,15 @@ fn answered<S: BlockStore, K: PurgeSink>(
     sink: &mut K,
 ) -> Result<Tried, AllocError>
     requires idle { IsIdle K.told K.waits sink.old }
-    ensures told { IfOk result (λ tried. TellsServed tried (finds.served (resource_asked call.now names.now)
-        (managers resources.old heap.old.memory)) (fetches (resource_asked call.now names.now))) }
+    ensures told { IfOk result (λ tried. TellsServed tried
+        (finds.served (resource_asked call.now names.now) (managers resources.old heap.old.memory))
+        (fetches (resource_asked call.now names.now))) }
     ensures after { OnOk result (managers resources.new heap.new.memory
-        ≡ (finds.served (resource_asked call.now names.now) (managers resources.old heap.old.memory)).after) }
-    ensures hears { Hears K.told K.waits K.listens (IsOk result) (gone_for (resource_asked call.now names.now) (managers
-        resources.old heap.old.memory)) sink.old sink.new }
+        ≡ (finds.served (resource_asked call.now names.now)
+        (managers resources.old heap.old.memory)).after) }
+    ensures hears { Hears K.told K.waits K.listens (IsOk result)
+        (gone_for (resource_asked call.now names.now) (managers resources.old heap.old.memory))
+        sink.old sink.new }
     ensures files { OnErr result (resources.new.files ≡ resources.old.files) }
     ensures lies { heap.new.memory.window ≡ heap.old.memory.window }
 {
@@ -145,10 +149,16 @@ fn answered<S: BlockStore, K: PurgeSink>(
         )),
         ResourceCall::Count1Types => sized(Ok(resources.count1_types())),
         ResourceCall::Get1IndType(index) => kind(resources.get1_ind_type(*index)),
+        ResourceCall::CountResources(ty) => sized(Ok(resources.count_resources(*ty))),
         ResourceCall::Count1Resources(ty) => sized(Ok(resources.count1_resources(*ty))),
         ResourceCall::Get1IndResource(_, ty, index) => fetched(resources.get1_ind_resource(
             heap, *ty, *index, sink,
         )),
+        ResourceCall::GetIndResource(_, ty, index) => fetched(resources.get_ind_resource(
+            heap, *ty, *index, sink,
+        )),
+        ResourceCall::UniqueID(ty) => counted(resources.unique_id(*ty)),
+        ResourceCall::Unique1ID(ty) => counted(resources.unique1_id(*ty)),
         ResourceCall::LoadResource(name) => fetched(resources.load_resource(
             heap,
             names.number(name),

@@ -1,6 +1,7 @@
 //! The transcript and the files of an application that runs alone.
 
-ghost use Rattle.std.specs.Prelude.{◌≡◌, ◌%◌, ◌≤◌, ◌++◌, ◌||◌, ℕ, map, take, length, nat_lt, IfOk, IfErr, OnOk, OnErr};
+ghost use Rattle.std.specs.Prelude.{◌≡◌, ◌%◌, ◌≤◌, ◌++◌, ◌||◌, ℕ, map, take, length, nat_lt, IfOk};
+ghost use Rattle.std.specs.Prelude.{IfErr, OnOk, OnErr};
 ghost use Rattle.std.specs.Io.KnownBytes.{append_known};
 ghost use Rattle.block_store.specs.Block.{fresh, sizes};
 ghost use Rattle.block_store.specs.declared.measures.TheConstants.{GREATEST_ZONE, LEAST_ZONE};
@@ -37,7 +38,8 @@ impl Model for Given {
 
     ghost Value = { gives.Alone };
 
-    ghost view = { λ g. record { transcript = g.transcript.items; files = map view_file g.files.items } };
+    ghost view = { λ g.
+        record { transcript = g.transcript.items; files = map view_file g.files.items } };
 }
 
 impl Given {
@@ -66,8 +68,8 @@ fn first(lines: &[Line], n: usize) -> &[Line]
     }
 }
 
-/// Reports whether the application is to quit: because `quit` says so, or because the number of steps passes the last
-/// line.
+/// Reports whether the application is to quit: because `quit` says so, or because the number of
+/// steps passes the last line.
 fn is_asked(lines: &[Line], steps: usize, quit: bool) -> bool
     ensures { result ≡ (nat_lt (length lines.now) steps || quit) }
 {
@@ -75,14 +77,16 @@ fn is_asked(lines: &[Line], steps: usize, quit: bool) -> bool
 }
 
 impl<'s, S: BlockStore> Application<'s, S> {
-    /// Ends the application where a call ended it or a quit is asked for, and appends the line of the end to `text`.
+    /// Ends the application where a call ended it or a quit is asked for, and appends the line of
+    /// the end to `text`.
     fn end_if(
         &mut self,
         exit: Option<Exit>,
         asked: bool,
         text: &mut Vec<u8>,
     ) -> Result<(), AllocError>
-        ensures text { OnOk result (text.new.items ≡ text.old.items ++ end_told (end_if exit asked self.old)) }
+        ensures text { OnOk result (text.new.items
+            ≡ text.old.items ++ end_told (end_if exit asked self.old)) }
         ensures after { OnOk result (self.new ≡ left_if exit asked self.old) }
         ensures lies { self.new.memory.window ≡ self.old.memory.window }
     {
@@ -93,9 +97,10 @@ impl<'s, S: BlockStore> Application<'s, S> {
         write_end(text, code)
     }
 
-    /// Takes the lines of a script in order, and ends the application where a call ends it or a quit is asked for.
-    /// Appends the lines of the transcript, and the line of the end, to `text`, and reports the number of steps done to
-    /// the watch. Where the host is out of memory, the reports are those of the steps that were completed.
+    /// Takes the lines of a script in order, and ends the application where a call ends it or a
+    /// quit is asked for. Appends the lines of the transcript, and the line of the end, to `text`,
+    /// and reports the number of steps done to the watch. Where the host is out of memory, the
+    /// reports are those of the steps that were completed.
     #[tactic(auto, using(crate::proofs::Quits::gives_so))]
     fn give<W: Watch>(
         &mut self,
@@ -108,11 +113,14 @@ impl<'s, S: BlockStore> Application<'s, S> {
         ensures text { OnOk result (text.new.items
             ≡ text.old.items ++ lines_told (course_of script.now.blocks lines.now self.old).lines
             ++ end_told (ending_of asked (course_of script.now.blocks lines.now self.old))) }
-        ensures after { OnOk result (self.new ≡ left_after asked (course_of script.now.blocks lines.now self.old)) }
+        ensures after { OnOk result (self.new
+            ≡ left_after asked (course_of script.now.blocks lines.now self.old)) }
         ensures heard { OnOk result (W.heard watch.new ≡ append_known (W.heard watch.old)
             (reports (steps_taken script.now.blocks lines.now self.old) (length lines.now))) }
-        ensures stopped { OnErr result ((k : ℕ) × (k ≤ steps_taken script.now.blocks lines.now self.old)
-            × (W.heard watch.new ≡ append_known (W.heard watch.old) (reports k (length lines.now)))) }
+        ensures stopped { OnErr result ((k : ℕ)
+            × (k ≤ steps_taken script.now.blocks lines.now self.old)
+            × (W.heard watch.new
+            ≡ append_known (W.heard watch.old) (reports k (length lines.now)))) }
         ensures lies { self.new.memory.window ≡ self.old.memory.window }
     {
         let exit = self.run(script, lines, text, watch)?;
@@ -120,16 +128,17 @@ impl<'s, S: BlockStore> Application<'s, S> {
     }
 }
 
-/// Returns what an application with these resources leaves when it runs alone, and takes `steps` steps of its script in
-/// the store of a fresh zone, which is its partition. The transcript has the line of the launch, the lines of each
-/// call, and the line of the end where the application ends. The application ends where a call ends it; the application
-/// quits after its last step, where `steps` passes that step, and where `quit` asks for a quit. The store is returned
-/// in its place, with the heap as the application left it. The number of steps done is reported to the watch.
+/// Returns what an application with these resources leaves when it runs alone, and takes `steps`
+/// steps of its script in the store of a fresh zone, which is its partition. The transcript has the
+/// line of the launch, the lines of each call, and the line of the end where the application ends.
+/// The application ends where a call ends it; the application quits after its last step, where
+/// `steps` passes that step, and where `quit` asks for a quit. The store is returned in its place,
+/// with the heap as the application left it. The number of steps done is reported to the watch.
 ///
 /// # Errors
 ///
-/// Returns an error where the host is out of memory; the store is returned all the same, and the reports are those of the
-/// steps that were completed.
+/// Returns an error where the host is out of memory; the store is returned all the same, and the
+/// reports are those of the steps that were completed.
 pub fn give_in<S: BlockStore, W: Watch>(
     alloc: Global,
     store: S,
@@ -143,11 +152,13 @@ pub fn give_in<S: BlockStore, W: Watch>(
     requires unused { (S.rest store).unused ≡ 64 }
     requires all { (S.rest store).all ≡ 64 }
     requires moves { (S.rest store).moves ≡ 0 }
-    ensures given { IfOk result.0 (λ given. given ≡ alone resources (sizes (S.zone store)) script.now steps quit) }
+    ensures given { IfOk result.0 (λ given. given
+        ≡ alone resources (sizes (S.zone store)) script.now steps quit) }
     ensures stored { IfOk result.0 (λ _. IsStored (S.zone result.1) (S.rest result.1).slots
         (heap_alone resources (sizes (S.zone store)) script.now steps quit)) }
     ensures heard { IfOk result.0 (λ _. W.heard watch.new ≡ append_known (W.heard watch.old)
-        (reports (steps_alone resources (sizes (S.zone store)) script.now steps) (length (take steps script.now.steps)))) }
+        (reports (steps_alone resources (sizes (S.zone store)) script.now steps)
+        (length (take steps script.now.steps)))) }
     ensures stopped { IfErr result.0 (λ _. (k : ℕ)
         × (k ≤ steps_alone resources (sizes (S.zone store)) script.now steps)
         × (W.heard watch.new
@@ -172,8 +183,8 @@ pub fn give_in<S: BlockStore, W: Watch>(
     }
 }
 
-/// Returns what an application leaves when it runs alone, as `give_in` does, in a partition of `size` bytes that is
-/// kept in lists and without a watch.
+/// Returns what an application leaves when it runs alone, as `give_in` does, in a partition of
+/// `size` bytes that is kept in lists and without a watch.
 ///
 /// # Errors
 ///

@@ -21,7 +21,8 @@ use res_calls::Purges;
 use segments::{Called, Shown, Unloaded};
 use std::alloc::AllocError;
 
-/// Returns a try of a call on a segment. The application ends with the try where the code is system error 15.
+/// Returns a try of a call on a segment. The application ends with the try where the code is system
+/// error 15.
 fn tried_as(reply: Reply, reading: Option<usize>, wants: bool) -> Tried
     ensures reply { result.reply ≡ reply }
     ensures given { result.given ≡ None }
@@ -42,8 +43,10 @@ fn tried_as(reply: Reply, reading: Option<usize>, wants: bool) -> Tried
 /// Returns the try of `LoadSeg`, whose reply says whether the segment was read.
 fn loaded(answer: Result<bool, Unloaded>) -> Result<Tried, AllocError>
     ensures tried { IfOk result (λ tried. (a : Answer fetch.Fetched) (after : Program) (r : Running)
-        → IsLoaded a answer after → Settled a → IsTried tried (segment_tried (telling tell_loaded a) r)) }
-    ensures after { OnOk result ((a : Answer fetch.Fetched) (after : Program) → IsLoaded a answer after
+        → IsLoaded a answer after → Settled a
+        → IsTried tried (segment_tried (telling tell_loaded a) r)) }
+    ensures after { OnOk result ((a : Answer fetch.Fetched) (after : Program)
+        → IsLoaded a answer after
         → a.after ≡ after) }
     ensures wants { OnErr result (WantsHost answer) }
     ensures host { OnOk result (¬ (WantsHost answer)) }
@@ -69,8 +72,10 @@ fn loaded(answer: Result<bool, Unloaded>) -> Result<Tried, AllocError>
 /// Returns the try of `CallEntry`, whose reply is the segment and whether the segment was read.
 fn called(answer: Result<Called, Unloaded>) -> Result<Tried, AllocError>
     ensures tried { IfOk result (λ tried. (a : Answer calls.Called) (after : Program) (r : Running)
-        → IsCalled a answer after → Settled a → IsTried tried (segment_tried (telling tell_called a) r)) }
-    ensures after { OnOk result ((a : Answer calls.Called) (after : Program) → IsCalled a answer after
+        → IsCalled a answer after → Settled a
+        → IsTried tried (segment_tried (telling tell_called a) r)) }
+    ensures after { OnOk result ((a : Answer calls.Called) (after : Program)
+        → IsCalled a answer after
         → a.after ≡ after) }
     ensures wants { OnErr result (WantsHost answer) }
     ensures host { OnOk result (¬ (WantsHost answer)) }
@@ -118,8 +123,8 @@ fn shown(answer: Result<Shown, OsErr>) -> Tried
 impl<'s, S: BlockStore> Application<'s, S> {
     /// Tries a call of the Segment Manager, or a call through the jump table.
     pub(crate) fn jump(&mut self, call: &SegmentCall) -> Result<Tried, AllocError>
-        ensures tried { IfOk result (λ tried. IsTried tried (segment_tried (served call.now (program_of self.old))
-            self.old)) }
+        ensures tried { IfOk result (λ tried.
+            IsTried tried (segment_tried (served call.now (program_of self.old)) self.old)) }
         ensures after { OnOk result (self.new ≡ storing self.old.resources.purging
             (gone_for call.now (program_of self.old))
             (segment_tried (served call.now (program_of self.old)) self.old).after) }
@@ -132,8 +137,8 @@ impl<'s, S: BlockStore> Application<'s, S> {
         tried
     }
 
-    /// Tries a call of the Segment Manager, or a call through the jump table. The blocks that the call purges are
-    /// offered to the sink, if it listens.
+    /// Tries a call of the Segment Manager, or a call through the jump table. The blocks that the
+    /// call purges are offered to the sink, if it listens.
     #[tactic(auto, using(crate::proofs::Hearing::hears_nothing, crate::proofs::Hearing::hears_tried))]
     fn answer_segment<K: PurgeSink>(
         &mut self,
@@ -141,12 +146,12 @@ impl<'s, S: BlockStore> Application<'s, S> {
         sink: &mut K,
     ) -> Result<Tried, AllocError>
         requires idle { IsIdle K.told K.waits sink.old }
-        ensures tried { IfOk result (λ tried. IsTried tried (segment_tried (served call.now (program_of self.old))
-            self.old)) }
-        ensures after { OnOk result (self.new ≡ (segment_tried (served call.now (program_of self.old))
-            self.old).after) }
-        ensures hears { Hears K.told K.waits K.listens (IsOk result) (gone_for call.now (program_of self.old)) sink.old
-            sink.new }
+        ensures tried { IfOk result (λ tried.
+            IsTried tried (segment_tried (served call.now (program_of self.old)) self.old)) }
+        ensures after { OnOk result (self.new
+            ≡ (segment_tried (served call.now (program_of self.old)) self.old).after) }
+        ensures hears { Hears K.told K.waits K.listens (IsOk result)
+            (gone_for call.now (program_of self.old)) sink.old sink.new }
         ensures files { OnErr result (self.new.resources.files ≡ self.old.resources.files) }
         ensures lies { self.new.memory.window ≡ self.old.memory.window }
     {

@@ -13,35 +13,39 @@ ghost use Rattle.applications.specs.Replies.{end_by, has_ended};
 ghost use Rattle.applications.specs.declared.quitting.Exit.{Exit};
 ghost use Rattle.applications.specs.Promises.{KeepsPromises};
 
-/// States the laws of an application with any resources, whatever its files and the System file hold and whichever
-/// files are open. They hold of its launch and of any number of first steps of any script. The stored data that is read
-/// into a handle, at the launch or by a call, is then the bytes last put there, until other bytes are put; and a block
-/// that a resource's attributes lock stays where it stands.
+/// States the laws of an application with any resources, whatever its files and the System file
+/// hold and whichever files are open. They hold of its launch and of any number of first steps of
+/// any script. The stored data that is read into a handle, at the launch or by a call, is then the
+/// bytes last put there, until other bytes are put; and a block that a resource's attributes lock
+/// stays where it stands.
 pub fn an_application_with_any_resources_keeps_the_laws()
-    ensures laws { (resources : Resources) (size : ℕ) (script : ScriptParts) (n : ℕ) → KeepsPromises resources size
-        script n }
+    ensures laws { (resources : Resources) (size : ℕ) (script : ScriptParts) (n : ℕ)
+        → KeepsPromises resources size script n }
 {}
 
-/// States what the next line of a script adds to the script's first steps, and that the place of an application's
-/// partition has no part in the outcome of a step or an end of the application: a step at any place is the step at any
-/// other place, with the place put back.
+/// States what the next line of a script adds to the script's first steps, and that the place of an
+/// application's partition has no part in the outcome of a step or an end of the application: a
+/// step at any place is the step at any other place, with the place put back.
 pub fn steps_follow_one_another()
     ensures begins { (resources : Resources) (size : ℕ) (script : ScriptParts)
         → first_steps resources size script 0 ≡ nothing_yet (launched_with resources size nowhere) }
-    // The first `n + 1` steps are the first `n` and one step more, where a line is left and the application has not
-    // ended.
+    // The first `n + 1` steps are the first `n` and one step more, where a line is left and the
+    // application has not ended.
     ensures more { (resources : Resources) (size : ℕ) (script : ScriptParts) (n : ℕ) (l : Line)
         → slice_get script.steps n ≡ Some l
         → AlikeCourses (first_steps resources size script (n + 1))
         (unless_over (first_steps resources size script n) (step script.blocks l)) }
-    // The first `n + 1` steps are the first `n`, where no line is left or the application has ended.
-    ensures past { (resources : Resources) (size : ℕ) (script : ScriptParts) (n : ℕ) → length script.steps ≤ n
+    // The first `n + 1` steps are the first `n`, where no line is left or the application has
+    // ended.
+    ensures past { (resources : Resources) (size : ℕ) (script : ScriptParts) (n : ℕ)
+        → length script.steps ≤ n
         → first_steps resources size script (n + 1) ≡ first_steps resources size script n }
     ensures over { (resources : Resources) (size : ℕ) (script : ScriptParts) (n : ℕ)
         → (first_steps resources size script n).over ≡ true
         → first_steps resources size script (n + 1) ≡ first_steps resources size script n }
     // Courses that are alike end alike.
-    ensures alike_end { (asked : Bool) (c d : Course) → AlikeCourses c d → ending_of asked c ≡ ending_of asked d }
+    ensures alike_end { (asked : Bool) (c d : Course) → AlikeCourses c d
+        → ending_of asked c ≡ ending_of asked d }
     ensures elsewhere { (site : Site) (blocks : Blocks) (l : Line) (r : Running)
         → step blocks l (moved site r) ≡ course_elsewhere site (step blocks l r) }
     ensures elsewhere_end { (site : Site) (exit : Option Exit) (r : Running)

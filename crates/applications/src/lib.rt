@@ -1,5 +1,5 @@
-//! Applications: the calls of a script, tried on a heap and resources of the application's own, and the transcript that
-//! the calls leave.
+//! Applications: the calls of a script, tried on a heap and resources of the application's own, and
+//! the transcript that the calls leave.
 #![tactic(auto)]
 
 mod application;

@@ -10,8 +10,9 @@ use mac_words::Label;
 use std::alloc::{AllocError, Global};
 use std::marker::Model;
 
-/// The names that a script has bound so far, and the numbers of their handles and pointers. Names are hashed by a key
-/// that depends on the script's whole text, so no choice of names makes a look-up slow.
+/// The names that a script has bound so far, and the numbers of their handles and pointers. Names
+/// are hashed by a key that depends on the script's whole text, so no choice of names makes a
+/// look-up slow.
 #[derive(Drop)]
 pub struct Names {
     alloc: Global,
@@ -47,7 +48,8 @@ fn listed(
     alloc: Global,
     bound: &IndexMap<Label, usize, Keyed>,
 ) -> Result<Vec<Bound<'_>>, AllocError>
-    ensures { IfOk result (λ listed. map lent_binding listed.items ≡ map binding bound.now.entries) }
+    ensures { IfOk result (λ listed. map lent_binding listed.items
+        ≡ map binding bound.now.entries) }
 {
     let mut listed = Vec::new(alloc);
     for (name, number) in bound {
@@ -93,8 +95,8 @@ impl Names {
         listed(alloc, &self.bound)
     }
 
-    /// Binds a name to a number, in place of the number that the name was bound to before. Where the host is out of
-    /// memory, the names are bound as they were.
+    /// Binds a name to a number, in place of the number that the name was bound to before. Where
+    /// the host is out of memory, the names are bound as they were.
     pub fn bind(&mut self, name: &Label, number: usize) -> Result<(), AllocError>
         ensures bound { OnOk result (self.new ≡ bind name.now.0.items number self.old) }
         ensures kept { OnErr result (self.new ≡ self.old) }

@@ -8,8 +8,8 @@ ghost use Rattle.applications.specs.Trying.{asked, resource_asked};
 use crate::names::Names;
 use mac_words::{HeapCall, ResourceCall};
 
-/// Returns the numbers of the handles and pointers that a call names as arguments, two at most. A name that the call
-/// binds is not an argument.
+/// Returns the numbers of the handles and pointers that a call names as arguments, two at most. A
+/// name that the call binds is not an argument.
 pub fn named(call: &HeapCall, names: &Names) -> (Option<usize>, Option<usize>)
     ensures first { result.0 ≡ first_named (asked call.now names.now) }
     ensures second { result.1 ≡ second_named (asked call.now names.now) }
@@ -26,6 +26,7 @@ pub fn named(call: &HeapCall, names: &Names) -> (Option<usize>, Option<usize>)
         HeapCall::HPurge(name) => (names.number(name), None),
         HeapCall::HNoPurge(name) => (names.number(name), None),
         HeapCall::HGetState(name) => (names.number(name), None),
+        HeapCall::HandleZone(name) => (names.number(name), None),
         HeapCall::HSetState(name, _) => (names.number(name), None),
         HeapCall::MoveHHi(name) => (names.number(name), None),
         HeapCall::HLockHi(name) => (names.number(name), None),
@@ -33,6 +34,7 @@ pub fn named(call: &HeapCall, names: &Names) -> (Option<usize>, Option<usize>)
         HeapCall::PtrAndHand(name, _) => (names.number(name), None),
         HeapCall::DisposePtr(name) => (names.number(name), None),
         HeapCall::GetPtrSize(name) => (names.number(name), None),
+        HeapCall::PtrZone(name) => (names.number(name), None),
         HeapCall::SetPtrSize(name, _) => (names.number(name), None),
         HeapCall::Put(name, _, _) => (names.number(name), None),
         HeapCall::Show(name) => (names.number(name), None),
@@ -55,8 +57,8 @@ pub fn named(call: &HeapCall, names: &Names) -> (Option<usize>, Option<usize>)
     }
 }
 
-/// Returns the number of the resource's handle that a call names as an argument. A name that the call binds is not an
-/// argument.
+/// Returns the number of the resource's handle that a call names as an argument. A name that the
+/// call binds is not an argument.
 pub fn named_resource(call: &ResourceCall, names: &Names) -> Option<usize>
     ensures { result ≡ finds.named (resource_asked call.now names.now) }
 {
@@ -89,8 +91,12 @@ pub fn named_resource(call: &ResourceCall, names: &Names) -> Option<usize>
         | ResourceCall::Get1NamedResource(..)
         | ResourceCall::Count1Types
         | ResourceCall::Get1IndType(_)
+        | ResourceCall::CountResources(_)
         | ResourceCall::Count1Resources(_)
+        | ResourceCall::GetIndResource(..)
         | ResourceCall::Get1IndResource(..)
+        | ResourceCall::UniqueID(_)
+        | ResourceCall::Unique1ID(_)
         | ResourceCall::SetResPurge(_)
         | ResourceCall::SetResLoad(_)
         | ResourceCall::ResError => None,

@@ -46,8 +46,8 @@ fn own_fork(alloc: Global) -> Result<Vec<u8>, AllocError>
     }
 }
 
-/// Returns the resources of an application that is only a script: a fork of its own that has no resources, and a System
-/// file that has no resources.
+/// Returns the resources of an application that is only a script: a fork of its own that has no
+/// resources, and a System file that has no resources.
 pub fn own_resources(alloc: Global) -> Result<Resources, AllocError>
     ensures { IfOk result (λ r. r ≡ own) }
 {

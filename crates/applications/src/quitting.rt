@@ -23,9 +23,10 @@ pub enum Exit {
 }
 
 impl<'s, S: BlockStore> Application<'s, S> {
-    /// Quits the application: updates and closes its open files, the file opened last first. Returns the first code
-    /// that is not 0: -34 (dskFulErr) where the content of a file does not fit the format of a resource fork; the fork
-    /// of that file stays as it is. Where the host is out of memory, all files stay as they were.
+    /// Quits the application: updates and closes its open files, the file opened last first.
+    /// Returns the first code that is not 0: -34 (dskFulErr) where the content of a file does not
+    /// fit the format of a resource fork; the fork of that file stays as it is. Where the host is
+    /// out of memory, all files stay as they were.
     ///
     /// *Inside Macintosh: Processes*, chapter 2, "Terminating a Process".
     pub fn quit(&mut self) -> Result<OsErr, AllocError>
@@ -37,9 +38,10 @@ impl<'s, S: BlockStore> Application<'s, S> {
         self.resources.leave(self.alloc, &mut self.heap)
     }
 
-    /// Ends the application as `exit` says, and returns the code of the end. Where a system error stops the
-    /// application, its files stay as they are, and the code is system error 15. Otherwise, and where `exit` is `None`
-    /// because no call is left or a quit was asked for, the application quits.
+    /// Ends the application as `exit` says, and returns the code of the end. Where a system error
+    /// stops the application, its files stay as they are, and the code is system error 15.
+    /// Otherwise, and where `exit` is `None` because no call is left or a quit was asked for, the
+    /// application quits.
     pub fn end(&mut self, exit: Option<Exit>) -> Result<OsErr, AllocError>
         ensures code { IfOk result (λ code. code ≡ (end_by exit self.old).code) }
         ensures after { OnOk result (self.new ≡ has_ended exit self.old) }

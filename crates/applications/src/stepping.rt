@@ -1,7 +1,8 @@
-//! A step of an application: a call is tried, and tried again as long as the grow-zone script makes room.
+//! A step of an application: a call is tried, and tried again as long as the grow-zone script makes
+//! room.
 
-ghost use Rattle.std.specs.Prelude.{◌≡◌, ◌++◌, ◌+◌, ◌≤◌, ℕ, [], length, false, true, None, IfOk, IsOk, OnOk, OnErr, is_some};
-ghost use Rattle.std.specs.Prelude.{nat_lt, vec_len};
+ghost use Rattle.std.specs.Prelude.{◌≡◌, ◌++◌, ◌+◌, ◌≤◌, ℕ, [], length, false, true, None, IfOk};
+ghost use Rattle.std.specs.Prelude.{IsOk, OnOk, OnErr, is_some, nat_lt, vec_len};
 ghost use Rattle.std.specs.Io.KnownBytes.{append_known};
 ghost use Rattle.std.specs.Vec.{vec_capacity};
 ghost use Rattle.heap_calls.specs.Staying.{ease};
@@ -10,8 +11,8 @@ ghost use Rattle.script_text.specs.Script.{are_allowed};
 ghost use Rattle.script_text.specs.declared.transcript.TheConstants.{CODE_ROOM};
 ghost use Rattle.script_text.specs.Transcript.{call_at, reply_line, values_of};
 ghost use Rattle.applications.specs.Trying.{once};
-ghost use Rattle.applications.specs.Step.{marked, marked_for, grown, grown_for, kept_anew, names_given, round, step};
-ghost use Rattle.applications.specs.Step.{course_of, turn};
+ghost use Rattle.applications.specs.Step.{marked, marked_for, grown, grown_for, kept_anew};
+ghost use Rattle.applications.specs.Step.{names_given, round, step, course_of, turn};
 ghost use Rattle.applications.specs.Step as steps;
 ghost use Rattle.applications.specs.Application.{bytes_told, lines_told};
 ghost use Rattle.applications.specs.Replies.{Came, CameRound, exit_of, Extends, goes_on};
@@ -34,7 +35,8 @@ use std::alloc::AllocError;
 pub(crate) enum Next {
     /// The call is tried again.
     Again,
-    /// The call has ended, and the application ends with the call as the `Exit` says, if there is one.
+    /// The call has ended, and the application ends with the call as the `Exit` says, if there is
+    /// one.
     Ended(Option<Exit>),
 }
 
@@ -48,8 +50,8 @@ impl<'s, S: BlockStore> Application<'s, S> {
         }
     }
 
-    /// Marks the handles and pointers that a call names, and the empty handle that the call would have read again, as
-    /// busy, or as idle again.
+    /// Marks the handles and pointers that a call names, and the empty handle that the call would
+    /// have read again, as busy, or as idle again.
     fn mark(&mut self, busy: bool, call: &Call, reading: Option<usize>)
         ensures { self.new ≡ marked_for busy call.now reading self.old }
     {
@@ -70,7 +72,8 @@ impl<'s, S: BlockStore> Application<'s, S> {
         }
     }
 
-    /// Runs the lines of a grow-zone script in order, and appends the lines of their transcript to `text`.
+    /// Runs the lines of a grow-zone script in order, and appends the lines of their transcript to
+    /// `text`.
     fn take_lines(
         &mut self,
         script: &'s Script,
@@ -78,8 +81,8 @@ impl<'s, S: BlockStore> Application<'s, S> {
         text: &mut Vec<u8>,
     ) -> Result<(), AllocError>
         requires allowed { are_allowed lines.now ≡ true }
-        ensures came { OnOk result (Came (grown script.now.blocks lines.now self.old) text.old.items text.new.items
-            self.new) }
+        ensures came { OnOk result (Came (grown script.now.blocks lines.now self.old) text.old.items
+            text.new.items self.new) }
         ensures front { Extends text.old.items text.new.items }
         ensures files { self.new.resources.files ≡ self.old.resources.files }
         ensures lies { self.new.memory.window ≡ self.old.memory.window }
@@ -98,8 +101,8 @@ impl<'s, S: BlockStore> Application<'s, S> {
         Ok(())
     }
 
-    /// Runs the grow-zone script for a call that found no room, while the handles and pointers that the call names are
-    /// busy.
+    /// Runs the grow-zone script for a call that found no room, while the handles and pointers that
+    /// the call names are busy.
     fn ask_script(
         &mut self,
         script: &'s Script,
@@ -107,8 +110,8 @@ impl<'s, S: BlockStore> Application<'s, S> {
         reading: Option<usize>,
         text: &mut Vec<u8>,
     ) -> Result<(), AllocError>
-        ensures came { OnOk result (Came (grown_for script.now.blocks line.now reading self.old) text.old.items
-            text.new.items self.new) }
+        ensures came { OnOk result (Came (grown_for script.now.blocks line.now reading self.old)
+            text.old.items text.new.items self.new) }
         ensures front { Extends text.old.items text.new.items }
         ensures files { self.new.resources.files ≡ self.old.resources.files }
         ensures lies { self.new.memory.window ≡ self.old.memory.window }
@@ -120,8 +123,9 @@ impl<'s, S: BlockStore> Application<'s, S> {
         Ok(())
     }
 
-    /// Runs the grow-zone script for a call that found no room, and reports whether more bytes can be had after the
-    /// script than before it. Without a grow-zone script nothing can have changed, and no block is examined.
+    /// Runs the grow-zone script for a call that found no room, and reports whether more bytes can
+    /// be had after the script than before it. Without a grow-zone script nothing can have changed,
+    /// and no block is examined.
     fn ask_for_room(
         &mut self,
         script: &'s Script,
@@ -129,8 +133,8 @@ impl<'s, S: BlockStore> Application<'s, S> {
         reading: Option<usize>,
         text: &mut Vec<u8>,
     ) -> Result<bool, AllocError>
-        ensures came { OnOk result (Came (grown_for script.now.blocks line.now reading self.old) text.old.items
-            text.new.items self.new) }
+        ensures came { OnOk result (Came (grown_for script.now.blocks line.now reading self.old)
+            text.old.items text.new.items self.new) }
         ensures room { IfOk result (λ made.
             made ≡ nat_lt (ease self.old.memory.heap.zone) (ease self.new.memory.heap.zone)) }
         ensures front { Extends text.old.items text.new.items }
@@ -146,8 +150,8 @@ impl<'s, S: BlockStore> Application<'s, S> {
         Ok(before < self.heap.free_or_purgeable())
     }
 
-    /// Sets the code of the call's manager to the code of a call whose answer stands, since the calls of the grow-zone
-    /// script have set it since.
+    /// Sets the code of the call's manager to the code of a call whose answer stands, since the
+    /// calls of the grow-zone script have set it since.
     fn keep_anew(&mut self, call: &Call, tried: &Tried)
         ensures { self.new ≡ kept_anew call.now tried.now.reply.code self.old }
     {
@@ -161,7 +165,8 @@ impl<'s, S: BlockStore> Application<'s, S> {
 
     /// Binds the name of a call that binds a name to the number that the call returned.
     fn bind(&mut self, call: &Call, given: Option<usize>) -> Result<(), AllocError>
-        ensures bound { OnOk result (self.new ≡ record self.old { names = names_given call.now given self.old.names }) }
+        ensures bound { OnOk result (self.new
+            ≡ record self.old { names = names_given call.now given self.old.names }) }
         ensures resources { self.new.resources ≡ self.old.resources }
         ensures none { given ≡ None → IsOk result }
         ensures lies { self.new.memory.window ≡ self.old.memory.window }
@@ -179,6 +184,9 @@ impl<'s, S: BlockStore> Application<'s, S> {
                 self.names.bind(name, number)
             }
             Call::Resource(ResourceCall::Get1NamedResource(name, _, _)) => {
+                self.names.bind(name, number)
+            }
+            Call::Resource(ResourceCall::GetIndResource(name, _, _)) => {
                 self.names.bind(name, number)
             }
             Call::Resource(ResourceCall::Get1IndResource(name, _, _)) => {
@@ -199,9 +207,10 @@ impl<'s, S: BlockStore> Application<'s, S> {
         }) }
         ensures front { Extends text.old.items text.new.items }
         ensures resources { self.new.resources ≡ self.old.resources }
-        ensures room { vec_len text.old + length (call_at line.now.number (word_of line.now.call)) + CODE_ROOM
-            ≤ vec_capacity text.old → tried.now.given ≡ None
-            → values_of tried.now.reply (bytes_told (once [] line.now.call self.old).told) ≡ [] → IsOk result }
+        ensures room { vec_len text.old + length (call_at line.now.number (word_of line.now.call))
+            + CODE_ROOM ≤ vec_capacity text.old → tried.now.given ≡ None
+            → values_of tried.now.reply (bytes_told (once [] line.now.call self.old).told) ≡ []
+            → IsOk result }
         ensures lies { self.new.memory.window ≡ self.old.memory.window }
     {
         let shown = self.shown(&line.call);
@@ -215,18 +224,20 @@ impl<'s, S: BlockStore> Application<'s, S> {
         self.bind(&line.call, tried.given)
     }
 
-    /// Tries a call, and runs the grow-zone script where the call found no room. `text` has room for the line of a call
-    /// whose reply has no values, so that no host memory is needed after a file was written.
+    /// Tries a call, and runs the grow-zone script where the call found no room. `text` has room
+    /// for the line of a call whose reply has no values, so that no host memory is needed after a
+    /// file was written.
     fn try_call(
         &mut self,
         script: &'s Script,
         line: &Line,
         text: &mut Vec<u8>,
     ) -> Result<Next, AllocError>
-        requires room { vec_len text.old + length (call_at line.now.number (word_of line.now.call)) + CODE_ROOM
+        requires room { vec_len text.old
+            + length (call_at line.now.number (word_of line.now.call)) + CODE_ROOM
             ≤ vec_capacity text.old }
-        ensures came { IfOk result (λ next. CameRound (round script.now.blocks line.now self.old) next text.old.items
-            text.new.items self.new) }
+        ensures came { IfOk result (λ next. CameRound (round script.now.blocks line.now self.old)
+            next text.old.items text.new.items self.new) }
         ensures front { Extends text.old.items text.new.items }
         ensures files { OnErr result (self.new.resources.files ≡ self.old.resources.files) }
         ensures stays { IfOk result (λ next. goes_on next ≡ false
@@ -254,16 +265,16 @@ impl<'s, S: BlockStore> Application<'s, S> {
         Ok(Next::Ended(exit))
     }
 
-    /// Takes a round of a step: the room of the call's line is taken, and the call is tried. Where the host is out of
-    /// memory, the files stay as they were.
+    /// Takes a round of a step: the room of the call's line is taken, and the call is tried. Where
+    /// the host is out of memory, the files stay as they were.
     fn round(
         &mut self,
         script: &'s Script,
         line: &Line,
         text: &mut Vec<u8>,
     ) -> Result<Next, AllocError>
-        ensures came { IfOk result (λ next. CameRound (round script.now.blocks line.now self.old) next text.old.items
-            text.new.items self.new) }
+        ensures came { IfOk result (λ next. CameRound (round script.now.blocks line.now self.old)
+            next text.old.items text.new.items self.new) }
         ensures front { Extends text.old.items text.new.items }
         ensures files { OnErr result (self.new.resources.files ≡ self.old.resources.files) }
         ensures stays { IfOk result (λ next. goes_on next ≡ false
@@ -274,20 +285,22 @@ impl<'s, S: BlockStore> Application<'s, S> {
         self.try_call(script, line, text)
     }
 
-    /// Takes the rounds of a step, until the call ends. Where the host is out of memory, the text may have lines of the
-    /// step's grow-zone script, and the files stay as they were.
+    /// Takes the rounds of a step, until the call ends. Where the host is out of memory, the text
+    /// may have lines of the step's grow-zone script, and the files stay as they were.
     fn take_rounds(
         &mut self,
         script: &'s Script,
         line: &Line,
         text: &mut Vec<u8>,
     ) -> Result<Option<Exit>, AllocError>
-        ensures ends { IfOk result (λ exit. exit ≡ exit_of (step script.now.blocks line.now self.old)) }
-        ensures came { OnOk result (Came (step script.now.blocks line.now self.old) text.old.items text.new.items
-            self.new) }
+        ensures ends { IfOk result (λ exit. exit
+            ≡ exit_of (step script.now.blocks line.now self.old)) }
+        ensures came { OnOk result (Came (step script.now.blocks line.now self.old) text.old.items
+            text.new.items self.new) }
         ensures front { Extends text.old.items text.new.items }
         ensures files { OnErr result (self.new.resources.files ≡ self.old.resources.files) }
-        ensures over { IfOk result (λ exit. is_some exit ≡ true → self.new.resources.files ≡ self.old.resources.files) }
+        ensures over { IfOk result (λ exit. is_some exit ≡ true
+            → self.new.resources.files ≡ self.old.resources.files) }
         ensures lies { self.new.memory.window ≡ self.old.memory.window }
     {
         let most = u64::from(self.heap.len()) + 1;
@@ -307,10 +320,11 @@ impl<'s, S: BlockStore> Application<'s, S> {
         self.names.hash_by(script.digest());
     }
 
-    /// Takes a step, which is the call of a line. The call is tried; where the call finds no room, the grow-zone script
-    /// is run, and where the script makes room the call is tried again, and otherwise the answer of the call stands.
-    /// Appends the lines of the transcript to `text`. Returns how the application ends with the step, or `None` where
-    /// it goes on. Where the host is out of memory, the transcript and the files are as before the step.
+    /// Takes a step, which is the call of a line. The call is tried; where the call finds no room,
+    /// the grow-zone script is run, and where the script makes room the call is tried again, and
+    /// otherwise the answer of the call stands. Appends the lines of the transcript to `text`.
+    /// Returns how the application ends with the step, or `None` where it goes on. Where the host
+    /// is out of memory, the transcript and the files are as before the step.
     ///
     /// *Inside Macintosh: Memory*, chapter 1, "Grow-Zone Functions".
     pub fn step(
@@ -319,14 +333,16 @@ impl<'s, S: BlockStore> Application<'s, S> {
         line: &Line,
         text: &mut Vec<u8>,
     ) -> Result<Option<Exit>, AllocError>
-        ensures ends { IfOk result (λ exit. exit ≡ exit_of (step script.now.blocks line.now self.old)) }
-        ensures came { OnOk result (Came (step script.now.blocks line.now self.old) text.old.items text.new.items
-            self.new) }
+        ensures ends { IfOk result (λ exit. exit
+            ≡ exit_of (step script.now.blocks line.now self.old)) }
+        ensures came { OnOk result (Came (step script.now.blocks line.now self.old) text.old.items
+            text.new.items self.new) }
         ensures text { OnErr result (text.new.items ≡ text.old.items) }
         ensures files { OnErr result (self.new.resources.files ≡ self.old.resources.files) }
 
         // A step that ends the application changes no file.
-        ensures over { IfOk result (λ exit. is_some exit ≡ true → self.new.resources.files ≡ self.old.resources.files) }
+        ensures over { IfOk result (λ exit. is_some exit ≡ true
+            → self.new.resources.files ≡ self.old.resources.files) }
         ensures lies { self.new.memory.window ≡ self.old.memory.window }
     {
         self.hash_names(script);
@@ -338,9 +354,10 @@ impl<'s, S: BlockStore> Application<'s, S> {
         exit
     }
 
-    /// Takes steps in order, to the last line or to the end of the application, and reports the number of steps done to
-    /// the watch. Returns how the application ends, or `None` where it goes on. Where the host is out of memory, the
-    /// transcript, the files and the reports are those of the steps that were completed, and nothing of another.
+    /// Takes steps in order, to the last line or to the end of the application, and reports the
+    /// number of steps done to the watch. Returns how the application ends, or `None` where it goes
+    /// on. Where the host is out of memory, the transcript, the files and the reports are those of
+    /// the steps that were completed, and nothing of another.
     pub fn run<W: Watch>(
         &mut self,
         script: &'s Script,
@@ -348,16 +365,19 @@ impl<'s, S: BlockStore> Application<'s, S> {
         text: &mut Vec<u8>,
         watch: &mut W,
     ) -> Result<Option<Exit>, AllocError>
-        ensures ends { IfOk result (λ exit. exit ≡ exit_of (course_of script.now.blocks lines.now self.old)) }
-        ensures came { OnOk result (Came (course_of script.now.blocks lines.now self.old) text.old.items text.new.items
-            self.new) }
+        ensures ends { IfOk result (λ exit. exit
+            ≡ exit_of (course_of script.now.blocks lines.now self.old)) }
+        ensures came { OnOk result (Came (course_of script.now.blocks lines.now self.old)
+            text.old.items text.new.items self.new) }
         ensures heard { OnOk result (W.heard watch.new ≡ append_known (W.heard watch.old)
             (reports (steps_taken script.now.blocks lines.now self.old) (length lines.now))) }
 
-        // Where the host is out of memory, the text, the files and the reports are those of the first `k` steps.
-        ensures stopped { OnErr result ((k : ℕ) × StopsAfter k script.now.blocks lines.now self.old self.new
-            text.old.items text.new.items
-            × (W.heard watch.new ≡ append_known (W.heard watch.old) (reports k (length lines.now)))) }
+        // Where the host is out of memory, the text, the files and the reports are those of the
+        // first `k` steps.
+        ensures stopped { OnErr result ((k : ℕ) × StopsAfter k script.now.blocks lines.now self.old
+            self.new text.old.items text.new.items
+            × (W.heard watch.new
+            ≡ append_known (W.heard watch.old) (reports k (length lines.now)))) }
         ensures lies { self.new.memory.window ≡ self.old.memory.window }
     {
         let mut done: usize = 0;
@@ -372,9 +392,10 @@ impl<'s, S: BlockStore> Application<'s, S> {
         Ok(None)
     }
 
-    /// Takes a turn: the steps up to and including the next `WaitNextEvent`, or to the last line, as `up_to_wait`
-    /// selects them. Returns how the application ends with the turn, or `None` where it goes on. Where the host is out
-    /// of memory, the transcript and the files are those of the steps that were completed, and nothing of another.
+    /// Takes a turn: the steps up to and including the next `WaitNextEvent`, or to the last line,
+    /// as `up_to_wait` selects them. Returns how the application ends with the turn, or `None`
+    /// where it goes on. Where the host is out of memory, the transcript and the files are those of
+    /// the steps that were completed, and nothing of another.
     ///
     /// *Inside Macintosh: Processes*, chapter 1, "Scheduling of Processes".
     pub fn turn(
@@ -383,11 +404,12 @@ impl<'s, S: BlockStore> Application<'s, S> {
         lines: &[Line],
         text: &mut Vec<u8>,
     ) -> Result<Option<Exit>, AllocError>
-        ensures ends { IfOk result (λ exit. exit ≡ exit_of (turn script.now.blocks lines.now self.old)) }
-        ensures came { OnOk result (Came (turn script.now.blocks lines.now self.old) text.old.items text.new.items
-            self.new) }
-        ensures stopped { OnErr result ((k : ℕ) × StopsAfter k script.now.blocks (steps.up_to_wait lines.now) self.old
-            self.new text.old.items text.new.items) }
+        ensures ends { IfOk result (λ exit. exit
+            ≡ exit_of (turn script.now.blocks lines.now self.old)) }
+        ensures came { OnOk result (Came (turn script.now.blocks lines.now self.old) text.old.items
+            text.new.items self.new) }
+        ensures stopped { OnErr result ((k : ℕ) × StopsAfter k script.now.blocks
+            (steps.up_to_wait lines.now) self.old self.new text.old.items text.new.items) }
         ensures lies { self.new.memory.window ≡ self.old.memory.window }
     {
         self.run(script, up_to_wait(lines), text, &mut Unwatched)

@@ -1,6 +1,7 @@
 //! The outcome of one try of a call.
 
-ghost use Rattle.std.specs.Prelude.{◌≡◌, ◌≢◌, ◌<◌, ◌^◌, ℕ, true, false, None, Err, List, IfOk, OnOk, OnErr};
+ghost use Rattle.std.specs.Prelude.{◌≡◌, ◌≢◌, ◌<◌, ◌^◌, ℕ, true, false, None, Err, List, IfOk};
+ghost use Rattle.std.specs.Prelude.{OnOk, OnErr};
 ghost use Rattle.mac_words.specs.Told.{Told, Done, Given, Number, Numbers, Bytes, Kind};
 ghost use Rattle.applications.specs.Trying.{is_full};
 ghost use Rattle.byteorder.specs.Endian.{big_number};
@@ -72,7 +73,8 @@ impl Tried {
 
 /// Returns the try of a call that returns a new handle or pointer.
 pub fn given(answer: Result<usize, Refusal>) -> Result<Tried, AllocError>
-    ensures tried { IfOk result (λ tried. (told : Told) → GivenAs Given answer told → TellsTold tried told) }
+    ensures tried { IfOk result (λ tried. (told : Told) → GivenAs Given answer told
+        → TellsTold tried told) }
     ensures host { OnOk result (answer ≢ Err Refusal.HostMemory) }
 {
     match answer {
@@ -110,7 +112,8 @@ pub fn done(answer: Result<(), OsErr>) -> Tried
 
 /// Returns the try of a call that returns no value, and may find the host out of memory.
 pub fn completed(answer: Result<(), Refusal>) -> Result<Tried, AllocError>
-    ensures tried { IfOk result (λ tried. (told : Told) → GivenAs (λ _. Done) answer told → TellsTold tried told) }
+    ensures tried { IfOk result (λ tried. (told : Told) → GivenAs (λ _. Done) answer told
+        → TellsTold tried told) }
     ensures host { OnOk result (answer ≢ Err Refusal.HostMemory) }
 {
     match answer {
@@ -132,7 +135,8 @@ pub fn number(answer: Result<u32, OsErr>) -> Tried
 
 /// Returns the try of a call that returns a number, and may find the host out of memory.
 pub fn measured(answer: Result<u32, Refusal>) -> Result<Tried, AllocError>
-    ensures tried { IfOk result (λ tried. (told : Told) → GivenAs Number answer told → TellsTold tried told) }
+    ensures tried { IfOk result (λ tried. (told : Told) → GivenAs Number answer told
+        → TellsTold tried told) }
     ensures host { OnOk result (answer ≢ Err Refusal.HostMemory) }
 {
     match answer {
@@ -159,11 +163,14 @@ pub fn space(space: Space) -> Tried
     Tried::told(Reply::pair(space.total, space.contiguous))
 }
 
-/// Returns the try of a call that returns a resource's handle and whether the stored data was read for the handle.
+/// Returns the try of a call that returns a resource's handle and whether the stored data was read
+/// for the handle.
 pub fn fetched(answer: Result<Fetched, Unread>) -> Result<Tried, AllocError>
-    ensures tried { IfOk result (λ tried. (a : Answer fetch.Fetched) (after : Managers) → IsFetched a answer after
+    ensures tried { IfOk result (λ tried. (a : Answer fetch.Fetched) (after : Managers)
+        → IsFetched a answer after
         → TellsServed tried (telling tell_fetched a) true) }
-    ensures after { OnOk result ((a : Answer fetch.Fetched) (after : Managers) → IsFetched a answer after
+    ensures after { OnOk result ((a : Answer fetch.Fetched) (after : Managers)
+        → IsFetched a answer after
         → a.after ≡ after) }
     ensures wants { OnErr result (WantsHost answer) }
     ensures host { OnOk result (¬ (WantsHost answer)) }
@@ -202,8 +209,8 @@ pub fn done_on_resource(answer: Result<(), Refusal>) -> Result<Tried, AllocError
     ensures tried { IfOk result (λ tried. (a : Answer (Unit {0})) (after : Managers) →
         IsAnswered (λ (u : Unit {0}). u) a answer after
         → TellsServed tried (telling (λ (u : Unit {0}). Done) a) false) }
-    ensures after { OnOk result ((a : Answer (Unit {0})) (after : Managers) → IsAnswered (λ (u : Unit {0}). u) a
-        answer after
+    ensures after { OnOk result ((a : Answer (Unit {0})) (after : Managers)
+        → IsAnswered (λ (u : Unit {0}). u) a answer after
         → a.after ≡ after) }
     ensures wants { OnErr result (answer ≡ Err Refusal.HostMemory) }
 {
@@ -220,7 +227,8 @@ pub fn read(answer: Result<(), Refusal>) -> Result<Tried, AllocError>
     ensures tried { IfOk result (λ tried. (a : Answer (List ℕ)) (after : Managers) →
         IsAnsweredUnseen a answer after
         → TellsServed tried (telling Bytes a) false) }
-    ensures after { OnOk result ((a : Answer (List ℕ)) (after : Managers) → IsAnsweredUnseen a answer after
+    ensures after { OnOk result ((a : Answer (List ℕ)) (after : Managers)
+        → IsAnsweredUnseen a answer after
         → a.after ≡ after) }
     ensures wants { OnErr result (answer ≡ Err Refusal.HostMemory) }
     ensures host { OnOk result (answer ≢ Err Refusal.HostMemory) }
@@ -234,9 +242,11 @@ pub fn read(answer: Result<(), Refusal>) -> Result<Tried, AllocError>
 
 /// Returns the try of a call of the Resource Manager that returns a number.
 pub fn counted(answer: Result<u32, Refusal>) -> Result<Tried, AllocError>
-    ensures tried { IfOk result (λ tried. (a : Answer ℕ) (after : Managers) → IsAnswered (λ (n : ℕ). n) a answer after
+    ensures tried { IfOk result (λ tried. (a : Answer ℕ) (after : Managers)
+        → IsAnswered (λ (n : ℕ). n) a answer after
         → TellsServed tried (telling Number a) false) }
-    ensures after { OnOk result ((a : Answer ℕ) (after : Managers) → IsAnswered (λ (n : ℕ). n) a answer after
+    ensures after { OnOk result ((a : Answer ℕ) (after : Managers)
+        → IsAnswered (λ (n : ℕ). n) a answer after
         → a.after ≡ after) }
     ensures wants { OnErr result (answer ≡ Err Refusal.HostMemory) }
     ensures host { OnOk result (answer ≢ Err Refusal.HostMemory) }
@@ -251,9 +261,11 @@ pub fn counted(answer: Result<u32, Refusal>) -> Result<Tried, AllocError>
 /// Returns the try of a call of the Resource Manager that returns a count.
 pub fn sized(answer: Result<usize, Refusal>) -> Result<Tried, AllocError>
     requires { IfOk answer (λ n. n < 2 ^ 63) }
-    ensures tried { IfOk result (λ tried. (a : Answer ℕ) (after : Managers) → IsAnswered (λ (n : ℕ). n) a answer after
+    ensures tried { IfOk result (λ tried. (a : Answer ℕ) (after : Managers)
+        → IsAnswered (λ (n : ℕ). n) a answer after
         → TellsServed tried (telling Number a) false) }
-    ensures after { OnOk result ((a : Answer ℕ) (after : Managers) → IsAnswered (λ (n : ℕ). n) a answer after
+    ensures after { OnOk result ((a : Answer ℕ) (after : Managers)
+        → IsAnswered (λ (n : ℕ). n) a answer after
         → a.after ≡ after) }
     ensures wants { OnErr result (answer ≡ Err Refusal.HostMemory) }
 {
@@ -266,11 +278,11 @@ pub fn sized(answer: Result<usize, Refusal>) -> Result<Tried, AllocError>
 
 /// Returns the try of a call that returns the attributes of a resource.
 pub fn attributes(answer: Result<Attrs, Refusal>) -> Result<Tried, AllocError>
-    ensures tried { IfOk result (λ tried. (a : Answer ℕ) (after : Managers) → IsAnswered (λ (a : StoredAttrs). a.0) a
-        answer after
+    ensures tried { IfOk result (λ tried. (a : Answer ℕ) (after : Managers)
+        → IsAnswered (λ (a : StoredAttrs). a.0) a answer after
         → TellsServed tried (telling Number a) false) }
-    ensures after { OnOk result ((a : Answer ℕ) (after : Managers) → IsAnswered (λ (a : StoredAttrs). a.0) a
-        answer after
+    ensures after { OnOk result ((a : Answer ℕ) (after : Managers)
+        → IsAnswered (λ (a : StoredAttrs). a.0) a answer after
         → a.after ≡ after) }
     ensures wants { OnErr result (answer ≡ Err Refusal.HostMemory) }
 {
@@ -286,8 +298,8 @@ pub fn kind(answer: Result<OsType, Refusal>) -> Result<Tried, AllocError>
     ensures tried { IfOk result (λ tried. (a : Answer ℕ) (after : Managers) →
         IsAnswered (λ (t : Type4). big_number 4 t.0) a answer after
         → TellsServed tried (telling Kind a) false) }
-    ensures after { OnOk result ((a : Answer ℕ) (after : Managers) → IsAnswered (λ (t : Type4). big_number 4 t.0) a
-        answer after
+    ensures after { OnOk result ((a : Answer ℕ) (after : Managers)
+        → IsAnswered (λ (t : Type4). big_number 4 t.0) a answer after
         → a.after ≡ after) }
     ensures wants { OnErr result (answer ≡ Err Refusal.HostMemory) }
 {
@@ -300,10 +312,11 @@ pub fn kind(answer: Result<OsType, Refusal>) -> Result<Tried, AllocError>
 
 /// Returns the try of a call that returns the ID, the type and the name of a resource.
 pub fn info(alloc: Global, answer: Result<Info, Refusal>) -> Result<Tried, AllocError>
-    ensures tried { IfOk result (λ tried. (a : Answer rows.Info) (after : Managers) → IsAnswered seen_info a
-        answer after
+    ensures tried { IfOk result (λ tried. (a : Answer rows.Info) (after : Managers)
+        → IsAnswered seen_info a answer after
         → TellsServed tried (telling tell_info a) false) }
-    ensures after { OnOk result ((a : Answer rows.Info) (after : Managers) → IsAnswered seen_info a answer after
+    ensures after { OnOk result ((a : Answer rows.Info) (after : Managers)
+        → IsAnswered seen_info a answer after
         → a.after ≡ after) }
 {
     match answer {

@@ -25,7 +25,8 @@ use std::alloc::AllocError;
 impl<'s, S: BlockStore> Application<'s, S> {
     /// Tries a call once, and returns the outcome without the bytes that the call shows.
     pub(crate) fn once(&mut self, script: &'s Script, call: &Call) -> Result<Tried, AllocError>
-        ensures tried { IfOk result (λ tried. IsTried tried (once script.now.blocks call.now self.old)) }
+        ensures tried { IfOk result (λ tried.
+            IsTried tried (once script.now.blocks call.now self.old)) }
         ensures after { OnOk result (self.new ≡ (once script.now.blocks call.now self.old).after) }
         ensures wants { OnErr result (self.new.resources.files ≡ self.old.resources.files) }
         ensures files { writes_files (deed_of call.now self.old.names) ≡ false
@@ -40,7 +41,8 @@ impl<'s, S: BlockStore> Application<'s, S> {
         }
     }
 
-    /// Tries a call by which the application says how it is run: `SetGrowZone`, `WaitNextEvent` or `ExitToShell`.
+    /// Tries a call by which the application says how it is run: `SetGrowZone`, `WaitNextEvent` or
+    /// `ExitToShell`.
     fn steer(&mut self, script: &'s Script, call: &ControlCall) -> Tried
         ensures tried { IsTried result (control_tried script.now.blocks call.now self.old) }
         ensures after { self.new ≡ (control_tried script.now.blocks call.now self.old).after }
@@ -57,7 +59,8 @@ impl<'s, S: BlockStore> Application<'s, S> {
     /// Returns the bytes that a call shows, in the state that the call leaves.
     #[tactic(auto, using(crate::proofs::JumpCalls::jump_shows_nothing))]
     pub(crate) fn shown(&self, call: &Call) -> Option<&[u8]>
-        ensures { option_map (λ bytes. bytes.now) result ≡ bytes_told (once [] call.now self.now).told }
+        ensures { option_map (λ bytes. bytes.now) result
+            ≡ bytes_told (once [] call.now self.now).told }
     {
         match call {
             Call::Heap(call) => shown_in(&self.heap, &self.names, call),
@@ -67,13 +70,16 @@ impl<'s, S: BlockStore> Application<'s, S> {
         }
     }
 
-    /// Tries a call of the Memory Manager, and stores what is to be stored of the blocks that it purges.
+    /// Tries a call of the Memory Manager, and stores what is to be stored of the blocks that it
+    /// purges.
     fn answer(&mut self, call: &HeapCall) -> Result<Tried, AllocError>
         ensures told { IfOk result (λ tried. TellsTold tried (served (asked call.now self.old.names)
             self.old.memory).0) }
         ensures after { OnOk result (self.new ≡ storing self.old.resources.purging
             (gone_in (asked call.now self.old.names) self.old.memory)
-            (record self.old { memory = (served (asked call.now self.old.names) self.old.memory).1 })) }
+            (record self.old {
+              memory = (served (asked call.now self.old.names) self.old.memory).1;
+            })) }
         ensures files { self.new.resources.files ≡ self.old.resources.files }
         ensures lies { self.new.memory.window ≡ self.old.memory.window }
     {
@@ -90,7 +96,8 @@ fn shown_in<'a, S: BlockStore>(
     names: &Names,
     call: &HeapCall,
 ) -> Option<&'a [u8]>
-    ensures { option_map (λ bytes. bytes.now) result ≡ bytes_told (served (asked call.now names.now) heap.now.memory).0 }
+    ensures { option_map (λ bytes. bytes.now) result
+        ≡ bytes_told (served (asked call.now names.now) heap.now.memory).0 }
 {
     match call {
         HeapCall::Show(name) => heap.show(names.number(name)).ok(),
@@ -99,8 +106,8 @@ fn shown_in<'a, S: BlockStore>(
     }
 }
 
-/// Answers a call of the Memory Manager in `heap`; the names of the call are bound as `names` says. The blocks
-/// that the call purges are offered to the sink, if it listens.
+/// Answers a call of the Memory Manager in `heap`; the names of the call are bound as `names` says.
+/// The blocks that the call purges are offered to the sink, if it listens.
 #[tactic(auto, using(crate::proofs::Hearing::hears_nothing, crate::proofs::Hearing::hears_tried))]
 fn answered<S: BlockStore, K: PurgeSink>(
     heap: &mut Heap<S>,
@@ -109,10 +116,12 @@ fn answered<S: BlockStore, K: PurgeSink>(
     sink: &mut K,
 ) -> Result<Tried, AllocError>
     requires idle { IsIdle K.told K.waits sink.old }
-    ensures told { IfOk result (λ tried. TellsTold tried (served (asked call.now names.now) heap.old.memory).0) }
-    ensures after { OnOk result (heap.new.memory ≡ (served (asked call.now names.now) heap.old.memory).1) }
-    ensures hears { Hears K.told K.waits K.listens (IsOk result) (gone_in (asked call.now names.now) heap.old.memory)
-        sink.old sink.new }
+    ensures told { IfOk result (λ tried.
+        TellsTold tried (served (asked call.now names.now) heap.old.memory).0) }
+    ensures after { OnOk result (heap.new.memory
+        ≡ (served (asked call.now names.now) heap.old.memory).1) }
+    ensures hears { Hears K.told K.waits K.listens (IsOk result)
+        (gone_in (asked call.now names.now) heap.old.memory) sink.old sink.new }
     ensures lies { heap.new.memory.window ≡ heap.old.memory.window }
 {
     let (first, second) = named(call, names);
@@ -131,6 +140,7 @@ fn answered<S: BlockStore, K: PurgeSink>(
         HeapCall::HPurge(_) => Ok(done(heap.h_purge(first))),
         HeapCall::HNoPurge(_) => Ok(done(heap.h_no_purge(first))),
         HeapCall::HGetState(_) => Ok(state(heap.h_get_state(first))),
+        HeapCall::HandleZone(_) => Ok(number(heap.handle_zone(first))),
         HeapCall::HSetState(_, state) => Ok(done(heap.h_set_state(first, *state))),
         HeapCall::MoveHHi(_) => Ok(done(heap.move_h_hi(first))),
         HeapCall::HLockHi(_) => Ok(done(heap.h_lock_hi(first))),
@@ -141,6 +151,7 @@ fn answered<S: BlockStore, K: PurgeSink>(
         HeapCall::NewPtr(_, size) => given(heap.new_pointer(*size, sink)),
         HeapCall::DisposePtr(_) => Ok(done(heap.dispose_pointer(first))),
         HeapCall::GetPtrSize(_) => Ok(number(heap.get_pointer_size(first))),
+        HeapCall::PtrZone(_) => Ok(number(heap.pointer_zone(first))),
         HeapCall::SetPtrSize(_, size) => completed(heap.set_pointer_size(first, *size, sink)),
         HeapCall::FreeMem => Ok(Tried::told(Reply::number(heap.free_mem()))),
         HeapCall::MaxBlock => Ok(Tried::told(Reply::number(heap.max_block()))),

@@ -17,8 +17,8 @@ pub fn ends_turn(call: &Call) -> bool
     }
 }
 
-/// Returns the lines of the next turn: the lines up to and including the first `WaitNextEvent`, or all lines where no
-/// line is a `WaitNextEvent`.
+/// Returns the lines of the next turn: the lines up to and including the first `WaitNextEvent`, or
+/// all lines where no line is a `WaitNextEvent`.
 pub fn up_to_wait(lines: &[Line]) -> &[Line]
     ensures { result.now ≡ turns.up_to_wait lines.now }
 {

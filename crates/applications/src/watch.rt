@@ -6,7 +6,8 @@ ghost use Rattle.applications.specs.Reports.{report};
 
 /// A watch, to which the progress of a run is reported.
 pub trait Watch {
-    /// The reports so far, in order, where they are known: after how many steps or events each was made.
+    /// The reports so far, in order, where they are known: after how many steps or events each was
+    /// made.
     ghost heard: { Self → Option (List ℕ) } = { λ _. None };
 
     /// Receives a report of the progress: `done` steps or events, of `of` in all, are done.
@@ -25,8 +26,8 @@ impl Watch for Unwatched {
 /// The greatest number of reports of one run.
 const MOST: usize = 100;
 
-/// Reports to a watch that `done` steps or events, of `of` in all, are done: after each hundredth of them, and after
-/// the last.
+/// Reports to a watch that `done` steps or events, of `of` in all, are done: after each hundredth
+/// of them, and after the last.
 pub fn tell<W: Watch>(watch: &mut W, done: usize, of: usize)
     ensures heard { W.heard watch.new ≡ append_known (W.heard watch.old) (report done of) }
 {

@@ -1,4 +1,5 @@
-//! What a caller writes of each library from the Resource Manager up: the README of the library shows the same lines.
+//! What a caller writes of each library from the Resource Manager up: the README of the library
+//! shows the same lines.
 
 use crate::hosts::Memory;
 use crate::jobs::sized_fork;

@@ -13,7 +13,8 @@ use std::alloc::{AllocError, Global};
 use std::process::Abort;
 use std::test::Fail;
 
-/// Runs a script to its end in a partition of `size` bytes that is kept in lists, and returns the transcript.
+/// Runs a script to its end in a partition of `size` bytes that is kept in lists, and returns the
+/// transcript.
 fn run_in_lists(alloc: Global, size: u32, script: &Script) -> Result<Vec<u8>, AllocError>
     requires even { size % 16 ≡ 0 }
     requires low { LEAST_ZONE ≤ size }
@@ -24,8 +25,9 @@ fn run_in_lists(alloc: Global, size: u32, script: &Script) -> Result<Vec<u8>, Al
     Ok(given.into_transcript())
 }
 
-/// Runs a script to its end over lists and in bytes, and asserts that both leave the same transcript, and that the
-/// bytes then are a zone whose number of free bytes is the number that the last call of the script returns.
+/// Runs a script to its end over lists and in bytes, and asserts that both leave the same
+/// transcript, and that the bytes then are a zone whose number of free bytes is the number that the
+/// last call of the script returns.
 fn leaves_alike(rt: &impl Abort, alloc: Global, size: u32, script: &Script) -> Result<(), Fail>
     requires even { size % 16 ≡ 0 }
     requires low { LEAST_ZONE ≤ size }
@@ -42,8 +44,8 @@ fn leaves_alike(rt: &impl Abort, alloc: Global, size: u32, script: &Script) -> R
     Ok(())
 }
 
-/// Returns a script of `calls` calls, which then closes its file, so that no resource has a handle any more, and asks for
-/// the number of free bytes.
+/// Returns a script of `calls` calls, which then closes its file, so that no resource has a handle
+/// any more, and asks for the number of free bytes.
 fn a_script(alloc: Global, seed: u32, calls: u32) -> Result<Script, Fail> {
     let mut text = some_calls(alloc, &mut Chance(seed), calls)?;
     text.push_str("CloseResFile 2\nFreeMem\n")?;
@@ -63,7 +65,8 @@ fn scripts_leave_the_same_over_lists_and_in_bytes(rt: HostRuntime) -> Result<(),
     Ok(())
 }
 
-/// The preferred and the minimum size of partitions, in bytes: 512 and 512; 1024 and 512; 1024 and 1024; 2048 and 1024.
+/// The preferred and the minimum size of partitions, in bytes: 512 and 512; 1024 and 512; 1024 and
+/// 1024; 2048 and 1024.
 const SIZES: [&[u8]; 4] = [
     b"\0\0\0\0\x02\0\0\0\x02\0",
     b"\0\0\0\0\x04\0\0\0\x02\0",

@@ -8,7 +8,8 @@ use std::alloc::{AllocError, Global};
 use std::fmt::Write;
 use std::test::Fail;
 
-/// A host with a file named `file`, and a file named `large`, which is too large for the host's memory.
+/// A host with a file named `file`, and a file named `large`, which is too large for the host's
+/// memory.
 #[derive(Drop)]
 pub struct Memory<'a> {
     pub file: &'a [u8],
@@ -61,8 +62,8 @@ impl<'a> Host for Memory<'a> {
     }
 }
 
-/// Returns what a command prints where `prints` prints succeed, and the text of its fault; the text is empty where
-/// there is no fault.
+/// Returns what a command prints where `prints` prints succeed, and the text of its fault; the text
+/// is empty where there is no fault.
 fn done(
     alloc: Global,
     words: &[&str],

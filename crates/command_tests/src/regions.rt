@@ -52,8 +52,8 @@ const LEAST: &[u8] = b"\0\0\0\0\x02\0\0\0\x02\0";
 /// The script of an application with one block.
 const ONE: &[u8] = b"NewHandle a 3\nPut a 0 \"abc\"\nWaitNextEvent\n";
 
-/// The script of an application with a nonrelocatable block, a locked block, an empty handle, and an empty handle of a
-/// resource.
+/// The script of an application with a nonrelocatable block, a locked block, an empty handle, and
+/// an empty handle of a resource.
 const TWO: &[u8] = b"NewPtr p 4
 PutPtr p 0 \"Hi\"
 NewHandle b 16

@@ -1,5 +1,5 @@
-//! Regions that were used before, and a reader of a zone's bytes, which depends on headers and master pointers alone
-//! and on no store.
+//! Regions that were used before, and a reader of a zone's bytes, which depends on headers and
+//! master pointers alone and on no store.
 
 ghost use Rattle.std.specs.Prelude.{◌≡◌, ◌%◌, ◌≤◌, [], IfOk, length};
 ghost use Rattle.block_store.specs.declared.measures.TheConstants.{GREATEST_ZONE, LEAST_ZONE};
@@ -38,8 +38,8 @@ pub fn image_of(alloc: Global, mut region: Region) -> Result<Vec<u8>, AllocError
     image
 }
 
-/// The content of a header: the size of its block in bytes, the kind of the block, and the place of the block's master
-/// pointer.
+/// The content of a header: the size of its block in bytes, the kind of the block, and the place of
+/// the block's master pointer.
 #[derive(Clone, Copy)]
 struct BlockHeader {
     size: u32,
@@ -65,8 +65,8 @@ fn header_at(image: &[u8], at: u32) -> Result<BlockHeader, Fail> {
     })
 }
 
-/// Reads the master pointers of the block at a place, and asserts that each leads to a block whose header names the
-/// master pointer, or belongs to an empty handle, or is unused.
+/// Reads the master pointers of the block at a place, and asserts that each leads to a block whose
+/// header names the master pointer, or belongs to an empty handle, or is unused.
 fn read_masters(rt: &impl Abort, image: &[u8], at: u32) -> Result<(), Fail> {
     for i in 0..64 {
         let slot = at.wrapping_add(16).wrapping_add(4_u32.wrapping_mul(i));
@@ -94,8 +94,8 @@ fn read_block(rt: &impl Abort, image: &[u8], at: u32, after_free: bool) -> Resul
     Ok(())
 }
 
-/// Reads the bytes of a zone from the bottom to the top, asserts that the headers tile the zone and that master
-/// pointers and blocks name each other, and returns the number of free bytes.
+/// Reads the bytes of a zone from the bottom to the top, asserts that the headers tile the zone and
+/// that master pointers and blocks name each other, and returns the number of free bytes.
 pub fn read_zone(rt: &impl Abort, image: &[u8]) -> Result<u32, Fail> {
     let mut free: u32 = 0;
     let mut at: u32 = 0;

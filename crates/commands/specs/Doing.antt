@@ -37,7 +37,8 @@ Looks task ending p q old new =
 pub data IsUnseen (task : Task) (p q : Option (List ℕ)) (old new : Option (List Access)) (message : Message) : Type 0 where
   Unread : q ≡ p → IsUnread task.path.now old new message → IsUnseen task p q old new message
   Refused : (bytes : List ℕ)
-      → IsRefusal task.work task.path.now bytes p q (and_then old (Read task.path.now bytes ∷ [])) new message → IsUnseen task p q old new message
+      → IsRefusal task.work task.path.now bytes p q (and_then old (Read task.path.now bytes ∷ [])) new message
+      → IsUnseen task p q old new message
 
 -- The form of the fork in the file at a path was printed, or the lines of the folder at it, without reasons.
 abbrev pub ChecksOne
@@ -83,8 +84,8 @@ IsUnchecked survey p q old new message = IsUncheckedFor (lone_path survey) surve
 -- In what follows `h` and `k` are the reports that the watch has heard before and after; they are said of a job.
 
 -- What the request asks for was done: a task or a survey, the faulty lines of texts were printed, a job was run to its end,
--- the zone of one of its applications was printed, a script was run with files, what was made of one file or of two was delivered, what is in a file was
--- written into a folder, the fork that a folder states was written, a fork was printed as source, or the fork that a source
+-- the zone of one of its applications was printed, a script was run with files, what was made of one file or of two was delivered, what is
+-- in a file was written into a folder, the fork that a folder states was written, a fork was printed as source, or the fork that a source
 -- states was written.
 abbrev pub IsDone : Request → Ending → Option (List ℕ) → Option (List ℕ) → Option (List ℕ) → Option (List ℕ)
     → Option (List Access) → Option (List Access) → Type 0

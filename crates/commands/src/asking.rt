@@ -1,8 +1,12 @@
-//! Whether the words of a command line ask for a request: a test of what the parser of the words answers.
+//! Whether the words of a command line ask for a request: a test of what the parser of the words
+//! answers.
 
-ghost use Rattle.std.specs.Prelude.{◌≡◌, ◌≤◌, ◌++◌, ◌∷◌, [], ℕ, List, map, drop, length, option_map, codes, IsTrue};
-ghost use Rattle.commands.specs.Asking.{look_word, print_word, edit_word, write_word, convert_word, combine_word, extract_word, part_word};
-ghost use Rattle.commands.specs.Asking.{command_of, word_into, StandIn, HasValue, IsGiven, HasValues, MayHaveValue, IsKindAsked, Names};
+ghost use Rattle.std.specs.Prelude.{◌≡◌, ◌≤◌, ◌++◌, ◌∷◌, [], ℕ, List, map, drop, length};
+ghost use Rattle.std.specs.Prelude.{option_map, codes, IsTrue};
+ghost use Rattle.commands.specs.Asking.{look_word, print_word, edit_word, write_word, convert_word};
+ghost use Rattle.commands.specs.Asking.{combine_word, extract_word, part_word, command_of};
+ghost use Rattle.commands.specs.Asking.{word_into, StandIn, HasValue, IsGiven, HasValues};
+ghost use Rattle.commands.specs.Asking.{MayHaveValue, IsKindAsked, Names};
 ghost use Rattle.commands.specs.declared.request.Request.TheVariants.{Lint, Print, Assemble};
 ghost use Rattle.commands.specs.Asking.{IsAskedBy, path_in};
 
@@ -132,11 +136,13 @@ fn command_of(request: &Request<'_>) -> Option<&'static str>
     }
 }
 
-/// Returns how many of the texts are found with a further word, of which so many are found before it.
+/// Returns how many of the texts are found with a further word, of which so many are found before
+/// it.
 fn found_with(word: &str, texts: &[&str], found: usize) -> usize
     requires few { found ≤ length texts.now }
     ensures few { result ≤ length texts.entry.now }
-    ensures so_far { (words : List (List ℕ)) → StandIn words (map (λ t. t.now) (drop result texts.entry.now))
+    ensures so_far { (words : List (List ℕ))
+        → StandIn words (map (λ t. t.now) (drop result texts.entry.now))
         → StandIn (word.now ∷ words) (map (λ t. t.now) (drop found texts.entry.now)) }
 {
     if found < texts.len() && word == texts[found] {
@@ -147,7 +153,8 @@ fn found_with(word: &str, texts: &[&str], found: usize) -> usize
 
 /// Reports whether texts are words, in their order.
 pub(crate) fn stand_in(words: &[&str], texts: &[&str]) -> bool
-    ensures { IsTrue result → StandIn (map (λ w. w.now) words.entry.now) (map (λ t. t.now) texts.entry.now) }
+    ensures { IsTrue result
+        → StandIn (map (λ w. w.now) words.entry.now) (map (λ t. t.now) texts.entry.now) }
 {
     let mut found = 0;
     for word in words {
@@ -182,10 +189,12 @@ pub(crate) fn has_value(words: &[&str], option: &str, begin: &str, value: &str) 
     false
 }
 
-/// Reports whether a word gives an option a value, alone or with the word after it; `begin` is the option with `=` after it.
+/// Reports whether a word gives an option a value, alone or with the word after it; `begin` is the
+/// option with `=` after it.
 fn gives(word: &str, rest: &[&str], option: &str, begin: &str, value: &str) -> bool
     requires { begin.now ≡ option.now ++ codes "=" }
-    ensures { IsTrue result → IsGiven option.now value.now word.now (map (λ w. w.now) rest.entry.now) }
+    ensures { IsTrue result
+        → IsGiven option.now value.now word.now (map (λ w. w.now) rest.entry.now) }
 {
     if ends_in(word, begin, value) {
         return true;
@@ -196,7 +205,8 @@ fn gives(word: &str, rest: &[&str], option: &str, begin: &str, value: &str) -> b
     }
 }
 
-/// Returns how many of the values are found with a further word, of which so many are found before it.
+/// Returns how many of the values are found with a further word, of which so many are found before
+/// it.
 fn given_with(
     word: &str,
     rest: &[&str],
@@ -208,8 +218,10 @@ fn given_with(
     requires few { found ≤ length values.now }
     requires begin { begin.now ≡ option.now ++ codes "=" }
     ensures few { result ≤ length values.entry.now }
-    ensures so_far { HasValues (map (λ w. w.now) rest.entry.now) option.now (map (λ v. v.now) (drop result values.entry.now))
-        → HasValues (word.now ∷ map (λ w. w.now) rest.entry.now) option.now (map (λ v. v.now) (drop found values.entry.now)) }
+    ensures so_far { HasValues (map (λ w. w.now) rest.entry.now) option.now
+        (map (λ v. v.now) (drop result values.entry.now))
+        → HasValues (word.now ∷ map (λ w. w.now) rest.entry.now) option.now
+        (map (λ v. v.now) (drop found values.entry.now)) }
 {
     if found < values.len() && gives(word, rest, option, begin, values[found]) {
         return found + 1;
@@ -221,7 +233,8 @@ fn given_with(
 fn has_values(words: &[&str], option: &str, begin: &str, values: &[&str]) -> bool
     requires { begin.now ≡ option.now ++ codes "=" }
     ensures { IsTrue result
-        → HasValues (map (λ w. w.now) words.entry.now) option.now (map (λ v. v.now) values.entry.now) }
+        → HasValues (map (λ w. w.now) words.entry.now) option.now
+        (map (λ v. v.now) values.entry.now) }
 {
     let mut found = 0;
     for i in 0..words.len() {
@@ -233,7 +246,8 @@ fn has_values(words: &[&str], option: &str, begin: &str, values: &[&str]) -> boo
 /// Reports whether an option has a value, if there is one; `begin` is the option with `=` after it.
 fn may_have_value(words: &[&str], option: &str, begin: &str, value: Option<&str>) -> bool
     requires { begin.now ≡ option.now ++ codes "=" }
-    ensures { IsTrue result → MayHaveValue (map (λ w. w.now) words.entry.now) option.now value.entry }
+    ensures { IsTrue result
+        → MayHaveValue (map (λ w. w.now) words.entry.now) option.now value.entry }
 {
     match value {
         Some(value) => has_value(words, option, begin, value),
@@ -253,7 +267,8 @@ fn ask_kind(words: &[&str], asked: Option<TextKind>) -> bool
     }
 }
 
-/// Reports whether words name the paths of the texts whose faulty lines are printed, and what these are read as.
+/// Reports whether words name the paths of the texts whose faulty lines are printed, and what these
+/// are read as.
 fn name_linted(words: &[&str], linting: &Linting<'_>) -> bool
     ensures { IsTrue result → Names (Lint linting.now) (map (λ w. w.now) words.entry.now) }
 {
@@ -279,9 +294,11 @@ fn name_assembled(words: &[&str], assembly: &Assembly<'_>) -> bool
         && stand_in(words, &[assembly.source, assembly.out])
 }
 
-/// Reports whether a path and that of a new file, if what is made goes into one, are words, in this order.
+/// Reports whether a path and that of a new file, if what is made goes into one, are words, in this
+/// order.
 fn stand_with(words: &[&str], path: &str, target: Target<'_>) -> bool
-    ensures { IsTrue result → StandIn (map (λ w. w.now) words.entry.now) (path.now ∷ path_in target.entry) }
+    ensures { IsTrue result
+        → StandIn (map (λ w. w.now) words.entry.now) (path.now ∷ path_in target.entry) }
 {
     match target {
         Target::Printed => stand_in(words, &[path]),
@@ -289,10 +306,12 @@ fn stand_with(words: &[&str], path: &str, target: Target<'_>) -> bool
     }
 }
 
-/// Reports whether two paths and that of a new file, if what is made goes into one, are words, in this order.
+/// Reports whether two paths and that of a new file, if what is made goes into one, are words, in
+/// this order.
 fn both_stand_with(words: &[&str], first: &str, second: &str, target: Target<'_>) -> bool
     ensures { IsTrue result
-        → StandIn (map (λ w. w.now) words.entry.now) (first.now ∷ second.now ∷ path_in target.entry) }
+        → StandIn (map (λ w. w.now) words.entry.now) (first.now ∷ second.now
+        ∷ path_in target.entry) }
 {
     match target {
         Target::Printed => stand_in(words, &[first, second]),

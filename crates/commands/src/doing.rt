@@ -1,9 +1,12 @@
-//! From the words of the command line to what is printed or written: the words name a task, whose file is read and
-//! whose bytes are worked on, a survey of several files, texts whose faulty lines are printed, or a job to be run or shown;
-//! or something is made of one file or of two, what is in a file is written into a folder, a folder is packed into a fork, a
-//! fork is printed as source, or the fork of a source is written. Between the words and the host stand only `job_tasks::do_task`, `fork_tasks::print_survey`,
-//! `fork_tasks::print_folder`, `fork_tasks::print_faults`, `job_tasks::run_job`, `job_tasks::show_in_job`, `fork_tasks::convert`,
-//! `fork_tasks::combine`, `fork_tasks::extract`, `fork_tasks::pack`, `fork_tasks::print_source` and `fork_tasks::assemble`.
+//! From the words of the command line to what is printed or written: the words name a task, whose
+//! file is read and whose bytes are worked on, a survey of several files, texts whose faulty lines
+//! are printed, or a job to be run or shown; or something is made of one file or of two, what is in
+//! a file is written into a folder, a folder is packed into a fork, a fork is printed as source, or
+//! the fork of a source is written. Between the words and the host stand only `job_tasks::do_task`,
+//! `fork_tasks::print_survey`, `fork_tasks::print_folder`, `fork_tasks::print_faults`,
+//! `job_tasks::run_job`, `job_tasks::show_in_job`, `fork_tasks::convert`, `fork_tasks::combine`,
+//! `fork_tasks::extract`, `fork_tasks::pack`, `fork_tasks::print_source` and
+//! `fork_tasks::assemble`.
 
 ghost use Rattle.std.specs.Prelude.{◌≡◌, map, IfErr, IfOk};
 ghost use Rattle.commands.specs.declared.request.Request.{Request};
@@ -13,7 +16,8 @@ ghost use Rattle.fork_tasks.specs.Fault.{message_of, IsQuiet};
 ghost use Rattle.job_tasks.specs.Running.{Runs, IsStopped};
 ghost use Rattle.fork_tasks.specs.Extracting.{Extracts, IsUnextracted};
 ghost use Rattle.fork_tasks.specs.Packing.{Packs, IsUnpacked};
-ghost use Rattle.commands.specs.Doing.{Looks, IsUnseen, ChecksOne, IsOneUnchecked, Checks, IsUnchecked, IsDone, IsUndone, IsNotDone};
+ghost use Rattle.commands.specs.Doing.{Looks, IsUnseen, ChecksOne, IsOneUnchecked, Checks};
+ghost use Rattle.commands.specs.Doing.{IsUnchecked, IsDone, IsUndone, IsNotDone};
 
 use crate::request::Request;
 use crate::words::read_words;
@@ -32,11 +36,12 @@ fn look<H: Host, W: Watch>(
     task: Task<'_>,
     watch: &mut W,
 ) -> Result<Ending, ToolFault>
-    ensures done { IfOk result (λ ending. Looks task.entry ending (H.printed host.old) (H.printed host.new)
-        (H.accesses host.old) (H.accesses host.new)) }
-    ensures undone { IfErr result (λ fault. IsUnseen task.entry (H.printed host.old) (H.printed host.new)
-        (H.accesses host.old) (H.accesses host.new) (message_of fault)) }
-    ensures quiet { IfErr result (λ fault. IsQuiet (H.printed host.old) (H.printed host.new) (message_of fault)) }
+    ensures done { IfOk result (λ ending. Looks task.entry ending (H.printed host.old)
+        (H.printed host.new) (H.accesses host.old) (H.accesses host.new)) }
+    ensures undone { IfErr result (λ fault. IsUnseen task.entry (H.printed host.old)
+        (H.printed host.new) (H.accesses host.old) (H.accesses host.new) (message_of fault)) }
+    ensures quiet { IfErr result (λ fault.
+        IsQuiet (H.printed host.old) (H.printed host.new) (message_of fault)) }
 {
     let bytes = read_input(alloc, host, task.path)?;
     do_task(alloc, host, task, bytes.as_slice(), watch)
@@ -49,12 +54,15 @@ fn run<H: Host, W: Watch>(
     errand: &Errand<'_>,
     watch: &mut W,
 ) -> Result<Ending, ToolFault>
-    ensures done { IfOk result (λ ending. (ending ≡ Done) × (H.printed host.new ≡ H.printed host.old)
-        × Runs errand.now (W.heard watch.old) (W.heard watch.new) (H.accesses host.old) (H.accesses host.new)) }
+    ensures done { IfOk result (λ ending. (ending ≡ Done)
+        × (H.printed host.new ≡ H.printed host.old)
+        × Runs errand.now (W.heard watch.old) (W.heard watch.new) (H.accesses host.old)
+        (H.accesses host.new)) }
     ensures undone { IfErr result (λ fault. (H.printed host.new ≡ H.printed host.old)
         × IsStopped errand.now (W.heard watch.old) (W.heard watch.new)
         (H.accesses host.old) (H.accesses host.new) (message_of fault)) }
-    ensures quiet { IfErr result (λ fault. IsQuiet (H.printed host.old) (H.printed host.new) (message_of fault)) }
+    ensures quiet { IfErr result (λ fault.
+        IsQuiet (H.printed host.old) (H.printed host.new) (message_of fault)) }
 {
     run_job(alloc, host, errand, watch)?;
     Ok(Ending::Done)
@@ -66,11 +74,14 @@ fn write_resources<H: Host>(
     host: &mut H,
     extraction: Extraction<'_>,
 ) -> Result<Ending, ToolFault>
-    ensures done { IfOk result (λ ending. (ending ≡ Done) × (H.printed host.new ≡ H.printed host.old)
+    ensures done { IfOk result (λ ending. (ending ≡ Done)
+        × (H.printed host.new ≡ H.printed host.old)
         × Extracts extraction.entry (H.accesses host.old) (H.accesses host.new)) }
     ensures undone { IfErr result (λ fault. (H.printed host.new ≡ H.printed host.old)
-        × IsUnextracted extraction.entry (H.accesses host.old) (H.accesses host.new) (message_of fault)) }
-    ensures quiet { IfErr result (λ fault. IsQuiet (H.printed host.old) (H.printed host.new) (message_of fault)) }
+        × IsUnextracted extraction.entry (H.accesses host.old) (H.accesses host.new)
+        (message_of fault)) }
+    ensures quiet { IfErr result (λ fault.
+        IsQuiet (H.printed host.old) (H.printed host.new) (message_of fault)) }
 {
     extract(alloc, host, extraction)?;
     Ok(Ending::Done)
@@ -82,28 +93,32 @@ fn write_packed<H: Host>(
     host: &mut H,
     packing: Packing<'_>,
 ) -> Result<Ending, ToolFault>
-    ensures done { IfOk result (λ ending. (ending ≡ Done) × (H.printed host.new ≡ H.printed host.old)
+    ensures done { IfOk result (λ ending. (ending ≡ Done)
+        × (H.printed host.new ≡ H.printed host.old)
         × Packs packing.entry (H.accesses host.old) (H.accesses host.new)) }
     ensures undone { IfErr result (λ fault. (H.printed host.new ≡ H.printed host.old)
         × IsUnpacked packing.entry (H.accesses host.old) (H.accesses host.new) (message_of fault)) }
-    ensures quiet { IfErr result (λ fault. IsQuiet (H.printed host.old) (H.printed host.new) (message_of fault)) }
+    ensures quiet { IfErr result (λ fault.
+        IsQuiet (H.printed host.old) (H.printed host.new) (message_of fault)) }
 {
     pack(alloc, host, packing)?;
     Ok(Ending::Done)
 }
 
-/// Prints the form of the fork in the file at a path, or the state of the files below the folder at it.
+/// Prints the form of the fork in the file at a path, or the state of the files below the folder at
+/// it.
 fn check_one<H: Host, W: Watch>(
     alloc: Global,
     host: &mut H,
     path: &str,
     watch: &mut W,
 ) -> Result<Ending, ToolFault>
-    ensures done { IfOk result (λ ending. ChecksOne path.now ending (H.printed host.old) (H.printed host.new)
-        (H.accesses host.old) (H.accesses host.new)) }
-    ensures undone { IfErr result (λ fault. IsOneUnchecked path.now (H.printed host.old) (H.printed host.new)
-        (H.accesses host.old) (H.accesses host.new) (message_of fault)) }
-    ensures quiet { IfErr result (λ fault. IsQuiet (H.printed host.old) (H.printed host.new) (message_of fault)) }
+    ensures done { IfOk result (λ ending. ChecksOne path.now ending (H.printed host.old)
+        (H.printed host.new) (H.accesses host.old) (H.accesses host.new)) }
+    ensures undone { IfErr result (λ fault. IsOneUnchecked path.now (H.printed host.old)
+        (H.printed host.new) (H.accesses host.old) (H.accesses host.new) (message_of fault)) }
+    ensures quiet { IfErr result (λ fault.
+        IsQuiet (H.printed host.old) (H.printed host.new) (message_of fault)) }
 {
     if host.is_folder(path) {
         return print_folder(alloc, host, path);
@@ -116,18 +131,20 @@ fn check_one<H: Host, W: Watch>(
     look(alloc, host, task, watch)
 }
 
-/// Prints the form of the fork in the one file that is given, or else the state of the files of a survey.
+/// Prints the form of the fork in the one file that is given, or else the state of the files of a
+/// survey.
 fn check<H: Host, W: Watch>(
     alloc: Global,
     host: &mut H,
     survey: &Survey<'_>,
     watch: &mut W,
 ) -> Result<Ending, ToolFault>
-    ensures done { IfOk result (λ ending. Checks survey.now ending (H.printed host.old) (H.printed host.new)
-        (H.accesses host.old) (H.accesses host.new)) }
-    ensures undone { IfErr result (λ fault. IsUnchecked survey.now (H.printed host.old) (H.printed host.new)
-        (H.accesses host.old) (H.accesses host.new) (message_of fault)) }
-    ensures quiet { IfErr result (λ fault. IsQuiet (H.printed host.old) (H.printed host.new) (message_of fault)) }
+    ensures done { IfOk result (λ ending. Checks survey.now ending (H.printed host.old)
+        (H.printed host.new) (H.accesses host.old) (H.accesses host.new)) }
+    ensures undone { IfErr result (λ fault. IsUnchecked survey.now (H.printed host.old)
+        (H.printed host.new) (H.accesses host.old) (H.accesses host.new) (message_of fault)) }
+    ensures quiet { IfErr result (λ fault.
+        IsQuiet (H.printed host.old) (H.printed host.new) (message_of fault)) }
 {
     match survey.lone_path() {
         Some(path) => check_one(alloc, host, path, watch),
@@ -142,11 +159,14 @@ fn perform<H: Host, W: Watch>(
     request: Request<'_>,
     watch: &mut W,
 ) -> Result<Ending, ToolFault>
-    ensures done { IfOk result (λ ending. IsDone request.entry ending (W.heard watch.old) (W.heard watch.new)
+    ensures done { IfOk result (λ ending.
+        IsDone request.entry ending (W.heard watch.old) (W.heard watch.new)
         (H.printed host.old) (H.printed host.new) (H.accesses host.old) (H.accesses host.new)) }
-    ensures undone { IfErr result (λ fault. IsUndone request.entry (W.heard watch.old) (W.heard watch.new)
-        (H.printed host.old) (H.printed host.new) (H.accesses host.old) (H.accesses host.new) (message_of fault)) }
-    ensures quiet { IfErr result (λ fault. IsQuiet (H.printed host.old) (H.printed host.new) (message_of fault)) }
+    ensures undone { IfErr result (λ fault.
+        IsUndone request.entry (W.heard watch.old) (W.heard watch.new) (H.printed host.old)
+        (H.printed host.new) (H.accesses host.old) (H.accesses host.new) (message_of fault)) }
+    ensures quiet { IfErr result (λ fault.
+        IsQuiet (H.printed host.old) (H.printed host.new) (message_of fault)) }
 {
     match request {
         Request::Look(task) => look(alloc, host, task, watch),
@@ -164,27 +184,33 @@ fn perform<H: Host, W: Watch>(
     }
 }
 
-/// Performs the request that the words of the command line make; the first word is the program's name. All input is read before
-/// anything is printed or written, and existing files are only read. The progress of a script or of a job is reported to
-/// the watch if the words say so.
+/// Performs the request that the words of the command line make; the first word is the program's
+/// name. All input is read before anything is printed or written, and existing files are only read.
+/// The progress of a script or of a job is reported to the watch if the words say so.
 pub fn tool<H: Host, W: Watch>(
     alloc: Global,
     words: &[&str],
     host: &mut H,
     watch: &mut W,
 ) -> Result<Ending, ToolFault>
-    // What the words ask for is done: a file is read and all that the request prints of the bytes is printed, or a job is
-    // run and what the job leaves is written, or the zone of one of its applications printed.
-    ensures done { IfOk result (λ ending. (request : Request) × IsAskedBy (map (λ word. word.now) words.entry.now) request
+    // What the words ask for is done: a file is read and all that the request prints of the bytes
+    // is printed, or a job is run and what the job leaves is written, or the zone of one of its
+    // applications printed.
+    ensures done { IfOk result (λ ending. (request : Request)
+        × IsAskedBy (map (λ word. word.now) words.entry.now) request
         × IsDone request ending (W.heard watch.old) (W.heard watch.new)
         (H.printed host.old) (H.printed host.new) (H.accesses host.old) (H.accesses host.new)) }
 
-    // The words make no request, and nothing is done; or what they ask for is done up to the first fault.
+    // The words make no request, and nothing is done; or what they ask for is done up to the first
+    // fault.
     ensures undone { IfErr result (λ fault. IsNotDone (map (λ word. word.now) words.entry.now)
-        (W.heard watch.old) (W.heard watch.new) (H.printed host.old) (H.printed host.new) (H.accesses host.old) (H.accesses host.new) (message_of fault)) }
+        (W.heard watch.old) (W.heard watch.new) (H.printed host.old) (H.printed host.new)
+        (H.accesses host.old) (H.accesses host.new) (message_of fault)) }
 
-    // Nothing is printed if the words make no request, the file can't be read, or its bytes are faulty.
-    ensures quiet { IfErr result (λ fault. IsQuiet (H.printed host.old) (H.printed host.new) (message_of fault)) }
+    // Nothing is printed if the words make no request, the file can't be read, or its bytes are
+    // faulty.
+    ensures quiet { IfErr result (λ fault.
+        IsQuiet (H.printed host.old) (H.printed host.new) (message_of fault)) }
 {
     let request = read_words(alloc, words)?;
     perform(alloc, host, request, watch)

@@ -209,8 +209,8 @@ fn hex_digits(text: &str) -> Option<&str> {
     }
 }
 
-/// Reads an address: in hexadecimal after `0x` or `$`, else in decimal. See decision 198 (a number of the command line may have
-/// zeros and a sign).
+/// Reads an address: in hexadecimal after `0x` or `$`, else in decimal. See decision 198 (a number
+/// of the command line may have zeros and a sign).
 fn address_of(text: &str) -> Option<u32> {
     match hex_digits(text) {
         Some(digits) => u32::from_str_radix(digits, 16).ok(),

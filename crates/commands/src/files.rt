@@ -28,8 +28,8 @@ impl<'r, R> HostFiles<'r, R> {
     }
 }
 
-/// Reads a file into memory taken for the file's length. Refuses a file that is known to be too long. One byte more is
-/// taken, so that the read which finds the file's end needs no more memory.
+/// Reads a file into memory taken for the file's length. Refuses a file that is known to be too
+/// long. One byte more is taken, so that the read which finds the file's end needs no more memory.
 fn read_file<F: OpenFile + Read>(alloc: Global, file: &mut F) -> Result<Vec<u8>, ReadError> {
     match file.metadata() {
         Ok(about) if about.len() <= MOST as u64 => {
@@ -68,7 +68,8 @@ fn paths_in<R: Files + AllocGlobal + Clone + Drop>(
     Ok(paths)
 }
 
-/// Reports whether a folder lies at a path that was found in a folder; a link is not followed, so that no folder is found twice.
+/// Reports whether a folder lies at a path that was found in a folder; a link is not followed, so
+/// that no folder is found twice.
 fn is_folder_found<R: Files>(rt: &R, path: &str) -> bool {
     match fs::symlink_metadata(rt, path) {
         Ok(about) => about.is_dir(),
@@ -79,8 +80,9 @@ fn is_folder_found<R: Files>(rt: &R, path: &str) -> bool {
 /// The greatest number of files and folders below a folder that is listed.
 const MOST_PATHS: u32 = 1_000_000_000;
 
-/// Returns the paths of all files below a folder, in the order of their names. What is left to look at is taken from the end, and
-/// what lies in a folder is put there. A folder that can't be listed stands among the files.
+/// Returns the paths of all files below a folder, in the order of their names. What is left to look
+/// at is taken from the end, and what lies in a folder is put there. A folder that can't be listed
+/// stands among the files.
 fn files_below<R: Files + AllocGlobal + Clone + Drop>(
     rt: &R,
     alloc: Global,
@@ -139,8 +141,8 @@ impl<'r, R: Files + Input + Print + AllocGlobal + Clone + Drop> Host for HostFil
 
     ghost accesses = { λ _. None };
 
-    /// Reads pipes and devices like files. The standard input is read as it is open, since a host need not let it be
-    /// opened by its path.
+    /// Reads pipes and devices like files. The standard input is read as it is open, since a host
+    /// need not let it be opened by its path.
     fn read(&mut self, alloc: Global, path: &str) -> Result<Vec<u8>, ReadError> {
         if path == STANDARD_INPUT {
             return read_all(alloc, &mut self.rt.reader(), 0, MOST);

@@ -478,7 +478,8 @@ pub fn key_in(
     }
 }
 
-/// Returns how a fork is written: alone where the flag is given, else in the wrapper of the file that it was read from.
+/// Returns how a fork is written: alone where the flag is given, else in the wrapper of the file
+/// that it was read from.
 fn packaging_in(matches: &ArgMatches<'_>) -> Packaging {
     if matches.get_flag(BARE) {
         Packaging::Bare
@@ -666,7 +667,8 @@ fn new_id_in(alloc: Global, matches: &ArgMatches<'_>) -> Result<Option<i16>, Too
     }
 }
 
-/// Returns the name that a resource gets by the options of a command, no name, or none where it keeps its own.
+/// Returns the name that a resource gets by the options of a command, no name, or none where it
+/// keeps its own.
 fn new_name_in(
     alloc: Global,
     matches: &ArgMatches<'_>,
@@ -753,7 +755,8 @@ fn with_wrapper_commands<'a>(
     with_commands(alloc, command, &WRAPPER_COMMANDS)
 }
 
-/// Returns a command with those that make something of forks, in the order in which the help of the program has them.
+/// Returns a command with those that make something of forks, in the order in which the help of the
+/// program has them.
 pub fn with_fork_commands<'a>(
     alloc: Global,
     command: Command<'a>,

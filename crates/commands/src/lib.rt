@@ -1,4 +1,5 @@
-//! The command line: its words, the request that they make, and how the request is done with a host.
+//! The command line: its words, the request that they make, and how the request is done with a
+//! host.
 #![tactic(auto)]
 
 mod asking;

@@ -197,7 +197,8 @@ pub fn usage(alloc: Global, error: &Error) -> ToolFault
     }
 }
 
-/// Returns the fault of a mistake that the parser doesn't find, in the form of the parser's own errors.
+/// Returns the fault of a mistake that the parser doesn't find, in the form of the parser's own
+/// errors.
 pub fn mistake(alloc: Global, command: Command<'_>, message: &str) -> ToolFault
     ensures { IsUsage (message_of result) }
 {

@@ -1,7 +1,8 @@
 //! Whether the words of a command line ask for a script that is run with files.
 
 ghost use Rattle.std.specs.Prelude.{◌≡◌, ◌++◌, ◌∷◌, [], map, codes, IsTrue};
-ghost use Rattle.commands.specs.Asking.{StandIn, HasValue, told_word, play_word, IsPart, AreParts, IsPlayFolder};
+ghost use Rattle.commands.specs.Asking.{StandIn, HasValue, told_word, play_word, IsPart, AreParts};
+ghost use Rattle.commands.specs.Asking.{IsPlayFolder};
 ghost use Rattle.job_tasks.specs.Loading.{part_seen};
 ghost use Rattle.job_tasks.specs.Playing.{parts_of};
 
@@ -52,7 +53,8 @@ fn is_named(bytes: &[u8], name: &[u8], path: &[u8]) -> bool
 
 /// Reports whether another file of the application is given by the value of its option.
 fn is_other(words: &[&str], word: &str, name: &[u8], path: &str) -> bool
-    ensures { IsTrue result → HasValue (map (λ w. w.now) words.entry.now) (codes "--file") (name.now ++ codes "=" ++ path.now) }
+    ensures { IsTrue result → HasValue (map (λ w. w.now) words.entry.now) (codes "--file") (name.now
+        ++ codes "=" ++ path.now) }
 {
     is_named(word.as_bytes(), name, path.as_bytes()) && has_value(words, "--file", "--file=", word)
 }
@@ -70,7 +72,8 @@ fn is_part(words: &[&str], part: &AppFork<'_>) -> bool
 
 /// Reports whether each file is given by the value of its option.
 fn are_parts(words: &[&str], parts: &[AppFork<'_>]) -> bool
-    ensures { IsTrue result → AreParts (map (λ w. w.now) words.entry.now) (map part_seen parts.now) }
+    ensures { IsTrue result
+        → AreParts (map (λ w. w.now) words.entry.now) (map part_seen parts.now) }
 {
     for part in parts {
         if !is_part(words, part) {

@@ -112,7 +112,8 @@ fn others_in<'a>(
     Ok(Ok(parts))
 }
 
-/// Returns what the words after `script` ask for; `in_words` is whether they ask for a transcript in words.
+/// Returns what the words after `script` ask for; `in_words` is whether they ask for a transcript
+/// in words.
 pub fn script_work<'a>(matches: &ArgMatches<'a>, in_words: bool) -> PlayWork<'a> {
     match matches.get_str(WRITE) {
         Some(folder) => PlayWork::Leavings(folder),

@@ -293,7 +293,8 @@ const CHECK: Spoken = Spoken {
     words: &[Word::Flag(WHY, WHY_HELP), Word::Several("FORK", FORKS_HELP)],
 };
 
-/// The commands that read forks and print what is in them, in the order in which the help of the program has them.
+/// The commands that read forks and print what is in them, in the order in which the help of the
+/// program has them.
 const READING_COMMANDS: [Spoken; 2] = [MAP, CHECK];
 
 /// Returns a command with those that run calls.
@@ -476,10 +477,11 @@ fn parsed<'a>(alloc: Global, words: &'a [&'a str]) -> Result<Request<'a>, ToolFa
 /// The mistake of a request for which the words don't ask; the parser finds none.
 const NOT_ASKED: &str = "the words don't ask for this";
 
-/// Reads the words of the command line, the program's name first. The request that the parser finds is tested: a
-/// request for which the words don't ask is none.
+/// Reads the words of the command line, the program's name first. The request that the parser finds
+/// is tested: a request for which the words don't ask is none.
 pub fn read_words<'a>(alloc: Global, words: &'a [&'a str]) -> Result<Request<'a>, ToolFault>
-    ensures asked { IfOk result (λ request. IsAskedBy (map (λ word. word.now) words.entry.now) request) }
+    ensures asked { IfOk result (λ request.
+        IsAskedBy (map (λ word. word.now) words.entry.now) request) }
     ensures fault { IfErr result (λ fault. IsUsage (message_of fault)) }
 {
     let request = parsed(alloc, words)?;

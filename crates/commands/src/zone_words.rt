@@ -12,10 +12,10 @@ use clap::{ArgGroup, ArgMatches, Command};
 use fork_tasks::ToolFault;
 use heap_view::Part;
 use job_tasks::{
-    JobZone, Lines, PartitionSize, PlayWork, Playing, Task, ToldLines, Work, ZoneView,
+    JobZone, Lines, PartitionSize, PlayWork, Playing, Task, ToldLines, Work, ZoneForm, ZoneView,
 };
 use std::alloc::{AllocError, Global};
-use zone_view::{Form, Strips};
+use zone_view::Strips;
 
 const HEAP_ABOUT: &str = "Runs a script up to a line and prints the blocks of its zone";
 
@@ -244,19 +244,20 @@ fn part_in(alloc: Global, matches: &ArgMatches<'_>) -> Result<Part, ToolFault>
 }
 
 /// Returns the form in which the zone is shown.
-fn form_in(alloc: Global, matches: &ArgMatches<'_>) -> Result<Form, ToolFault>
+fn form_in(alloc: Global, matches: &ArgMatches<'_>) -> Result<ZoneForm, ToolFault>
     ensures { IfErr result (λ fault. IsUsage (message_of fault)) }
 {
     if matches.get_flag(SVG) {
-        Ok(Form::Picture(part_in(alloc, matches)?))
+        Ok(ZoneForm::Picture(part_in(alloc, matches)?))
     } else if matches.get_flag(PLAIN) {
-        Ok(Form::Tabs)
+        Ok(ZoneForm::Tabs)
     } else {
-        Ok(Form::Columns)
+        Ok(ZoneForm::Columns)
     }
 }
 
-/// Reads the number of a line. See decision 198 (a number of the command line may have zeros and a sign).
+/// Reads the number of a line. See decision 198 (a number of the command line may have zeros and a
+/// sign).
 fn line_number(text: &str) -> Option<usize> {
     text.parse::<usize>().ok()
 }

@@ -26,7 +26,8 @@ use Rattle.desk.specs.Phase.{Live, Phase, Waiting, Running, Ended, Next, GoesOn,
 use Rattle.desk.specs.Phase.{called, run_out, step_of, stepped, quitted, and_then, turn_through, acted, acted_by, come_by, told_of}
 use Rattle.partitions.specs.Grant.{grant}
 use Rattle.desk.specs.Sizes.{sizes_asked}
-use Rattle.desk.specs.Desk.{Place, State, coming, place_come, ready, begun_in, begun_if, launch_answer, acted_at, after_event, after_events, told}
+use Rattle.desk.specs.Desk.{Place, State, coming, place_come, ready, begun_in, begun_if, launch_answer, acted_at, after_event, after_events}
+use Rattle.desk.specs.Desk.{told}
 use Rattle.desk.specs.Job.{place_given, opening, start_of}
 use Rattle.desk.specs.Alone.{launched_alone, RunsAsAlone, LeftAsAlone, IsAsAlone, IsPlaceOf}
 use Rattle.desk.specs.Halting.{HaltsAfter}

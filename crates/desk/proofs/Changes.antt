@@ -22,7 +22,8 @@ use Rattle.desk.specs.Ready.{IsReady}
 use Rattle.desk.specs.Desk.{Place, State}
 use Rattle.desk.specs.Free.{IsFree}
 use Rattle.desk.proofs.Holding.{contains-put_in}
-use Rattle.desk.specs.Desk.{launch_reply, reply_at, size_granted, begun_in, begun_with, begun_if, ready, launched_by, launched_in, launched_at}
+use Rattle.desk.specs.Desk.{launch_reply, reply_at, size_granted, begun_in, begun_with, begun_if, ready, launched_by, launched_in}
+use Rattle.desk.specs.Desk.{launched_at}
 
 -- a state by its parts
 stands : (s : State) (m : ℕ) (ws : List Window) (ps : List Place) (text : List ℕ) → m ≡ s.memory → ws ≡ s.windows
@@ -46,7 +47,8 @@ module _ (i : ℕ) (s : State) (p : Place) (here : slice_get s.places i ≡ Some
       ∙ sym (ap (λ o. launched_in i o s) here ∙ ap (λ r. launched_by (begun_if p.size r s) i p s) e)
 
   pub answered : (r : Resources) (sizes : Sizes) (o : Option Window) → ready p.phase ≡ Ok r
-      → sizes ≡ sizes_asked p.size r → o ≡ grant s.memory s.windows sizes.preferred sizes.minimum → launched_at i s ≡ launched_by (begun_in r o) i p s
+      → sizes ≡ sizes_asked p.size r → o ≡ grant s.memory s.windows sizes.preferred sizes.minimum
+      → launched_at i s ≡ launched_by (begun_in r o) i p s
   answered r sizes o e hs ho =
       ap (λ q. launched_in i q s) here ∙ ap (λ q. launched_by (begun_if p.size q s) i p s) e
       ∙ ap (λ (z : Sizes). launched_by (begun_with r z s) i p s) (sym hs)
@@ -90,7 +92,8 @@ module _ (i : ℕ) (s : State) (p : Place) (here : slice_get s.places i ≡ Some
   replied-refused code e = sym (ap (λ o. launch_reply o s) here ∙ ap (λ r. size_granted (begun_if p.size r s)) e)
 
   pub replied-begun : (r : Resources) (sizes : Sizes) (o : Option Window) → ready p.phase ≡ Ok r
-      → sizes ≡ sizes_asked p.size r → o ≡ grant s.memory s.windows sizes.preferred sizes.minimum → size_granted (begun_in r o) ≡ reply_at i s
+      → sizes ≡ sizes_asked p.size r → o ≡ grant s.memory s.windows sizes.preferred sizes.minimum
+      → size_granted (begun_in r o) ≡ reply_at i s
   replied-begun r sizes o e hs ho =
       sym (ap (λ q. launch_reply q s) here ∙ ap (λ q. size_granted (begun_if p.size q s)) e
       ∙ ap (λ (z : Sizes). size_granted (begun_with r z s)) (sym hs)

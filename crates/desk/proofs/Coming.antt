@@ -109,7 +109,8 @@ live_there w n text r = record { window = w; steps = n; transcript = text; state
 module _ (w : Window) (n : ℕ) (text new : List ℕ) (r after : application.Running) (s : Course) (exit : Option Exit)
     (told : exit ≡ exit_of s) (came : Came s text new after) where
   comes : (over : Bool) → s.over ≡ over
-      → called (course_elsewhere nowhere s) (live_there w n text r) ≡ cond over (ends false (ended_by s) (live_there w (n + 1) new after)) (GoesOn (live_there w (n + 1) new after))
+      → called (course_elsewhere nowhere s) (live_there w n text r)
+      ≡ cond over (ends false (ended_by s) (live_there w (n + 1) new after)) (GoesOn (live_there w (n + 1) new after))
   comes over is =
       let told : text ++ lines_told s.lines ≡ new = sym came.0 in
       let left : s.after ≡ after = sym came.1 in
@@ -122,7 +123,8 @@ module _ (w : Window) (n : ℕ) (text new : List ℕ) (r after : application.Run
   goes-on none = comes false (no-end s (sym told ∙ none))
 
   ends-so : (e : Exit) → exit ≡ Some e
-      → called (course_elsewhere nowhere s) (live_there w n text r) ≡ ends false (end_by (Some e) (moved nowhere after)) (live_there w (n + 1) new after)
+      → called (course_elsewhere nowhere s) (live_there w n text r)
+      ≡ ends false (end_by (Some e) (moved nowhere after)) (live_there w (n + 1) new after)
   ends-so e some =
       let is : exit_of s ≡ Some e = sym told ∙ some in
       comes true (an-end s e is)

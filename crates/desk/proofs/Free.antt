@@ -78,8 +78,10 @@ module _ {Z : Type 0} (byte : Z → ℕ → Option ℕ) (first now next : Z) whe
         let count : i + 1 + k ≡ i + suc k = omega arith in
         let h = so place (suc k) (subst (λ (n : ℕ). StaysFree place (take n events) all) count f) in
         let more = free-more place k events i e s less h.0 in
-        let rest = subst (λ (q : State). StaysFree place (take k (drop (i + 1) events)) q) (sym is) more.1 in
-        (rest, (step place more.0 (free-first place (take k (drop (i + 1) events)) (after_event (slice_index_or events i e) s) more.1)).1 ∙ h.1)
+        let rest = subst (λ (q : State). StaysFree place (take k (drop (i + 1) events)) q) (sym is) more.1 in (
+          rest,
+          (step place more.0 (free-first place (take k (drop (i + 1) events)) (after_event (slice_index_or events i e) s) more.1)).1 ∙ h.1,
+        )
 
     -- the run stops within an event
     pub halt-out : (place : ℕ) → StaysFree place (take (suc i) events) all

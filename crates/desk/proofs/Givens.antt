@@ -97,7 +97,8 @@ of-number P system (a ∷ apps) [] i app t given here so = absurd so
 started-launched : (P : Law) (start : Result Resources OsErr) (script : ScriptParts) (t : AppResult) (l : Launched)
     → t.launched ≡ Some l → OfLaunched P start script t → (resources : Resources) × (start ≡ Ok resources)
 started-launched P start script t l is so =
-    let of = subst (λ (o : Option Launched). IfSome o (λ l. (resources : Resources) × (start ≡ Ok resources) × P resources script l)) is so in
+    let of =
+    subst (λ (o : Option Launched). IfSome o (λ l. (resources : Resources) × (start ≡ Ok resources) × P resources script l)) is so in
     (of.0, of.1)
 
 pub has_started : (P : Law) (system : Result Content OsErr) (apps : List App) (told : List AppResult) (i : ℕ) (app : App)

@@ -1,7 +1,8 @@
 //! The desk: several applications in one memory.
 
-ghost use Rattle.std.specs.Prelude.{◌≡◌, ℕ, ◌≤◌, ◌<◌, ◌%◌, ◌+◌, List, [], length, map, Option, None, option_map, IsTrue};
-ghost use Rattle.std.specs.Prelude.{Err, false, is_ok, IfOk, IsOk, OnOk, OnErr, IfErr, IfSome, slice_get, vec_len, vec_capacity};
+ghost use Rattle.std.specs.Prelude.{◌≡◌, ℕ, ◌≤◌, ◌<◌, ◌%◌, ◌+◌, List, [], length, map, Option};
+ghost use Rattle.std.specs.Prelude.{None, option_map, IsTrue, Err, false, is_ok, IfOk, IsOk, OnOk};
+ghost use Rattle.std.specs.Prelude.{OnErr, IfErr, IfSome, slice_get, vec_len, vec_capacity};
 ghost use Rattle.std.specs.List.{list_all, Contains};
 ghost use Rattle.windows.specs.declared.Window.{Window as Stretch};
 ghost use Rattle.windows.specs.declared.list.TheConstants.{MOST_WINDOWS};
@@ -57,7 +58,8 @@ pub struct Desk<'j, Z: ZoneMaker> {
     zones: Z,
     grants: Grants,
     seats: Vec<Seat<'j, Z::Store>>,
-    /// The list in which `finish` gathers what each application leaves. Its memory is taken when the desk is made.
+    /// The list in which `finish` gathers what each application leaves. Its memory is taken when
+    /// the desk is made.
     outcome: Vec<AppOutcome>,
     log: Vec<u8>,
 }
@@ -79,15 +81,16 @@ impl<'j, Z: ZoneMaker> Model for Desk<'j, Z> {
       zones = d.zones;
     } };
 
-    ghost invariant = { λ d. AreHoused (Z.made d.zones) (Z.windows d.zones) d.grants.windows (seen d.seats.items)
-        (lots d.seats.items)
+    ghost invariant = { λ d. AreHoused (Z.made d.zones) (Z.windows d.zones) d.grants.windows
+        (seen d.seats.items) (lots d.seats.items)
         × (Z.memory d.zones ≡ d.grants.memory)
-        × (vec_len d.outcome ≡ 0) × (vec_len d.seats ≤ vec_capacity d.outcome) × (vec_len d.seats ≤ 64) };
+        × (vec_len d.outcome ≡ 0) × (vec_len d.seats ≤ vec_capacity d.outcome)
+        × (vec_len d.seats ≤ 64) };
 }
 
 impl<'j, Z: ZoneMaker> Desk<'j, Z> {
-    /// Makes a desk of a memory of `memory` bytes, at which every application waits for its launch. Returns the maker
-    /// of zones in an `Err` if the host is out of memory.
+    /// Makes a desk of a memory of `memory` bytes, at which every application waits for its launch.
+    /// Returns the maker of zones in an `Err` if the host is out of memory.
     pub fn new(
         alloc: Global,
         memory: u32,
@@ -99,7 +102,8 @@ impl<'j, Z: ZoneMaker> Desk<'j, Z> {
         requires memory { Z.memory zones ≡ memory }
         requires multiple { memory % 16 ≡ 0 }
         requires few { length apps.now ≤ 64 }
-        requires types { IsTrue (are_distinct (map (λ (g : GroupValue). g.kind) (view system.now).groups)) }
+        requires types { IsTrue
+            (are_distinct (map (λ (g : GroupValue). g.kind) (view system.now).groups)) }
         requires references { IsTrue (list_all has_refs (view system.now).groups) }
         ensures ok { IfOk result (λ desk. desk.state ≡ opening memory (view system.now) apps.now) }
         ensures zones { IfOk result (λ desk. desk.zones ≡ zones) }
@@ -124,23 +128,24 @@ impl<'j, Z: ZoneMaker> Desk<'j, Z> {
         }
     }
 
-    /// Launches application `i`, and returns the size of the partition that it was granted; the log says that the
-    /// application was launched, or why it was not.
+    /// Launches application `i`, and returns the size of the partition that it was granted; the log
+    /// says that the application was launched, or why it was not.
     ///
     /// *Inside Macintosh: Processes*, chapter 2, "Launching Applications".
     ///
     /// # Errors
     ///
-    /// The launch is refused: -30001 (profileErr) if the application runs or has ended already, or if there is no
-    /// application of that number; -39 (eofErr) or -199 (mapReadErr) if its fork can't be opened; -108 (memFullErr) if
-    /// there is no room. Or the host is out of memory: the application still waits, and the log is as it was; after this
-    /// the desk can only be finished.
+    /// The launch is refused: -30001 (profileErr) if the application runs or has ended already, or
+    /// if there is no application of that number; -39 (eofErr) or -199 (mapReadErr) if its fork
+    /// can't be opened; -108 (memFullErr) if there is no room. Or the host is out of memory: the
+    /// application still waits, and the log is as it was; after this the desk can only be finished.
     pub fn launch(&mut self, i: usize) -> Result<u32, Refusal>
         ensures answer { IsReply (reply_at i self.old.state) result }
         ensures state { UnlessHostMemory result (self.new.state ≡ launched_at i self.old.state) }
         ensures host { result ≡ Err Refusal.HostMemory → self.new.state ≡ self.old.state }
         ensures memory { self.new.state.memory ≡ self.old.state.memory }
-        ensures kept { (w : Stretch) (site : Site) → Z.made self.old.zones w site → Z.made self.new.zones w site }
+        ensures kept { (w : Stretch) (site : Site) → Z.made self.old.zones w site
+            → Z.made self.new.zones w site }
         ensures outside { (place : ℕ) → IsFree place (launched_at i self.old.state)
             → Z.byte self.new.zones place ≡ Z.byte self.old.zones place }
     {
@@ -151,13 +156,15 @@ impl<'j, Z: ZoneMaker> Desk<'j, Z> {
         }
     }
 
-    /// Launches application `i`. Returns the size of its partition, or the result code for which the launch is refused.
+    /// Launches application `i`. Returns the size of its partition, or the result code for which
+    /// the launch is refused.
     pub(crate) fn try_launch(&mut self, i: usize) -> Result<Result<u32, OsErr>, AllocError>
         ensures answer { IfOk result (λ reply. reply ≡ reply_at i self.old.state) }
         ensures ok { OnOk result (self.new.state ≡ launched_at i self.old.state) }
         ensures host { OnErr result (self.new.state ≡ self.old.state) }
         ensures memory { self.new.state.memory ≡ self.old.state.memory }
-        ensures kept { (w : Stretch) (site : Site) → Z.made self.old.zones w site → Z.made self.new.zones w site }
+        ensures kept { (w : Stretch) (site : Site) → Z.made self.old.zones w site
+            → Z.made self.new.zones w site }
         ensures outside { (place : ℕ) → IsFree place (launched_at i self.old.state)
             → Z.byte self.new.zones place ≡ Z.byte self.old.zones place }
     {
@@ -186,71 +193,84 @@ impl<'j, Z: ZoneMaker> Desk<'j, Z> {
         once_written(write_app_launch(&mut self.log, &app.name, size), Ok(size))
     }
 
-    /// Takes the next step of application `i`, if there is an application of that number and it runs: its next call,
-    /// or a quit if it has no call left.
+    /// Takes the next step of application `i`, if there is an application of that number and it
+    /// runs: its next call, or a quit if it has no call left.
     ///
     /// # Errors
     ///
-    /// The host is out of memory: the log, and what each application leaves, are as after the last step that was completed.
-    /// After this the desk can only be finished.
+    /// The host is out of memory: the log, and what each application leaves, are as after the last
+    /// step that was completed. After this the desk can only be finished.
     pub fn step(&mut self, i: usize) -> Result<(), AllocError>
         ensures ok { OnOk result (self.new.state ≡ acted_at Step i self.old.state) }
-        ensures within { OnErr result (WithinAt (λ m. halted m ≡ halted self.new.state) Step i self.old.state) }
+        ensures within { OnErr result
+            (WithinAt (λ m. halted m ≡ halted self.new.state) Step i self.old.state) }
         ensures memory { self.new.state.memory ≡ self.old.state.memory }
-        ensures kept { (w : Stretch) (site : Site) → Z.made self.old.zones w site → Z.made self.new.zones w site }
+        ensures kept { (w : Stretch) (site : Site) → Z.made self.old.zones w site
+            → Z.made self.new.zones w site }
         ensures outside { (place : ℕ) → IsFree place self.old.state
-            → IsFree place self.new.state × (Z.byte self.new.zones place ≡ Z.byte self.old.zones place) }
+            → IsFree place self.new.state
+            × (Z.byte self.new.zones place ≡ Z.byte self.old.zones place) }
     {
         self.act(i, Act::Step)
     }
 
-    /// Takes a turn of application `i`, if there is an application of that number and it runs: its steps up to and
-    /// including the next `WaitNextEvent`, or to its end.
+    /// Takes a turn of application `i`, if there is an application of that number and it runs: its
+    /// steps up to and including the next `WaitNextEvent`, or to its end.
     ///
     /// *Inside Macintosh: Processes*, chapter 1, "Scheduling of Processes".
     ///
     /// # Errors
     ///
-    /// The host is out of memory: the log, and what each application leaves, are as after the last step that was completed.
-    /// After this the desk can only be finished.
+    /// The host is out of memory: the log, and what each application leaves, are as after the last
+    /// step that was completed. After this the desk can only be finished.
     pub fn turn(&mut self, i: usize) -> Result<(), AllocError>
         ensures ok { OnOk result (self.new.state ≡ acted_at Turn i self.old.state) }
-        ensures within { OnErr result (WithinAt (λ m. halted m ≡ halted self.new.state) Turn i self.old.state) }
+        ensures within { OnErr result
+            (WithinAt (λ m. halted m ≡ halted self.new.state) Turn i self.old.state) }
         ensures memory { self.new.state.memory ≡ self.old.state.memory }
-        ensures kept { (w : Stretch) (site : Site) → Z.made self.old.zones w site → Z.made self.new.zones w site }
+        ensures kept { (w : Stretch) (site : Site) → Z.made self.old.zones w site
+            → Z.made self.new.zones w site }
         ensures outside { (place : ℕ) → IsFree place self.old.state
-            → IsFree place self.new.state × (Z.byte self.new.zones place ≡ Z.byte self.old.zones place) }
+            → IsFree place self.new.state
+            × (Z.byte self.new.zones place ≡ Z.byte self.old.zones place) }
     {
         self.act(i, Act::Turn)
     }
 
-    /// Asks application `i` to quit, which ends it, if there is an application of that number and it runs.
+    /// Asks application `i` to quit, which ends it, if there is an application of that number and
+    /// it runs.
     ///
     /// # Errors
     ///
-    /// The host is out of memory: the log, and what each application leaves, are as after the last step that was completed.
-    /// After this the desk can only be finished.
+    /// The host is out of memory: the log, and what each application leaves, are as after the last
+    /// step that was completed. After this the desk can only be finished.
     pub fn quit(&mut self, i: usize) -> Result<(), AllocError>
         ensures ok { OnOk result (self.new.state ≡ acted_at Quit i self.old.state) }
-        ensures within { OnErr result (WithinAt (λ m. halted m ≡ halted self.new.state) Quit i self.old.state) }
+        ensures within { OnErr result
+            (WithinAt (λ m. halted m ≡ halted self.new.state) Quit i self.old.state) }
         ensures memory { self.new.state.memory ≡ self.old.state.memory }
-        ensures kept { (w : Stretch) (site : Site) → Z.made self.old.zones w site → Z.made self.new.zones w site }
+        ensures kept { (w : Stretch) (site : Site) → Z.made self.old.zones w site
+            → Z.made self.new.zones w site }
         ensures outside { (place : ℕ) → IsFree place self.old.state
-            → IsFree place self.new.state × (Z.byte self.new.zones place ≡ Z.byte self.old.zones place) }
+            → IsFree place self.new.state
+            × (Z.byte self.new.zones place ≡ Z.byte self.old.zones place) }
     {
         self.act(i, Act::Quit)
     }
 
-    /// Performs an act of application `i`, if there is an application of that number and it runs. If the application
-    /// ends, its zone is closed and its window is given back before the log has the line of the end, whose room is taken
-    /// first.
+    /// Performs an act of application `i`, if there is an application of that number and it runs.
+    /// If the application ends, its zone is closed and its window is given back before the log has
+    /// the line of the end, whose room is taken first.
     pub(crate) fn act(&mut self, i: usize, act: Act) -> Result<(), AllocError>
         ensures ok { OnOk result (self.new.state ≡ acted_at act i self.old.state) }
-        ensures within { OnErr result (WithinAt (λ m. halted m ≡ halted self.new.state) act i self.old.state) }
+        ensures within { OnErr result
+            (WithinAt (λ m. halted m ≡ halted self.new.state) act i self.old.state) }
         ensures memory { self.new.state.memory ≡ self.old.state.memory }
-        ensures kept { (w : Stretch) (site : Site) → Z.made self.old.zones w site → Z.made self.new.zones w site }
+        ensures kept { (w : Stretch) (site : Site) → Z.made self.old.zones w site
+            → Z.made self.new.zones w site }
         ensures outside { (place : ℕ) → IsFree place self.old.state
-            → IsFree place self.new.state × (Z.byte self.new.zones place ≡ Z.byte self.old.zones place) }
+            → IsFree place self.new.state
+            × (Z.byte self.new.zones place ≡ Z.byte self.old.zones place) }
     {
         take_end_room(&mut self.log, &self.seats, i)?;
         let ended = seats::act_at(&mut self.seats, i, act)?;
@@ -290,14 +310,16 @@ impl<'j, Z: ZoneMaker> Desk<'j, Z> {
         longest_script(&self.seats)
     }
 
-    /// Returns what the applications leave, in order; the desk's log; and the maker of zones, with no zone open. In
-    /// the window of each application that still ran lies its zone. Takes no host memory.
+    /// Returns what the applications leave, in order; the desk's log; and the maker of zones, with
+    /// no zone open. In the window of each application that still ran lies its zone. Takes no host
+    /// memory.
     pub fn finish(self) -> (Vec<AppOutcome>, Vec<u8>, Z)
         ensures apps { map told_seen result.0.items ≡ map told self.entry.state.places }
         ensures log { result.1.items ≡ self.entry.state.log }
         ensures windows { Z.windows result.2 ≡ [] }
         ensures memory { Z.memory result.2 ≡ self.entry.state.memory }
-        ensures kept { (w : Stretch) (site : Site) → Z.made self.entry.zones w site → Z.made result.2 w site }
+        ensures kept { (w : Stretch) (site : Site) → Z.made self.entry.zones w site
+            → Z.made result.2 w site }
         ensures lies { AllLie (Z.left result.2) self.entry.state.places }
         ensures outside { (place : ℕ) → IsFree place self.entry.state
             → Z.byte result.2 place ≡ Z.byte self.entry.zones place }
@@ -365,7 +387,8 @@ fn give_back<Z: ZoneMaker>(zones: &mut Z, grants: &mut Grants, window: Window, s
     ensures lies { Z.left zones.new window (Z.Store.zone store) (Z.Store.rest store).slots }
     ensures left { (w : Stretch) (blocks : List Block) (slots : ℕ → Slot) → Misses w window
         → Z.left zones.old w blocks slots → Z.left zones.new w blocks slots }
-    ensures outside { (place : ℕ) → IsOutside place window → Z.byte zones.new place ≡ Z.byte zones.old place }
+    ensures outside { (place : ℕ) → IsOutside place window
+        → Z.byte zones.new place ≡ Z.byte zones.old place }
 {
     zones.close(window, store);
     grants.give_back(window);
@@ -374,13 +397,15 @@ fn give_back<Z: ZoneMaker>(zones: &mut Z, grants: &mut Grants, window: Window, s
 /// Closes a store and gives its window back, if there are any.
 fn release<Z: ZoneMaker>(zones: &mut Z, grants: &mut Grants, freed: Option<(Window, Z::Store)>)
     requires same { Z.windows zones.old ≡ grants.old.windows }
-    requires made { MadeOf (Z.made zones.old) (option_map (λ f. (f.0, (Z.Store.rest f.1).window)) freed) }
+    requires made { MadeOf (Z.made zones.old)
+        (option_map (λ f. (f.0, (Z.Store.rest f.1).window)) freed) }
     requires out { IfSome (option_map (λ f. f.0) freed) (λ w. Contains grants.old.windows w) }
     ensures windows { grants.new.windows ≡ closed (option_map (λ f. f.0) freed) grants.old.windows }
     ensures zones { Z.windows zones.new ≡ grants.new.windows }
     ensures memory { Z.memory zones.new ≡ Z.memory zones.old }
     ensures kept { (w : Stretch) (site : Site) → Z.made zones.old w site → Z.made zones.new w site }
-    ensures lies { IfSome freed (λ f. Z.left zones.new f.0 (Z.Store.zone f.1) (Z.Store.rest f.1).slots) }
+    ensures lies { IfSome freed (λ f.
+        Z.left zones.new f.0 (Z.Store.zone f.1) (Z.Store.rest f.1).slots) }
     ensures left { (w : Stretch) (blocks : List Block) (slots : ℕ → Slot)
         → IfSome (option_map (λ f. f.0) freed) (λ v. Misses w v)
         → Z.left zones.old w blocks slots → Z.left zones.new w blocks slots }
@@ -392,8 +417,8 @@ fn release<Z: ZoneMaker>(zones: &mut Z, grants: &mut Grants, freed: Option<(Wind
     }
 }
 
-/// Opens a fresh zone in a window that is granted, and returns the window and the zone's store. Returns `None` if
-/// there is no room.
+/// Opens a fresh zone in a window that is granted, and returns the window and the zone's store.
+/// Returns `None` if there is no room.
 ///
 /// # Errors
 ///
@@ -408,7 +433,8 @@ fn open_zone<Z: ZoneMaker>(
     requires few { length grants.old.windows < MOST_WINDOWS }
     ensures answer { IfOk result (λ o. option_map (λ f. f.0) o
         ≡ grant grants.old.memory grants.old.windows sizes.preferred sizes.minimum) }
-    ensures windows { IfOk result (λ o. grants.new.windows ≡ opened (option_map (λ f. f.0) o) grants.old.windows) }
+    ensures windows { IfOk result (λ o. grants.new.windows
+        ≡ opened (option_map (λ f. f.0) o) grants.old.windows) }
     ensures zone { IfOk result (λ o. IfSome o (λ f. Z.Store.zone f.1 ≡ fresh f.0.len)) }
     ensures unused { IfOk result (λ o. IfSome o (λ f. (Z.Store.rest f.1).unused ≡ 64)) }
     ensures all { IfOk result (λ o. IfSome o (λ f. (Z.Store.rest f.1).all ≡ 64)) }
@@ -416,14 +442,16 @@ fn open_zone<Z: ZoneMaker>(
     ensures whole { IfOk result (λ o. IfSome o (λ f. f.0.len % 16 ≡ 0)) }
     ensures least { IfOk result (λ o. IfSome o (λ f. 512 ≤ f.0.len)) }
     ensures most { IfOk result (λ o. IfSome o (λ f. f.0.len ≤ GREATEST_ZONE)) }
-    ensures made { IfOk result (λ o. IfSome o (λ f. Z.made zones.new f.0 (Z.Store.rest f.1).window)) }
+    ensures made { IfOk result (λ o.
+        IfSome o (λ f. Z.made zones.new f.0 (Z.Store.rest f.1).window)) }
     ensures err { OnErr result (grants.new.windows ≡ grants.old.windows) }
     ensures size { grants.new.memory ≡ grants.old.memory }
     ensures same { Z.windows zones.new ≡ grants.new.windows }
     ensures memory { Z.memory zones.new ≡ Z.memory zones.old }
     ensures kept { (w : Stretch) (site : Site) → Z.made zones.old w site → Z.made zones.new w site }
     ensures outside { (place : ℕ)
-        → IfSome (grant grants.old.memory grants.old.windows sizes.preferred sizes.minimum) (λ v. IsOutside place v)
+        → IfSome (grant grants.old.memory grants.old.windows sizes.preferred sizes.minimum) (λ v.
+        IsOutside place v)
         → Z.byte zones.new place ≡ Z.byte zones.old place }
 {
     let Ok(window) = grants.grant(sizes.preferred, sizes.minimum) else {
@@ -454,16 +482,20 @@ fn begin<'j, Z: ZoneMaker>(
     requires few { length grants.old.windows < MOST_WINDOWS }
     ensures answer { IfOk result (λ o. option_map (λ l. l.partition.window) o
         ≡ grant grants.old.memory grants.old.windows ready.sizes.preferred ready.sizes.minimum) }
-    ensures windows { IfOk result (λ o. grants.new.windows ≡ opened (option_map (λ l. l.partition.window) o) grants.old.windows) }
-    ensures live { IfOk result (λ o. IfSome o (λ l. live_seen l ≡ begun ready.resources l.partition.window)) }
-    ensures made { IfOk result (λ o. IfSome o (λ l. Z.made zones.new l.partition.window l.application.memory.window)) }
+    ensures windows { IfOk result (λ o. grants.new.windows
+        ≡ opened (option_map (λ l. l.partition.window) o) grants.old.windows) }
+    ensures live { IfOk result (λ o.
+        IfSome o (λ l. live_seen l ≡ begun ready.resources l.partition.window)) }
+    ensures made { IfOk result (λ o.
+        IfSome o (λ l. Z.made zones.new l.partition.window l.application.memory.window)) }
     ensures err { OnErr result (grants.new.windows ≡ grants.old.windows) }
     ensures size { grants.new.memory ≡ grants.old.memory }
     ensures same { Z.windows zones.new ≡ grants.new.windows }
     ensures memory { Z.memory zones.new ≡ Z.memory zones.old }
     ensures kept { (w : Stretch) (site : Site) → Z.made zones.old w site → Z.made zones.new w site }
-    ensures outside { (place : ℕ) → IfSome (grant grants.old.memory grants.old.windows ready.sizes.preferred
-        ready.sizes.minimum) (λ v. IsOutside place v) → Z.byte zones.new place ≡ Z.byte zones.old place }
+    ensures outside { (place : ℕ) → IfSome (grant grants.old.memory grants.old.windows
+        ready.sizes.preferred ready.sizes.minimum) (λ v. IsOutside place v)
+        → Z.byte zones.new place ≡ Z.byte zones.old place }
 {
     let Ready { resources, sizes } = ready;
     let Some((window, store)) = open_zone(zones, grants, sizes)? else {

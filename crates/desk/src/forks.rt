@@ -13,7 +13,8 @@ use res_calls::File;
 use script_text::write_app_fork;
 use std::alloc::AllocError;
 
-/// Appends the line of a file, the one at `place` among the application's files, if its fork was written.
+/// Appends the line of a file, the one at `place` among the application's files, if its fork was
+/// written.
 fn write_file(text: &mut Vec<u8>, name: &Label, place: usize, file: &File) -> Result<(), AllocError>
     ensures lines { OnOk result (text.new.items
         ≡ text.old.items ++ fork_told name.now.0.items place (view_file file.now)) }
@@ -55,7 +56,8 @@ fn write_app(text: &mut Vec<u8>, app: &AppOutcome) -> Result<(), AllocError>
 /// Appends a line for each fork that was written, in the order of the applications and their files.
 #[tactic(auto, using(crate::proofs::ForkLines::apps_next))]
 pub(crate) fn write_forks(text: &mut Vec<u8>, apps: &[AppOutcome]) -> Result<(), AllocError>
-    ensures lines { OnOk result (text.new.items ≡ text.old.items ++ flat_map forks_of (map told_seen apps.now)) }
+    ensures lines { OnOk result (text.new.items
+        ≡ text.old.items ++ flat_map forks_of (map told_seen apps.now)) }
     ensures front { Extends text.old.items text.new.items }
     ensures forks { OnErr result (flat_map forks_of (map told_seen apps.now) ≢ []) }
 {

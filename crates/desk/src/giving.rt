@@ -12,9 +12,9 @@ use res_calls::Resources;
 use script_text::Script;
 use std::alloc::{AllocError, Global};
 
-/// Runs an application alone, as `give_in` does, in a partition that fills a region, whatever the region's bytes were.
-/// Returns what the application leaves, and the region, in whose bytes the zone lies as it then is: headers, contents
-/// and master pointers.
+/// Runs an application alone, as `give_in` does, in a partition that fills a region, whatever the
+/// region's bytes were. Returns what the application leaves, and the region, in whose bytes the
+/// zone lies as it then is: headers, contents and master pointers.
 ///
 /// # Errors
 ///
@@ -32,7 +32,8 @@ pub fn give_in_region<W: Watch>(
     requires even { length region.bytes % 16 ≡ 0 }
     requires low { LEAST_ZONE ≤ length region.bytes }
     requires high { length region.bytes ≤ GREATEST_ZONE }
-    ensures given { IfOk result.0 (λ given. given ≡ alone resources (length region.bytes) script.now steps quit) }
+    ensures given { IfOk result.0 (λ given. given
+        ≡ alone resources (length region.bytes) script.now steps quit) }
     ensures lies { IfOk result.0 (λ _.
         LieAs (heap_alone resources (length region.bytes) script.now steps quit) result.1.bytes) }
     ensures laid { IsZone result.1.bytes }

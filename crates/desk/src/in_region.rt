@@ -18,8 +18,9 @@ use raw_region::Region;
 use raw_zone::RegionZones;
 use std::alloc::Global;
 
-/// Runs a job as `run_with` does, in the bytes of a region. The region is returned with all its parts returned to it,
-/// whatever the result is; the zones of applications that still run lie in its bytes as they were.
+/// Runs a job as `run_with` does, in the bytes of a region. The region is returned with all its
+/// parts returned to it, whatever the result is; the zones of applications that still run lie in
+/// its bytes as they were.
 ///
 /// # Errors
 ///
@@ -38,24 +39,27 @@ pub fn run<W: Watch>(
     requires small { job.now.memory ≤ GREATEST_ZONE }
     requires few { length job.now.apps.items ≤ 64 }
 
-    // What the run leaves is what the definition of the desk says for the events, one after another: the log, and of
-    // each application the transcript and the files. If the host is out of memory within an event, the run stops, and
-    // leaves what the desk leaves after the events that were completed, `done` of them, and what was completed of the
-    // next one; or the host is out of memory for the line of a fork, after the last event. The run is refused for the
-    // System file exactly if that file's fork can't be read.
+    // What the run leaves is what the definition of the desk says for the events, one after
+    // another: the log, and of each application the transcript and the files. If the host is out of
+    // memory within an event, the run stops, and leaves what the desk leaves after the events that
+    // were completed, `done` of them, and what was completed of the next one; or the host is out of
+    // memory for the line of a fork, after the last event. The run is refused for the System file
+    // exactly if that file's fork can't be read.
     ensures outcome { IsOutcome job.now result.0 }
 
-    // For every interleaving of launches, calls and quits, each launched application's transcript and forks are those
-    // that it would give alone with the same partition size, its own files and the same System file; each handle that
-    // was neither emptied nor disposed of shows the bytes last put there, wherever its block has moved; and no locked
-    // block moves or is purged.
+    // For every interleaving of launches, calls and quits, each launched application's transcript
+    // and forks are those that it would give alone with the same partition size, its own files and
+    // the same System file; each handle that was neither emptied nor disposed of shows the bytes
+    // last put there, wherever its block has moved; and no locked block moves or is purged.
     ensures alone { IfOk result.0 (λ o. EachLaunched IsAlone job.now o) }
     ensures laws { IfOk result.0 (λ o. EachLaunched (InItsSteps KeepsPromises) job.now o) }
 
     // In the window of each application that still runs after the last event lies its zone.
-    ensures lies { IfOk result.0 (λ o. o.stopped ≡ false → LieAtEnd (λ w blocks slots. LiesThere result.1.bytes w blocks slots) job.now) }
+    ensures lies { IfOk result.0 (λ o. o.stopped ≡ false
+        → LieAtEnd (λ w blocks slots. LiesThere result.1.bytes w blocks slots) job.now) }
 
-    // Each byte that was in no partition at any time keeps its value, whether the run stopped or not.
+    // Each byte that was in no partition at any time keeps its value, whether the run stopped or
+    // not.
     ensures untouched { IfOk result.0 (λ o. (place : ℕ) → IsNeverGranted place o.done job.now
         → slice_get result.1.bytes place ≡ slice_get region.bytes place) }
 
@@ -63,8 +67,8 @@ pub fn run<W: Watch>(
     ensures heard { IfOk result.0 (λ o. W.heard watch.new
         ≡ append_known (W.heard watch.old) (reports o.done (length job.now.events.items))) }
 
-    // A run has no outcome only before its first event: the region is returned as it was, and the watch has heard of
-    // nothing.
+    // A run has no outcome only before its first event: the region is returned as it was, and the
+    // watch has heard of nothing.
     ensures given_back { IfErr result.0 (λ _. result.1 ≡ region) }
     ensures unheard { IfErr result.0 (λ _. W.heard watch.new ≡ W.heard watch.old) }
 

@@ -21,8 +21,9 @@ pub struct App {
     pub fork: Vec<u8>,
     /// The application's other files, in order: at most 255.
     pub files: Vec<AppFile>,
-    /// The size of the partition that a launch asks for, in bytes, in place of the sizes of its 'SIZE' -1. It is rounded as
-    /// they are: down to a multiple of 16, but to at least 512. `None` stands for those of its 'SIZE' -1.
+    /// The size of the partition that a launch asks for, in bytes, in place of the sizes of its
+    /// 'SIZE' -1. It is rounded as they are: down to a multiple of 16, but to at least 512. `None`
+    /// stands for those of its 'SIZE' -1.
     pub size: Option<u32>,
     /// The application's script.
     pub script: Script,

@@ -1,4 +1,5 @@
-//! Several applications in one memory, each in a partition of its own: their launches, steps, turns and quits.
+//! Several applications in one memory, each in a partition of its own: their launches, steps, turns
+//! and quits.
 #![tactic(auto)]
 
 mod act;

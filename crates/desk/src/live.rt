@@ -1,12 +1,14 @@
 //! An application that runs at the desk.
 
-ghost use Rattle.std.specs.Prelude.{◌≡◌, ◌+◌, ◌%◌, ◌^◌, ◌<◌, ◌≤◌, Bool, false, true, drop, length, slice_get, Some, IfOk, IfErr, OnErr};
+ghost use Rattle.std.specs.Prelude.{◌≡◌, ◌+◌, ◌%◌, ◌^◌, ◌<◌, ◌≤◌, Bool, false, true, drop, length};
+ghost use Rattle.std.specs.Prelude.{slice_get, Some, IfOk, IfErr, OnErr};
 ghost use Rattle.block_store.specs.Block.{fresh};
 ghost use Rattle.block_store.specs.declared.measures.TheConstants.{GREATEST_ZONE};
 ghost use Rattle.heap_calls.specs.Stored.{IsStored};
 ghost use Rattle.applications.specs.Step.{step};
 ghost use Rattle.applications.specs.Replies.{Extends, end_by};
-ghost use Rattle.desk.specs.Phase.{begun, ends, called, run_out, stepped, turned, quitted, acted, is_quit, leaves};
+ghost use Rattle.desk.specs.Phase.{begun, ends, called, run_out, stepped, turned, quitted, acted};
+ghost use Rattle.desk.specs.Phase.{is_quit, leaves};
 ghost use Rattle.desk.specs.Halting.{WithinTurn, WithinAct};
 ghost use Rattle.desk.specs.Live.{live_seen, HasCome, LeavesAs, lot_of_live, leaves_seen};
 ghost use Rattle.desk.specs.Lying.{heap_of};
@@ -22,7 +24,8 @@ use script_text::{END_ROOM, Line, Script, write_end, write_launch};
 use std::alloc::{AllocError, Global};
 use windows::Window;
 
-/// An application that runs in a window of the memory, with the number of steps that it took since its launch.
+/// An application that runs in a window of the memory, with the number of steps that it took since
+/// its launch.
 pub struct Live<'j, S: BlockStore> {
     pub(crate) application: Application<'j, S>,
     pub(crate) partition: Partition,
@@ -33,7 +36,8 @@ pub struct Live<'j, S: BlockStore> {
 }
 
 impl<'j, S: BlockStore> Live<'j, S> {
-    /// Launches an application with the given resources in the store of a fresh zone, which fills the window.
+    /// Launches an application with the given resources in the store of a fresh zone, which fills
+    /// the window.
     ///
     /// # Errors
     ///
@@ -53,7 +57,8 @@ impl<'j, S: BlockStore> Live<'j, S> {
         requires most { window.len ≤ GREATEST_ZONE }
         ensures live { IfOk result (λ live. live_seen live ≡ begun resources window) }
         ensures window { IfOk result (λ live. live.partition.window ≡ window) }
-        ensures lies { IfOk result (λ live. live.application.memory.window ≡ (S.rest store).window) }
+        ensures lies { IfOk result (λ live. live.application.memory.window
+            ≡ (S.rest store).window) }
         ensures back { IfErr result (λ back. (S.rest back).window ≡ (S.rest store).window) }
     {
         let mut text = Vec::new(alloc);
@@ -69,11 +74,12 @@ impl<'j, S: BlockStore> Live<'j, S> {
         })
     }
 
-    /// Ends the application with the given exit, and appends the line of the end to the transcript. Where the host is
-    /// out of memory, the transcript and the files stay as they were: the room of the line is taken first.
+    /// Ends the application with the given exit, and appends the line of the end to the transcript.
+    /// Where the host is out of memory, the transcript and the files stay as they were: the room of
+    /// the line is taken first.
     fn end(&mut self, exit: Option<Exit>) -> Result<OsErr, AllocError>
-        ensures came { (asked : Bool) → IfOk result (λ code. HasCome asked
-            (ends asked (end_by exit (live_seen self.old).state) (live_seen self.old)) (Some code) self.new) }
+        ensures came { (asked : Bool) → IfOk result (λ code. HasCome asked (ends asked
+            (end_by exit (live_seen self.old).state) (live_seen self.old)) (Some code) self.new) }
         ensures stays { OnErr result (LeavesAs (live_seen self.old) self.new) }
         ensures lies { self.new.application.memory.window ≡ self.old.application.memory.window }
         ensures window { self.new.partition ≡ self.old.partition }
@@ -84,14 +90,16 @@ impl<'j, S: BlockStore> Live<'j, S> {
         Ok(code)
     }
 
-    /// Takes the next call of the application, that of `line`, and ends the application if it ends with the call. Where
-    /// the host is out of memory, the transcript may have the lines of the call.
+    /// Takes the next call of the application, that of `line`, and ends the application if it ends
+    /// with the call. Where the host is out of memory, the transcript may have the lines of the
+    /// call.
     fn follow(&mut self, script: &'j Script, line: &Line) -> Result<Option<OsErr>, AllocError>
         requires few { self.old.steps + 1 < 2 ^ 64 }
-        ensures came { IfOk result (λ end. HasCome false
-            (called (step script.now.blocks line.now (live_seen self.old).state) (live_seen self.old)) end self.new) }
+        ensures came { IfOk result (λ end. HasCome false (called (step script.now.blocks line.now
+            (live_seen self.old).state) (live_seen self.old)) end self.new) }
         ensures front { OnErr result (Extends self.old.text.items self.new.text.items) }
-        ensures files { OnErr result (self.new.application.resources.files ≡ self.old.application.resources.files) }
+        ensures files { OnErr result (self.new.application.resources.files
+            ≡ self.old.application.resources.files) }
         ensures lies { self.new.application.memory.window ≡ self.old.application.memory.window }
         ensures window { self.new.partition ≡ self.old.partition }
     {
@@ -104,9 +112,11 @@ impl<'j, S: BlockStore> Live<'j, S> {
 
     /// Quits the application, which has no call left. The quit counts as a step.
     fn run_out(&mut self, script: &'j Script) -> Result<Option<OsErr>, AllocError>
-        ensures came { IfOk result (λ end. HasCome false (run_out script.now (live_seen self.old)) end self.new) }
+        ensures came { IfOk result (λ end.
+            HasCome false (run_out script.now (live_seen self.old)) end self.new) }
         ensures front { OnErr result (Extends self.old.text.items self.new.text.items) }
-        ensures files { OnErr result (self.new.application.resources.files ≡ self.old.application.resources.files) }
+        ensures files { OnErr result (self.new.application.resources.files
+            ≡ self.old.application.resources.files) }
         ensures lies { self.new.application.memory.window ≡ self.old.application.memory.window }
         ensures window { self.new.partition ≡ self.old.partition }
     {
@@ -116,9 +126,11 @@ impl<'j, S: BlockStore> Live<'j, S> {
 
     /// Takes the next call, or quits if no call is left.
     fn take_step(&mut self, script: &'j Script) -> Result<Option<OsErr>, AllocError>
-        ensures came { IfOk result (λ end. HasCome false (stepped script.now (live_seen self.old)) end self.new) }
+        ensures came { IfOk result (λ end.
+            HasCome false (stepped script.now (live_seen self.old)) end self.new) }
         ensures front { OnErr result (Extends self.old.text.items self.new.text.items) }
-        ensures files { OnErr result (self.new.application.resources.files ≡ self.old.application.resources.files) }
+        ensures files { OnErr result (self.new.application.resources.files
+            ≡ self.old.application.resources.files) }
         ensures lies { self.new.application.memory.window ≡ self.old.application.memory.window }
         ensures window { self.new.partition ≡ self.old.partition }
     {
@@ -128,11 +140,12 @@ impl<'j, S: BlockStore> Live<'j, S> {
         }
     }
 
-    /// Takes a step: the next call, or a quit if no call is left. Returns the result code of the end if the
-    /// application ends. Where the host is out of memory, the application leaves what it left before the step: its lines
-    /// are cut off, and the step does not count.
+    /// Takes a step: the next call, or a quit if no call is left. Returns the result code of the
+    /// end if the application ends. Where the host is out of memory, the application leaves what it
+    /// left before the step: its lines are cut off, and the step does not count.
     fn step(&mut self, script: &'j Script) -> Result<Option<OsErr>, AllocError>
-        ensures came { IfOk result (λ end. HasCome false (stepped script.now (live_seen self.old)) end self.new) }
+        ensures came { IfOk result (λ end.
+            HasCome false (stepped script.now (live_seen self.old)) end self.new) }
         ensures stays { OnErr result (LeavesAs (live_seen self.old) self.new) }
         ensures lies { self.new.application.memory.window ≡ self.old.application.memory.window }
         ensures window { self.new.partition ≡ self.old.partition }
@@ -148,9 +161,10 @@ impl<'j, S: BlockStore> Live<'j, S> {
 
     /// Takes a turn: steps up to and including the next `WaitNextEvent`, or to the end.
     fn turn(&mut self, script: &'j Script) -> Result<Option<OsErr>, AllocError>
-        ensures came { IfOk result (λ end. HasCome false (turned script.now (live_seen self.old)) end self.new) }
-        ensures within { OnErr result (WithinTurn (λ m. LeavesAs m self.new) (drop self.old.steps script.now.steps)
-            script.now (live_seen self.old)) }
+        ensures came { IfOk result (λ end.
+            HasCome false (turned script.now (live_seen self.old)) end self.new) }
+        ensures within { OnErr result (WithinTurn (λ m. LeavesAs m self.new)
+            (drop self.old.steps script.now.steps) script.now (live_seen self.old)) }
         ensures lies { self.new.application.memory.window ≡ self.old.application.memory.window }
         ensures window { self.new.partition ≡ self.old.partition }
     {
@@ -165,7 +179,8 @@ impl<'j, S: BlockStore> Live<'j, S> {
 
     /// Quits the application, which is asked to quit.
     fn quit(&mut self) -> Result<Option<OsErr>, AllocError>
-        ensures came { IfOk result (λ end. HasCome true (quitted (live_seen self.old)) end self.new) }
+        ensures came { IfOk result (λ end.
+            HasCome true (quitted (live_seen self.old)) end self.new) }
         ensures stays { OnErr result (LeavesAs (live_seen self.old) self.new) }
         ensures lies { self.new.application.memory.window ≡ self.old.application.memory.window }
         ensures window { self.new.partition ≡ self.old.partition }
@@ -177,11 +192,13 @@ impl<'j, S: BlockStore> Live<'j, S> {
     ///
     /// # Errors
     ///
-    /// The host is out of memory: after this the application can only be closed. It leaves what it left after the last
-    /// step that was completed. Its zone stays where it lies.
+    /// The host is out of memory: after this the application can only be closed. It leaves what it
+    /// left after the last step that was completed. Its zone stays where it lies.
     pub(crate) fn act(&mut self, script: &'j Script, act: Act) -> Result<Option<OsErr>, AllocError>
-        ensures came { IfOk result (λ end. HasCome (is_quit act) (acted act script.now (live_seen self.old)) end self.new) }
-        ensures within { OnErr result (WithinAct (λ m. LeavesAs m self.new) act script.now (live_seen self.old)) }
+        ensures came { IfOk result (λ end.
+            HasCome (is_quit act) (acted act script.now (live_seen self.old)) end self.new) }
+        ensures within { OnErr result
+            (WithinAct (λ m. LeavesAs m self.new) act script.now (live_seen self.old)) }
         ensures lies { self.new.application.memory.window ≡ self.old.application.memory.window }
         ensures window { self.new.partition ≡ self.old.partition }
     {
@@ -192,12 +209,13 @@ impl<'j, S: BlockStore> Live<'j, S> {
         }
     }
 
-    /// Returns what the application leaves as it stands, and its window and store. `asked` says whether it was asked to
-    /// quit.
+    /// Returns what the application leaves as it stands, and its window and store. `asked` says
+    /// whether it was asked to quit.
     pub(crate) fn leave(self, asked: bool) -> (Launched, Window, S)
         ensures launched { leaves_seen result.0 ≡ leaves asked (live_seen self.entry) }
         ensures lot { (result.1, (S.rest result.2).window) ≡ lot_of_live self.entry }
-        ensures heap { IsStored (S.zone result.2) (S.rest result.2).slots (heap_of (live_seen self.entry)) }
+        ensures heap { IsStored (S.zone result.2) (S.rest result.2).slots
+            (heap_of (live_seen self.entry)) }
     {
         let Live {
             application,

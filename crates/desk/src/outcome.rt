@@ -12,7 +12,8 @@ use thiserror::Error;
 pub struct Launched {
     /// The size of the application's partition in bytes.
     pub size: u32,
-    /// The number of steps that the application took; a step with no call left is a quit, and counts.
+    /// The number of steps that the application took; a step with no call left is a quit, and
+    /// counts.
     pub steps: usize,
     /// Whether the application ended because it was asked to quit.
     pub asked: bool,
@@ -37,16 +38,18 @@ pub struct AppOutcome {
 /// What a run leaves.
 #[derive(Debug, Drop)]
 pub struct Outcome {
-    /// The number of events that were completed. Of a run that did not stop these are all; a run that stopped leaves what
-    /// was completed of the next event too, which the numbers of the applications' steps show.
+    /// The number of events that were completed. Of a run that did not stop these are all; a run
+    /// that stopped leaves what was completed of the next event too, which the numbers of the
+    /// applications' steps show.
     pub done: usize,
-    /// The desk's log: a line for each launch and each end, and one for each fork that was written; none for forks where
-    /// the run stopped.
+    /// The desk's log: a line for each launch and each end, and one for each fork that was written;
+    /// none for forks where the run stopped.
     pub desk: Vec<u8>,
     /// What the applications leave, in order.
     pub apps: Vec<AppOutcome>,
-    /// Whether the host was out of memory in a launch, a step or a quit, or for the lines of forks that were written. The
-    /// run stopped there, and the outcome is that of the launches, steps and quits that were completed before.
+    /// Whether the host was out of memory in a launch, a step or a quit, or for the lines of forks
+    /// that were written. The run stopped there, and the outcome is that of the launches, steps and
+    /// quits that were completed before.
     pub stopped: bool,
 }
 

@@ -27,7 +27,8 @@ use mac_words::{FileName, OsErr};
 use res_calls::{File, Resources};
 use std::alloc::{AllocError, Global};
 
-/// What an application is launched with: its resources, and the sizes of the partition that its launch asks for.
+/// What an application is launched with: its resources, and the sizes of the partition that its
+/// launch asks for.
 pub struct Ready {
     pub(crate) resources: Resources,
     pub(crate) sizes: PartitionSizes,
@@ -71,10 +72,11 @@ fn files_of(alloc: Global, app: &App) -> Result<Vec<File>, AllocError>
     Ok(files)
 }
 
-/// Opens the resources with which an application is launched. Returns the result code for which its fork can't be
-/// opened as a refusal.
+/// Opens the resources with which an application is launched. Returns the result code for which its
+/// fork can't be opened as a refusal.
 fn opened(alloc: Global, app: &App, system: &Content<'_>) -> Result<Resources, Refusal>
-    requires types { IsTrue (are_distinct (map (λ (g : GroupValue). g.kind) (view system.now).groups)) }
+    requires types { IsTrue
+        (are_distinct (map (λ (g : GroupValue). g.kind) (view system.now).groups)) }
     requires references { IsTrue (list_all has_refs (view system.now).groups) }
     ensures { IsReply (start_of (view system.now) app.now) result }
 {
@@ -86,8 +88,9 @@ fn opened(alloc: Global, app: &App, system: &Content<'_>) -> Result<Resources, R
 ///
 /// # Errors
 ///
-/// The System file's fork can't be read, or then the application's own fork can't be opened: -39 (eofErr) if it has no
-/// bytes, -199 (mapReadErr) if they are damaged. Or the host is out of memory.
+/// The System file's fork can't be read, or then the application's own fork can't be opened: -39
+/// (eofErr) if it has no bytes, -199 (mapReadErr) if they are damaged. Or the host is out of
+/// memory.
 ///
 /// *Inside Macintosh: Processes*, chapter 2, "Launching Applications".
 pub fn open_resources(alloc: Global, job: &Job, app: &App) -> Result<Resources, Refusal>
@@ -100,9 +103,11 @@ pub fn open_resources(alloc: Global, job: &Job, app: &App) -> Result<Resources, 
     }
 }
 
-/// Opens the resources with which an application is launched, and returns them with the sizes that its launch asks for.
+/// Opens the resources with which an application is launched, and returns them with the sizes that
+/// its launch asks for.
 fn launched_with(alloc: Global, app: &App, system: &Content<'_>) -> Result<Ready, Refusal>
-    requires types { IsTrue (are_distinct (map (λ (g : GroupValue). g.kind) (view system.now).groups)) }
+    requires types { IsTrue
+        (are_distinct (map (λ (g : GroupValue). g.kind) (view system.now).groups)) }
     requires references { IsTrue (list_all has_refs (view system.now).groups) }
     ensures answer { IsReady (start_of (view system.now) app.now) result }
     ensures sizes { IfOk result (λ r. sizes_seen r.sizes ≡ sizes_asked app.now.size r.resources) }
@@ -112,11 +117,12 @@ fn launched_with(alloc: Global, app: &App, system: &Content<'_>) -> Result<Ready
     Ok(Ready { resources, sizes })
 }
 
-/// Returns what a waiting application is launched with. Refuses with -30001 (profileErr) if the application runs or
-/// has ended, and with the result code of its fork if the fork can't be opened.
+/// Returns what a waiting application is launched with. Refuses with -30001 (profileErr) if the
+/// application runs or has ended, and with the result code of its fork if the fork can't be opened.
 pub(crate) fn prepared<S: BlockStore>(alloc: Global, seat: &Seat<'_, S>) -> Result<Ready, Refusal>
     ensures answer { IsReady (ready (place_seen seat.now).phase) result }
-    ensures sizes { IfOk result (λ r. sizes_seen r.sizes ≡ sizes_asked (place_seen seat.now).size r.resources) }
+    ensures sizes { IfOk result (λ r. sizes_seen r.sizes
+        ≡ sizes_asked (place_seen seat.now).size r.resources) }
 {
     match seat.phase {
         Phase::Waiting => launched_with(alloc, seat.app, seat.system),

@@ -13,11 +13,11 @@ use raw_region::Region;
 use script_text::Script;
 use std::alloc::{AllocError, Global};
 
-/// Runs a script to its end in a partition that fills a region, whatever the region's bytes were, and returns the
-/// script's transcript: the line of the launch, the lines of each call, and the line of the end, each as the call
-/// tables say. If a call finds no room, the lines of its grow-zone script precede its own line. The zone lies in the
-/// bytes of the region that is returned. `watch` is informed of the number of lines that are done; `Unwatched` is no
-/// watch.
+/// Runs a script to its end in a partition that fills a region, whatever the region's bytes were,
+/// and returns the script's transcript: the line of the launch, the lines of each call, and the
+/// line of the end, each as the call tables say. If a call finds no room, the lines of its
+/// grow-zone script precede its own line. The zone lies in the bytes of the region that is
+/// returned. `watch` is informed of the number of lines that are done; `Unwatched` is no watch.
 ///
 /// *Inside Macintosh: Memory*, chapter 1, "Organization of Memory in an Application Partition".
 ///
@@ -36,13 +36,14 @@ pub fn run_script<W: Watch>(
     requires low { LEAST_ZONE ≤ length region.bytes }
     requires high { length region.bytes ≤ GREATEST_ZONE }
 
-    // For every interleaving of launches, calls and quits, each launched application's transcript and forks are those
-    // that it would give alone with the same partition size, its own files and the same System file; each handle that
-    // was neither emptied nor disposed of shows the bytes last put there, wherever its block has moved; and no locked
-    // block moves or is purged.
+    // For every interleaving of launches, calls and quits, each launched application's transcript
+    // and forks are those that it would give alone with the same partition size, its own files and
+    // the same System file; each handle that was neither emptied nor disposed of shows the bytes
+    // last put there, wherever its block has moved; and no locked block moves or is purged.
     //
-    // Here there is one application, and the transcript is the one that it leaves when it runs alone: its fork has no
-    // resources, it has no other files, and the System file has no resources.
+    // Here there is one application, and the transcript is the one that it leaves when it runs
+    // alone: its fork has no resources, it has no other files, and the System file has no
+    // resources.
     ensures transcript { IfOk result.0 (λ text. text.items
         ≡ (script_alone (length region.bytes) script.now).transcript) }
 
@@ -51,16 +52,19 @@ pub fn run_script<W: Watch>(
         ≡ run_alone (length region.bytes) script.now }
 
     // The laws of the launch and of all those steps.
-    ensures laws { KeepsPromises own (length region.bytes) script.now (length script.now.steps + 1) }
+    ensures laws { KeepsPromises own (length region.bytes) script.now
+        (length script.now.steps + 1) }
 
-    // After the run, the region holds the zone that the application leaves: headers tile the bytes, each handle's
-    // master pointer leads to its block, and the unused master pointers are one list.
-    ensures lies { IfOk result.0 (λ _. LieAs (script_heap (length region.bytes) script.now) result.1.bytes) }
+    // After the run, the region holds the zone that the application leaves: headers tile the bytes,
+    // each handle's master pointer leads to its block, and the unused master pointers are one list.
+    ensures lies { IfOk result.0 (λ _.
+        LieAs (script_heap (length region.bytes) script.now) result.1.bytes) }
 
     // If there is no transcript, nothing ran, and the region is as it was; or a zone lies in it.
     ensures fault { IfErr result.0 (λ _. (result.1 ≡ region) ⊎ IsZone result.1.bytes) }
 
-    // The region that is returned is the one that was given, with all its parts returned, whatever the result is.
+    // The region that is returned is the one that was given, with all its parts returned, whatever
+    // the result is.
     ensures home { result.1.out ≡ [] }
     ensures same { result.1.home ≡ region.home }
     ensures length { length result.1.bytes ≡ length region.bytes }
@@ -68,8 +72,8 @@ pub fn run_script<W: Watch>(
     run_as_application(alloc, region, script, watch)
 }
 
-/// Runs a script to its end in a region, as an application without resources. Returns the transcript, and the region with
-/// the zone that the application leaves.
+/// Runs a script to its end in a region, as an application without resources. Returns the
+/// transcript, and the region with the zone that the application leaves.
 fn run_as_application<W: Watch>(
     alloc: Global,
     region: Region,
@@ -82,7 +86,8 @@ fn run_as_application<W: Watch>(
     requires high { length region.bytes ≤ GREATEST_ZONE }
     ensures transcript { IfOk result.0 (λ text. text.items
         ≡ (script_alone (length region.bytes) script.now).transcript) }
-    ensures lies { IfOk result.0 (λ _. LieAs (script_heap (length region.bytes) script.now) result.1.bytes) }
+    ensures lies { IfOk result.0 (λ _.
+        LieAs (script_heap (length region.bytes) script.now) result.1.bytes) }
     ensures fault { IfErr result.0 (λ _. (result.1 ≡ region) ⊎ IsZone result.1.bytes) }
     ensures home { result.1.out ≡ [] }
     ensures same { result.1.home ≡ region.home }

@@ -6,8 +6,8 @@ use block_store::BlockStore;
 use fork_format::Content;
 use std::marker::Model;
 
-/// An application's place at the desk: what was given for the application, the System file's content, and the
-/// application as it waits, runs or has ended.
+/// An application's place at the desk: what was given for the application, the System file's
+/// content, and the application as it waits, runs or has ended.
 pub struct Seat<'j, S: BlockStore> {
     pub(crate) system: &'j Content<'j>,
     pub(crate) app: &'j App,

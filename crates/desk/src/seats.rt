@@ -1,7 +1,7 @@
 //! The places of the desk.
 
-ghost use Rattle.std.specs.Prelude.{◌≡◌, ◌<◌, length, map, Some, None, option_map, IfOk, OnOk, OnErr, IfSome};
-ghost use Rattle.std.specs.Prelude.{slice_get, slice_set, vec_len, true, IsTrue};
+ghost use Rattle.std.specs.Prelude.{◌≡◌, ◌<◌, length, map, Some, None, option_map, IfOk, OnOk};
+ghost use Rattle.std.specs.Prelude.{OnErr, IfSome, slice_get, slice_set, vec_len, true, IsTrue};
 ghost use Rattle.std.specs.List.{list_all, list_any};
 ghost use Rattle.fork_format.specs.Content.{Group as GroupValue};
 ghost use Rattle.fork_format.specs.Canonical.{has_refs, are_distinct};
@@ -34,9 +34,11 @@ pub(crate) fn places<'j, S: BlockStore>(
     system: &'j Content<'j>,
     apps: &'j [App],
 ) -> Result<Vec<Seat<'j, S>>, AllocError>
-    requires types { IsTrue (are_distinct (map (λ (g : GroupValue). g.kind) (view system.now).groups)) }
+    requires types { IsTrue
+        (are_distinct (map (λ (g : GroupValue). g.kind) (view system.now).groups)) }
     requires references { IsTrue (list_all has_refs (view system.now).groups) }
-    ensures places { IfOk result (λ seats. seen seats.items ≡ map (place_given (view system.now)) apps.now) }
+    ensures places { IfOk result (λ seats. seen seats.items
+        ≡ map (place_given (view system.now)) apps.now) }
     ensures lots { IfOk result (λ seats. lots seats.items ≡ map (λ app. None) apps.now) }
     ensures len { IfOk result (λ seats. vec_len seats ≡ length apps.now) }
 {
@@ -59,8 +61,8 @@ pub(crate) fn places<'j, S: BlockStore>(
     Ok(seats)
 }
 
-/// Performs an act of application `i`, if there is an application of that number and it runs. Returns what the
-/// application gives back if it ends.
+/// Performs an act of application `i`, if there is an application of that number and it runs.
+/// Returns what the application gives back if it ends.
 pub(crate) fn act_at<'j, S: BlockStore>(
     seats: &mut Vec<Seat<'j, S>>,
     i: usize,
@@ -68,15 +70,16 @@ pub(crate) fn act_at<'j, S: BlockStore>(
 ) -> Result<Option<Departure<'j, S>>, AllocError>
     ensures places { OnOk result (seen seats.new.items
         ≡ places_acted act i (slice_get (seen seats.old.items) i) (seen seats.old.items)) }
-    ensures left { IfOk result (λ d. option_map left_of d ≡ left_by act (slice_get (seen seats.old.items) i)) }
+    ensures left { IfOk result (λ d. option_map left_of d
+        ≡ left_by act (slice_get (seen seats.old.items) i)) }
     ensures name { IfOk result (λ d. IfSome d (λ d. option_map (λ (p : Place). p.name)
         (slice_get (seen seats.old.items) i) ≡ Some d.name.now.0.items)) }
     ensures lot { IfOk result (λ d. IfSome d (λ d. slice_get (lots seats.old.items) i
         ≡ Some (Some (d.window, (S.rest d.store).window)))) }
     ensures fewer { Fewer (lots seats.old.items) (lots seats.new.items) }
     ensures held { OnErr result (holders (seen seats.new.items) ≡ holders (seen seats.old.items)) }
-    ensures within { OnErr result (WithinPlaces (λ places. map told places ≡ map told (seen seats.new.items)) act i
-        (seen seats.old.items)) }
+    ensures within { OnErr result (WithinPlaces (λ places. map told places
+        ≡ map told (seen seats.new.items)) act i (seen seats.old.items)) }
     ensures len { vec_len seats.new ≡ vec_len seats.old }
 {
     if i < seats.len() {
@@ -91,19 +94,23 @@ pub(crate) fn start_at<'j, S: BlockStore>(seats: &mut Vec<Seat<'j, S>>, i: usize
     requires waits { IfSome (slice_get (seen seats.old.items) i) (λ p. waits p.phase ≡ true) }
     requires there { i < vec_len seats.old }
     ensures places { IfSome (slice_get (seen seats.old.items) i) (λ p. seen seats.new.items
-        ≡ slice_set (seen seats.old.items) i (record p { phase = Running (live_seen live.entry) })) }
-    ensures lots { lots seats.new.items ≡ slice_set (lots seats.old.items) i (Some (lot_of_live live.entry)) }
+        ≡ slice_set (seen seats.old.items) i
+        (record p { phase = Running (live_seen live.entry) })) }
+    ensures lots { lots seats.new.items
+        ≡ slice_set (lots seats.old.items) i (Some (lot_of_live live.entry)) }
     ensures len { vec_len seats.new ≡ vec_len seats.old }
 {
     seating::start(&mut seats[i], live);
 }
 
-/// Returns what an application leaves, and its window and the store of its zone, if the zone is open.
+/// Returns what an application leaves, and its window and the store of its zone, if the zone is
+/// open.
 pub(crate) fn leave<'j, S: BlockStore>(seat: Seat<'j, S>) -> (AppOutcome, Option<(Window, S)>)
     ensures told { told_seen result.0 ≡ told (place_seen seat.entry) }
     ensures window { option_map (λ f. f.0) result.1 ≡ window_of (place_seen seat.entry).phase }
     ensures lot { option_map (λ f. (f.0, (S.rest f.1).window)) result.1 ≡ lot_of seat.entry.phase }
-    ensures zone { IfSome result.1 (λ f. IsHeapOf (place_seen seat.entry).phase (S.zone f.1) (S.rest f.1).slots) }
+    ensures zone { IfSome result.1 (λ f.
+        IsHeapOf (place_seen seat.entry).phase (S.zone f.1) (S.rest f.1).slots) }
 {
     let Seat {
         system: _,

@@ -48,8 +48,8 @@ fn read_sizes(datum: &[u8]) -> PartitionSizes
     PartitionSizes { preferred, minimum }
 }
 
-/// Reads the sizes in the stored data of a 'SIZE' resource; returns the usual sizes if there is none, or it is too
-/// short.
+/// Reads the sizes in the stored data of a 'SIZE' resource; returns the usual sizes if there is
+/// none, or it is too short.
 fn sizes_in(datum: Option<&[u8]>) -> PartitionSizes
     ensures { sizes_seen result ≡ sizes.sizes_in (option_map (λ b. b.now) datum.entry) }
 {
@@ -81,8 +81,8 @@ impl PartitionSizes {
         }
     }
 
-    /// Returns the sizes that a launch asks for: just the size that is given for the application, or else those of its
-    /// 'SIZE' -1.
+    /// Returns the sizes that a launch asks for: just the size that is given for the application,
+    /// or else those of its 'SIZE' -1.
     pub(crate) fn asked(size: Option<u32>, resources: &Resources) -> PartitionSizes
         ensures { sizes_seen result ≡ sizes.sizes_asked size resources.now }
     {

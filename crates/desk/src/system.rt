@@ -12,7 +12,8 @@ use applications::empty_content;
 use fork_format::{Content, read_fork};
 use std::alloc::Global;
 
-/// Reads the content of the System file's fork; if there is no such file, the content has no resources.
+/// Reads the content of the System file's fork; if there is no such file, the content has no
+/// resources.
 ///
 /// # Errors
 ///
@@ -23,7 +24,8 @@ pub(crate) fn read_system<'b>(
     system: &'b Option<Vec<u8>>,
 ) -> Result<Content<'b>, RunFault>
     ensures system { IsSystem (system_in (option_map (λ fork. fork.items) system.now)) result }
-    ensures types { IfOk result (λ c. IsTrue (are_distinct (map (λ (g : GroupValue). g.kind) (view c).groups))) }
+    ensures types { IfOk result (λ c.
+        IsTrue (are_distinct (map (λ (g : GroupValue). g.kind) (view c).groups))) }
     ensures references { IfOk result (λ c. IsTrue (list_all has_refs (view c).groups)) }
 {
     let Some(fork) = system else {

@@ -6,7 +6,8 @@ ghost use Rattle.windows.specs.declared.Window.{Window as Stretch};
 ghost use Rattle.block_store.specs.Rest.{Site};
 ghost use Rattle.applications.specs.Reports.{reports};
 ghost use Rattle.desk.specs.declared.act.Act.TheVariants.{Step, Turn, Quit};
-ghost use Rattle.desk.specs.Desk.{acted_at, launched_at, round, rested, after_event, after_events, longest, longest_or};
+ghost use Rattle.desk.specs.Desk.{acted_at, launched_at, round, rested, after_event, after_events};
+ghost use Rattle.desk.specs.Desk.{longest, longest_or};
 ghost use Rattle.desk.specs.Free.{IsFree, StaysFree};
 ghost use Rattle.desk.specs.Halting.{HaltsAfter, WithinEvent, WithinRound, WithinRounds, halted};
 ghost use Rattle.desk.specs.View.{seen};
@@ -36,11 +37,14 @@ impl<'j, Z: ZoneMaker> Desk<'j, Z> {
     #[tactic(auto, using(crate::proofs::Rounds::turned_next))]
     fn round(&mut self) -> Result<(), AllocError>
         ensures ok { OnOk result (self.new.state ≡ round self.old.state) }
-        ensures within { OnErr result (WithinRound (λ m. halted m ≡ halted self.new.state) self.old.state) }
+        ensures within { OnErr result
+            (WithinRound (λ m. halted m ≡ halted self.new.state) self.old.state) }
         ensures memory { self.new.state.memory ≡ self.old.state.memory }
-        ensures kept { (w : Stretch) (site : Site) → Z.made self.old.zones w site → Z.made self.new.zones w site }
+        ensures kept { (w : Stretch) (site : Site) → Z.made self.old.zones w site
+            → Z.made self.new.zones w site }
         ensures outside { (place : ℕ) → IsFree place self.old.state
-            → IsFree place self.new.state × (Z.byte self.new.zones place ≡ Z.byte self.old.zones place) }
+            → IsFree place self.new.state
+            × (Z.byte self.new.zones place ≡ Z.byte self.old.zones place) }
     {
         let count = self.count();
         for i in 0..count {
@@ -53,17 +57,19 @@ impl<'j, Z: ZoneMaker> Desk<'j, Z> {
     ///
     /// # Errors
     ///
-    /// The host is out of memory: the log, and what each application leaves, are as after the last launch, step or quit
-    /// that was completed. After this the desk can only be finished.
+    /// The host is out of memory: the log, and what each application leaves, are as after the last
+    /// launch, step or quit that was completed. After this the desk can only be finished.
     #[tactic(auto, using(crate::proofs::Rounds::round_next, crate::proofs::Rounds::round_none))]
     pub fn rest(&mut self) -> Result<(), AllocError>
         ensures ok { OnOk result (self.new.state ≡ rested self.old.state) }
         ensures within { OnErr result (WithinRounds (λ m. halted m ≡ halted self.new.state)
             (suc (longest self.old.state.places)) self.old.state) }
         ensures memory { self.new.state.memory ≡ self.old.state.memory }
-        ensures kept { (w : Stretch) (site : Site) → Z.made self.old.zones w site → Z.made self.new.zones w site }
+        ensures kept { (w : Stretch) (site : Site) → Z.made self.old.zones w site
+            → Z.made self.new.zones w site }
         ensures outside { (place : ℕ) → IsFree place self.old.state
-            → IsFree place self.new.state × (Z.byte self.new.zones place ≡ Z.byte self.old.zones place) }
+            → IsFree place self.new.state
+            × (Z.byte self.new.zones place ≡ Z.byte self.old.zones place) }
     {
         let most = self.longest();
         for _ in 0..most {
@@ -83,9 +89,12 @@ impl<'j, Z: ZoneMaker> Desk<'j, Z> {
         ensures ok { OnOk result (self.new.state ≡ launched_at i self.old.state) }
         ensures host { OnErr result (halted self.old.state ≡ halted self.new.state) }
         ensures memory { self.new.state.memory ≡ self.old.state.memory }
-        ensures kept { (w : Stretch) (site : Site) → Z.made self.old.zones w site → Z.made self.new.zones w site }
-        ensures outside { (place : ℕ) → IsFree place self.old.state → IsFree place (launched_at i self.old.state)
-            → IsFree place self.new.state × (Z.byte self.new.zones place ≡ Z.byte self.old.zones place) }
+        ensures kept { (w : Stretch) (site : Site) → Z.made self.old.zones w site
+            → Z.made self.new.zones w site }
+        ensures outside { (place : ℕ) → IsFree place self.old.state
+            → IsFree place (launched_at i self.old.state)
+            → IsFree place self.new.state
+            × (Z.byte self.new.zones place ≡ Z.byte self.old.zones place) }
     {
         match self.try_launch(i) {
             Ok(_) => Ok(()),
@@ -97,15 +106,19 @@ impl<'j, Z: ZoneMaker> Desk<'j, Z> {
     ///
     /// # Errors
     ///
-    /// The host is out of memory: the log, and what each application leaves, are as after the last launch, step or quit
-    /// that was completed. After this the desk can only be finished.
+    /// The host is out of memory: the log, and what each application leaves, are as after the last
+    /// launch, step or quit that was completed. After this the desk can only be finished.
     pub fn serve(&mut self, event: Event) -> Result<(), AllocError>
         ensures ok { OnOk result (self.new.state ≡ after_event event self.old.state) }
-        ensures within { OnErr result (WithinEvent (λ m. halted m ≡ halted self.new.state) event self.old.state) }
+        ensures within { OnErr result
+            (WithinEvent (λ m. halted m ≡ halted self.new.state) event self.old.state) }
         ensures memory { self.new.state.memory ≡ self.old.state.memory }
-        ensures kept { (w : Stretch) (site : Site) → Z.made self.old.zones w site → Z.made self.new.zones w site }
-        ensures outside { (place : ℕ) → IsFree place self.old.state → IsFree place (after_event event self.old.state)
-            → IsFree place self.new.state × (Z.byte self.new.zones place ≡ Z.byte self.old.zones place) }
+        ensures kept { (w : Stretch) (site : Site) → Z.made self.old.zones w site
+            → Z.made self.new.zones w site }
+        ensures outside { (place : ℕ) → IsFree place self.old.state
+            → IsFree place (after_event event self.old.state)
+            → IsFree place self.new.state
+            × (Z.byte self.new.zones place ≡ Z.byte self.old.zones place) }
     {
         match event {
             Event::Launch(i) => self.begin_if(i),
@@ -117,8 +130,8 @@ impl<'j, Z: ZoneMaker> Desk<'j, Z> {
     }
 }
 
-/// Performs events, up to the first for which the host is out of memory, and informs a watch of the number of events
-/// that have happened. Returns that number.
+/// Performs events, up to the first for which the host is out of memory, and informs a watch of the
+/// number of events that have happened. Returns that number.
 #[tactic(auto, using(crate::proofs::Rounds::events_next))]
 pub(crate) fn serve_all<Z: ZoneMaker, W: Watch>(
     desk: &mut Desk<'_, Z>,
@@ -126,14 +139,18 @@ pub(crate) fn serve_all<Z: ZoneMaker, W: Watch>(
     watch: &mut W,
 ) -> usize
     ensures few { result ≤ length events.now }
-    ensures all { result ≡ length events.now → desk.new.state ≡ after_events events.now desk.old.state }
+    ensures all { result ≡ length events.now
+        → desk.new.state ≡ after_events events.now desk.old.state }
     ensures within { result < length events.now
         → HaltsAfter (λ m. halted m ≡ halted desk.new.state) result events.now desk.old.state }
     ensures memory { desk.new.state.memory ≡ desk.old.state.memory }
-    ensures kept { (w : Stretch) (site : Site) → Z.made desk.old.zones w site → Z.made desk.new.zones w site }
+    ensures kept { (w : Stretch) (site : Site) → Z.made desk.old.zones w site
+        → Z.made desk.new.zones w site }
     ensures outside { (place : ℕ) → StaysFree place (take (suc result) events.now) desk.old.state
-        → IsFree place desk.new.state × (Z.byte desk.new.zones place ≡ Z.byte desk.old.zones place) }
-    ensures heard { W.heard watch.new ≡ append_known (W.heard watch.old) (reports result (length events.now)) }
+        → IsFree place desk.new.state
+        × (Z.byte desk.new.zones place ≡ Z.byte desk.old.zones place) }
+    ensures heard { W.heard watch.new
+        ≡ append_known (W.heard watch.old) (reports result (length events.now)) }
 {
     for (index, event) in events.iter().enumerate() {
         match desk.serve(*event) {

@@ -1,7 +1,7 @@
 //! Whole runs.
 
-ghost use Rattle.std.specs.Prelude.{◌≡◌, ◌≢◌, ℕ, ◌<◌, ◌≤◌, ◌%◌, ◌++◌, List, [], false, true, length, map, take, suc};
-ghost use Rattle.std.specs.Prelude.{IsTrue, IfOk, IfErr, OnOk, OnErr};
+ghost use Rattle.std.specs.Prelude.{◌≡◌, ◌≢◌, ℕ, ◌<◌, ◌≤◌, ◌%◌, ◌++◌, List, [], false, true};
+ghost use Rattle.std.specs.Prelude.{length, map, take, suc, IsTrue, IfOk, IfErr, OnOk, OnErr};
 ghost use Rattle.std.specs.Io.KnownBytes.{append_known};
 ghost use Rattle.std.specs.List.{list_all, flat_map};
 ghost use Rattle.windows.specs.declared.Window.{Window};
@@ -32,10 +32,11 @@ use block_store::ZoneMaker;
 use fork_format::Content;
 use std::alloc::{AllocError, Global};
 
-/// Ends the desk's log with a line for each fork that was written. Where the host is out of memory for one of them, the
-/// log stays as it was.
+/// Ends the desk's log with a line for each fork that was written. Where the host is out of memory
+/// for one of them, the log stays as it was.
 fn end_log(log: &mut Vec<u8>, apps: &[AppOutcome]) -> Result<(), AllocError>
-    ensures lines { OnOk result (log.new.items ≡ log.old.items ++ flat_map forks_of (map told_seen apps.now)) }
+    ensures lines { OnOk result (log.new.items
+        ≡ log.old.items ++ flat_map forks_of (map told_seen apps.now)) }
     ensures unchanged { OnErr result (log.new.items ≡ log.old.items) }
     ensures forks { OnErr result (flat_map forks_of (map told_seen apps.now) ≢ []) }
 {
@@ -47,8 +48,8 @@ fn end_log(log: &mut Vec<u8>, apps: &[AppOutcome]) -> Result<(), AllocError>
     written
 }
 
-/// Returns what a run leaves whose events, `done` in all, were completed. The run stops if the host is out of memory for
-/// the line of a fork.
+/// Returns what a run leaves whose events, `done` in all, were completed. The run stops if the host
+/// is out of memory for the line of a fork.
 fn ended_outcome(done: usize, mut log: Vec<u8>, apps: Vec<AppOutcome>) -> Outcome
     ensures whole { result.stopped ≡ false
         → outcome_seen result ≡ outcome_told done log.items (map told_seen apps.items) }
@@ -66,10 +67,11 @@ fn ended_outcome(done: usize, mut log: Vec<u8>, apps: Vec<AppOutcome>) -> Outcom
     }
 }
 
-/// Returns what a run leaves of whose events, `of` in all, the first `done` were completed. If these are not all, the run
-/// stopped within the next one, since the host was out of memory.
+/// Returns what a run leaves of whose events, `of` in all, the first `done` were completed. If
+/// these are not all, the run stopped within the next one, since the host was out of memory.
 fn outcome_by(done: usize, of: usize, log: Vec<u8>, apps: Vec<AppOutcome>) -> Outcome
-    ensures outcome { (events : List Event) (s m : State) → log.items ≡ m.log → map told_seen apps.items ≡ map told m.places
+    ensures outcome { (events : List Event) (s m : State) → log.items ≡ m.log
+        → map told_seen apps.items ≡ map told m.places
         → of ≡ length events → done ≤ of → (done ≡ of → m ≡ after_events events s)
         → (done < of → HaltsAfter (λ n. halted n ≡ halted m) done events s)
         → IsLeft (outcome_seen result) events s }
@@ -88,8 +90,8 @@ fn outcome_by(done: usize, of: usize, log: Vec<u8>, apps: Vec<AppOutcome>) -> Ou
     }
 }
 
-/// Performs the events of a job at a desk, and ends the desk's log with a line for each fork that was written. The run
-/// stops where the host is out of memory.
+/// Performs the events of a job at a desk, and ends the desk's log with a line for each fork that
+/// was written. The run stops where the host is out of memory.
 fn run_events<Z: ZoneMaker, W: Watch>(
     mut desk: Desk<'_, Z>,
     job: &Job,
@@ -100,8 +102,10 @@ fn run_events<Z: ZoneMaker, W: Watch>(
     ensures memory { Z.memory result.1 ≡ desk.entry.state.memory }
     ensures lies { result.0.stopped ≡ false
         → AllLie (Z.left result.1) (after_events job.now.events.items desk.entry.state).places }
-    ensures kept { (w : Window) (site : Site) → Z.made desk.entry.zones w site → Z.made result.1 w site }
-    ensures outside { (place : ℕ) → StaysFree place (take (suc result.0.done) job.now.events.items) desk.entry.state
+    ensures kept { (w : Window) (site : Site) → Z.made desk.entry.zones w site
+        → Z.made result.1 w site }
+    ensures outside { (place : ℕ)
+        → StaysFree place (take (suc result.0.done) job.now.events.items) desk.entry.state
         → Z.byte result.1 place ≡ Z.byte desk.entry.zones place }
     ensures heard { W.heard watch.new
         ≡ append_known (W.heard watch.old) (reports result.0.done (length job.now.events.items)) }
@@ -123,17 +127,20 @@ fn run_by<Z: ZoneMaker, W: Watch>(
     requires memory { Z.memory zones ≡ job.now.memory }
     requires multiple { job.now.memory % 16 ≡ 0 }
     requires few { length job.now.apps.items ≤ 64 }
-    requires types { IsTrue (are_distinct (map (λ (g : GroupValue). g.kind) (view system.now).groups)) }
+    requires types { IsTrue
+        (are_distinct (map (λ (g : GroupValue). g.kind) (view system.now).groups)) }
     requires references { IsTrue (list_all has_refs (view system.now).groups) }
     ensures outcome { IfOk result.0 (λ o. IsLeft (outcome_seen o) job.now.events.items
         (opening job.now.memory (view system.now) job.now.apps.items)) }
     ensures windows { Z.windows result.1 ≡ [] }
     ensures memory { Z.memory result.1 ≡ job.now.memory }
-    ensures lies { IfOk result.0 (λ o. o.stopped ≡ false → AllLie (Z.left result.1) (after_events job.now.events.items
+    ensures lies { IfOk result.0 (λ o. o.stopped ≡ false
+        → AllLie (Z.left result.1) (after_events job.now.events.items
         (opening job.now.memory (view system.now) job.now.apps.items)).places) }
     ensures kept { (w : Window) (site : Site) → Z.made zones w site → Z.made result.1 w site }
-    ensures outside { IfOk result.0 (λ o. (place : ℕ) → StaysFree place (take (suc o.done) job.now.events.items)
-        (opening job.now.memory (view system.now) job.now.apps.items) → Z.byte result.1 place ≡ Z.byte zones place) }
+    ensures outside { IfOk result.0 (λ o. (place : ℕ)
+        → StaysFree place (take (suc o.done) job.now.events.items) (opening job.now.memory
+        (view system.now) job.now.apps.items) → Z.byte result.1 place ≡ Z.byte zones place) }
     ensures heard { IfOk result.0 (λ o. W.heard watch.new
         ≡ append_known (W.heard watch.old) (reports o.done (length job.now.events.items))) }
     ensures given_back { IfErr result.0 (λ _. result.1 ≡ zones) }
@@ -148,9 +155,9 @@ fn run_by<Z: ZoneMaker, W: Watch>(
     }
 }
 
-/// Runs a job: its applications wait at a desk of the job's memory, and its events happen there in order. The maker of
-/// zones is returned with no zone open. `watch` is informed of the number of events that have happened; `Unwatched` is
-/// no watch.
+/// Runs a job: its applications wait at a desk of the job's memory, and its events happen there in
+/// order. The maker of zones is returned with no zone open. `watch` is informed of the number of
+/// events that have happened; `Unwatched` is no watch.
 ///
 /// # Errors
 ///
@@ -168,17 +175,18 @@ pub fn run_with<Z: ZoneMaker, W: Watch>(
     requires multiple { job.now.memory % 16 ≡ 0 }
     requires few { length job.now.apps.items ≤ 64 }
 
-    // What the run leaves is what the definition of the desk says for the events, one after another: the log, and of
-    // each application the transcript and the files. If the host is out of memory within an event, the run stops, and
-    // leaves what the desk leaves after the events that were completed, `done` of them, and what was completed of the
-    // next one; or the host is out of memory for the line of a fork, after the last event. The run is refused for the
-    // System file exactly if that file's fork can't be read.
+    // What the run leaves is what the definition of the desk says for the events, one after
+    // another: the log, and of each application the transcript and the files. If the host is out of
+    // memory within an event, the run stops, and leaves what the desk leaves after the events that
+    // were completed, `done` of them, and what was completed of the next one; or the host is out of
+    // memory for the line of a fork, after the last event. The run is refused for the System file
+    // exactly if that file's fork can't be read.
     ensures outcome { IsOutcome job.now result.0 }
 
-    // For every interleaving of launches, calls and quits, each launched application's transcript and forks are those
-    // that it would give alone with the same partition size, its own files and the same System file; each handle that
-    // was neither emptied nor disposed of shows the bytes last put there, wherever its block has moved; and no locked
-    // block moves or is purged.
+    // For every interleaving of launches, calls and quits, each launched application's transcript
+    // and forks are those that it would give alone with the same partition size, its own files and
+    // the same System file; each handle that was neither emptied nor disposed of shows the bytes
+    // last put there, wherever its block has moved; and no locked block moves or is purged.
     ensures alone { IfOk result.0 (λ o. EachLaunched IsAlone job.now o) }
     ensures laws { IfOk result.0 (λ o. EachLaunched (InItsSteps KeepsPromises) job.now o) }
 
@@ -189,8 +197,8 @@ pub fn run_with<Z: ZoneMaker, W: Watch>(
     // In the window of each application that still runs after the last event lies its zone.
     ensures lies { IfOk result.0 (λ o. o.stopped ≡ false → LieAtEnd (Z.left result.1) job.now) }
 
-    // The maker of zones works in the same memory, and each byte that was in no partition at any time keeps its value,
-    // whether the run stopped or not.
+    // The maker of zones works in the same memory, and each byte that was in no partition at any
+    // time keeps its value, whether the run stopped or not.
     ensures kept { (w : Window) (site : Site) → Z.made zones w site → Z.made result.1 w site }
     ensures outside { IfOk result.0 (λ o. (place : ℕ) → IsNeverGranted place o.done job.now
         → Z.byte result.1 place ≡ Z.byte zones place) }
@@ -199,8 +207,8 @@ pub fn run_with<Z: ZoneMaker, W: Watch>(
     ensures heard { IfOk result.0 (λ o. W.heard watch.new
         ≡ append_known (W.heard watch.old) (reports o.done (length job.now.events.items))) }
 
-    // A run has no outcome only before its first event: the maker of zones is returned as it was, and the watch has
-    // heard of nothing.
+    // A run has no outcome only before its first event: the maker of zones is returned as it was,
+    // and the watch has heard of nothing.
     ensures given_back { IfErr result.0 (λ _. result.1 ≡ zones) }
     ensures unheard { IfErr result.0 (λ _. W.heard watch.new ≡ W.heard watch.old) }
 {

@@ -98,7 +98,8 @@ pub spelled_by : (fork : List ℕ) (c : Content) → content_of_fork fork ≡ Ok
 unfolding content_of_fork
 spelled_by fork c = cases (length fork == 0) (is_fork fork) refl
   where
-    cases : (none good : Bool) → is_fork fork ≡ good → content_or_fault (cond none (Err END_OF_FILE) (cond good (Ok (content_of fork)) (Err MAP_READ))) ≡ Ok c → Spells fork c
+    cases : (none good : Bool) → is_fork fork ≡ good
+        → content_or_fault (cond none (Err END_OF_FILE) (cond good (Ok (content_of fork)) (Err MAP_READ))) ≡ Ok c → Spells fork c
     cases true good e is = absurd (let no : Err (Code END_OF_FILE) ≡ Ok c = is in cc)
     cases false false e is = absurd (let no : Err (Code MAP_READ) ≡ Ok c = is in cc)
     cases false true e is = record { fork = e; content = let same : Ok (content_of fork) ≡ Ok c = is in cc }

@@ -1,4 +1,5 @@
-use Rattle.std.proofs.Common.{◌≡◌, ◌∷◌, ◌∙◌, ℕ, ℤ, Bool, true, false, List, [], None, Some, Result, Ok, Err, IfOk, IfErr, refl, sym, ap, subst, map, length, arith}
+use Rattle.std.proofs.Common.{◌≡◌, ◌∷◌, ◌∙◌, ℕ, ℤ, Bool, true, false, List, [], None, Some, Result, Ok, Err, IfOk, IfErr, refl, sym, ap}
+use Rattle.std.proofs.Common.{subst, map, length, arith}
 use Rattle.std.specs.Prelude.{not, ◌==◌, if◌then◌else◌}
 use Rattle.std.proofs.lemmas.Bool.{ne_eqb}
 use Rattle.std.proofs.lemmas.Bool.Decides.{Decides-int_eq}

@@ -130,7 +130,8 @@ some_read s c d is has = cases (selected_groups s c.groups) refl has
     cleared_groups = all_fixed clear_group _ (of_selected (Fixed clear_group) s c.groups (stays_clear s)
         (fixed_all clear_group c.groups (ap (λ (x : Content). x.groups) is.cleared)))
 
-    all_of : (groups : List Group) → selected_groups s c.groups ≡ groups → IsRead (record { area = replicate 240 0; attrs = 0; groups = groups })
+    all_of : (groups : List Group) → selected_groups s c.groups ≡ groups
+        → IsRead (record { area = replicate 240 0; attrs = 0; groups = groups })
     all_of groups e = record {
       limits = record {
         area = refl;
@@ -145,7 +146,8 @@ some_read s c d is has = cases (selected_groups s c.groups) refl has
       };
       references = subst (λ gs. list_all has_refs gs ≡ true) e (with_references (map (selected_group s) c.groups));
       distinct = subst (λ gs. are_distinct (kinds gs) ≡ true) e (stay_distinct s c.groups is.distinct);
-      cleared = subst (λ gs. clear (record { area = replicate 240 0; attrs = 0; groups = gs }) ≡ record { area = replicate 240 0; attrs = 0; groups = gs }) e
+      cleared = subst (λ gs. clear (record { area = replicate 240 0; attrs = 0; groups = gs })
+          ≡ record { area = replicate 240 0; attrs = 0; groups = gs }) e
           (ap (λ (gs : List Group). record { area = replicate 240 0; attrs = 0; groups = gs }) cleared_groups);
     }
 

@@ -24,7 +24,8 @@ use Rattle.fork_commands.specs.declared.selecting.Selection.{Selection}
 use Rattle.fork_commands.specs.Faults.{made_then, Stops}
 use Rattle.fork_commands.specs.Reading.{content_in}
 use Rattle.fork_commands.specs.Sources.{source_with, selected_groups, alone, some_source, selected_source, printed}
-use Rattle.fork_commands.specs.Sources.{Faulty, Lacks, content_stated, fork_or_fault, assembled, of_work, file_name, HasEnough, HoldsStated, StopsAssembly}
+use Rattle.fork_commands.specs.Sources.{Faulty, Lacks, content_stated, fork_or_fault, assembled, of_work, file_name, HasEnough, HoldsStated}
+use Rattle.fork_commands.specs.Sources.{StopsAssembly}
 use Rattle.fork_commands.specs.Works.{canonical}
 
 -- What is printed, and what is made of a source.

@@ -1,7 +1,8 @@
 use Rattle.std.specs.Prelude.{◌≡◌, ℕ, ℤ, pos, Option, Some, None, Result, Ok, Err}
 use Rattle.mac_words.specs.declared.code.OsErr.{OsErr}
 use Rattle.fork_commands.specs.declared.fault.FileFault.{FileFault}
-use Rattle.fork_commands.specs.declared.fault.FileFault.TheVariants.{Code, Wrapper, BinHex, Unfit, TakenId, InBoth, Source, ReadsFiles, Contents}
+use Rattle.fork_commands.specs.declared.fault.FileFault.TheVariants.{Code, Wrapper, BinHex, Unfit, TakenId, InBoth, Source, ReadsFiles}
+use Rattle.fork_commands.specs.declared.fault.FileFault.TheVariants.{Contents}
 use Rattle.fork_commands.specs.declared.fault.WorkFault.{WorkFault}
 use Rattle.fork_commands.specs.declared.fault.WorkFault.TheVariants.{File, HostMemory}
 

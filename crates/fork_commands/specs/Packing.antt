@@ -22,6 +22,7 @@ listed_in text = list_or_fault (contents_read text)
 abbrev pub listed_paths : List ℕ → Listed → List (List ℕ)
 listed_paths folder l = map (λ (e : Entry). within folder e.file) l.entries
 
--- The canonical fork of the content that a list and the bytes of the files state, or -34 (dskFulErr) where it doesn't fit the format of a fork.
+-- The canonical fork of the content that a list and the bytes of the files state, or -34 (dskFulErr) where it doesn't fit the format of a
+-- fork.
 abbrev pub fork_of_files : Listed → List (List ℕ) → Result (List ℕ) FileFault
 fork_of_files l files = canonical (packed_content l files)

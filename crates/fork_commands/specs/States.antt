@@ -19,7 +19,8 @@ use Rattle.fork_wrappers.specs.declared.fault.MacBinaryFault.TheVariants as mac_
 use Rattle.fork_wrappers.specs.declared.fault.WrapFault.{WrapFault}
 use Rattle.fork_wrappers.specs.declared.fault.WrapFault.TheVariants as wrapper
 use Rattle.fork_commands.specs.declared.fault.FileFault.{FileFault}
-use Rattle.fork_commands.specs.declared.fault.FileFault.TheVariants.{Code, Wrapper, BinHex, Unfit, TakenId, InBoth, Source, ReadsFiles, Contents}
+use Rattle.fork_commands.specs.declared.fault.FileFault.TheVariants.{Code, Wrapper, BinHex, Unfit, TakenId, InBoth, Source, ReadsFiles}
+use Rattle.fork_commands.specs.declared.fault.FileFault.TheVariants.{Contents}
 use Rattle.fork_commands.specs.declared.opening.Container.{Container}
 use Rattle.fork_commands.specs.declared.opening.Container.TheVariants.{Wrapped, BinHex as InBinHex}
 use Rattle.fork_commands.specs.Opening.{is_unwrapped, container_of}

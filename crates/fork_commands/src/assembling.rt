@@ -45,13 +45,14 @@ impl From<WorkFault> for AssemblyFault {
     }
 }
 
-/// Returns the canonical fork of the content that a source of Rez states, where types are declared before its first line. Its n-th
-/// statement `read` takes the n-th of the files.
+/// Returns the canonical fork of the content that a source of Rez states, where types are declared
+/// before its first line. Its n-th statement `read` takes the n-th of the files.
 ///
 /// # Errors
 ///
-/// The first line that can't be read, and why; -34 (dskFulErr) where what is stated doesn't fit the format of a fork; or, where all
-/// else can be read, the names of the files that are not there. If the host is out of memory nothing is said of the source.
+/// The first line that can't be read, and why; -34 (dskFulErr) where what is stated doesn't fit the
+/// format of a fork; or, where all else can be read, the names of the files that are not there. If
+/// the host is out of memory nothing is said of the source.
 #[tactic(auto, using(crate::proofs::Sources::assembled_of, crate::proofs::Sources::unfit_of, crate::proofs::Sources::unread_of, crate::proofs::Sources::lacking_of, crate::proofs::Sources::not_lacking, crate::proofs::Sources::has_enough))]
 pub fn assembled(
     alloc: Global,
@@ -61,8 +62,8 @@ pub fn assembled(
 ) -> Result<Vec<u8>, AssemblyFault>
     ensures made { IfOk result (λ out.
         spec.assembled (types_of types.now) (files_of files.items) source.now ≡ Ok out.items) }
-    ensures fault { IfErr result (λ fault.
-        StopsAssembly fault (spec.assembled (types_of types.now) (files_of files.items) source.now)) }
+    ensures fault { IfErr result (λ fault. StopsAssembly fault
+        (spec.assembled (types_of types.now) (files_of files.items) source.now)) }
 
     // The fork is read again as exactly the content that the source states.
     ensures read_again { IfOk result (λ out.
@@ -83,7 +84,8 @@ pub fn assembled(
     }
 }
 
-/// Returns the name of a file in a source as text: bytes that are UTF-8 as they are, others as characters of Mac OS Roman.
+/// Returns the name of a file in a source as text: bytes that are UTF-8 as they are, others as
+/// characters of Mac OS Roman.
 pub fn file_name(alloc: Global, name: &[u8]) -> Result<String, AllocError>
     ensures { IfOk result (λ text. string_bytes text ≡ spec.file_name name.now) }
 {

@@ -1,9 +1,10 @@
-//! Dates as the Macintosh counts them, and as people read them. Where the host is out of memory, a text may have got a
-//! part of what is appended.
+//! Dates as the Macintosh counts them, and as people read them. Where the host is out of memory, a
+//! text may have got a part of what is appended.
 
 ghost use Rattle.std.specs.Prelude.{◌≡◌, ℕ, ◌+◌, ◌≤◌, ◌<◌, ◌++◌, OnOk};
-ghost use Rattle.fork_commands.specs.Dates.{is_leap, days_in_year, days_in_month, day_in, year_of, month_of};
-ghost use Rattle.fork_commands.specs.Dates.{moment, seconds_to, IsMoment, two_digits, date_text, time_text, moment_text};
+ghost use Rattle.fork_commands.specs.Dates.{is_leap, days_in_year, days_in_month, day_in, year_of};
+ghost use Rattle.fork_commands.specs.Dates.{month_of, moment, seconds_to, IsMoment, two_digits};
+ghost use Rattle.fork_commands.specs.Dates.{date_text, time_text, moment_text};
 
 use itoa::Buffer;
 use std::alloc::AllocError;
@@ -124,9 +125,11 @@ fn month_at(date: DayIn) -> DayIn
     }
 }
 
-/// Returns the date and the time of a number of seconds from the midnight that begins 1 January 1904.
+/// Returns the date and the time of a number of seconds from the midnight that begins 1
+/// January 1904.
 ///
-/// *Inside Macintosh: Operating System Utilities*, chapter 4, "Date, Time, and Measurement Utilities".
+/// *Inside Macintosh: Operating System Utilities*, chapter 4, "Date, Time, and Measurement
+/// Utilities".
 pub fn moment_of(seconds: u64) -> Moment
     ensures { result ≡ moment seconds }
 {
@@ -184,10 +187,11 @@ pub fn append_moment(text: &mut Vec<u8>, moment: Moment) -> Result<(), AllocErro
     Ok(())
 }
 
-/// States that the date and the time of a number of seconds are of the calendar and of the clock, and stand for that number
-/// alone.
+/// States that the date and the time of a number of seconds are of the calendar and of the clock,
+/// and stand for that number alone.
 ///
-/// *Inside Macintosh: Operating System Utilities*, chapter 4, "Date, Time, and Measurement Utilities".
+/// *Inside Macintosh: Operating System Utilities*, chapter 4, "Date, Time, and Measurement
+/// Utilities".
 pub fn a_moment_has_one_number()
     ensures number { (seconds : ℕ) → seconds_to (moment seconds) ≡ seconds }
     ensures calendar { (seconds : ℕ) → IsMoment (moment seconds) }

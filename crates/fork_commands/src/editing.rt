@@ -85,8 +85,10 @@ fn lent(new: &Naming) -> Renaming<'_>
 /// Renames a resource of a content.
 #[tactic(auto, using(crate::proofs::Edits::renamed_there, crate::proofs::Edits::renamed_not))]
 fn rename<'b>(content: &mut Content<'b>, key: ResourceKey, new: &'b Naming) -> Result<(), FileFault>
-    ensures made { OnOk result (edited (Rename key new.now) (view content.old) ≡ Ok (view content.new)) }
-    ensures fault { IfErr result (λ fault. edited (Rename key new.now) (view content.old) ≡ Err fault) }
+    ensures made { OnOk result (edited (Rename key new.now) (view content.old)
+        ≡ Ok (view content.new)) }
+    ensures fault { IfErr result (λ fault.
+        edited (Rename key new.now) (view content.old) ≡ Err fault) }
 {
     let gets = lent(new);
     match rename_resource(content, key.ty, key.id, &gets) {
@@ -99,8 +101,8 @@ fn rename<'b>(content: &mut Content<'b>, key: ResourceKey, new: &'b Naming) -> R
 ///
 /// # Errors
 ///
-/// -192 (resNotFound) where there is no resource of the type and the ID; `TakenId` where another resource of the type
-/// has the ID that the resource would get.
+/// -192 (resNotFound) where there is no resource of the type and the ID; `TakenId` where another
+/// resource of the type has the ID that the resource would get.
 pub(crate) fn make_edit<'b>(content: &mut Content<'b>, edit: &'b Edit) -> Result<(), FileFault>
     ensures made { OnOk result (edited edit.now (view content.old) ≡ Ok (view content.new)) }
     ensures fault { IfErr result (λ fault. edited edit.now (view content.old) ≡ Err fault) }

@@ -5,7 +5,8 @@ ghost use Rattle.fork_format.specs.View.{view};
 ghost use Rattle.fork_edits.specs.View.{view_filed};
 ghost use Rattle.fork_commands.specs.Faults.{Stops};
 ghost use Rattle.fork_commands.specs.Opening.{bytes_of, IsOpen};
-ghost use Rattle.fork_commands.specs.Extracting.{within, file_of, resource_files, list_file, files_of, extracted};
+ghost use Rattle.fork_commands.specs.Extracting.{within, file_of, resource_files, list_file};
+ghost use Rattle.fork_commands.specs.Extracting.{files_of, extracted};
 ghost use Rattle.fork_commands.specs.View.{view_file};
 ghost use Rattle.fork_commands.specs.View as written;
 
@@ -77,7 +78,8 @@ fn resource_files<'b>(
     folder: &str,
     rows: &[FiledRow<'b>],
 ) -> Result<Vec<ResourceFile<'b>>, AllocError>
-    ensures { IfOk result (λ files. map view_file files.items ≡ resource_files folder.now (map view_filed rows.now)) }
+    ensures { IfOk result (λ files. map view_file files.items
+        ≡ resource_files folder.now (map view_filed rows.now)) }
 {
     let mut files = Vec::new(alloc);
     for filed in rows {
@@ -93,7 +95,8 @@ fn list_file<'b>(
     content: &Content<'b>,
     rows: &[FiledRow<'b>],
 ) -> Result<ResourceFile<'b>, AllocError>
-    ensures { IfOk result (λ file. view_file file ≡ list_file folder.now (view content.now) (map view_filed rows.now)) }
+    ensures { IfOk result (λ file. view_file file
+        ≡ list_file folder.now (view content.now) (map view_filed rows.now)) }
 {
     let path = path_within(alloc, folder, "contents")?;
     let mut text = Vec::new(alloc);
@@ -110,7 +113,8 @@ fn files_of<'b>(
     folder: &str,
     content: &Content<'b>,
 ) -> Result<Vec<ResourceFile<'b>>, AllocError>
-    ensures { IfOk result (λ files. map view_file files.items ≡ files_of folder.now (view content.now)) }
+    ensures { IfOk result (λ files. map view_file files.items
+        ≡ files_of folder.now (view content.now)) }
 {
     let rows = filed_rows(alloc, content)?;
     let list = list_file(alloc, folder, content, rows.as_slice())?;
@@ -119,10 +123,11 @@ fn files_of<'b>(
     Ok(files)
 }
 
-/// Returns the files to which the fork in the bytes of a file is written, in a folder: a file for each resource, in the order of the
-/// fork, with its stored data, named by its type and ID or, where two resources have one type and ID, all by number
-/// (`fork_edits::filed_rows`); and, as the last one, the file `contents` with the list (`fork_edits::append_contents`). A folder
-/// without it wasn't written to its end.
+/// Returns the files to which the fork in the bytes of a file is written, in a folder: a file for
+/// each resource, in the order of the fork, with its stored data, named by its type and ID or,
+/// where two resources have one type and ID, all by number (`fork_edits::filed_rows`); and, as the
+/// last one, the file `contents` with the list (`fork_edits::append_contents`). A folder without it
+/// wasn't written to its end.
 ///
 /// # Errors
 ///
@@ -133,7 +138,8 @@ pub fn extracted<'f>(
     file: &'f OpenFile<'_>,
 ) -> Result<Vec<ResourceFile<'f>>, WorkFault>
     requires { IsOpen file.now }
-    ensures made { IfOk result (λ files. extracted folder.now (bytes_of file.now) ≡ Ok (map view_file files.items)) }
+    ensures made { IfOk result (λ files. extracted folder.now (bytes_of file.now)
+        ≡ Ok (map view_file files.items)) }
     ensures fault { IfErr result (λ fault. Stops fault (extracted folder.now (bytes_of file.now))) }
 {
     let content = content_in(alloc, file)?;

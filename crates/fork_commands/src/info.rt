@@ -6,9 +6,9 @@ ghost use Rattle.fork_edits.specs.Texts.{hex_byte};
 ghost use Rattle.fork_format.specs.View.{view_name};
 ghost use Rattle.fork_wrappers.specs.Info.{view_info, real_name};
 ghost use Rattle.bin_hex.specs.File.{view};
-ghost use Rattle.fork_commands.specs.Info.{line, known, wrapping_text, container_text, quoted, kind_text, flags_text};
-ghost use Rattle.fork_commands.specs.Info.{seconds_text};
-ghost use Rattle.fork_commands.specs.Info.{length_text, finder_lines, date_lines, length_lines, other_lines};
+ghost use Rattle.fork_commands.specs.Info.{line, known, wrapping_text, container_text, quoted};
+ghost use Rattle.fork_commands.specs.Info.{kind_text, flags_text, seconds_text, length_text};
+ghost use Rattle.fork_commands.specs.Info.{finder_lines, date_lines, length_lines, other_lines};
 ghost use Rattle.fork_commands.specs.Info.{info_lines, decoded_info, info_within, info_text};
 ghost use Rattle.fork_commands.specs.Opening.{bytes_of, IsOpen};
 
@@ -66,7 +66,8 @@ fn push_label(text: &mut Vec<u8>, label: &[u8]) -> Result<(), AllocError>
 /// Appends the line of the wrapper.
 #[tactic(auto, unfolding(crate::specs::Info::line))]
 fn push_wrapper_line(text: &mut Vec<u8>, how: Container) -> Result<(), AllocError>
-    ensures { OnOk result (text.new.items ≡ text.old.items ++ line (codes "wrapper") (container_text how)) }
+    ensures { OnOk result (text.new.items
+        ≡ text.old.items ++ line (codes "wrapper") (container_text how)) }
 {
     push_label(text, b"wrapper")?;
     text.extend_from_slice(container_name(how))?;
@@ -85,7 +86,8 @@ fn push_quoted(text: &mut Vec<u8>, name: RefName<'_>) -> Result<(), AllocError>
 /// Appends the line of a name.
 #[tactic(auto, unfolding(crate::specs::Info::line))]
 fn push_named(text: &mut Vec<u8>, name: RefName<'_>) -> Result<(), AllocError>
-    ensures { OnOk result (text.new.items ≡ text.old.items ++ line (codes "name") (quoted name.entry.bytes.now)) }
+    ensures { OnOk result (text.new.items
+        ≡ text.old.items ++ line (codes "name") (quoted name.entry.bytes.now)) }
 {
     push_label(text, b"name")?;
     push_quoted(text, name)?;
@@ -95,7 +97,8 @@ fn push_named(text: &mut Vec<u8>, name: RefName<'_>) -> Result<(), AllocError>
 
 /// Appends the line of a name, if it is known.
 fn push_name_line(text: &mut Vec<u8>, name: &Option<RefName<'_>>) -> Result<(), AllocError>
-    ensures { OnOk result (text.new.items ≡ text.old.items ++ known (codes "name") quoted (view_name name.now)) }
+    ensures { OnOk result (text.new.items
+        ≡ text.old.items ++ known (codes "name") quoted (view_name name.now)) }
 {
     match name {
         Some(name) => push_named(text, *name),
@@ -153,7 +156,8 @@ fn push_flags(text: &mut Vec<u8>, flags: u16) -> Result<(), AllocError>
 /// Appends the line of the Finder's flags.
 #[tactic(auto, unfolding(crate::specs::Info::line))]
 fn push_flagged(text: &mut Vec<u8>, flags: u16) -> Result<(), AllocError>
-    ensures { OnOk result (text.new.items ≡ text.old.items ++ line (codes "flags") (flags_text flags)) }
+    ensures { OnOk result (text.new.items
+        ≡ text.old.items ++ line (codes "flags") (flags_text flags)) }
 {
     push_label(text, b"flags")?;
     push_flags(text, flags)?;
@@ -163,7 +167,8 @@ fn push_flagged(text: &mut Vec<u8>, flags: u16) -> Result<(), AllocError>
 
 /// Appends the line of the Finder's flags, if they are known.
 fn push_flags_line(text: &mut Vec<u8>, flags: Option<u16>) -> Result<(), AllocError>
-    ensures { OnOk result (text.new.items ≡ text.old.items ++ known (codes "flags") flags_text flags) }
+    ensures { OnOk result (text.new.items
+        ≡ text.old.items ++ known (codes "flags") flags_text flags) }
 {
     match flags {
         Some(flags) => push_flagged(text, flags),
@@ -182,7 +187,8 @@ fn push_seconds(text: &mut Vec<u8>, seconds: u64) -> Result<(), AllocError>
 /// Appends the line of a date.
 #[tactic(auto, unfolding(crate::specs::Info::line))]
 fn push_dated(text: &mut Vec<u8>, label: &[u8], seconds: u64) -> Result<(), AllocError>
-    ensures { OnOk result (text.new.items ≡ text.old.items ++ line label.now (seconds_text seconds)) }
+    ensures { OnOk result (text.new.items
+        ≡ text.old.items ++ line label.now (seconds_text seconds)) }
 {
     push_label(text, label)?;
     push_seconds(text, seconds)?;
@@ -192,7 +198,8 @@ fn push_dated(text: &mut Vec<u8>, label: &[u8], seconds: u64) -> Result<(), Allo
 
 /// Appends the line of a date, if it is known.
 fn push_date_line(text: &mut Vec<u8>, label: &[u8], seconds: Option<u64>) -> Result<(), AllocError>
-    ensures { OnOk result (text.new.items ≡ text.old.items ++ known label.now seconds_text seconds) }
+    ensures { OnOk result (text.new.items
+        ≡ text.old.items ++ known label.now seconds_text seconds) }
 {
     match seconds {
         Some(seconds) => push_dated(text, label, seconds),
@@ -241,7 +248,8 @@ fn push_fork_length(text: &mut Vec<u8>, len: Option<usize>) -> Result<(), AllocE
 /// Appends the line of the length of a resource fork.
 #[tactic(auto, unfolding(crate::specs::Info::line))]
 fn push_fork_line(text: &mut Vec<u8>, len: Option<usize>) -> Result<(), AllocError>
-    ensures { OnOk result (text.new.items ≡ text.old.items ++ line (codes "resource") (length_text len)) }
+    ensures { OnOk result (text.new.items
+        ≡ text.old.items ++ line (codes "resource") (length_text len)) }
 {
     push_label(text, b"resource")?;
     push_fork_length(text, len)?;
@@ -298,7 +306,8 @@ fn push_other_lines(
     how: Container,
     info: &FileInfo<'_>,
 ) -> Result<(), AllocError>
-    ensures { OnOk result (text.new.items ≡ text.old.items ++ other_lines how (view_info info.now)) }
+    ensures { OnOk result (text.new.items
+        ≡ text.old.items ++ other_lines how (view_info info.now)) }
 {
     match how {
         Container::Wrapped(Wrapping::Plain) => Ok(()),
@@ -364,10 +373,11 @@ fn decoded_lines(alloc: Global, bytes: &[u8], file: &BinHexFile) -> Result<Vec<u
     Ok(text)
 }
 
-/// Returns what is known of a file, a line for each: `wrapper` and the name of the wrapper, which is `none` for a bare fork;
-/// and but for a bare fork `name`, `type`, `creator`, `flags`, `created`, `changed` and `data`, each if it is known, and
-/// `resource`, with the length of the resource fork in bytes, or `none` where no entry of the file is of one. A damaged
-/// wrapper is read as far as it stands.
+/// Returns what is known of a file, a line for each: `wrapper` and the name of the wrapper, which
+/// is `none` for a bare fork; and but for a bare fork `name`, `type`, `creator`, `flags`,
+/// `created`, `changed` and `data`, each if it is known, and `resource`, with the length of the
+/// resource fork in bytes, or `none` where no entry of the file is of one. A damaged wrapper is
+/// read as far as it stands.
 ///
 /// # Errors
 ///

@@ -27,7 +27,8 @@ pub fn built_in(alloc: Global) -> Result<Types, AllocError>
 ///
 /// # Errors
 ///
-/// The first line that can't be read, and why; if the host is out of memory nothing is said of the text.
+/// The first line that can't be read, and why; if the host is out of memory nothing is said of the
+/// text.
 pub fn add_types(alloc: Global, types: Types, text: &[u8]) -> Result<Types, WorkFault>
     ensures made { IfOk result (λ all. types_with (types_of types) text.now ≡ Ok (types_of all)) }
     ensures fault { IfErr result (λ fault. Stops fault (types_with (types_of types) text.now)) }

@@ -62,8 +62,8 @@ fn is_in_none(bytes: &[u8]) -> bool
     }
 }
 
-/// Returns whether a file is encoded: its bytes are in no wrapper, they are no resource fork, and they are those of a BinHex
-/// file.
+/// Returns whether a file is encoded: its bytes are in no wrapper, they are no resource fork, and
+/// they are those of a BinHex file.
 #[tactic(auto, unfolding(crate::specs::Opening::is_encoded))]
 pub(crate) fn is_encoded_file(bytes: &[u8]) -> bool
     ensures { result ≡ is_encoded bytes.now }
@@ -98,7 +98,8 @@ fn plain_file<'b>(bytes: &'b [u8]) -> OpenFile<'b>
     OpenFile::Plain(bytes)
 }
 
-/// Opens a file: what its bytes stand for is read if they are those of a BinHex file, in no wrapper and no resource fork.
+/// Opens a file: what its bytes stand for is read if they are those of a BinHex file, in no wrapper
+/// and no resource fork.
 ///
 /// RFC 1741, appendix A.
 ///

@@ -1,10 +1,12 @@
-//! How a fork that was made is written: alone, or in the wrapper of the file in whose place it stands, or in BinHex.
+//! How a fork that was made is written: alone, or in the wrapper of the file in whose place it
+//! stands, or in BinHex.
 
 ghost use Rattle.std.specs.Prelude.{◌≡◌, Ok, IfOk, IfErr};
 ghost use Rattle.fork_commands.specs.Faults.{Stops};
 ghost use Rattle.bin_hex.specs.Putting.{with_resource_fork};
 ghost use Rattle.fork_wrappers.specs.Rewrapped.{rewrapped};
-ghost use Rattle.fork_commands.specs.Packaging.{recognized, put_or_fault, wrapped_or_fault, packed, of_rewrap, of_put};
+ghost use Rattle.fork_commands.specs.Packaging.{recognized, put_or_fault, wrapped_or_fault, packed};
+ghost use Rattle.fork_commands.specs.Packaging.{of_rewrap, of_put};
 ghost use Rattle.fork_commands.specs.declared.packaging.Packaging.TheVariants.{AsRead};
 
 use crate::fault::{FileFault, WorkFault};
@@ -49,8 +51,10 @@ impl WorkFault {
 
 /// Returns a file that is wrapped, or is the fork itself, with a fork in the place of its own.
 fn wrapped(alloc: Global, file: &[u8], fork: &[u8]) -> Result<Vec<u8>, WorkFault>
-    ensures made { IfOk result (λ out. wrapped_or_fault (rewrapped file.now fork.now) ≡ Ok out.items) }
-    ensures fault { IfErr result (λ fault. Stops fault (wrapped_or_fault (rewrapped file.now fork.now))) }
+    ensures made { IfOk result (λ out. wrapped_or_fault (rewrapped file.now fork.now)
+        ≡ Ok out.items) }
+    ensures fault { IfErr result (λ fault.
+        Stops fault (wrapped_or_fault (rewrapped file.now fork.now))) }
 {
     match rewrap(alloc, file, fork) {
         Ok(made) => Ok(made),
@@ -75,8 +79,10 @@ fn recognized(file: Vec<u8>) -> Result<Vec<u8>, WorkFault>
 
 /// Returns a BinHex file with a fork in the place of its own.
 fn encoded(alloc: Global, file: &[u8], fork: &[u8]) -> Result<Vec<u8>, WorkFault>
-    ensures made { IfOk result (λ out. put_or_fault (with_resource_fork file.now fork.now) ≡ Ok out.items) }
-    ensures fault { IfErr result (λ fault. Stops fault (put_or_fault (with_resource_fork file.now fork.now))) }
+    ensures made { IfOk result (λ out. put_or_fault (with_resource_fork file.now fork.now)
+        ≡ Ok out.items) }
+    ensures fault { IfErr result (λ fault.
+        Stops fault (put_or_fault (with_resource_fork file.now fork.now))) }
 {
     match put_fork(alloc, file, fork) {
         Ok(made) => recognized(made),

@@ -15,7 +15,8 @@ use std::alloc::{AllocError, Global};
 ///
 /// # Errors
 ///
-/// The first line that can't be read, and why; if the host is out of memory nothing is said of the list.
+/// The first line that can't be read, and why; if the host is out of memory nothing is said of the
+/// list.
 pub fn list_in(alloc: Global, text: &[u8]) -> Result<ContentsList, WorkFault>
     ensures list { IfOk result (λ l. listed_in text.now ≡ Ok (view_list l)) }
     ensures fault { IfErr result (λ fault. Stops fault (listed_in text.now)) }
@@ -29,13 +30,15 @@ pub fn list_in(alloc: Global, text: &[u8]) -> Result<ContentsList, WorkFault>
     }
 }
 
-/// Returns the paths of the files that a list names, in its order: that of the folder as it was given, a slash, and the name.
+/// Returns the paths of the files that a list names, in its order: that of the folder as it was
+/// given, a slash, and the name.
 pub fn listed_paths(
     alloc: Global,
     folder: &str,
     list: &ContentsList,
 ) -> Result<Vec<String>, AllocError>
-    ensures { IfOk result (λ paths. map string_bytes paths.items ≡ listed_paths folder.now (view_list list.now)) }
+    ensures { IfOk result (λ paths. map string_bytes paths.items
+        ≡ listed_paths folder.now (view_list list.now)) }
 {
     let mut paths = Vec::new(alloc);
     for entry in list.entries() {
@@ -44,8 +47,8 @@ pub fn listed_paths(
     Ok(paths)
 }
 
-/// Returns the canonical fork of the content that a list and the files that it names state (`fork_edits::packed_content`). The
-/// n-th of the files is that of the list's n-th resource.
+/// Returns the canonical fork of the content that a list and the files that it names state
+/// (`fork_edits::packed_content`). The n-th of the files is that of the list's n-th resource.
 ///
 /// # Errors
 ///
@@ -55,8 +58,10 @@ pub fn packed_fork(
     list: &ContentsList,
     files: &[Vec<u8>],
 ) -> Result<Vec<u8>, WorkFault>
-    ensures made { IfOk result (λ fork. fork_of_files (view_list list.now) (map (λ file. file.items) files.now) ≡ Ok fork.items) }
-    ensures fault { IfErr result (λ fault. Stops fault (fork_of_files (view_list list.now) (map (λ file. file.items) files.now))) }
+    ensures made { IfOk result (λ fork.
+        fork_of_files (view_list list.now) (map (λ file. file.items) files.now) ≡ Ok fork.items) }
+    ensures fault { IfErr result (λ fault.
+        Stops fault (fork_of_files (view_list list.now) (map (λ file. file.items) files.now))) }
 {
     let content = packed_content(alloc, list, files)?;
     canonical(alloc, &content)

@@ -11,12 +11,14 @@ ghost use Rattle.fork_format.specs.View.{view, view_ref};
 ghost use Rattle.fork_commands.specs.Faults.{Stops};
 ghost use Rattle.fork_commands.specs.Opening.{bytes_of, IsOpen};
 ghost use Rattle.fork_commands.specs.Pairs as spec;
-ghost use Rattle.fork_commands.specs.Pairs.{Bytes, at, stopped_at, Gives, StopsPair, names_of, combined};
+ghost use Rattle.fork_commands.specs.Pairs.{Bytes, at, stopped_at, Gives, StopsPair, names_of};
+ghost use Rattle.fork_commands.specs.Pairs.{combined};
 ghost use Rattle.rez_text.specs.View.{content_stated};
 ghost use Rattle.fork_commands.specs.Reading.{content_in};
 ghost use Rattle.fork_commands.specs.declared.pair.PairFault.TheVariants as pair_fault;
 ghost use Rattle.fork_commands.specs.declared.pair.Place.TheVariants.{Second};
-ghost use Rattle.fork_commands.specs.declared.pair.PairWork.TheVariants.{Set, SetStated, Diff, DiffText, Wrap, Merge};
+ghost use Rattle.fork_commands.specs.declared.pair.PairWork.TheVariants.{Set, SetStated, Diff};
+ghost use Rattle.fork_commands.specs.declared.pair.PairWork.TheVariants.{DiffText, Wrap, Merge};
 
 use crate::fault::{FileFault, Twin, WorkFault};
 use crate::known_types::built_in;
@@ -51,22 +53,24 @@ pub struct Setting {
 /// What is made of the bytes of two files.
 #[derive(Clone, Copy)]
 pub enum PairWork {
-    /// The canonical fork of the content that the first file's bytes spell, with a resource set to the second file's
-    /// bytes, alone or in the wrapper of the first file.
+    /// The canonical fork of the content that the first file's bytes spell, with a resource set to
+    /// the second file's bytes, alone or in the wrapper of the first file.
     Set(Setting, Packaging),
-    /// The canonical fork of that content, with a resource set to the one of its type and ID that the second file states as source of
-    /// Rez by the types of the table: to its bytes, and to its name and attributes where no others are given. One that is stated
-    /// without a name has none then.
+    /// The canonical fork of that content, with a resource set to the one of its type and ID that
+    /// the second file states as source of Rez by the types of the table: to its bytes, and to its
+    /// name and attributes where no others are given. One that is stated without a name has none
+    /// then.
     SetStated(Setting, Packaging),
     /// How the contents of the two forks differ, in lines in a set of characters.
     Diff(Charset),
-    /// How the sources of the two forks differ, as `diff -u` prints it. Statements are printed by the types of the table, and by the
-    /// templates of each fork.
+    /// How the sources of the two forks differ, as `diff -u` prints it. Statements are printed by
+    /// the types of the table, and by the templates of each fork.
     DiffText(SourceForm),
     /// The first file, with the fork in the second file's bytes in the place of its own.
     Wrap,
-    /// The canonical fork of the resources of both forks, alone or in the wrapper of the first file. What stands in both
-    /// is refused, or, if so asked, the second fork's resource stands in the place of the first's.
+    /// The canonical fork of the resources of both forks, alone or in the wrapper of the first
+    /// file. What stands in both is refused, or, if so asked, the second fork's resource stands in
+    /// the place of the first's.
     Merge(bool, Packaging),
 }
 
@@ -146,7 +150,8 @@ fn content_at<'f>(
 ) -> Result<Content<'f>, PairFault>
     requires { IsOpen file.now }
     ensures content { IfOk result (λ c. content_in (bytes_of file.now) ≡ Ok (view c)) }
-    ensures fault { IfErr result (λ fault. StopsPair fault (at place (content_in (bytes_of file.now)))) }
+    ensures fault { IfErr result (λ fault.
+        StopsPair fault (at place (content_in (bytes_of file.now)))) }
 {
     match content_in(alloc, file) {
         Ok(content) => Ok(content),
@@ -173,15 +178,16 @@ fn change<'b>(
     bytes: &'b [u8],
     content: &mut Content<'b>,
 ) -> Result<(), AllocError>
-    ensures { OnOk result (view content.new ≡ spec.with_setting setting.now bytes.now (view content.old)) }
+    ensures { OnOk result (view content.new
+        ≡ spec.with_setting setting.now bytes.now (view content.old)) }
 {
     let change = change_to(setting, bytes);
     set_resource(alloc, content, setting.key.ty, setting.key.id, &change)?;
     Ok(())
 }
 
-/// Returns the canonical fork of a content, once a resource in it is set to the second file's bytes, alone or in the
-/// wrapper of the first file.
+/// Returns the canonical fork of a content, once a resource in it is set to the second file's
+/// bytes, alone or in the wrapper of the first file.
 fn fork_set<'b>(
     alloc: Global,
     setting: &'b Setting,
@@ -189,8 +195,10 @@ fn fork_set<'b>(
     first: &'b [u8],
     second: &'b [u8],
 ) -> Result<Vec<u8>, WorkFault>
-    ensures made { IfOk result (λ out. spec.fork_set setting.now packaging first.now second.now ≡ Ok out.items) }
-    ensures fault { IfErr result (λ fault. Stops fault (spec.fork_set setting.now packaging first.now second.now)) }
+    ensures made { IfOk result (λ out. spec.fork_set setting.now packaging first.now second.now
+        ≡ Ok out.items) }
+    ensures fault { IfErr result (λ fault.
+        Stops fault (spec.fork_set setting.now packaging first.now second.now)) }
 {
     let file = open_file(alloc, first)?;
     let mut content = content_in(alloc, &file)?;
@@ -212,8 +220,10 @@ fn good_fork(alloc: Global, bytes: &[u8]) -> Result<Vec<u8>, WorkFault>
 /// Returns the first file with a fork that was made of the second in the place of its own.
 #[tactic(auto, using(crate::proofs::Pairs::put_made, crate::proofs::Pairs::put_stopped))]
 fn put_into(alloc: Global, first: &[u8], fork: Vec<u8>) -> Result<PairOutput, PairFault>
-    ensures made { IfOk result (λ made. spec.put_into first.now (Ok fork.items) ≡ Ok (Bytes made.out.items made.differs)) }
-    ensures fault { IfErr result (λ fault. StopsPair fault (spec.put_into first.now (Ok fork.items))) }
+    ensures made { IfOk result (λ made. spec.put_into first.now (Ok fork.items)
+        ≡ Ok (Bytes made.out.items made.differs)) }
+    ensures fault { IfErr result (λ fault.
+        StopsPair fault (spec.put_into first.now (Ok fork.items))) }
 {
     match packed(alloc, Packaging::AsRead, first, fork) {
         Ok(out) => Ok(PairOutput {
@@ -227,7 +237,8 @@ fn put_into(alloc: Global, first: &[u8], fork: Vec<u8>) -> Result<PairOutput, Pa
 /// Puts the fork in the second file into the first file.
 #[tactic(auto, using(crate::proofs::Pairs::put_there, crate::proofs::Pairs::put_unmade, crate::proofs::Pairs::put_not))]
 fn fork_put(alloc: Global, first: &[u8], second: &[u8]) -> Result<PairOutput, PairFault>
-    ensures made { IfOk result (λ made. combined Wrap first.now second.now ≡ Ok (Bytes made.out.items made.differs)) }
+    ensures made { IfOk result (λ made. combined Wrap first.now second.now
+        ≡ Ok (Bytes made.out.items made.differs)) }
     ensures fault { IfErr result (λ fault. StopsPair fault (combined Wrap first.now second.now)) }
 {
     match good_fork(alloc, second) {
@@ -242,7 +253,8 @@ fn lines_of(
     charset: Charset,
     found: &[Difference<'_, '_>],
 ) -> Result<Vec<u8>, AllocError>
-    ensures { IfOk result (λ out. out.items ≡ flat_map (difference_line charset) (map view_difference found.now)) }
+    ensures { IfOk result (λ out. out.items
+        ≡ flat_map (difference_line charset) (map view_difference found.now)) }
 {
     let mut out = Vec::new(alloc);
     for difference in found {
@@ -259,8 +271,10 @@ fn compared(
     first: &Content<'_>,
     second: &Content<'_>,
 ) -> Result<PairOutput, AllocError>
-    ensures lines { IfOk result (λ made. made.out.items ≡ spec.difference_lines charset (view first.now) (view second.now)) }
-    ensures differs { IfOk result (λ made. made.differs ≡ not (same_content (view first.now) (view second.now))) }
+    ensures lines { IfOk result (λ made. made.out.items
+        ≡ spec.difference_lines charset (view first.now) (view second.now)) }
+    ensures differs { IfOk result (λ made. made.differs
+        ≡ not (same_content (view first.now) (view second.now))) }
 {
     let differences = diff(alloc, first, second)?;
     let found = differences.as_slice();
@@ -279,8 +293,10 @@ fn forks_compared(
     first: &[u8],
     second: &[u8],
 ) -> Result<PairOutput, PairFault>
-    ensures made { IfOk result (λ made. combined (Diff charset) first.now second.now ≡ Ok (Bytes made.out.items made.differs)) }
-    ensures fault { IfErr result (λ fault. StopsPair fault (combined (Diff charset) first.now second.now)) }
+    ensures made { IfOk result (λ made. combined (Diff charset) first.now second.now
+        ≡ Ok (Bytes made.out.items made.differs)) }
+    ensures fault { IfErr result (λ fault.
+        StopsPair fault (combined (Diff charset) first.now second.now)) }
 {
     let first_file = opened_at(alloc, Place::First, first)?;
     let one = content_at(alloc, Place::First, &first_file)?;
@@ -292,7 +308,8 @@ fn forks_compared(
 /// Returns whether two contents differ.
 #[tactic(auto, using(crate::proofs::Pairs::differs_of))]
 fn differ(alloc: Global, first: &Content<'_>, second: &Content<'_>) -> Result<bool, AllocError>
-    ensures { IfOk result (λ differs. differs ≡ not (same_content (view first.now) (view second.now))) }
+    ensures { IfOk result (λ differs. differs
+        ≡ not (same_content (view first.now) (view second.now))) }
 {
     let differences = diff(alloc, first, second)?;
     let found = differences.as_slice();
@@ -316,7 +333,8 @@ fn texts_compared(
 ) -> Result<PairOutput, AllocError>
     ensures text { IfOk result (λ made. IsDifference names.entry.first.now names.entry.second.now
         (spec.text_of form (view first.now)) (spec.text_of form (view second.now)) made.out.items) }
-    ensures differs { IfOk result (λ made. made.differs ≡ not (same_content (view first.now) (view second.now))) }
+    ensures differs { IfOk result (λ made. made.differs
+        ≡ not (same_content (view first.now) (view second.now))) }
 {
     let differs = differ(alloc, first, second)?;
     let old = text_of(alloc, form, first)?;
@@ -340,9 +358,10 @@ fn sources_compared(
     first: &[u8],
     second: &[u8],
 ) -> Result<PairOutput, PairFault>
-    ensures made { IfOk result (λ made.
-        Gives (names_of names.entry) (combined (DiffText form) first.now second.now) made.out.items made.differs) }
-    ensures fault { IfErr result (λ fault. StopsPair fault (combined (DiffText form) first.now second.now)) }
+    ensures made { IfOk result (λ made. Gives (names_of names.entry)
+        (combined (DiffText form) first.now second.now) made.out.items made.differs) }
+    ensures fault { IfErr result (λ fault.
+        StopsPair fault (combined (DiffText form) first.now second.now)) }
 {
     let first_file = opened_at(alloc, Place::First, first)?;
     let one = content_at(alloc, Place::First, &first_file)?;
@@ -358,8 +377,10 @@ fn merged_of<'b>(
     first: &Content<'b>,
     second: &Content<'b>,
 ) -> Result<Content<'b>, WorkFault>
-    ensures made { IfOk result (λ c. spec.merged_or_fault (merged replaces (view first.now) (view second.now)) ≡ Ok (view c)) }
-    ensures fault { IfErr result (λ fault. Stops fault (spec.merged_or_fault (merged replaces (view first.now) (view second.now)))) }
+    ensures made { IfOk result (λ c.
+        spec.merged_or_fault (merged replaces (view first.now) (view second.now)) ≡ Ok (view c)) }
+    ensures fault { IfErr result (λ fault.
+        Stops fault (spec.merged_or_fault (merged replaces (view first.now) (view second.now)))) }
 {
     match merge(alloc, first, second, replaces) {
         Ok(both) => Ok(both),
@@ -374,7 +395,8 @@ fn merged_of<'b>(
     }
 }
 
-/// Returns the canonical fork of the resources of two contents, alone or in the wrapper of the first file.
+/// Returns the canonical fork of the resources of two contents, alone or in the wrapper of the
+/// first file.
 #[tactic(auto, using(crate::proofs::Pairs::merged_there, crate::proofs::Pairs::merged_not, crate::proofs::Pairs::merged_unwritten))]
 fn forks_merged(
     alloc: Global,
@@ -384,10 +406,11 @@ fn forks_merged(
     one: &Content<'_>,
     other: &Content<'_>,
 ) -> Result<PairOutput, PairFault>
-    ensures made { IfOk result (λ made. spec.forks_merged replaces packaging first.now (view one.now) (view other.now)
+    ensures made { IfOk result (λ made.
+        spec.forks_merged replaces packaging first.now (view one.now) (view other.now)
         ≡ Ok (Bytes made.out.items made.differs)) }
-    ensures fault { IfErr result (λ fault.
-        StopsPair fault (spec.forks_merged replaces packaging first.now (view one.now) (view other.now))) }
+    ensures fault { IfErr result (λ fault. StopsPair fault
+        (spec.forks_merged replaces packaging first.now (view one.now) (view other.now))) }
 {
     let both = match merged_of(alloc, replaces, one, other) {
         Ok(both) => both,
@@ -411,9 +434,10 @@ fn both_merged(
     first: &[u8],
     second: &[u8],
 ) -> Result<PairOutput, PairFault>
-    ensures made { IfOk result (λ made.
-        combined (Merge replaces packaging) first.now second.now ≡ Ok (Bytes made.out.items made.differs)) }
-    ensures fault { IfErr result (λ fault. StopsPair fault (combined (Merge replaces packaging) first.now second.now)) }
+    ensures made { IfOk result (λ made. combined (Merge replaces packaging) first.now second.now
+        ≡ Ok (Bytes made.out.items made.differs)) }
+    ensures fault { IfErr result (λ fault.
+        StopsPair fault (combined (Merge replaces packaging) first.now second.now)) }
 {
     let first_file = opened_at(alloc, Place::First, first)?;
     let one = content_at(alloc, Place::First, &first_file)?;
@@ -431,9 +455,10 @@ fn resource_set<'b>(
     first: &'b [u8],
     second: &'b [u8],
 ) -> Result<PairOutput, PairFault>
-    ensures made { IfOk result (λ made.
-        spec.set_in setting.now packaging first.now second.now ≡ Ok (Bytes made.out.items made.differs)) }
-    ensures fault { IfErr result (λ fault. StopsPair fault (spec.set_in setting.now packaging first.now second.now)) }
+    ensures made { IfOk result (λ made. spec.set_in setting.now packaging first.now second.now
+        ≡ Ok (Bytes made.out.items made.differs)) }
+    ensures fault { IfErr result (λ fault.
+        StopsPair fault (spec.set_in setting.now packaging first.now second.now)) }
 {
     match fork_set(alloc, setting, packaging, first, second) {
         Ok(out) => Ok(PairOutput {
@@ -471,7 +496,8 @@ fn change_stated<'b>(
     stated: &Ref<'b>,
     content: &mut Content<'b>,
 ) -> Result<(), AllocError>
-    ensures { OnOk result (view content.new ≡ spec.with_stated setting.now (view_ref stated.now) (view content.old)) }
+    ensures { OnOk result (view content.new
+        ≡ spec.with_stated setting.now (view_ref stated.now) (view content.old)) }
 {
     let bytes_alone = Change {
         datum: stated.datum,
@@ -503,7 +529,8 @@ fn source_in(alloc: Global, source: &[u8]) -> Result<Source, WorkFault>
 #[tactic(auto, using(crate::proofs::Pairs::stopped_first))]
 fn source_at(alloc: Global, source: &[u8]) -> Result<Source, PairFault>
     ensures content { IfOk result (λ s. spec.source_stated source.now ≡ Ok (content_stated s)) }
-    ensures fault { IfErr result (λ fault. StopsPair fault (at Second (spec.source_stated source.now))) }
+    ensures fault { IfErr result (λ fault.
+        StopsPair fault (at Second (spec.source_stated source.now))) }
 {
     match source_in(alloc, source) {
         Ok(stated) => Ok(stated),
@@ -511,7 +538,8 @@ fn source_at(alloc: Global, source: &[u8]) -> Result<Source, PairFault>
     }
 }
 
-/// Sets a resource in the content of the first file's fork to one that is stated, and writes the fork.
+/// Sets a resource in the content of the first file's fork to one that is stated, and writes the
+/// fork.
 #[tactic(auto, using(crate::proofs::Pairs::stated_made, crate::proofs::Pairs::stated_stopped))]
 fn stated_set<'b>(
     alloc: Global,
@@ -521,10 +549,11 @@ fn stated_set<'b>(
     content: Content<'b>,
     stated: &Ref<'b>,
 ) -> Result<PairOutput, PairFault>
-    ensures made { IfOk result (λ made. spec.stated_set setting.now packaging first.now (view content.entry) (view_ref stated.now)
+    ensures made { IfOk result (λ made.
+        spec.stated_set setting.now packaging first.now (view content.entry) (view_ref stated.now)
         ≡ Ok (Bytes made.out.items made.differs)) }
-    ensures fault { IfErr result (λ fault.
-        StopsPair fault (spec.stated_set setting.now packaging first.now (view content.entry) (view_ref stated.now))) }
+    ensures fault { IfErr result (λ fault. StopsPair fault (spec.stated_set setting.now packaging
+        first.now (view content.entry) (view_ref stated.now))) }
 {
     let mut new = content;
     change_stated(alloc, setting, stated, &mut new)?;
@@ -537,7 +566,8 @@ fn stated_set<'b>(
     }
 }
 
-/// Sets a resource in the content of the first file's fork to the one of its type and ID in a content that the second file states.
+/// Sets a resource in the content of the first file's fork to the one of its type and ID in a
+/// content that the second file states.
 #[tactic(auto, using(crate::proofs::Pairs::by_made, crate::proofs::Pairs::by_stopped, crate::proofs::Pairs::by_missing))]
 fn set_by<'b>(
     alloc: Global,
@@ -547,10 +577,11 @@ fn set_by<'b>(
     content: Content<'b>,
     stated: &Content<'b>,
 ) -> Result<PairOutput, PairFault>
-    ensures made { IfOk result (λ made. spec.set_by setting.now packaging first.now (view content.entry) (view stated.now)
+    ensures made { IfOk result (λ made.
+        spec.set_by setting.now packaging first.now (view content.entry) (view stated.now)
         ≡ Ok (Bytes made.out.items made.differs)) }
-    ensures fault { IfErr result (λ fault.
-        StopsPair fault (spec.set_by setting.now packaging first.now (view content.entry) (view stated.now))) }
+    ensures fault { IfErr result (λ fault. StopsPair fault
+        (spec.set_by setting.now packaging first.now (view content.entry) (view stated.now))) }
 {
     match resource_at(setting.key, stated) {
         Ok(resource) => stated_set(alloc, setting, packaging, first, content, &resource),
@@ -558,7 +589,8 @@ fn set_by<'b>(
     }
 }
 
-/// Sets a resource in the content of the first file's fork to the one that a source in the second file states.
+/// Sets a resource in the content of the first file's fork to the one that a source in the second
+/// file states.
 #[tactic(auto, using(crate::proofs::Pairs::from_made, crate::proofs::Pairs::from_stopped, crate::proofs::Pairs::from_unread))]
 fn set_from<'b>(
     alloc: Global,
@@ -568,17 +600,19 @@ fn set_from<'b>(
     content: Content<'b>,
     second: &'b [u8],
 ) -> Result<PairOutput, PairFault>
-    ensures made { IfOk result (λ made. spec.set_from setting.now packaging first.now second.now (view content.entry)
+    ensures made { IfOk result (λ made.
+        spec.set_from setting.now packaging first.now second.now (view content.entry)
         ≡ Ok (Bytes made.out.items made.differs)) }
-    ensures fault { IfErr result (λ fault.
-        StopsPair fault (spec.set_from setting.now packaging first.now second.now (view content.entry))) }
+    ensures fault { IfErr result (λ fault. StopsPair fault
+        (spec.set_from setting.now packaging first.now second.now (view content.entry))) }
 {
     let source = source_at(alloc, second)?;
     let stated = source.content(alloc)?;
     set_by(alloc, setting, packaging, first, content, &stated)
 }
 
-/// Sets a resource in the fork in the first file to the one that a source in the second file states.
+/// Sets a resource in the fork in the first file to the one that a source in the second file
+/// states.
 #[tactic(auto, using(crate::proofs::Pairs::in_made, crate::proofs::Pairs::in_stopped, crate::proofs::Pairs::in_unread))]
 fn source_set<'b>(
     alloc: Global,
@@ -589,7 +623,8 @@ fn source_set<'b>(
 ) -> Result<PairOutput, PairFault>
     ensures made { IfOk result (λ made. spec.stated_in setting.now packaging first.now second.now
         ≡ Ok (Bytes made.out.items made.differs)) }
-    ensures fault { IfErr result (λ fault. StopsPair fault (spec.stated_in setting.now packaging first.now second.now)) }
+    ensures fault { IfErr result (λ fault.
+        StopsPair fault (spec.stated_in setting.now packaging first.now second.now)) }
 {
     let file = opened_at(alloc, Place::First, first)?;
     let content = content_at(alloc, Place::First, &file)?;
@@ -608,8 +643,8 @@ pub fn combined(
     first: &[u8],
     second: &[u8],
 ) -> Result<PairOutput, PairFault>
-    ensures made { IfOk result (λ made.
-        Gives (names_of names.entry) (combined work first.now second.now) made.out.items made.differs) }
+    ensures made { IfOk result (λ made. Gives (names_of names.entry)
+        (combined work first.now second.now) made.out.items made.differs) }
     ensures fault { IfErr result (λ fault. StopsPair fault (combined work first.now second.now)) }
 {
     match work {

@@ -1,6 +1,7 @@
 //! The parts of a file: its data fork, its resource fork, and what is known of it.
 
-ghost use Rattle.std.specs.Prelude.{◌≡◌, ◌++◌, ◌∷◌, [], Ok, Err, IfOk, IfErr, OnOk, map, option_map, codes, string_bytes};
+ghost use Rattle.std.specs.Prelude.{◌≡◌, ◌++◌, ◌∷◌, [], Ok, Err, IfOk, IfErr, OnOk, map};
+ghost use Rattle.std.specs.Prelude.{option_map, codes, string_bytes};
 ghost use Rattle.fork_commands.specs.Faults.{Stops};
 ghost use Rattle.fork_commands.specs.Opening.{bytes_of, IsOpen};
 ghost use Rattle.fork_commands.specs.Parts.{data_in, part_file, data_file, part_files, parted};
@@ -19,7 +20,8 @@ use std::alloc::{AllocError, Global};
 #[tactic(auto, using(crate::proofs::Told::data_plain, crate::proofs::Told::data_damaged, crate::proofs::Told::data_decoded))]
 fn data_in<'f>(file: &'f OpenFile<'_>) -> Result<Option<&'f [u8]>, FileFault>
     requires { IsOpen file.now }
-    ensures found { IfOk result (λ found. data_in (bytes_of file.now) ≡ Ok (option_map (λ fork. fork.now) found)) }
+    ensures found { IfOk result (λ found. data_in (bytes_of file.now)
+        ≡ Ok (option_map (λ fork. fork.now) found)) }
     ensures fault { IfErr result (λ fault. data_in (bytes_of file.now) ≡ Err fault) }
 {
     match file {
@@ -39,7 +41,8 @@ fn part_of<'f>(
     name: &str,
     bytes: FileBytes<'f>,
 ) -> Result<ResourceFile<'f>, AllocError>
-    ensures { IfOk result (λ file. view_file file ≡ part_file folder.now name.now (view.bytes_of bytes.entry)) }
+    ensures { IfOk result (λ file. view_file file
+        ≡ part_file folder.now name.now (view.bytes_of bytes.entry)) }
 {
     let path = path_within(alloc, folder, name)?;
     Ok(ResourceFile { path, bytes })
@@ -54,7 +57,8 @@ fn push_part<'f>(
     bytes: FileBytes<'f>,
 ) -> Result<(), AllocError>
     ensures { OnOk result (map view_file files.new.items
-        ≡ map view_file files.old.items ++ (part_file folder.now name.now (view.bytes_of bytes.entry) ∷ [])) }
+        ≡ map view_file files.old.items
+        ++ (part_file folder.now name.now (view.bytes_of bytes.entry) ∷ [])) }
 {
     files.push(part_of(alloc, folder, name, bytes)?)?;
     Ok(())
@@ -68,7 +72,8 @@ fn push_data<'f>(
     found: Option<&'f [u8]>,
 ) -> Result<(), AllocError>
     ensures { OnOk result (map view_file files.new.items
-        ≡ map view_file files.old.items ++ data_file folder.now (option_map (λ fork. fork.now) found.entry)) }
+        ≡ map view_file files.old.items
+        ++ data_file folder.now (option_map (λ fork. fork.now) found.entry)) }
 {
     match found {
         Some(fork) => push_part(alloc, files, folder, "data", FileBytes::Lent(fork)),
@@ -94,8 +99,9 @@ fn files_of<'f>(
     Ok(files)
 }
 
-/// Returns the files to which the parts of a file are written, in a folder: `data` with the data fork, if there is one,
-/// `rsrc` with the resource fork, which may have no bytes, and `info` with what is known of the file (`info_text`).
+/// Returns the files to which the parts of a file are written, in a folder: `data` with the data
+/// fork, if there is one, `rsrc` with the resource fork, which may have no bytes, and `info` with
+/// what is known of the file (`info_text`).
 ///
 /// # Errors
 ///
@@ -107,7 +113,8 @@ pub fn parts<'f>(
     file: &'f OpenFile<'_>,
 ) -> Result<Vec<ResourceFile<'f>>, WorkFault>
     requires { IsOpen file.now }
-    ensures made { IfOk result (λ files. parted folder.now (bytes_of file.now) ≡ Ok (map view_file files.items)) }
+    ensures made { IfOk result (λ files. parted folder.now (bytes_of file.now)
+        ≡ Ok (map view_file files.items)) }
     ensures fault { IfErr result (λ fault. Stops fault (parted folder.now (bytes_of file.now))) }
 {
     let found = match data_in(file) {

@@ -47,8 +47,10 @@ fn some_source(
     types: Types,
     whole: &Content<'_>,
 ) -> Result<Vec<u8>, WorkFault>
-    ensures made { IfOk result (λ out. spec.some_source form selection (types_of types) (view whole.now) ≡ Ok out.items) }
-    ensures fault { IfErr result (λ fault. Stops fault (spec.some_source form selection (types_of types) (view whole.now))) }
+    ensures made { IfOk result (λ out.
+        spec.some_source form selection (types_of types) (view whole.now) ≡ Ok out.items) }
+    ensures fault { IfErr result (λ fault.
+        Stops fault (spec.some_source form selection (types_of types) (view whole.now))) }
 {
     let content = some_selected(alloc, selection, whole)?;
     Ok(source_with(alloc, form, types, whole, &content)?)
@@ -74,13 +76,13 @@ fn selected_source(
     }
 }
 
-/// Returns what is selected of the fork in the bytes of a file as source of Rez. Statements are printed by types, and by the templates
-/// of the whole fork.
+/// Returns what is selected of the fork in the bytes of a file as source of Rez. Statements are
+/// printed by types, and by the templates of the whole fork.
 ///
 /// # Errors
 ///
-/// The fault of the bytes; -192 (resNotFound) where no resource is selected of some. If the host is out of memory nothing is said of
-/// them.
+/// The fault of the bytes; -192 (resNotFound) where no resource is selected of some. If the host is
+/// out of memory nothing is said of them.
 #[tactic(auto, using(crate::proofs::Sources::printed_of, crate::proofs::Sources::printed_not, crate::proofs::Sources::unprinted))]
 pub fn printed(
     alloc: Global,
@@ -89,8 +91,10 @@ pub fn printed(
     types: Types,
     bytes: &[u8],
 ) -> Result<Vec<u8>, WorkFault>
-    ensures made { IfOk result (λ out. spec.printed form selection (types_of types) bytes.now ≡ Ok out.items) }
-    ensures fault { IfErr result (λ fault. Stops fault (spec.printed form selection (types_of types) bytes.now)) }
+    ensures made { IfOk result (λ out. spec.printed form selection (types_of types) bytes.now
+        ≡ Ok out.items) }
+    ensures fault { IfErr result (λ fault.
+        Stops fault (spec.printed form selection (types_of types) bytes.now)) }
 {
     let file = open_file(alloc, bytes)?;
     let whole = content_in(alloc, &file)?;

@@ -36,8 +36,8 @@ pub fn content_of_fork<'b>(alloc: Global, fork: &'b [u8]) -> Result<Content<'b>,
     }
 }
 
-/// Returns the resource fork in a file, and in what it stands: that of the file for which a BinHex file stands, else the
-/// bytes as they are, or what AppleSingle, AppleDouble or MacBinary wrap.
+/// Returns the resource fork in a file, and in what it stands: that of the file for which a BinHex
+/// file stands, else the bytes as they are, or what AppleSingle, AppleDouble or MacBinary wrap.
 ///
 /// # Errors
 ///
@@ -90,7 +90,8 @@ pub fn copied(alloc: Global, bytes: &[u8]) -> Result<Vec<u8>, AllocError>
     Ok(copy)
 }
 
-/// Returns the resource fork of a file that was opened: it is moved out of what a BinHex file stands for, else copied.
+/// Returns the resource fork of a file that was opened: it is moved out of what a BinHex file
+/// stands for, else copied.
 #[tactic(auto, using(crate::proofs::Opens::plain_fork, crate::proofs::Opens::decoded_fork))]
 pub(crate) fn fork_out(alloc: Global, file: OpenFile<'_>) -> Result<Vec<u8>, WorkFault>
     requires { IsOpen file }
@@ -115,7 +116,8 @@ fn fork_copy(alloc: Global, bytes: &[u8]) -> Result<Vec<u8>, WorkFault>
     fork_out(alloc, file)
 }
 
-/// Returns the resource fork in the bytes of a file: the bytes themselves if they are a resource fork, else a copy.
+/// Returns the resource fork in the bytes of a file: the bytes themselves if they are a resource
+/// fork, else a copy.
 ///
 /// # Errors
 ///

@@ -42,7 +42,8 @@ fn selected_group<'b>(
     selection: Selection,
     group: &Group<'b>,
 ) -> Result<Group<'b>, AllocError>
-    ensures { IfOk result (λ g. view_group g ≡ spec.selected_group selection (view_group group.now)) }
+    ensures { IfOk result (λ g. view_group g
+        ≡ spec.selected_group selection (view_group group.now)) }
 {
     let ty = group.ty;
     let mut refs = Vec::new(alloc);
@@ -60,7 +61,8 @@ fn selected_groups<'b>(
     selection: Selection,
     groups: &[Group<'b>],
 ) -> Result<Vec<Group<'b>>, AllocError>
-    ensures { IfOk result (λ out. map view_group out.items ≡ spec.selected_groups selection (map view_group groups.now)) }
+    ensures { IfOk result (λ out. map view_group out.items
+        ≡ spec.selected_groups selection (map view_group groups.now)) }
 {
     let mut out = Vec::new(alloc);
     for group in groups {
@@ -74,8 +76,10 @@ fn selected_groups<'b>(
 
 /// Returns some resources alone.
 fn alone(groups: Vec<Group<'_>>) -> Result<Content<'_>, FileFault>
-    ensures content { IfOk result (λ c. spec.alone (map view_group groups.entry.items) ≡ Ok (view c)) }
-    ensures fault { IfErr result (λ fault. spec.alone (map view_group groups.entry.items) ≡ Err fault) }
+    ensures content { IfOk result (λ c. spec.alone (map view_group groups.entry.items)
+        ≡ Ok (view c)) }
+    ensures fault { IfErr result (λ fault.
+        spec.alone (map view_group groups.entry.items) ≡ Err fault) }
 {
     if groups.is_empty() {
         return Err(FileFault::Code {
@@ -99,8 +103,10 @@ pub(crate) fn some_selected<'b>(
     selection: Selection,
     content: &Content<'b>,
 ) -> Result<Content<'b>, WorkFault>
-    ensures content { IfOk result (λ c. spec.alone (spec.selected_groups selection (view content.now).groups) ≡ Ok (view c)) }
-    ensures fault { IfErr result (λ fault. Stops fault (spec.alone (spec.selected_groups selection (view content.now).groups))) }
+    ensures content { IfOk result (λ c.
+        spec.alone (spec.selected_groups selection (view content.now).groups) ≡ Ok (view c)) }
+    ensures fault { IfErr result (λ fault.
+        Stops fault (spec.alone (spec.selected_groups selection (view content.now).groups))) }
 {
     let groups = selected_groups(alloc, selection, content.groups.as_slice())?;
     match alone(groups) {

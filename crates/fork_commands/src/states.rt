@@ -1,18 +1,21 @@
-//! The state of a file: whether it has a resource fork, and of which form that is, in words. Where the host is out of memory, a
-//! text may have got a part of what is appended.
+//! The state of a file: whether it has a resource fork, and of which form that is, in words. Where
+//! the host is out of memory, a text may have got a part of what is appended.
 
-ghost use Rattle.std.specs.Prelude.{◌≡◌, ◌≤◌, ◌<◌, ◌+◌, ◌^◌, ◌++◌, ◌&&◌, IfOk, OnOk, IsTrue, Some, None, false, length, bytes_eq, is_ok, codes};
+ghost use Rattle.std.specs.Prelude.{◌≡◌, ◌≤◌, ◌<◌, ◌+◌, ◌^◌, ◌++◌, ◌&&◌, IfOk, OnOk, IsTrue, Some};
+ghost use Rattle.std.specs.Prelude.{None, false, length, bytes_eq, is_ok, codes};
 ghost use Rattle.fork_format.specs.Canonical.{canon, fits};
 ghost use Rattle.fork_format.specs.Fork.{number, is_fork, content_of};
 ghost use Rattle.fork_format.specs.View.{view};
 ghost use Rattle.fork_rules.specs.Texts.{form_text};
 ghost use Rattle.fork_commands.specs.Opening.{bytes_of, IsOpen};
 ghost use Rattle.fork_commands.specs.Reading.{content_of_fork};
-ghost use Rattle.fork_commands.specs.States.{is_header_rule, has_header, is_foreign, damaged_words, broken_words};
-ghost use Rattle.fork_commands.specs.States.{canonical_word, form_word, form_words, rule_of, judged_words, fork_words};
-ghost use Rattle.fork_commands.specs.States.{entries_words, mac_binary_words, wrapper_words, part_words, foreign_words, checksum_words};
-ghost use Rattle.fork_commands.specs.States.{damage_words, fault_why};
-ghost use Rattle.fork_commands.specs.States.{fault_words, is_bare, state_words, has_content};
+ghost use Rattle.fork_commands.specs.States.{is_header_rule, has_header, is_foreign, damaged_words};
+ghost use Rattle.fork_commands.specs.States.{broken_words, canonical_word, form_word, form_words};
+ghost use Rattle.fork_commands.specs.States.{rule_of, judged_words, fork_words, entries_words};
+ghost use Rattle.fork_commands.specs.States.{mac_binary_words, wrapper_words, part_words};
+ghost use Rattle.fork_commands.specs.States.{foreign_words, checksum_words, damage_words};
+ghost use Rattle.fork_commands.specs.States.{fault_why, fault_words, is_bare, state_words};
+ghost use Rattle.fork_commands.specs.States.{has_content};
 
 use crate::fault::{FileFault, WorkFault};
 use crate::opening::{Container, OpenFile, open_file};
@@ -84,7 +87,8 @@ fn append_broken(
     fork: &[u8],
     broken: &Broken,
 ) -> Result<(), AllocError>
-    ensures { OnOk result (text.new.items ≡ text.old.items ++ broken_words why bare fork.now broken.now) }
+    ensures { OnOk result (text.new.items
+        ≡ text.old.items ++ broken_words why bare fork.now broken.now) }
 {
     if bare && is_something_else(fork, broken) {
         text.extend_from_slice(b"not a fork")
@@ -95,7 +99,8 @@ fn append_broken(
 
 /// Reports whether a fork is the canonical one of its content.
 fn is_canonical(alloc: Global, content: &Content<'_>, fork: &[u8]) -> Result<bool, AllocError>
-    ensures { IfOk result (λ is. is ≡ (fits (view content.now) && bytes_eq fork.now (canon (view content.now)))) }
+    ensures { IfOk result (λ is. is
+        ≡ (fits (view content.now) && bytes_eq fork.now (canon (view content.now)))) }
 {
     match write_fork(alloc, content) {
         Ok(made) => Ok(fork == made.as_slice()),
@@ -136,7 +141,8 @@ fn append_word_of(
     content: &Content<'_>,
     fork: &[u8],
 ) -> Result<(), AllocError>
-    ensures { OnOk result (text.new.items ≡ text.old.items ++ form_word (view content.now) fork.now) }
+    ensures { OnOk result (text.new.items
+        ≡ text.old.items ++ form_word (view content.now) fork.now) }
 {
     let is = is_canonical(alloc, content, fork)?;
     text.extend_from_slice(word_of(is))
@@ -145,7 +151,8 @@ fn append_word_of(
 /// Appends the word for a fork that breaks no rule.
 fn append_form_word(alloc: Global, text: &mut Vec<u8>, fork: &[u8]) -> Result<(), AllocError>
     requires { IsTrue (is_fork fork.now) }
-    ensures { OnOk result (text.new.items ≡ text.old.items ++ form_word (content_of fork.now) fork.now) }
+    ensures { OnOk result (text.new.items
+        ≡ text.old.items ++ form_word (content_of fork.now) fork.now) }
 {
     let content = content_of_whole(alloc, fork)?;
     append_word_of(alloc, text, &content, fork)?;
@@ -155,7 +162,8 @@ fn append_form_word(alloc: Global, text: &mut Vec<u8>, fork: &[u8]) -> Result<()
 /// Appends the regions in which a fork that breaks no rule differs from its canonical fork.
 fn append_regions(alloc: Global, text: &mut Vec<u8>, fork: &[u8]) -> Result<(), AllocError>
     requires { rule_of fork.now ≡ None }
-    ensures { OnOk result (text.new.items ≡ text.old.items ++ form_text (content_of fork.now) fork.now) }
+    ensures { OnOk result (text.new.items
+        ≡ text.old.items ++ form_text (content_of fork.now) fork.now) }
 {
     append_why(alloc, text, fork)?;
     Ok(())
@@ -192,7 +200,8 @@ fn append_without(
     broken: &Broken,
 ) -> Result<bool, AllocError>
     requires { rule_of fork.now ≡ Some broken.now }
-    ensures words { OnOk result (text.new.items ≡ text.old.items ++ broken_words why bare fork.now broken.now) }
+    ensures words { OnOk result (text.new.items
+        ≡ text.old.items ++ broken_words why bare fork.now broken.now) }
     ensures content { IfOk result (λ has. has ≡ is_ok (content_of_fork fork.now)) }
 {
     append_broken(text, why, bare, fork, broken)?;
@@ -223,7 +232,8 @@ fn append_judged(
     bare: bool,
     fork: &[u8],
 ) -> Result<bool, AllocError>
-    ensures words { OnOk result (text.new.items ≡ text.old.items ++ judged_words why bare fork.now (rule_of fork.now)) }
+    ensures words { OnOk result (text.new.items
+        ≡ text.old.items ++ judged_words why bare fork.now (rule_of fork.now)) }
     ensures content { IfOk result (λ has. has ≡ is_ok (content_of_fork fork.now)) }
 {
     match rule_of(fork) {
@@ -322,7 +332,8 @@ fn append_around(
     words: &[u8],
     after: &[u8],
 ) -> Result<(), AllocError>
-    ensures { OnOk result (text.new.items ≡ text.old.items ++ (before.now ++ words.now ++ after.now)) }
+    ensures { OnOk result (text.new.items
+        ≡ text.old.items ++ (before.now ++ words.now ++ after.now)) }
 {
     text.extend_from_slice(before)?;
     text.extend_from_slice(words)?;
@@ -378,7 +389,8 @@ fn append_damage_of(text: &mut Vec<u8>, damage: Damage) -> Result<(), AllocError
 
 /// Appends which wrapper is damaged, and how, after a colon.
 fn append_wrapper_why(text: &mut Vec<u8>, fault: &WrapFault) -> Result<(), AllocError>
-    ensures { OnOk result (text.new.items ≡ text.old.items ++ (codes ": " ++ wrapper_words fault.now)) }
+    ensures { OnOk result (text.new.items
+        ≡ text.old.items ++ (codes ": " ++ wrapper_words fault.now)) }
 {
     text.extend_from_slice(b": ")?;
     append_wrapper(text, fault)?;
@@ -387,7 +399,8 @@ fn append_wrapper_why(text: &mut Vec<u8>, fault: &WrapFault) -> Result<(), Alloc
 
 /// Appends how a BinHex file is damaged, after a colon.
 fn append_bin_hex_why(text: &mut Vec<u8>, damage: Damage) -> Result<(), AllocError>
-    ensures { OnOk result (text.new.items ≡ text.old.items ++ (codes ": BinHex: " ++ damage_words damage)) }
+    ensures { OnOk result (text.new.items
+        ≡ text.old.items ++ (codes ": BinHex: " ++ damage_words damage)) }
 {
     text.extend_from_slice(b": BinHex: ")?;
     append_damage_of(text, damage)?;
@@ -414,7 +427,8 @@ fn append_fault_why(text: &mut Vec<u8>, fault: &FileFault) -> Result<(), AllocEr
 
 /// Appends the words for a file in which no fork is found, and why.
 fn append_lost(text: &mut Vec<u8>, fault: &FileFault) -> Result<(), AllocError>
-    ensures { OnOk result (text.new.items ≡ text.old.items ++ (codes "wrapper damaged" ++ fault_why fault.now)) }
+    ensures { OnOk result (text.new.items
+        ≡ text.old.items ++ (codes "wrapper damaged" ++ fault_why fault.now)) }
 {
     text.extend_from_slice(b"wrapper damaged")?;
     append_fault_why(text, fault)?;
@@ -448,7 +462,8 @@ fn append_opened(
     file: &OpenFile<'_>,
 ) -> Result<bool, AllocError>
     requires { IsOpen file.now }
-    ensures words { OnOk result (text.new.items ≡ text.old.items ++ state_words why (bytes_of file.now)) }
+    ensures words { OnOk result (text.new.items
+        ≡ text.old.items ++ state_words why (bytes_of file.now)) }
     ensures content { IfOk result (λ has. has ≡ has_content (bytes_of file.now)) }
 {
     match fork_in(file) {
@@ -464,10 +479,11 @@ fn append_opened(
     }
 }
 
-/// Appends the state of the fork in the bytes of a file, and returns whether it has a content: `canonical`; `accepted`; `damaged`;
-/// `no fork`, where the file is empty, or its wrapper has no fork; `wrapper damaged`; and `not a fork`, where the bytes are neither
-/// a fork nor one that was damaged. With `why` follows after a colon what differs from the canonical fork, or which rule of the
-/// format is broken, and at which offset in the fork, or how the wrapper is damaged.
+/// Appends the state of the fork in the bytes of a file, and returns whether it has a content:
+/// `canonical`; `accepted`; `damaged`; `no fork`, where the file is empty, or its wrapper has no
+/// fork; `wrapper damaged`; and `not a fork`, where the bytes are neither a fork nor one that was
+/// damaged. With `why` follows after a colon what differs from the canonical fork, or which rule of
+/// the format is broken, and at which offset in the fork, or how the wrapper is damaged.
 ///
 /// *More Macintosh Toolbox*, chapter 1, "Resource File Format".
 #[tactic(auto, using(crate::proofs::Stated::lost_words_of, crate::proofs::Stated::lost_content))]

@@ -31,7 +31,8 @@ pub struct ResourceKey {
 pub enum ForkWork {
     /// The canonical fork of the content that the bytes spell, alone or in the wrapper of the file.
     Rewrite(Packaging),
-    /// The canonical fork of that content after an edit of one resource, alone or in the wrapper of the file.
+    /// The canonical fork of that content after an edit of one resource, alone or in the wrapper of
+    /// the file.
     Change(Edit, Packaging),
     /// The stored data of the first resource of a type and an ID.
     Get(ResourceKey),
@@ -58,8 +59,10 @@ pub(crate) fn written(
     file: &[u8],
     content: &Content<'_>,
 ) -> Result<Vec<u8>, WorkFault>
-    ensures made { IfOk result (λ out. then_packed packaging file.now (canonical (view content.now)) ≡ Ok out.items) }
-    ensures fault { IfErr result (λ fault. Stops fault (then_packed packaging file.now (canonical (view content.now)))) }
+    ensures made { IfOk result (λ out. then_packed packaging file.now (canonical (view content.now))
+        ≡ Ok out.items) }
+    ensures fault { IfErr result (λ fault.
+        Stops fault (then_packed packaging file.now (canonical (view content.now)))) }
 {
     let fork = canonical(alloc, content)?;
     packed(alloc, packaging, file, fork)
@@ -82,8 +85,10 @@ fn changed<'b>(
     packaging: Packaging,
     bytes: &'b [u8],
 ) -> Result<Vec<u8>, WorkFault>
-    ensures made { IfOk result (λ out. made (Change change.now packaging) bytes.now ≡ Ok out.items) }
-    ensures fault { IfErr result (λ fault. Stops fault (made (Change change.now packaging) bytes.now)) }
+    ensures made { IfOk result (λ out. made (Change change.now packaging) bytes.now
+        ≡ Ok out.items) }
+    ensures fault { IfErr result (λ fault.
+        Stops fault (made (Change change.now packaging) bytes.now)) }
 {
     let file = open_file(alloc, bytes)?;
     let mut content = content_in(alloc, &file)?;

@@ -78,7 +78,8 @@ faulty e bytes read old new message is same fault =
 -- what there was to be written was not written to its end
 pub unwritten : (e : Extraction) (bytes read : List ℕ) (files sent : List ToWrite) (old then new : Option (List Access))
     (message : Message) → then ≡ and_then old (Read e.fork.now read ∷ []) → bytes ≡ read → sent ≡ files
-    → to_write e.pieces e.out.now bytes ≡ Ok files → StopsAmong (writes_in e.out.now sent) then new message → IsUnextracted e old new message
+    → to_write e.pieces e.out.now bytes ≡ Ok files → StopsAmong (writes_in e.out.now sent) then new message
+    → IsUnextracted e old new message
 unwritten e bytes read files sent old then new message is same all made stops =
     Unwritten read files (subst (λ b. to_write e.pieces e.out.now b ≡ Ok files) same made)
     (subst (λ x. StopsAmong (writes_in e.out.now x) (and_then old (Read e.fork.now read ∷ [])) new message) all

@@ -43,7 +43,8 @@ unmade r paths known bytes read p mid q old then new message silent quiet are kn
 -- what was made is not printed to its end
 pub unprinted : (r : Printing) (paths : List (Bor (List ℕ))) (known : List Declared) (bytes read out sent : List ℕ)
     (p first mid q : Option (List ℕ)) (old then last new : Option (List Access)) (message : Message) → first ≡ p → mid ≡ first
-    → paths ≡ r.types.items → Knows (map (λ path. path.now) paths) known old then → last ≡ and_then then (Read r.fork.now read ∷ []) → bytes ≡ read → sent ≡ out
+    → paths ≡ r.types.items → Knows (map (λ path. path.now) paths) known old then → last ≡ and_then then (Read r.fork.now read ∷ [])
+    → bytes ≡ read → sent ≡ out
     → source_of r known bytes ≡ Ok out → IsUndelivered Printed sent mid q last new message
     → IsSourceUnprinted r p q old new message
 unprinted r paths known bytes read out sent p first mid q old then last new message silent quiet are knows is same all made_so h =
@@ -55,7 +56,8 @@ unprinted r paths known bytes read out sent p first mid q old then last new mess
 -- all of it is printed
 pub prints : (r : Printing) (paths : List (Bor (List ℕ))) (known : List Declared) (bytes read out sent : List ℕ)
     (p first mid q : Option (List ℕ)) (old then last new : Option (List Access)) → first ≡ p → mid ≡ first
-    → paths ≡ r.types.items → Knows (map (λ path. path.now) paths) known old then → last ≡ and_then then (Read r.fork.now read ∷ []) → bytes ≡ read → sent ≡ out
+    → paths ≡ r.types.items → Knows (map (λ path. path.now) paths) known old then → last ≡ and_then then (Read r.fork.now read ∷ [])
+    → bytes ≡ read → sent ≡ out
     → source_of r known bytes ≡ Ok out → Delivers Printed sent mid q last new → PrintsSource r p q old new
 prints r paths known bytes read out sent p first mid q old then last new silent quiet are knows is same all made_so h = record {
   known = known;

@@ -1,5 +1,6 @@
 -- Files that are surveyed one after the other.
-use Rattle.std.proofs.Common.{◌≡◌, ◌∷◌, ◌++◌, ◌∙◌, ◌&&◌, ℕ, Bool, true, List, [], Option, inl, inr, refl, sym, ap, subst, append_assoc, append-nil, Result, Ok, Err, IfErr, OnOk}
+use Rattle.std.proofs.Common.{◌≡◌, ◌∷◌, ◌++◌, ◌∙◌, ◌&&◌, ℕ, Bool, true, List, [], Option, inl, inr, refl, sym, ap, subst, append_assoc}
+use Rattle.std.proofs.Common.{append-nil, Result, Ok, Err, IfErr, OnOk}
 use Rattle.std.specs.List.{flat_map, list_all}
 use Rattle.std.proofs.Math.Bool.{and_assoc, and-true}
 use Rattle.std.proofs.lemmas.Grind.{flat_map-append}

@@ -1,13 +1,15 @@
 //! The fork that a source of Rez states is written.
 
-ghost use Rattle.std.specs.Prelude.{◌≡◌, [], ℕ, List, map, length, Ok, Err, IfOk, IfErr, string_bytes};
+ghost use Rattle.std.specs.Prelude.{◌≡◌, [], ℕ, List, map, length, Ok, Err, IfOk, IfErr};
+ghost use Rattle.std.specs.Prelude.{string_bytes};
 ghost use Rattle.rez_statements.specs.View.{types_of};
 ghost use Rattle.fork_commands.specs.declared.packaging.Packaging.TheVariants.{AsRead};
 ghost use Rattle.fork_commands.specs.Packaging.{packed};
 ghost use Rattle.fork_commands.specs.Sources.{Lacks, assembled};
 ghost use Rattle.fork_tasks.specs.declared.ending.Ending.TheVariants.{Done};
-ghost use Rattle.fork_tasks.specs.Assembling.{folder_of, path_from, IsSourceFault, States, IsUnstated, Forks, IsUnforked, Puts, IsUnput};
-ghost use Rattle.fork_tasks.specs.Assembling.{Places, IsUnplaced, Assembles, IsUnassembled};
+ghost use Rattle.fork_tasks.specs.Assembling.{folder_of, path_from, IsSourceFault, States};
+ghost use Rattle.fork_tasks.specs.Assembling.{IsUnstated, Forks, IsUnforked, Puts, IsUnput, Places};
+ghost use Rattle.fork_tasks.specs.Assembling.{IsUnplaced, Assembles, IsUnassembled};
 ghost use Rattle.fork_tasks.specs.Fault.{message_of, IsForkFault, IsQuiet};
 
 use crate::declaring::known_types;
@@ -78,12 +80,14 @@ fn fork_with(
     files: Vec<Vec<u8>>,
     text: &[u8],
 ) -> Result<Vec<u8>, ToolFault>
-    requires { (names : List (List ℕ)) × (assembled (types_of types.now) [] text.now ≡ Err (Lacks names))
+    requires { (names : List (List ℕ))
+        × (assembled (types_of types.now) [] text.now ≡ Err (Lacks names))
         × (length files.items ≡ length names) }
-    ensures made { IfOk result (λ fork. assembled (types_of types.now) (map (λ file. file.items) files.items) text.now
+    ensures made { IfOk result (λ fork.
+        assembled (types_of types.now) (map (λ file. file.items) files.items) text.now
         ≡ Ok fork.items) }
-    ensures fault { IfErr result (λ fault. IsSourceFault path.now
-        (assembled (types_of types.now) (map (λ file. file.items) files.items) text.now) (message_of fault)) }
+    ensures fault { IfErr result (λ fault. IsSourceFault path.now (assembled (types_of types.now)
+        (map (λ file. file.items) files.items) text.now) (message_of fault)) }
 {
     match assembled(alloc, types, files, text) {
         Ok(fork) => Ok(fork),
@@ -102,7 +106,8 @@ fn fork_with_files<H: Host>(
     text: &[u8],
     names: &[FileName],
 ) -> Result<Vec<u8>, ToolFault>
-    requires { assembled (types_of types.now) [] text.now ≡ Err (Lacks (map (λ name. name.bytes.items) names.now)) }
+    requires { assembled (types_of types.now) [] text.now
+        ≡ Err (Lacks (map (λ name. name.bytes.items) names.now)) }
     ensures silent { H.printed host.new ≡ H.printed host.old }
     ensures states { IfOk result (λ fork. States path.now (types_of types.now) text.now fork.items
         (H.accesses host.old) (H.accesses host.new)) }
@@ -159,7 +164,8 @@ fn read_fork<H: Host>(
 #[tactic(auto, using(crate::proofs::Faults::fork_stopped))]
 fn with_fork_at(alloc: Global, path: &str, file: &[u8], fork: &[u8]) -> Result<Vec<u8>, ToolFault>
     ensures made { IfOk result (λ out. packed AsRead file.now fork.now ≡ Ok out.items) }
-    ensures fault { IfErr result (λ fault. IsForkFault path.now (packed AsRead file.now fork.now) (message_of fault)) }
+    ensures fault { IfErr result (λ fault.
+        IsForkFault path.now (packed AsRead file.now fork.now) (message_of fault)) }
 {
     match with_fork(alloc, file, fork) {
         Ok(out) => Ok(out),
@@ -175,7 +181,8 @@ fn put_into<H: Host>(
     fork: &[u8],
 ) -> Result<Vec<u8>, ToolFault>
     ensures silent { H.printed host.new ≡ H.printed host.old }
-    ensures puts { IfOk result (λ out. Puts path.now fork.now out.items (H.accesses host.old) (H.accesses host.new)) }
+    ensures puts { IfOk result (λ out.
+        Puts path.now fork.now out.items (H.accesses host.old) (H.accesses host.new)) }
     ensures stopped { IfErr result (λ fault. IsUnput path.now fork.now
         (H.accesses host.old) (H.accesses host.new) (message_of fault)) }
 {
@@ -191,7 +198,8 @@ fn placed<H: Host>(
     fork: Vec<u8>,
 ) -> Result<Vec<u8>, ToolFault>
     ensures silent { H.printed host.new ≡ H.printed host.old }
-    ensures places { IfOk result (λ out. Places into.entry fork.items out.items (H.accesses host.old) (H.accesses host.new)) }
+    ensures places { IfOk result (λ out.
+        Places into.entry fork.items out.items (H.accesses host.old) (H.accesses host.new)) }
     ensures stopped { IfErr result (λ fault. IsUnplaced into.entry fork.items
         (H.accesses host.old) (H.accesses host.new) (message_of fault)) }
 {
@@ -201,22 +209,24 @@ fn placed<H: Host>(
     }
 }
 
-/// Reads files of declarations, a source, the files that it names, and the file into which its fork is put, and writes the fork. All
-/// is read before anything is written.
+/// Reads files of declarations, a source, the files that it names, and the file into which its fork
+/// is put, and writes the fork. All is read before anything is written.
 ///
 /// # Errors
 ///
-/// The first file that can't be read or is at fault, and then nothing is written; or the fork can't be written, or not to its end.
+/// The first file that can't be read or is at fault, and then nothing is written; or the fork can't
+/// be written, or not to its end.
 pub fn assemble<H: Host>(
     alloc: Global,
     host: &mut H,
     assembly: &Assembly<'_>,
 ) -> Result<Ending, ToolFault>
-    ensures done { IfOk result (λ ending. (ending ≡ Done) × Assembles assembly.now (H.printed host.old) (H.printed host.new)
-        (H.accesses host.old) (H.accesses host.new)) }
-    ensures undone { IfErr result (λ fault. IsUnassembled assembly.now (H.printed host.old) (H.printed host.new)
-        (H.accesses host.old) (H.accesses host.new) (message_of fault)) }
-    ensures quiet { IfErr result (λ fault. IsQuiet (H.printed host.old) (H.printed host.new) (message_of fault)) }
+    ensures done { IfOk result (λ ending. (ending ≡ Done) × Assembles assembly.now
+        (H.printed host.old) (H.printed host.new) (H.accesses host.old) (H.accesses host.new)) }
+    ensures undone { IfErr result (λ fault. IsUnassembled assembly.now (H.printed host.old)
+        (H.printed host.new) (H.accesses host.old) (H.accesses host.new) (message_of fault)) }
+    ensures quiet { IfErr result (λ fault.
+        IsQuiet (H.printed host.old) (H.printed host.new) (message_of fault)) }
 {
     let types = known_types(alloc, host, assembly.types.as_slice())?;
     let fork = read_fork(alloc, host, assembly.source, &types)?;

@@ -2,7 +2,8 @@
 
 ghost use Rattle.std.specs.Prelude.{◌≡◌, IfOk, IfErr};
 ghost use Rattle.fork_commands.specs.Pairs.{Gives, combined};
-ghost use Rattle.fork_tasks.specs.Combining.{pair_message, names_of, IsPairFault, Combines, IsUncombined};
+ghost use Rattle.fork_tasks.specs.Combining.{pair_message, names_of, IsPairFault, Combines};
+ghost use Rattle.fork_tasks.specs.Combining.{IsUncombined};
 ghost use Rattle.fork_tasks.specs.Fault.{message_of, IsQuiet};
 
 use crate::delivering::{Target, deliver};
@@ -56,9 +57,10 @@ fn combined_at(
     first: &[u8],
     second: &[u8],
 ) -> Result<PairOutput, ToolFault>
-    ensures made { IfOk result (λ made. Gives (names_of combination.now) (combined combination.now.work first.now second.now)
-        made.out.items made.differs) }
-    ensures fault { IfErr result (λ fault. IsPairFault combination.now.first.now combination.now.second.now
+    ensures made { IfOk result (λ made. Gives (names_of combination.now)
+        (combined combination.now.work first.now second.now) made.out.items made.differs) }
+    ensures fault { IfErr result (λ fault.
+        IsPairFault combination.now.first.now combination.now.second.now
         (combined combination.now.work first.now second.now) (message_of fault)) }
 {
     let names = PairNames {
@@ -75,18 +77,19 @@ fn combined_at(
 ///
 /// # Errors
 ///
-/// A file can't be read, or the bytes of one are at fault, and then nothing is printed or written; or what was made of
-/// them can't be printed or written, or not to its end.
+/// A file can't be read, or the bytes of one are at fault, and then nothing is printed or written;
+/// or what was made of them can't be printed or written, or not to its end.
 pub fn combine<H: Host>(
     alloc: Global,
     host: &mut H,
     combination: Combination<'_>,
 ) -> Result<Ending, ToolFault>
-    ensures done { IfOk result (λ ending. Combines combination.entry ending (H.printed host.old) (H.printed host.new)
-        (H.accesses host.old) (H.accesses host.new)) }
-    ensures undone { IfErr result (λ fault. IsUncombined combination.entry (H.printed host.old) (H.printed host.new)
-        (H.accesses host.old) (H.accesses host.new) (message_of fault)) }
-    ensures quiet { IfErr result (λ fault. IsQuiet (H.printed host.old) (H.printed host.new) (message_of fault)) }
+    ensures done { IfOk result (λ ending. Combines combination.entry ending (H.printed host.old)
+        (H.printed host.new) (H.accesses host.old) (H.accesses host.new)) }
+    ensures undone { IfErr result (λ fault. IsUncombined combination.entry (H.printed host.old)
+        (H.printed host.new) (H.accesses host.old) (H.accesses host.new) (message_of fault)) }
+    ensures quiet { IfErr result (λ fault.
+        IsQuiet (H.printed host.old) (H.printed host.new) (message_of fault)) }
 {
     let first = read_input(alloc, host, combination.first)?;
     let second = read_input(alloc, host, combination.second)?;

@@ -29,7 +29,8 @@ pub struct Conversion<'a> {
 #[tactic(auto, using(crate::proofs::Faults::fork_stopped))]
 fn made_at(alloc: Global, work: ForkWork, path: &str, bytes: &[u8]) -> Result<Vec<u8>, ToolFault>
     ensures made { IfOk result (λ out. made work bytes.now ≡ Ok out.items) }
-    ensures fault { IfErr result (λ fault. IsForkFault path.now (made work bytes.now) (message_of fault)) }
+    ensures fault { IfErr result (λ fault.
+        IsForkFault path.now (made work bytes.now) (message_of fault)) }
 {
     match made(alloc, work, bytes) {
         Ok(out) => Ok(out),
@@ -41,18 +42,19 @@ fn made_at(alloc: Global, work: ForkWork, path: &str, bytes: &[u8]) -> Result<Ve
 ///
 /// # Errors
 ///
-/// The file can't be read, or its bytes are at fault, and then nothing is printed or written; or what was made of them
-/// can't be printed or written, or not to its end.
+/// The file can't be read, or its bytes are at fault, and then nothing is printed or written; or
+/// what was made of them can't be printed or written, or not to its end.
 pub fn convert<H: Host>(
     alloc: Global,
     host: &mut H,
     conversion: Conversion<'_>,
 ) -> Result<Ending, ToolFault>
-    ensures done { IfOk result (λ ending. (ending ≡ Done) × Converts conversion.entry (H.printed host.old) (H.printed host.new)
-        (H.accesses host.old) (H.accesses host.new)) }
-    ensures undone { IfErr result (λ fault. IsUnconverted conversion.entry (H.printed host.old) (H.printed host.new)
-        (H.accesses host.old) (H.accesses host.new) (message_of fault)) }
-    ensures quiet { IfErr result (λ fault. IsQuiet (H.printed host.old) (H.printed host.new) (message_of fault)) }
+    ensures done { IfOk result (λ ending. (ending ≡ Done) × Converts conversion.entry
+        (H.printed host.old) (H.printed host.new) (H.accesses host.old) (H.accesses host.new)) }
+    ensures undone { IfErr result (λ fault. IsUnconverted conversion.entry (H.printed host.old)
+        (H.printed host.new) (H.accesses host.old) (H.accesses host.new) (message_of fault)) }
+    ensures quiet { IfErr result (λ fault.
+        IsQuiet (H.printed host.old) (H.printed host.new) (message_of fault)) }
 {
     let bytes = read_input(alloc, host, conversion.path)?;
     let out = made_at(alloc, conversion.work, conversion.path, bytes.as_slice())?;

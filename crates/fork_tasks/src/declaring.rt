@@ -4,7 +4,8 @@ ghost use Rattle.std.specs.Prelude.{◌≡◌, ◌∷◌, [], ℕ, List, map, Ok
 ghost use Rattle.rez_statements.specs.View.{types_of};
 ghost use Rattle.fork_commands.specs.BuiltIn.{types_with};
 ghost use Rattle.fork_tasks.specs.Accesses.{Read, and_then};
-ghost use Rattle.fork_tasks.specs.Declaring.{Declares, IsUndeclared, StopsDeclaring, Knows, IsUnknown};
+ghost use Rattle.fork_tasks.specs.Declaring.{Declares, IsUndeclared, StopsDeclaring, Knows};
+ghost use Rattle.fork_tasks.specs.Declaring.{IsUnknown};
 ghost use Rattle.fork_tasks.specs.Fault.{message_of, IsForkFault};
 
 use crate::fault::{ToolFault, fork_fault};
@@ -17,8 +18,10 @@ use std::alloc::Global;
 /// Declares the types of a text, which is the file at a path.
 #[tactic(auto, using(crate::proofs::Faults::fork_stopped))]
 fn declared_at(alloc: Global, types: Types, path: &str, text: &[u8]) -> Result<Types, ToolFault>
-    ensures known { IfOk result (λ known. types_with (types_of types) text.now ≡ Ok (types_of known)) }
-    ensures fault { IfErr result (λ fault. IsForkFault path.now (types_with (types_of types) text.now) (message_of fault)) }
+    ensures known { IfOk result (λ known. types_with (types_of types) text.now
+        ≡ Ok (types_of known)) }
+    ensures fault { IfErr result (λ fault.
+        IsForkFault path.now (types_with (types_of types) text.now) (message_of fault)) }
 {
     match add_types(alloc, types, text) {
         Ok(known) => Ok(known),
@@ -34,7 +37,8 @@ fn declare_file<H: Host>(
     path: &str,
 ) -> Result<Types, ToolFault>
     ensures silent { H.printed host.new ≡ H.printed host.old }
-    ensures known { IfOk result (λ known. (text : List ℕ) × (types_with (types_of types) text ≡ Ok (types_of known))
+    ensures known { IfOk result (λ known. (text : List ℕ)
+        × (types_with (types_of types) text ≡ Ok (types_of known))
         × (H.accesses host.new ≡ and_then (H.accesses host.old) (Read path.now text ∷ []))) }
     ensures stopped { IfErr result (λ fault. IsUndeclared path.now (types_of types)
         (H.accesses host.old) (H.accesses host.new) (message_of fault)) }
@@ -51,10 +55,10 @@ fn declare_files<H: Host>(
     paths: &[&str],
 ) -> Result<Types, ToolFault>
     ensures silent { H.printed host.new ≡ H.printed host.old }
-    ensures known { IfOk result (λ known. Declares (map (λ path. path.now) paths.now) (types_of types) (types_of known)
-        (H.accesses host.old) (H.accesses host.new)) }
-    ensures stopped { IfErr result (λ fault. StopsDeclaring (map (λ path. path.now) paths.now) (types_of types)
-        (H.accesses host.old) (H.accesses host.new) (message_of fault)) }
+    ensures known { IfOk result (λ known. Declares (map (λ path. path.now) paths.now)
+        (types_of types) (types_of known) (H.accesses host.old) (H.accesses host.new)) }
+    ensures stopped { IfErr result (λ fault. StopsDeclaring (map (λ path. path.now) paths.now)
+        (types_of types) (H.accesses host.old) (H.accesses host.new) (message_of fault)) }
 {
     let mut known = types;
     for path in paths {

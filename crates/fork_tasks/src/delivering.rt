@@ -45,10 +45,11 @@ pub fn write_fault(path: String, error: WriteError) -> ToolFault
 
 /// Prints bytes.
 fn print_all<H: Host>(alloc: Global, host: &mut H, bytes: &[u8]) -> Result<(), ToolFault>
-    ensures delivered { OnOk result (Delivers Printed bytes.now (H.printed host.old) (H.printed host.new)
-        (H.accesses host.old) (H.accesses host.new)) }
-    ensures undelivered { IfErr result (λ fault. IsUndelivered Printed bytes.now
-        (H.printed host.old) (H.printed host.new) (H.accesses host.old) (H.accesses host.new) (message_of fault)) }
+    ensures delivered { OnOk result (Delivers Printed bytes.now (H.printed host.old)
+        (H.printed host.new) (H.accesses host.old) (H.accesses host.new)) }
+    ensures undelivered { IfErr result (λ fault.
+        IsUndelivered Printed bytes.now (H.printed host.old) (H.printed host.new)
+        (H.accesses host.old) (H.accesses host.new) (message_of fault)) }
 {
     match host.print(bytes) {
         Ok(()) => Ok(()),
@@ -63,10 +64,11 @@ fn write_new<H: Host>(
     path: &str,
     bytes: &[u8],
 ) -> Result<(), ToolFault>
-    ensures delivered { OnOk result (Delivers (NewFile path.entry) bytes.now (H.printed host.old) (H.printed host.new)
-        (H.accesses host.old) (H.accesses host.new)) }
-    ensures undelivered { IfErr result (λ fault. IsUndelivered (NewFile path.entry) bytes.now
-        (H.printed host.old) (H.printed host.new) (H.accesses host.old) (H.accesses host.new) (message_of fault)) }
+    ensures delivered { OnOk result (Delivers (NewFile path.entry) bytes.now (H.printed host.old)
+        (H.printed host.new) (H.accesses host.old) (H.accesses host.new)) }
+    ensures undelivered { IfErr result (λ fault.
+        IsUndelivered (NewFile path.entry) bytes.now (H.printed host.old) (H.printed host.new)
+        (H.accesses host.old) (H.accesses host.new) (message_of fault)) }
 {
     match host.write(path, bytes) {
         Ok(()) => Ok(()),
@@ -78,18 +80,19 @@ fn write_new<H: Host>(
 ///
 /// # Errors
 ///
-/// The standard output, or the new file, can't be written, or not to its end; a file or a folder of that path exists
-/// already.
+/// The standard output, or the new file, can't be written, or not to its end; a file or a folder of
+/// that path exists already.
 pub fn deliver<H: Host>(
     alloc: Global,
     host: &mut H,
     target: Target<'_>,
     bytes: &[u8],
 ) -> Result<(), ToolFault>
-    ensures delivered { OnOk result (Delivers target.entry bytes.now (H.printed host.old) (H.printed host.new)
-        (H.accesses host.old) (H.accesses host.new)) }
-    ensures undelivered { IfErr result (λ fault. IsUndelivered target.entry bytes.now
-        (H.printed host.old) (H.printed host.new) (H.accesses host.old) (H.accesses host.new) (message_of fault)) }
+    ensures delivered { OnOk result (Delivers target.entry bytes.now (H.printed host.old)
+        (H.printed host.new) (H.accesses host.old) (H.accesses host.new)) }
+    ensures undelivered { IfErr result (λ fault.
+        IsUndelivered target.entry bytes.now (H.printed host.old) (H.printed host.new)
+        (H.accesses host.old) (H.accesses host.new) (message_of fault)) }
 {
     match target {
         Target::Printed => print_all(alloc, host, bytes),

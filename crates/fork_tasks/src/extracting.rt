@@ -1,11 +1,13 @@
-//! What is in a file is written into a folder: the resources of its fork, a file each, and their list; or its forks.
+//! What is in a file is written into a folder: the resources of its fork, a file each, and their
+//! list; or its forks.
 
 ghost use Rattle.std.specs.Prelude.{◌≡◌, ◌∷◌, [], map, Ok, OnOk, IfOk, IfErr};
 ghost use Rattle.fork_commands.specs.Faults.{Stops};
 ghost use Rattle.fork_commands.specs.Opening.{bytes_of, IsOpen};
 ghost use Rattle.fork_commands.specs.View.{view_file};
 ghost use Rattle.fork_tasks.specs.Accesses.{Folder, and_then, StopsAmong};
-ghost use Rattle.fork_tasks.specs.Extracting.{to_write, write_in, writes_in, Extracts, IsUnextracted};
+ghost use Rattle.fork_tasks.specs.Extracting.{to_write, write_in, writes_in, Extracts};
+ghost use Rattle.fork_tasks.specs.Extracting.{IsUnextracted};
 ghost use Rattle.fork_tasks.specs.Fault.{message_of, IsForkFault};
 
 use crate::delivering::unwritten;
@@ -25,7 +27,8 @@ pub enum Pieces {
     Forks,
 }
 
-/// A request to write what is in a file into a folder: the file's path and the folder's, as they were given.
+/// A request to write what is in a file into a folder: the file's path and the folder's, as they
+/// were given.
 #[derive(Clone, Copy)]
 pub struct Extraction<'a> {
     pub pieces: Pieces,
@@ -41,8 +44,10 @@ fn pieces_of<'f>(
     file: &'f OpenFile<'_>,
 ) -> Result<Vec<ResourceFile<'f>>, WorkFault>
     requires { IsOpen file.now }
-    ensures made { IfOk result (λ files. to_write pieces folder.now (bytes_of file.now) ≡ Ok (map view_file files.items)) }
-    ensures fault { IfErr result (λ fault. Stops fault (to_write pieces folder.now (bytes_of file.now))) }
+    ensures made { IfOk result (λ files. to_write pieces folder.now (bytes_of file.now)
+        ≡ Ok (map view_file files.items)) }
+    ensures fault { IfErr result (λ fault.
+        Stops fault (to_write pieces folder.now (bytes_of file.now))) }
 {
     match pieces {
         Pieces::Resources => extracted(alloc, folder, file),
@@ -58,10 +63,11 @@ fn files_of<'f>(
     file: &'f OpenFile<'_>,
 ) -> Result<Vec<ResourceFile<'f>>, ToolFault>
     requires { IsOpen file.now }
-    ensures made { IfOk result (λ files. to_write extraction.now.pieces extraction.now.out.now (bytes_of file.now)
+    ensures made { IfOk result (λ files.
+        to_write extraction.now.pieces extraction.now.out.now (bytes_of file.now)
         ≡ Ok (map view_file files.items)) }
-    ensures fault { IfErr result (λ fault. IsForkFault extraction.now.fork.now
-        (to_write extraction.now.pieces extraction.now.out.now (bytes_of file.now)) (message_of fault)) }
+    ensures fault { IfErr result (λ fault. IsForkFault extraction.now.fork.now (to_write
+        extraction.now.pieces extraction.now.out.now (bytes_of file.now)) (message_of fault)) }
 {
     match pieces_of(alloc, extraction.pieces, extraction.out, file) {
         Ok(files) => Ok(files),
@@ -108,7 +114,8 @@ fn write_files<H: Host>(
 /// Makes a folder.
 fn make_folder<H: Host>(alloc: Global, host: &mut H, folder: &str) -> Result<(), ToolFault>
     ensures silent { H.printed host.new ≡ H.printed host.old }
-    ensures made { OnOk result (H.accesses host.new ≡ and_then (H.accesses host.old) (Folder folder.now ∷ [])) }
+    ensures made { OnOk result (H.accesses host.new
+        ≡ and_then (H.accesses host.old) (Folder folder.now ∷ [])) }
     ensures stopped { IfErr result (λ fault. StopsAmong (Folder folder.now ∷ [])
         (H.accesses host.old) (H.accesses host.new) (message_of fault)) }
 {
@@ -128,21 +135,23 @@ fn write_all<H: Host>(
     ensures silent { H.printed host.new ≡ H.printed host.old }
     ensures written { OnOk result (H.accesses host.new
         ≡ and_then (H.accesses host.old) (writes_in folder.now (map view_file files.now))) }
-    ensures stopped { IfErr result (λ fault. StopsAmong (writes_in folder.now (map view_file files.now))
-        (H.accesses host.old) (H.accesses host.new) (message_of fault)) }
+    ensures stopped { IfErr result (λ fault. StopsAmong (writes_in folder.now
+        (map view_file files.now)) (H.accesses host.old) (H.accesses host.new) (message_of fault)) }
 {
     make_folder(alloc, host, folder)?;
     write_files(alloc, host, files)?;
     Ok(())
 }
 
-/// Reads a file, and writes each resource of its fork, or each of its forks, into a file of its own in a new folder. The paths of
-/// the files are made before the folder, so that they need no memory later.
+/// Reads a file, and writes each resource of its fork, or each of its forks, into a file of its own
+/// in a new folder. The paths of the files are made before the folder, so that they need no memory
+/// later.
 ///
 /// # Errors
 ///
-/// The file can't be read, or its bytes are at fault: then nothing is written. A folder that exists already, or a file that
-/// can't be written: then no other file is written after it. Or the host is out of memory.
+/// The file can't be read, or its bytes are at fault: then nothing is written. A folder that exists
+/// already, or a file that can't be written: then no other file is written after it. Or the host is
+/// out of memory.
 pub fn extract<H: Host>(
     alloc: Global,
     host: &mut H,
@@ -151,9 +160,10 @@ pub fn extract<H: Host>(
     // Nothing is printed.
     ensures silent { H.printed host.new ≡ H.printed host.old }
 
-    // The fork is read; then the folder is made, and the files of its resources are written, in their order. No other file is
-    // read or written.
-    ensures extracts { OnOk result (Extracts extraction.entry (H.accesses host.old) (H.accesses host.new)) }
+    // The fork is read; then the folder is made, and the files of its resources are written, in
+    // their order. No other file is read or written.
+    ensures extracts { OnOk result
+        (Extracts extraction.entry (H.accesses host.old) (H.accesses host.new)) }
 
     // The fault is the first in that order, and nothing is written after it.
     ensures stopped { IfErr result (λ fault. IsUnextracted extraction.entry

@@ -1,7 +1,8 @@
 //! Faults: why the work was not done.
 
 ghost use Rattle.std.specs.Prelude.{◌≡◌, IfOk};
-ghost use Rattle.fork_tasks.specs.Fault.{kind_of, status_of, path_of, line_of, number_of, text_of, message_of, fork_message};
+ghost use Rattle.fork_tasks.specs.Fault.{kind_of, status_of, path_of, line_of, number_of, text_of};
+ghost use Rattle.fork_tasks.specs.Fault.{message_of, fork_message};
 ghost use Rattle.fork_tasks.specs.declared.fault.ToolFault.TheVariants.{HostMemory};
 
 use fork_commands::{FileFault, WorkFault};
@@ -72,7 +73,8 @@ pub enum ToolFault {
 }
 
 impl ToolFault {
-    /// Returns the number of the line that is printed: 0 for usage and help, then 1 to 7 in the order of the variants.
+    /// Returns the number of the line that is printed: 0 for usage and help, then 1 to 7 in the
+    /// order of the variants.
     pub fn kind(&self) -> u8
         ensures { result ≡ kind_of self.now }
     {
@@ -124,7 +126,8 @@ impl ToolFault {
         }
     }
 
-    /// Returns the number of a script's fault, or the result code of a fault of a file's bytes, or 0 for other faults.
+    /// Returns the number of a script's fault, or the result code of a fault of a file's bytes, or
+    /// 0 for other faults.
     pub fn number(&self) -> i16
         ensures { result ≡ number_of self.now }
     {
@@ -135,7 +138,8 @@ impl ToolFault {
         }
     }
 
-    /// Returns the text of the command line's parser, or an empty text for faults other than usage and help.
+    /// Returns the text of the command line's parser, or an empty text for faults other than usage
+    /// and help.
     pub fn text(&self) -> &str
         ensures { result.now ≡ text_of self.now }
     {

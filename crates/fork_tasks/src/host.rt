@@ -1,8 +1,10 @@
 //! The host: the program's access to files and the standard output.
 
-ghost use Rattle.std.specs.Prelude.{◌≡◌, ℕ, Option, List, ◌∷◌, [], map, codes, OnOk, IfOk, IfErr, string_bytes};
+ghost use Rattle.std.specs.Prelude.{◌≡◌, ℕ, Option, List, ◌∷◌, [], map, codes, OnOk, IfOk, IfErr};
+ghost use Rattle.std.specs.Prelude.{string_bytes};
 ghost use Rattle.std.specs.Io.KnownBytes.{append_known};
-ghost use Rattle.fork_tasks.specs.Accesses.{Access, Read, Listed, Folder, Write, and_then, RefusesRead, RefusesWrite, RefusesFile};
+ghost use Rattle.fork_tasks.specs.Accesses.{Access, Read, Listed, Folder, Write, and_then};
+ghost use Rattle.fork_tasks.specs.Accesses.{RefusesRead, RefusesWrite, RefusesFile};
 ghost use Rattle.fork_tasks.specs.Printing.{PrintsFront};
 ghost use Rattle.fork_tasks.specs.declared.host.ReadError.TheVariants.{HostMemory};
 ghost use Rattle.fork_tasks.specs.declared.host.WriteError.TheVariants as write_error;
@@ -34,7 +36,8 @@ impl<T: Drop> From<AllocFailed<T>> for ReadError {
     }
 }
 
-/// The reason why bytes were not printed, or not all of them, or why a folder or a file was not made.
+/// The reason why bytes were not printed, or not all of them, or why a folder or a file was not
+/// made.
 #[derive(Clone, Copy)]
 pub enum WriteError {
     /// The standard output, or the disk, returned an error.
@@ -56,14 +59,16 @@ pub trait Host {
     /// The bytes that have been printed so far, where they are known.
     ghost printed: { Self → Option (List ℕ) };
 
-    /// The accesses to files so far, in order, where they are known: those that succeeded, and those that the host refused.
+    /// The accesses to files so far, in order, where they are known: those that succeeded, and
+    /// those that the host refused.
     ghost accesses: { Self → Option (List Access) };
 
     /// Reads all bytes of a file.
     fn read(&mut self, alloc: Global, path: &str) -> Result<Vec<u8>, ReadError>
         ensures read { IfOk result (λ bytes. accesses self.new
             ≡ and_then (accesses self.old) (Read path.now bytes.items ∷ [])) }
-        ensures unread { IfErr result (λ error. RefusesRead path.now error (accesses self.old) (accesses self.new)) }
+        ensures unread { IfErr result (λ error.
+            RefusesRead path.now error (accesses self.old) (accesses self.new)) }
 
         // Nothing is printed.
         ensures silent { printed self.new ≡ printed self.old };
@@ -73,12 +78,13 @@ pub trait Host {
         ensures files { accesses self.new ≡ accesses self.old }
         ensures silent { printed self.new ≡ printed self.old };
 
-    /// Returns the paths of all files below a folder, in the order of their names: each begins with that of the folder, as it was
-    /// given, and a slash.
+    /// Returns the paths of all files below a folder, in the order of their names: each begins with
+    /// that of the folder, as it was given, and a slash.
     fn list(&mut self, alloc: Global, path: &str) -> Result<Vec<String>, ReadError>
         ensures listed { IfOk result (λ files. accesses self.new
             ≡ and_then (accesses self.old) (Listed path.now (map string_bytes files.items) ∷ [])) }
-        ensures unlisted { IfErr result (λ error. RefusesRead path.now error (accesses self.old) (accesses self.new)) }
+        ensures unlisted { IfErr result (λ error.
+            RefusesRead path.now error (accesses self.old) (accesses self.new)) }
 
         // Nothing is printed.
         ensures silent { printed self.new ≡ printed self.old };
@@ -92,18 +98,21 @@ pub trait Host {
 
         // No file is read or written.
         ensures files { OnOk result (accesses self.new ≡ accesses self.old) }
-        ensures refused { IfErr result (λ error. RefusesWrite (codes "-") error (accesses self.old) (accesses self.new)) };
+        ensures refused { IfErr result (λ error.
+            RefusesWrite (codes "-") error (accesses self.old) (accesses self.new)) };
 
     /// Makes a folder. The call fails if a file or a folder of that path exists.
     fn make_folder(&mut self, path: &str) -> Result<(), WriteError>
-        ensures made { OnOk result (accesses self.new ≡ and_then (accesses self.old) (Folder path.now ∷ [])) }
-        ensures unmade { IfErr result (λ error. RefusesWrite path.now error (accesses self.old) (accesses self.new)) }
+        ensures made { OnOk result (accesses self.new
+            ≡ and_then (accesses self.old) (Folder path.now ∷ [])) }
+        ensures unmade { IfErr result (λ error.
+            RefusesWrite path.now error (accesses self.old) (accesses self.new)) }
 
         // Nothing is printed.
         ensures silent { printed self.new ≡ printed self.old };
 
-    /// Makes a file of the given bytes. The call fails if a file or a folder of that path exists; if it fails while
-    /// the bytes are written, a file with a front of the bytes may remain.
+    /// Makes a file of the given bytes. The call fails if a file or a folder of that path exists;
+    /// if it fails while the bytes are written, a file with a front of the bytes may remain.
     fn write(&mut self, path: &str, bytes: &[u8]) -> Result<(), WriteError>
         ensures written { OnOk result (accesses self.new
             ≡ and_then (accesses self.old) (Write path.now bytes.now ∷ [])) }

@@ -19,7 +19,8 @@ pub fn read_input<H: Host>(alloc: Global, host: &mut H, path: &str) -> Result<Ve
         ≡ and_then (H.accesses host.old) (Read path.now bytes.items ∷ [])) }
 
     // The host refused the path, and that is the fault; or the host is out of memory.
-    ensures unread { IfErr result (λ fault. IsUnread path.now (H.accesses host.old) (H.accesses host.new) (message_of fault)) }
+    ensures unread { IfErr result (λ fault.
+        IsUnread path.now (H.accesses host.old) (H.accesses host.new) (message_of fault)) }
 {
     let named = String::from_str(alloc, path)?;
     match host.read(alloc, path) {

@@ -1,14 +1,17 @@
 //! Scripts, jobs and sources of Rez are read, and a line is printed for each of their faulty lines.
 
-ghost use Rattle.std.specs.Prelude.{◌≡◌, ℕ, List, ◌∷◌, [], ◌++◌, map, OnOk, IfOk, IfErr, true, false, ◌&&◌, ◌==◌, length, codes, decimal};
+ghost use Rattle.std.specs.Prelude.{◌≡◌, ℕ, List, ◌∷◌, [], ◌++◌, map, OnOk, IfOk, IfErr, true};
+ghost use Rattle.std.specs.Prelude.{false, ◌&&◌, ◌==◌, length, codes, decimal};
 ghost use Rattle.std.specs.List.{list_any};
 ghost use Rattle.rez_statements.specs.View.{types_of};
 ghost use Rattle.fork_tasks.specs.Accesses.{Access, Read, Failed};
 ghost use Rattle.fork_tasks.specs.Declaring.{IsUnknown};
 ghost use Rattle.fork_tasks.specs.Fault.{message_of, IsQuiet};
-ghost use Rattle.fork_tasks.specs.Linting.{Adds, AreLines, AreLinted, HasLinted, PrintsLines, LeavesLines, Lints, IsUnlinted, is_clean};
-ghost use Rattle.fork_tasks.specs.Linting.{line_of, LinesOf, KnowsFor, script_lines, job_lines, source_lines, kind_at, is_source};
-ghost use Rattle.fork_tasks.specs.Linting.{lines_by, needs_types, types_read};
+ghost use Rattle.fork_tasks.specs.Linting.{Adds, AreLines, AreLinted, HasLinted, PrintsLines};
+ghost use Rattle.fork_tasks.specs.Linting.{LeavesLines, Lints, IsUnlinted, is_clean, line_of};
+ghost use Rattle.fork_tasks.specs.Linting.{LinesOf, KnowsFor, script_lines, job_lines};
+ghost use Rattle.fork_tasks.specs.Linting.{source_lines, kind_at, is_source, lines_by, needs_types};
+ghost use Rattle.fork_tasks.specs.Linting.{types_read};
 ghost use Rattle.fork_tasks.specs.Surveying.{IsSeen, AreSeen, OnlyReads};
 
 use crate::declaring::known_types;
@@ -54,7 +57,8 @@ struct Lines {
 
 /// Appends where a faulty line stands.
 fn add_place(text: &mut Vec<u8>, path: &str, line: usize) -> Result<(), AllocError>
-    ensures { OnOk result (text.new.items ≡ text.old.items ++ path.now ++ codes ":" ++ decimal line ++ codes ":") }
+    ensures { OnOk result (text.new.items
+        ≡ text.old.items ++ path.now ++ codes ":" ++ decimal line ++ codes ":") }
 {
     text.extend_from_slice(path.as_bytes())?;
     text.push(b':')?;
@@ -80,7 +84,8 @@ fn add_line(
     path: &str,
     fault: &Fault<'_>,
 ) -> Result<(), AllocError>
-    ensures { OnOk result ((words : List ℕ) × (text.new.items ≡ text.old.items ++ line_of path.now fault.now.line words)) }
+    ensures { OnOk result ((words : List ℕ)
+        × (text.new.items ≡ text.old.items ++ line_of path.now fault.now.line words)) }
 {
     let words = format!(in alloc; "{}: {}", fault.column, fault.wrong)?;
     add_words(text, path, fault.line, words.as_str())
@@ -93,7 +98,8 @@ fn add_lines(
     path: &str,
     faults: &[Fault<'_>],
 ) -> Result<(), AllocError>
-    ensures { OnOk result (Adds (AreLines path.now (map (λ fault. fault.line) faults.now)) text.old.items text.new.items) }
+    ensures { OnOk result (Adds (AreLines path.now (map (λ fault. fault.line) faults.now))
+        text.old.items text.new.items) }
 {
     for fault in faults {
         add_line(alloc, text, path, fault)?;
@@ -108,7 +114,8 @@ fn add_faults(
     path: &str,
     faults: &[Fault<'_>],
 ) -> Result<(), AllocError>
-    ensures text { OnOk result (Adds (AreLines path.now (map (λ fault. fault.line) faults.now)) lines.old.text.items lines.new.text.items) }
+    ensures text { OnOk result (Adds (AreLines path.now (map (λ fault. fault.line) faults.now))
+        lines.old.text.items lines.new.text.items) }
     ensures clean { OnOk result (lines.new.clean ≡ (lines.old.clean && (length faults.now == 0))) }
 {
     add_lines(alloc, &mut lines.text, path, faults)?;
@@ -119,8 +126,10 @@ fn add_faults(
 
 /// Appends the lines of a script.
 fn add_script(alloc: Global, lines: &mut Lines, path: &str, text: &[u8]) -> Result<(), AllocError>
-    ensures text { OnOk result (Adds (AreLines path.now (script_lines text.now)) lines.old.text.items lines.new.text.items) }
-    ensures clean { OnOk result (lines.new.clean ≡ (lines.old.clean && (length (script_lines text.now) == 0))) }
+    ensures text { OnOk result (Adds (AreLines path.now (script_lines text.now))
+        lines.old.text.items lines.new.text.items) }
+    ensures clean { OnOk result (lines.new.clean
+        ≡ (lines.old.clean && (length (script_lines text.now) == 0))) }
 {
     let faults = script_faults(alloc, text)?;
     add_faults(alloc, lines, path, faults.as_slice())
@@ -128,8 +137,10 @@ fn add_script(alloc: Global, lines: &mut Lines, path: &str, text: &[u8]) -> Resu
 
 /// Appends the lines of a job.
 fn add_job(alloc: Global, lines: &mut Lines, path: &str, text: &[u8]) -> Result<(), AllocError>
-    ensures text { OnOk result (Adds (AreLines path.now (job_lines text.now)) lines.old.text.items lines.new.text.items) }
-    ensures clean { OnOk result (lines.new.clean ≡ (lines.old.clean && (length (job_lines text.now) == 0))) }
+    ensures text { OnOk result
+        (Adds (AreLines path.now (job_lines text.now)) lines.old.text.items lines.new.text.items) }
+    ensures clean { OnOk result (lines.new.clean
+        ≡ (lines.old.clean && (length (job_lines text.now) == 0))) }
 {
     let faults = job_faults(alloc, text)?;
     add_faults(alloc, lines, path, faults.as_slice())
@@ -142,7 +153,8 @@ fn add_unstated(
     path: &str,
     fault: TextFault,
 ) -> Result<(), AllocError>
-    ensures text { OnOk result (Adds (AreLines path.now (fault.line ∷ [])) lines.old.text.items lines.new.text.items) }
+    ensures text { OnOk result
+        (Adds (AreLines path.now (fault.line ∷ [])) lines.old.text.items lines.new.text.items) }
     ensures clean { OnOk result (lines.new.clean ≡ false) }
 {
     let words = format!(in alloc; " {}", fault.kind)?;
@@ -159,8 +171,8 @@ fn add_source(
     path: &str,
     text: &[u8],
 ) -> Result<(), AllocError>
-    ensures text { OnOk result (Adds (AreLines path.now (source_lines (types_of types.now) text.now))
-        lines.old.text.items lines.new.text.items) }
+    ensures text { OnOk result (Adds (AreLines path.now
+        (source_lines (types_of types.now) text.now)) lines.old.text.items lines.new.text.items) }
     ensures clean { OnOk result (lines.new.clean
         ≡ (lines.old.clean && (length (source_lines (types_of types.now) text.now) == 0))) }
 {
@@ -210,7 +222,8 @@ fn add_read(
 
 /// Appends that a file could not be read.
 fn add_refused(text: &mut Vec<u8>, path: &str) -> Result<(), AllocError>
-    ensures { OnOk result (text.new.items ≡ text.old.items ++ (path.now ++ codes ": cannot read\n")) }
+    ensures { OnOk result (text.new.items
+        ≡ text.old.items ++ (path.now ++ codes ": cannot read\n")) }
 {
     text.extend_from_slice(path.as_bytes())?;
     text.extend_from_slice(b": cannot read\n")?;
@@ -219,7 +232,8 @@ fn add_refused(text: &mut Vec<u8>, path: &str) -> Result<(), AllocError>
 
 /// Appends the line of a file that could not be read.
 fn add_unread(lines: &mut Lines, path: &str) -> Result<(), AllocError>
-    ensures text { OnOk result ((faulty : LinesOf) → Adds (AreLinted faulty (Failed path.now ∷ [])) lines.old.text.items lines.new.text.items) }
+    ensures text { OnOk result ((faulty : LinesOf) → Adds (AreLinted faulty (Failed path.now ∷ []))
+        lines.old.text.items lines.new.text.items) }
     ensures clean { OnOk result (lines.new.clean ≡ false) }
 {
     add_refused(&mut lines.text, path)?;
@@ -238,7 +252,8 @@ fn lint_file<H: Host>(
 ) -> Result<(), AllocError>
     ensures silent { H.printed host.new ≡ H.printed host.old }
     ensures seen { OnOk result ((access : Access) × IsSeen path.now access
-        × HasLinted (lines_by asked (types_of types.now)) (access ∷ []) (H.accesses host.old) (H.accesses host.new)
+        × HasLinted (lines_by asked (types_of types.now))
+        (access ∷ []) (H.accesses host.old) (H.accesses host.new)
         lines.old.text.items lines.new.text.items lines.old.clean lines.new.clean) }
     ensures stopped { IfErr result (λ _. OnlyReads (H.accesses host.old) (H.accesses host.new)) }
 {
@@ -260,8 +275,8 @@ fn lint_files<H: Host>(
     ensures silent { H.printed host.new ≡ H.printed host.old }
     ensures seen { IfOk result (λ lines. (accesses : List Access)
         × AreSeen (map (λ path. path.now) paths.now) accesses
-        × HasLinted (lines_by asked (types_of types.now)) accesses (H.accesses host.old) (H.accesses host.new)
-        [] lines.text.items true lines.clean) }
+        × HasLinted (lines_by asked (types_of types.now)) accesses (H.accesses host.old)
+        (H.accesses host.new) [] lines.text.items true lines.clean) }
     ensures stopped { IfErr result (λ _. OnlyReads (H.accesses host.old) (H.accesses host.new)) }
 {
     let mut lines = Lines {
@@ -282,11 +297,14 @@ fn print_lines<H: Host>(
     types: &Types,
     paths: &[&str],
 ) -> Result<Ending, ToolFault>
-    ensures done { IfOk result (λ ending. PrintsLines (lines_by asked (types_of types.now)) (map (λ path. path.now) paths.now)
-        ending (H.printed host.old) (H.printed host.new) (H.accesses host.old) (H.accesses host.new)) }
-    ensures undone { IfErr result (λ fault. LeavesLines (lines_by asked (types_of types.now)) (map (λ path. path.now) paths.now)
-        (H.printed host.old) (H.printed host.new) (H.accesses host.old) (H.accesses host.new) (message_of fault)) }
-    ensures quiet { IfErr result (λ fault. IsQuiet (H.printed host.old) (H.printed host.new) (message_of fault)) }
+    ensures done { IfOk result (λ ending.
+        PrintsLines (lines_by asked (types_of types.now)) (map (λ path. path.now) paths.now) ending
+        (H.printed host.old) (H.printed host.new) (H.accesses host.old) (H.accesses host.new)) }
+    ensures undone { IfErr result (λ fault. LeavesLines (lines_by asked (types_of types.now))
+        (map (λ path. path.now) paths.now) (H.printed host.old) (H.printed host.new)
+        (H.accesses host.old) (H.accesses host.new) (message_of fault)) }
+    ensures quiet { IfErr result (λ fault.
+        IsQuiet (H.printed host.old) (H.printed host.new) (message_of fault)) }
 {
     let lines = lint_files(alloc, host, asked, types, paths)?;
     deliver(alloc, host, Target::Printed, lines.text.as_slice())?;
@@ -322,14 +340,16 @@ fn needs_types(linting: &Linting<'_>) -> bool
     !linting.types.is_empty() || has_source(linting.asked, linting.paths.as_slice())
 }
 
-/// Returns the types of the table and of the files of declarations, which are read, where they are needed; else none.
+/// Returns the types of the table and of the files of declarations, which are read, where they are
+/// needed; else none.
 fn types_for<H: Host>(
     alloc: Global,
     host: &mut H,
     linting: &Linting<'_>,
 ) -> Result<Types, ToolFault>
     ensures silent { H.printed host.new ≡ H.printed host.old }
-    ensures known { IfOk result (λ known. KnowsFor linting.now (types_of known) (H.accesses host.old) (H.accesses host.new)) }
+    ensures known { IfOk result (λ known.
+        KnowsFor linting.now (types_of known) (H.accesses host.old) (H.accesses host.new)) }
     ensures stopped { IfErr result (λ fault. IsUnknown (types_read linting.now)
         (H.accesses host.old) (H.accesses host.new) (message_of fault)) }
 {
@@ -340,22 +360,25 @@ fn types_for<H: Host>(
     }
 }
 
-/// Reads files of declarations, then texts, one after another, and prints a line for each of their faulty lines, once all are read.
+/// Reads files of declarations, then texts, one after another, and prints a line for each of their
+/// faulty lines, once all are read.
 ///
 /// # Errors
 ///
-/// A file of declarations can't be read or is at fault, or the host is out of memory, and then nothing is printed; or the lines can't
-/// be printed, or not to their end. A text that can't be read is no fault: its line says so.
+/// A file of declarations can't be read or is at fault, or the host is out of memory, and then
+/// nothing is printed; or the lines can't be printed, or not to their end. A text that can't be
+/// read is no fault: its line says so.
 pub fn print_faults<H: Host>(
     alloc: Global,
     host: &mut H,
     linting: &Linting<'_>,
 ) -> Result<Ending, ToolFault>
-    ensures done { IfOk result (λ ending. Lints linting.now ending (H.printed host.old) (H.printed host.new)
-        (H.accesses host.old) (H.accesses host.new)) }
-    ensures undone { IfErr result (λ fault. IsUnlinted linting.now (H.printed host.old) (H.printed host.new)
-        (H.accesses host.old) (H.accesses host.new) (message_of fault)) }
-    ensures quiet { IfErr result (λ fault. IsQuiet (H.printed host.old) (H.printed host.new) (message_of fault)) }
+    ensures done { IfOk result (λ ending. Lints linting.now ending (H.printed host.old)
+        (H.printed host.new) (H.accesses host.old) (H.accesses host.new)) }
+    ensures undone { IfErr result (λ fault. IsUnlinted linting.now (H.printed host.old)
+        (H.printed host.new) (H.accesses host.old) (H.accesses host.new) (message_of fault)) }
+    ensures quiet { IfErr result (λ fault.
+        IsQuiet (H.printed host.old) (H.printed host.new) (message_of fault)) }
 {
     let types = types_for(alloc, host, linting)?;
     print_lines(alloc, host, linting.asked, &types, linting.paths.as_slice())

@@ -8,8 +8,9 @@ ghost use Rattle.script_text.specs.Transcript.{hex};
 ghost use Rattle.fork_format.specs.Content.{refs_of};
 ghost use Rattle.fork_format.specs.View.{view_name, view_ref, view_group, view};
 ghost use Rattle.fork_tasks.specs.Accesses.{RefusesWrite};
-ghost use Rattle.fork_tasks.specs.Listing.{type_listed, numbers_listed, name_digits, name_listed, line_of, group_lines, remark_listed};
-ghost use Rattle.fork_tasks.specs.Listing.{head_line, first_lines};
+ghost use Rattle.fork_tasks.specs.Listing.{type_listed, numbers_listed, name_digits, name_listed};
+ghost use Rattle.fork_tasks.specs.Listing.{line_of, group_lines, remark_listed, head_line};
+ghost use Rattle.fork_tasks.specs.Listing.{first_lines};
 ghost use Rattle.fork_tasks.specs.Listing as spec;
 ghost use Rattle.fork_tasks.specs.Printing.{PrintsBut, PrintsFront};
 
@@ -97,7 +98,8 @@ fn push_name(
     spelling: Spelling,
     name: &Option<RefName<'_>>,
 ) -> Result<(), AllocError>
-    ensures { OnOk result (text.new.items ≡ text.old.items ++ name_listed spelling (view_name name.now)) }
+    ensures { OnOk result (text.new.items
+        ≡ text.old.items ++ name_listed spelling (view_name name.now)) }
 {
     match spelling {
         Spelling::Digits => push_digits(text, name),
@@ -107,7 +109,8 @@ fn push_name(
 
 /// Appends a type.
 fn push_type(text: &mut Vec<u8>, spelling: Spelling, ty: OsType) -> Result<(), AllocError>
-    ensures { OnOk result (text.new.items ≡ text.old.items ++ type_listed spelling (big_number 4 ty.0)) }
+    ensures { OnOk result (text.new.items
+        ≡ text.old.items ++ type_listed spelling (big_number 4 ty.0)) }
 {
     match spelling {
         Spelling::Digits => {
@@ -120,7 +123,8 @@ fn push_type(text: &mut Vec<u8>, spelling: Spelling, ty: OsType) -> Result<(), A
 
 /// Appends the numbers of a resource, with a blank before each.
 fn push_numbers(text: &mut Vec<u8>, resource: &Ref<'_>) -> Result<(), AllocError>
-    ensures { OnOk result (text.new.items ≡ text.old.items ++ numbers_listed (view_ref resource.now)) }
+    ensures { OnOk result (text.new.items
+        ≡ text.old.items ++ numbers_listed (view_ref resource.now)) }
 {
     text.extend_from_slice(b" ")?;
     text.extend_from_slice(Buffer::new().format(resource.id).as_bytes())?;
@@ -130,7 +134,8 @@ fn push_numbers(text: &mut Vec<u8>, resource: &Ref<'_>) -> Result<(), AllocError
     text.extend_from_slice(Buffer::new().format(resource.datum.len()).as_bytes())
 }
 
-/// Appends what is said of the attributes of a resource beside their number, where a person reads the listing.
+/// Appends what is said of the attributes of a resource beside their number, where a person reads
+/// the listing.
 fn push_remark(text: &mut Vec<u8>, spelling: Spelling, attrs: Attrs) -> Result<(), AllocError>
     ensures { OnOk result (text.new.items ≡ text.old.items ++ remark_listed spelling attrs.0) }
 {
@@ -202,10 +207,12 @@ fn push_first(text: &mut Vec<u8>, listing: &Listing<'_>) -> Result<(), AllocErro
 
 /// Prints the gathered lines once they have `MANY` bytes.
 fn print_many<H: Host>(host: &mut H, lines: &mut Vec<u8>) -> Result<(), WriteError>
-    ensures some { OnOk result (PrintsBut lines.old.items lines.new.items (H.printed host.old) (H.printed host.new)) }
+    ensures some { OnOk result
+        (PrintsBut lines.old.items lines.new.items (H.printed host.old) (H.printed host.new)) }
     ensures front { PrintsFront lines.old.items (H.printed host.old) (H.printed host.new) }
     ensures files { OnOk result (H.accesses host.new ≡ H.accesses host.old) }
-    ensures refused { IfErr result (λ error. RefusesWrite (codes "-") error (H.accesses host.old) (H.accesses host.new)) }
+    ensures refused { IfErr result (λ error.
+        RefusesWrite (codes "-") error (H.accesses host.old) (H.accesses host.new)) }
 {
     if lines.len() >= MANY {
         host.print(lines.as_slice())?;
@@ -214,19 +221,21 @@ fn print_many<H: Host>(host: &mut H, lines: &mut Vec<u8>) -> Result<(), WriteErr
     Ok(())
 }
 
-/// Prints the gathered lines and those of a type's resources, of which the last may remain gathered.
+/// Prints the gathered lines and those of a type's resources, of which the last may remain
+/// gathered.
 fn print_group<H: Host>(
     host: &mut H,
     lines: &mut Vec<u8>,
     spelling: Spelling,
     group: &Group<'_>,
 ) -> Result<(), WriteError>
-    ensures some { OnOk result (PrintsBut (lines.old.items ++ group_lines spelling (view_group group.now)) lines.new.items
-        (H.printed host.old) (H.printed host.new)) }
+    ensures some { OnOk result (PrintsBut (lines.old.items ++ group_lines spelling
+        (view_group group.now)) lines.new.items (H.printed host.old) (H.printed host.new)) }
     ensures front { PrintsFront (lines.old.items ++ group_lines spelling (view_group group.now))
         (H.printed host.old) (H.printed host.new) }
     ensures files { OnOk result (H.accesses host.new ≡ H.accesses host.old) }
-    ensures refused { IfErr result (λ error. RefusesWrite (codes "-") error (H.accesses host.old) (H.accesses host.new)) }
+    ensures refused { IfErr result (λ error.
+        RefusesWrite (codes "-") error (H.accesses host.old) (H.accesses host.new)) }
 {
     let ty = group.ty;
     for resource in &group.refs {
@@ -243,12 +252,13 @@ fn print_groups<H: Host>(
     spelling: Spelling,
     content: &Content<'_>,
 ) -> Result<(), WriteError>
-    ensures some { OnOk result (PrintsBut (lines.old.items ++ flat_map (group_lines spelling) (view content.now).groups)
-        lines.new.items (H.printed host.old) (H.printed host.new)) }
-    ensures front { PrintsFront (lines.old.items ++ flat_map (group_lines spelling) (view content.now).groups)
-        (H.printed host.old) (H.printed host.new) }
+    ensures some { OnOk result (PrintsBut (lines.old.items ++ flat_map (group_lines spelling)
+        (view content.now).groups) lines.new.items (H.printed host.old) (H.printed host.new)) }
+    ensures front { PrintsFront (lines.old.items ++ flat_map (group_lines spelling)
+        (view content.now).groups) (H.printed host.old) (H.printed host.new) }
     ensures files { OnOk result (H.accesses host.new ≡ H.accesses host.old) }
-    ensures refused { IfErr result (λ error. RefusesWrite (codes "-") error (H.accesses host.old) (H.accesses host.new)) }
+    ensures refused { IfErr result (λ error.
+        RefusesWrite (codes "-") error (H.accesses host.old) (H.accesses host.new)) }
 {
     for group in &content.groups {
         print_group(host, lines, spelling, group)?;
@@ -256,13 +266,13 @@ fn print_groups<H: Host>(
     Ok(())
 }
 
-/// Prints the listing of a content: a line with the map's attributes and the numbers of types and of resources, then a
-/// line for each resource: its type, ID, attributes, length in bytes, and name. Types and names are `$` and
-/// hexadecimal digits in lower case, or as a person reads them; `-` stands for no name. The lines of the listing's info
-/// stand above.
+/// Prints the listing of a content: a line with the map's attributes and the numbers of types and
+/// of resources, then a line for each resource: its type, ID, attributes, length in bytes, and
+/// name. Types and names are `$` and hexadecimal digits in lower case, or as a person reads them;
+/// `-` stands for no name. The lines of the listing's info stand above.
 ///
-/// The memory in which the lines are gathered is taken before any line is printed, and the lines are printed some
-/// 65,536 bytes at a time.
+/// The memory in which the lines are gathered is taken before any line is printed, and the lines
+/// are printed some 65,536 bytes at a time.
 pub fn print_listing<H: Host>(
     alloc: Global,
     host: &mut H,
@@ -270,10 +280,11 @@ pub fn print_listing<H: Host>(
 ) -> Result<(), WriteError>
     ensures all { OnOk result (H.printed host.new ≡ append_known (H.printed host.old)
         (spec.listing listing.now.spelling listing.now.info.items (view listing.now.content))) }
-    ensures front { PrintsFront (spec.listing listing.now.spelling listing.now.info.items (view listing.now.content))
-        (H.printed host.old) (H.printed host.new) }
+    ensures front { PrintsFront (spec.listing listing.now.spelling listing.now.info.items
+        (view listing.now.content)) (H.printed host.old) (H.printed host.new) }
     ensures files { OnOk result (H.accesses host.new ≡ H.accesses host.old) }
-    ensures refused { IfErr result (λ error. RefusesWrite (codes "-") error (H.accesses host.old) (H.accesses host.new)) }
+    ensures refused { IfErr result (λ error.
+        RefusesWrite (codes "-") error (H.accesses host.old) (H.accesses host.new)) }
 {
     let mut lines = Vec::with_capacity(alloc, MANY + LONGEST)?;
     push_first(&mut lines, listing)?;

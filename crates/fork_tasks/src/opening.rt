@@ -13,7 +13,8 @@ use std::alloc::Global;
 pub fn opened_at<'b>(alloc: Global, path: &str, bytes: &'b [u8]) -> Result<OpenFile<'b>, ToolFault>
     ensures bytes { IfOk result (λ file. bytes_of file ≡ bytes.now) }
     ensures is_open { IfOk result IsOpen }
-    ensures fault { IfErr result (λ fault. IsForkFault path.now (opened bytes.now) (message_of fault)) }
+    ensures fault { IfErr result (λ fault.
+        IsForkFault path.now (opened bytes.now) (message_of fault)) }
 {
     match open_file(alloc, bytes) {
         Ok(file) => Ok(file),

@@ -4,7 +4,8 @@ ghost use Rattle.std.specs.Prelude.{◌≡◌, Ok, IfOk, IfErr};
 ghost use Rattle.rez_statements.specs.View.{types_of};
 ghost use Rattle.fork_tasks.specs.declared.ending.Ending.TheVariants.{Done};
 ghost use Rattle.fork_tasks.specs.Fault.{message_of, IsForkFault, IsQuiet};
-ghost use Rattle.fork_tasks.specs.SourcePrinting.{selection_of, source_of, PrintsSource, IsSourceUnprinted};
+ghost use Rattle.fork_tasks.specs.SourcePrinting.{selection_of, source_of, PrintsSource};
+ghost use Rattle.fork_tasks.specs.SourcePrinting.{IsSourceUnprinted};
 
 use crate::declaring::known_types;
 use crate::delivering::{Target, deliver};
@@ -56,9 +57,10 @@ fn printed_at(
     types: Types,
     bytes: &[u8],
 ) -> Result<Vec<u8>, ToolFault>
-    ensures made { IfOk result (λ out. source_of printing.now (types_of types) bytes.now ≡ Ok out.items) }
-    ensures fault { IfErr result (λ fault. IsForkFault printing.now.fork.now (source_of printing.now (types_of types) bytes.now)
-        (message_of fault)) }
+    ensures made { IfOk result (λ out. source_of printing.now (types_of types) bytes.now
+        ≡ Ok out.items) }
+    ensures fault { IfErr result (λ fault. IsForkFault printing.now.fork.now
+        (source_of printing.now (types_of types) bytes.now) (message_of fault)) }
 {
     match printed(
         alloc,
@@ -76,17 +78,19 @@ fn printed_at(
 ///
 /// # Errors
 ///
-/// The first file that can't be read or is at fault, and then nothing is printed; or the source can't be printed, or not to its end.
+/// The first file that can't be read or is at fault, and then nothing is printed; or the source
+/// can't be printed, or not to its end.
 pub fn print_source<H: Host>(
     alloc: Global,
     host: &mut H,
     printing: &Printing<'_>,
 ) -> Result<Ending, ToolFault>
-    ensures done { IfOk result (λ ending. (ending ≡ Done) × PrintsSource printing.now (H.printed host.old) (H.printed host.new)
-        (H.accesses host.old) (H.accesses host.new)) }
-    ensures undone { IfErr result (λ fault. IsSourceUnprinted printing.now (H.printed host.old) (H.printed host.new)
-        (H.accesses host.old) (H.accesses host.new) (message_of fault)) }
-    ensures quiet { IfErr result (λ fault. IsQuiet (H.printed host.old) (H.printed host.new) (message_of fault)) }
+    ensures done { IfOk result (λ ending. (ending ≡ Done) × PrintsSource printing.now
+        (H.printed host.old) (H.printed host.new) (H.accesses host.old) (H.accesses host.new)) }
+    ensures undone { IfErr result (λ fault. IsSourceUnprinted printing.now (H.printed host.old)
+        (H.printed host.new) (H.accesses host.old) (H.accesses host.new) (message_of fault)) }
+    ensures quiet { IfErr result (λ fault.
+        IsQuiet (H.printed host.old) (H.printed host.new) (message_of fault)) }
 {
     let types = known_types(alloc, host, printing.types.as_slice())?;
     let bytes = read_input(alloc, host, printing.fork)?;

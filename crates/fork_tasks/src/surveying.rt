@@ -1,6 +1,7 @@
 //! A survey: several files are read, and the state of each is printed in a line.
 
-ghost use Rattle.std.specs.Prelude.{◌≡◌, ℕ, List, ◌∷◌, [], ◌++◌, map, OnOk, IfOk, IfErr, option_map, true, false, not, ◌&&◌, codes, string_bytes};
+ghost use Rattle.std.specs.Prelude.{◌≡◌, ℕ, List, ◌∷◌, [], ◌++◌, map, OnOk, IfOk, IfErr};
+ghost use Rattle.std.specs.Prelude.{option_map, true, false, not, ◌&&◌, codes, string_bytes};
 ghost use Rattle.std.specs.List.{flat_map, list_all};
 ghost use Rattle.fork_commands.specs.States.{has_content};
 ghost use Rattle.fork_tasks.specs.Accesses.{Access, Read, Failed};
@@ -8,8 +9,9 @@ ghost use Rattle.fork_tasks.specs.declared.delivering.Target.TheVariants.{Printe
 ghost use Rattle.fork_tasks.specs.Delivering.{Delivers, IsUndelivered};
 ghost use Rattle.fork_tasks.specs.Ending.{ending_of};
 ghost use Rattle.fork_tasks.specs.Fault.{message_of, IsQuiet};
-ghost use Rattle.fork_tasks.specs.Surveying.{IsSeen, AreSeen, IsSurveyed, AreSurveyed, line_of, is_good, Went, OnlyReads, paths_of, Lists};
-ghost use Rattle.fork_tasks.specs.Surveying.{lone_path, IsFolderSurveyed, IsUnlisted, Surveys, IsUnsurveyed};
+ghost use Rattle.fork_tasks.specs.Surveying.{IsSeen, AreSeen, IsSurveyed, AreSurveyed, line_of};
+ghost use Rattle.fork_tasks.specs.Surveying.{is_good, Went, OnlyReads, paths_of, Lists, lone_path};
+ghost use Rattle.fork_tasks.specs.Surveying.{IsFolderSurveyed, IsUnlisted, Surveys, IsUnsurveyed};
 
 use crate::delivering::{Target, deliver};
 use crate::ending::Ending;
@@ -23,7 +25,8 @@ use std::alloc::{AllocError, Global};
 pub struct Survey<'a> {
     /// The paths as they were given: of files, or of folders, all files below which are surveyed.
     pub paths: Vec<&'a str>,
-    /// Whether it is printed what differs from the canonical fork, and which rule of the format is broken.
+    /// Whether it is printed what differs from the canonical fork, and which rule of the format is
+    /// broken.
     pub why: bool,
 }
 
@@ -68,7 +71,8 @@ fn add_read(
     path: &str,
     bytes: &[u8],
 ) -> Result<(), AllocError>
-    ensures text { OnOk result (lines.new.text.items ≡ lines.old.text.items ++ line_of why (Read path.now bytes.now)) }
+    ensures text { OnOk result (lines.new.text.items
+        ≡ lines.old.text.items ++ line_of why (Read path.now bytes.now)) }
     ensures good { OnOk result (lines.new.good ≡ (lines.old.good && has_content bytes.now)) }
 {
     lines.text.extend_from_slice(path.as_bytes())?;
@@ -81,7 +85,8 @@ fn add_read(
 
 /// Appends the line of a file that could not be read.
 fn add_unread(lines: &mut Lines, path: &str) -> Result<(), AllocError>
-    ensures text { OnOk result (lines.new.text.items ≡ lines.old.text.items ++ (path.now ++ codes "\tcannot read\n")) }
+    ensures text { OnOk result (lines.new.text.items
+        ≡ lines.old.text.items ++ (path.now ++ codes "\tcannot read\n")) }
     ensures good { OnOk result (lines.new.good ≡ false) }
 {
     lines.text.extend_from_slice(path.as_bytes())?;
@@ -120,7 +125,8 @@ fn survey_files<H: Host>(
     lines: &mut Lines,
 ) -> Result<(), AllocError>
     ensures silent { H.printed host.new ≡ H.printed host.old }
-    ensures seen { OnOk result ((accesses : List Access) × AreSeen (map string_bytes files.now) accesses
+    ensures seen { OnOk result ((accesses : List Access)
+        × AreSeen (map string_bytes files.now) accesses
         × Went why accesses (H.accesses host.old) (H.accesses host.new)
         lines.old.text.items lines.new.text.items lines.old.good lines.new.good) }
     ensures stopped { IfErr result (λ _. OnlyReads (H.accesses host.old) (H.accesses host.new)) }
@@ -183,7 +189,8 @@ fn surveyed<H: Host>(
     ensures silent { H.printed host.new ≡ H.printed host.old }
     ensures surveyed { IfOk result (λ lines. (accesses : List Access)
         × AreSurveyed (map (λ path. path.now) paths.now) accesses
-        × Went why accesses (H.accesses host.old) (H.accesses host.new) [] lines.text.items true lines.good) }
+        × Went why accesses (H.accesses host.old)
+        (H.accesses host.new) [] lines.text.items true lines.good) }
     ensures stopped { IfErr result (λ _. OnlyReads (H.accesses host.old) (H.accesses host.new)) }
 {
     let mut lines = Lines::new(alloc);
@@ -195,49 +202,56 @@ fn surveyed<H: Host>(
 
 /// Prints the lines, and returns the ending that says whether each file has a fork with a content.
 fn print_lines<H: Host>(alloc: Global, host: &mut H, lines: &Lines) -> Result<Ending, ToolFault>
-    ensures delivered { OnOk result (Delivers Printed lines.now.text.items (H.printed host.old) (H.printed host.new)
-        (H.accesses host.old) (H.accesses host.new)) }
+    ensures delivered { OnOk result (Delivers Printed lines.now.text.items (H.printed host.old)
+        (H.printed host.new) (H.accesses host.old) (H.accesses host.new)) }
     ensures ending { IfOk result (λ ending. ending ≡ ending_of (not lines.now.good)) }
-    ensures undelivered { IfErr result (λ fault. IsUndelivered Printed lines.now.text.items
-        (H.printed host.old) (H.printed host.new) (H.accesses host.old) (H.accesses host.new) (message_of fault)) }
+    ensures undelivered { IfErr result (λ fault.
+        IsUndelivered Printed lines.now.text.items (H.printed host.old) (H.printed host.new)
+        (H.accesses host.old) (H.accesses host.new) (message_of fault)) }
 {
     deliver(alloc, host, Target::Printed, lines.text.as_slice())?;
     Ok(Ending::of(!lines.good))
 }
 
-/// Reads the files of a survey, one after another, and prints the state of each in a line, once all are read.
+/// Reads the files of a survey, one after another, and prints the state of each in a line, once all
+/// are read.
 ///
 /// # Errors
 ///
-/// The host is out of memory, and then nothing is printed; or the lines can't be printed, or not to their end. A file that can't be
-/// read is no fault: its line says so.
+/// The host is out of memory, and then nothing is printed; or the lines can't be printed, or not to
+/// their end. A file that can't be read is no fault: its line says so.
 pub fn print_survey<H: Host>(
     alloc: Global,
     host: &mut H,
     survey: &Survey<'_>,
 ) -> Result<Ending, ToolFault>
-    ensures done { IfOk result (λ ending. Surveys survey.now ending (H.printed host.old) (H.printed host.new)
-        (H.accesses host.old) (H.accesses host.new)) }
-    ensures undone { IfErr result (λ fault. IsUnsurveyed survey.now (H.printed host.old) (H.printed host.new)
-        (H.accesses host.old) (H.accesses host.new) (message_of fault)) }
-    ensures quiet { IfErr result (λ fault. IsQuiet (H.printed host.old) (H.printed host.new) (message_of fault)) }
+    ensures done { IfOk result (λ ending. Surveys survey.now ending (H.printed host.old)
+        (H.printed host.new) (H.accesses host.old) (H.accesses host.new)) }
+    ensures undone { IfErr result (λ fault. IsUnsurveyed survey.now (H.printed host.old)
+        (H.printed host.new) (H.accesses host.old) (H.accesses host.new) (message_of fault)) }
+    ensures quiet { IfErr result (λ fault.
+        IsQuiet (H.printed host.old) (H.printed host.new) (message_of fault)) }
 {
     let lines = surveyed(alloc, host, survey.why, survey.paths.as_slice())?;
     print_lines(alloc, host, &lines)
 }
 
-/// Reads the files below a folder, one after another, and prints the state of each in a line without a reason, once all are read.
+/// Reads the files below a folder, one after another, and prints the state of each in a line
+/// without a reason, once all are read.
 ///
 /// # Errors
 ///
-/// The host is out of memory, and then nothing is printed; or the lines can't be printed, or not to their end. A folder that can't
-/// be listed, or a file that can't be read, is no fault: its line says so.
+/// The host is out of memory, and then nothing is printed; or the lines can't be printed, or not to
+/// their end. A folder that can't be listed, or a file that can't be read, is no fault: its line
+/// says so.
 pub fn print_folder<H: Host>(alloc: Global, host: &mut H, folder: &str) -> Result<Ending, ToolFault>
     ensures done { IfOk result (λ ending. Lists (IsFolderSurveyed folder.now) false ending
         (H.printed host.old) (H.printed host.new) (H.accesses host.old) (H.accesses host.new)) }
-    ensures undone { IfErr result (λ fault. IsUnlisted (IsFolderSurveyed folder.now) false
-        (H.printed host.old) (H.printed host.new) (H.accesses host.old) (H.accesses host.new) (message_of fault)) }
-    ensures quiet { IfErr result (λ fault. IsQuiet (H.printed host.old) (H.printed host.new) (message_of fault)) }
+    ensures undone { IfErr result (λ fault.
+        IsUnlisted (IsFolderSurveyed folder.now) false (H.printed host.old) (H.printed host.new)
+        (H.accesses host.old) (H.accesses host.new) (message_of fault)) }
+    ensures quiet { IfErr result (λ fault.
+        IsQuiet (H.printed host.old) (H.printed host.new) (message_of fault)) }
 {
     let mut lines = Lines::new(alloc);
     survey_folder(alloc, host, false, folder, &mut lines)?;

@@ -98,6 +98,11 @@ dispose_handle handle s = for_found (handle_at handle s) s (λ k. disposed_of k.
 abbrev pub get_handle_size : Option ℕ → State → Answer ℕ
 get_handle_size handle s = on_block handle s (λ held. (Ok (length (content_of held.at.here)), s))
 
+-- HandleZone: the place of the zone of a handle, which may be empty: its offset from its own start, 0.
+-- See decision 234 (`HandleZone` and `PtrZone` return 0).
+abbrev pub handle_zone : Option ℕ → State → Answer ℕ
+handle_zone handle s = for_found (handle_at handle s) s (λ k. (Ok 0, s))
+
 -- FreeMem: the number of free bytes of the zone, the headers of free blocks included.
 abbrev pub free_mem : State → Answer ℕ
 free_mem s = (Ok (free_sum s.zone), s)

@@ -35,6 +35,7 @@ pub data Asked : Type 0 where
   HNoPurge : (handle : Option ℕ) → Asked
   HGetState : (handle : Option ℕ) → Asked
   HSetState : (handle : Option ℕ) (state : ℕ) → Asked
+  HandleZone : (handle : Option ℕ) → Asked
   MoveHHi : (handle : Option ℕ) → Asked
   HLockHi : (handle : Option ℕ) → Asked
   HandToHand : (handle : Option ℕ) → Asked
@@ -44,6 +45,7 @@ pub data Asked : Type 0 where
   DisposePtr : (pointer : Option ℕ) → Asked
   GetPtrSize : (pointer : Option ℕ) → Asked
   SetPtrSize : (pointer : Option ℕ) (size : ℕ) → Asked
+  PtrZone : (pointer : Option ℕ) → Asked
   FreeMem : Asked
   MaxBlock : Asked
   PurgeSpace : Asked

@@ -42,6 +42,11 @@ dispose_pointer pointer s = on_pointer pointer s (λ held. (
 abbrev pub get_pointer_size : Option ℕ → State → Answer ℕ
 get_pointer_size pointer s = on_pointer pointer s (λ held. (Ok (length (content_of held.at.here)), s))
 
+-- PtrZone: the place of the zone of a pointer's block: its offset from its own start, 0.
+-- See decision 234 (`HandleZone` and `PtrZone` return 0).
+abbrev pub pointer_zone : Option ℕ → State → Answer ℕ
+pointer_zone pointer s = on_pointer pointer s (λ held. (Ok 0, s))
+
 -- ShowPtr: the bytes of a pointer's block.
 abbrev pub show_pointer : Option ℕ → State → Answer (List ℕ)
 show_pointer pointer s = on_pointer pointer s (λ held. (Ok (content_of held.at.here), s))

@@ -9,13 +9,14 @@ use Rattle.heap_calls.specs.Asked.{Asked, NewHandle, NewEmptyHandle, DisposeHand
 use Rattle.heap_calls.specs.Asked.{ReallocateHandle, EmptyHandle, HLock, HUnlock, HPurge, HNoPurge, HGetState, HSetState}
 use Rattle.heap_calls.specs.Asked.{MoveHHi, HLockHi, HandToHand, HandAndHand, PtrAndHand, NewPtr, DisposePtr, GetPtrSize}
 use Rattle.heap_calls.specs.Asked.{SetPtrSize, FreeMem, MaxBlock, PurgeSpace, CompactMem, PurgeMem, MaxMem, ReserveMem}
-use Rattle.heap_calls.specs.Asked.{MoreMasters, MemError, Put, Show, PutPtr, ShowPtr, Where}
+use Rattle.heap_calls.specs.Asked.{MoreMasters, MemError, Put, Show, PutPtr, ShowPtr, Where, HandleZone, PtrZone}
 use Rattle.heap_calls.specs.Asked.{telling, seeking, packing}
 use Rattle.heap_calls.specs.Answer.{Answer, dispose_handle, get_handle_size, free_mem, h_lock, h_unlock}
 use Rattle.heap_calls.specs.Answer.{move_h_hi, h_lock_hi, max_block, compact_mem, put, show, noting, silent, moving}
-use Rattle.heap_calls.specs.Answer.{look_up, nothing}
+use Rattle.heap_calls.specs.Answer.{look_up, nothing, handle_zone}
 use Rattle.heap_calls.specs.Slots.{slotted_zone}
-use Rattle.heap_calls.specs.Pointers.{dispose_pointer, get_pointer_size, put_pointer, show_pointer, place_of}
+use Rattle.heap_calls.specs.Pointers.{dispose_pointer, get_pointer_size, pointer_zone, put_pointer, show_pointer}
+use Rattle.heap_calls.specs.Pointers.{place_of}
 use Rattle.heap_calls.specs.Purging.{h_purge, h_no_purge, h_get_state, h_set_state, empty_handle}
 use Rattle.heap_calls.specs.Purging.{purge_mem, purge_space, max_mem, blocks_purged}
 use Rattle.heap_calls.specs.Copying.{copying_zone}
@@ -207,6 +208,7 @@ row (HPurge handle) = Plain (OnHandle handle) done (h_purge handle)
 row (HNoPurge handle) = Plain (OnHandle handle) done (h_no_purge handle)
 row (HGetState handle) = Plain (OnHandle handle) Number (h_get_state handle)
 row (HSetState handle state) = Plain (OnHandle handle) done (h_set_state handle state)
+row (HandleZone handle) = Plain (OnHandle handle) Number (handle_zone handle)
 row (MoveHHi handle) = Plain (OnHandle handle) done (move_h_hi handle)
 row (HLockHi handle) = Plain (OnHandle handle) done (h_lock_hi handle)
 row (HandToHand handle) = Leaves (λ s. copying_zone (look_up handle s) s)
@@ -217,6 +219,7 @@ row (NewPtr size) = Does Open Given (rows.new_pointer size)
 row (DisposePtr pointer) = Plain (OnPointer pointer) done (dispose_pointer pointer)
 row (GetPtrSize pointer) = Plain (OnPointer pointer) Number (get_pointer_size pointer)
 row (SetPtrSize pointer size) = Does (OnPointer pointer) done (rows.set_pointer_size pointer size)
+row (PtrZone pointer) = Plain (OnPointer pointer) Number (pointer_zone pointer)
 row FreeMem = Plain Open Number free_mem
 row MaxBlock = Plain Open Number max_block
 row PurgeSpace = Plain Open (λ space. Numbers space.0 space.1) purge_space

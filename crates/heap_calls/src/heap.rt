@@ -10,7 +10,7 @@ ghost use Rattle.heap_calls.specs.Inner.Given.{IsAnswer, IsShown, KeepsNames, Fi
 ghost use Rattle.heap_calls.specs.Inner.Numbered.{Agrees};
 ghost use Rattle.heap_calls.specs.State.{fresh_memory};
 ghost use Rattle.heap_calls.specs.Answer.{nothing, dispose_handle, get_handle_size, free_mem, put, show, noting};
-ghost use Rattle.heap_calls.specs.Answer.{silent, code_of};
+ghost use Rattle.heap_calls.specs.Answer.{silent, code_of, handle_zone};
 ghost use Rattle.heap_calls.specs.Pointers.{place_of};
 ghost use Rattle.block_store.specs.declared.measures.TheConstants.{SLOTS_A_BLOCK};
 ghost use Rattle.heap_calls.specs.Left.{Stops, Unreserved, slot_step};
@@ -155,6 +155,19 @@ impl<S: BlockStore> Heap<S> {
         self.note(answer)
     }
 
+    /// `HandleZone`: returns the place of the zone of a handle, which may be empty: its offset from its own start, 0.
+    pub fn handle_zone(&mut self, handle: Option<usize>) -> Result<u32, OsErr>
+        ensures answer { unless (barred handle self.old.memory) (noting (handle_zone handle)) self.old.memory
+            ≡ (result, self.new.memory) }
+        ensures lies { self.new.memory.window ≡ self.old.memory.window }
+    {
+        if let Some(code) = self.barred(handle) {
+            return self.refuse(code);
+        }
+        let answer = self.zone_of(handle);
+        self.note(answer)
+    }
+
     /// `FreeMem`: returns the number of free bytes of the zone, the headers of the free blocks included.
     pub fn free_mem(&mut self) -> u32
         ensures { noting free_mem self.old.memory ≡ (Ok result, self.new.memory) }
@@ -268,6 +281,16 @@ impl<S: BlockStore> Heap<S> {
     {
         let place = find_block(&self.store, &self.names, handle)?;
         Ok(self.store.bytes(place).len() as u32)
+    }
+
+    /// Returns the place of the zone of a handle.
+    fn zone_of(&self, handle: Option<usize>) -> Result<u32, OsErr>
+        ensures { silent (handle_zone handle) self.now.memory ≡ (result, self.now.memory) }
+    {
+        match slot_of(&self.names, handle) {
+            Ok(_) => Ok(0),
+            Err(code) => Err(code),
+        }
     }
 
     /// Writes bytes into the block of a handle, from the offset `from` on.

@@ -9,7 +9,8 @@ ghost use Rattle.heap_calls.specs.Inner.NewPointer.{IsNewNonrelocatable, nonrelo
 ghost use Rattle.heap_calls.specs.Gone.{IsIdle, Hears};
 ghost use Rattle.heap_calls.specs.Rows.{new_pointer, doing, doing_silently, purges_made};
 ghost use Rattle.heap_calls.specs.Inner.Telling.{pointer_gone};
-ghost use Rattle.heap_calls.specs.Pointers.{dispose_pointer, get_pointer_size, show_pointer, put_pointer};
+ghost use Rattle.heap_calls.specs.Pointers.{dispose_pointer, get_pointer_size, pointer_zone, show_pointer};
+ghost use Rattle.heap_calls.specs.Pointers.{put_pointer};
 ghost use Rattle.heap_calls.specs.Pointers.{block_named};
 ghost use Rattle.heap_calls.specs.Inner.Pointing.{FindsHeld};
 ghost use Rattle.heap_calls.specs.Inner.Numbered.{Agrees, KeepsNonrelocatable, state_of};
@@ -68,6 +69,19 @@ impl<S: BlockStore> Heap<S> {
             return self.refuse(code);
         }
         let answer = self.bytes_of(pointer);
+        self.note(answer)
+    }
+
+    /// `PtrZone`: returns the place of the zone of the block of a pointer: its offset from its own start, 0.
+    pub fn pointer_zone(&mut self, pointer: Option<usize>) -> Result<u32, OsErr>
+        ensures answer { unless (pointer_barred pointer self.old.memory) (noting (pointer_zone pointer))
+            self.old.memory ≡ (result, self.new.memory) }
+        ensures lies { self.new.memory.window ≡ self.old.memory.window }
+    {
+        if let Some(code) = self.pointer_barred(pointer) {
+            return self.refuse(code);
+        }
+        let answer = self.zone_around(pointer);
         self.note(answer)
     }
 
@@ -159,6 +173,17 @@ impl<S: BlockStore> Heap<S> {
     {
         let target = target_of(&self.names, pointer)?;
         Ok(self.store.bytes(target.place))
+    }
+
+    /// Returns the place of the zone of the block of a pointer.
+    #[tactic(auto, using(crate::proofs::Numbering::Pointing::zone_told, crate::proofs::Numbering::Pointing::zone_refused))]
+    fn zone_around(&self, pointer: Option<usize>) -> Result<u32, OsErr>
+        ensures { silent (pointer_zone pointer) self.now.memory ≡ (result, self.now.memory) }
+    {
+        match self.bytes_of(pointer) {
+            Ok(_) => Ok(0),
+            Err(code) => Err(code),
+        }
     }
 
     /// Returns the logical size in bytes of the block of a pointer.

@@ -5,6 +5,8 @@ pub mod Moving
 pub mod Binned
 pub mod Gathering
 pub mod Whole
+pub mod Chosen
+pub mod InRows
 mod Rows
 mod StepRows
 mod StripRows

@@ -3,9 +3,14 @@ use Rattle.std.proofs.Common.{◌≡◌, true, false, List, [], ◌∷◌, Some,
 use Rattle.std.specs.Fmt.{digits}
 use Rattle.block_store.specs.Block.{Block, Free, Nonrelocatable, Masters, Relocatable, no_flags}
 use Rattle.block_store.specs.Seen.{seen}
+use Rattle.heap_view.specs.declared.choice.Choice.TheVariants as choice
+use Rattle.heap_view.specs.declared.digits.Digits.TheVariants as written
 use Rattle.heap_view.specs.declared.line.Shape.TheVariants as shape
 use Rattle.heap_view.specs.declared.style.Style.TheVariants as style
 use Rattle.heap_view.specs.declared.totals.Class.TheVariants as class
+use Rattle.heap_view.specs.Bytes.{row_line, rows}
+use Rattle.heap_view.specs.Choice.{chosen}
+use Rattle.heap_view.specs.Digits.{digit_at, hex_digits}
 use Rattle.heap_view.specs.Line.{Known, Line, lines, no_tag}
 use Rattle.heap_view.specs.Drawing.{escaped}
 use Rattle.heap_view.specs.Svg.{cell_box}
@@ -69,9 +74,34 @@ held = record {
   };
 }
 
-line-tabs : line_text style.Tabs held ≡ codes "block\t320\t128\trelocatable\t100\ta\tlocked\t-\t'ST<>'\t7\t2\n"
+line-tabs : line_text written.Decimal style.Tabs held ≡ codes "block\t320\t128\trelocatable\t100\ta\tlocked\t-\t'ST<>'\t7\t2\n"
 unfolding digits
 line-tabs = refl
+
+-- distances and sizes with eight digits: of 272, of 1504 and of 2 ^ 32 - 16
+hex : map hex_digits (272 ∷ 1504 ∷ 4294967280 ∷ []) ≡ codes "00000110" ∷ codes "000005E0" ∷ codes "FFFFFFF0" ∷ []
+unfolding hex_digits digit_at
+hex = refl
+
+line-hex : line_text written.Hexadecimal style.Tabs held
+    ≡ codes "block\t00000140\t00000080\trelocatable\t00000064\ta\tlocked\t-\t'ST<>'\t7\t2\n"
+unfolding hex_digits digit_at digits
+line-hex = refl
+
+-- the locked block is purgeable too, and the pointers of `marked` have no number
+chosen-places : (map (λ (l : Line). l.place) (chosen choice.Locked shown) ≡ 320 ∷ [])
+    × (map (λ (l : Line). l.place) (chosen choice.Purgeable shown) ≡ 320 ∷ 720 ∷ [])
+    × (map (λ (l : Line). l.place) (chosen choice.Free shown) ≡ 736 ∷ []) × (chosen (choice.Of 0) shown ≡ [])
+chosen-places = (refl, refl, refl, refl)
+
+-- a row that is not full, and two of 17 bytes
+row-short : row_line 16 (0 ∷ 255 ∷ 127 ∷ 32 ∷ 126 ∷ [])
+    ≡ codes "00000010  00 FF 7F 20 7E                                   ... ~\n"
+unfolding hex_digits digit_at
+row-short = refl
+
+rows-two : rows [] (replicate 17 7) ≡ replicate 16 7 ∷ (7 ∷ []) ∷ []
+rows-two = refl
 
 -- a type with a byte that can't be printed, and one with a quote
 types : (type_text (1 ∷ 65 ∷ 66 ∷ 67 ∷ []) ≡ codes "$01414243") × (type_text (codes "IT'S") ≡ codes "$49542753")

@@ -71,7 +71,8 @@ arrows-back = refl
 
 -- the scale is that of the largest zone
 scale-greatest : greatest_size (record { number = 1; caption = codes "1 NewHandle a 100"; passed = None; lines = upper }
-    ∷ record { number = 2; caption = codes "2 NewHandle b 100"; passed = None; lines = lower } ∷ record { number = 3; caption = []; passed = None; lines = [] } ∷ []) ≡ 1024
+    ∷ record { number = 2; caption = codes "2 NewHandle b 100"; passed = None; lines = lower }
+    ∷ record { number = 3; caption = []; passed = None; lines = [] } ∷ []) ≡ 1024
 scale-greatest = refl
 
 caption-escaped : moment_caption (codes "3 <NewHandle> 0") ≡ codes "<text class=\"h\" y=\"-14\">3 &lt;NewHandle&gt; 0</text>\n"

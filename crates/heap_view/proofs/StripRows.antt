@@ -8,7 +8,8 @@ use Rattle.heap_view.specs.declared.strip.Window.{Window}
 use Rattle.heap_view.specs.declared.totals.Class.TheVariants as class
 use Rattle.heap_view.specs.Drawing.{line_sizes}
 use Rattle.heap_view.specs.Line.{Known, Line, Tag, lines, no_tag}
-use Rattle.heap_view.specs.Strip.{all_parts, bin_box, bin_name, bin_text, bins, box_opened, class_titles, class_words, is_in, least_bin, middle}
+use Rattle.heap_view.specs.Strip.{all_parts, bin_box, bin_name, bin_text, bins, box_opened}
+use Rattle.heap_view.specs.Strip.{class_titles, class_words, is_in, least_bin, middle}
 use Rattle.heap_view.specs.Strip.{name_at, piece, rectangle, title_by}
 use Rattle.heap_view.specs.Svg.{row_count, row_window, svg_height}
 
@@ -31,7 +32,8 @@ abbrev text : List Line
 text = lines known 272 (see.Relocatable 0 (record { locked = true; purgeable = false }) 100 ∷ [])
 
 box-locked : bin_text layer.Boxes whole text
-    ≡ codes "<g><title>text, 128 bytes from 272; 1 locked 128</title><rect class=\"r l\" x=\"272\" y=\"0\" width=\"128\" height=\"100\"/></g>\n"
+    ≡ codes
+    "<g><title>text, 128 bytes from 272; 1 locked 128</title><rect class=\"r l\" x=\"272\" y=\"0\" width=\"128\" height=\"100\"/></g>\n"
 unfolding bin_text bin_box box_opened title_by class_titles class_words all_parts rectangle digits
 box-locked = refl
 
@@ -75,10 +77,10 @@ piece-half = (refl, refl, refl)
 
 -- rows of a zone of 512 kB with 188 blocks, and of one with 3000; and how high the pictures are
 rows-wrapped : (row_count 188 ≡ 16) × (row_window (record { from = 0; width = 524288 }) 16 3 ≡ record { from = 98304; width = 32768 })
-    × (row_count 3000 ≡ 48)
+    × (row_count 3000 ≡ 12)
 unfolding row_count row_window
 rows-wrapped = (refl, refl, refl)
 
-heights : (svg_height 4 ≡ 192) × (svg_height 60 ≡ 1256) × (svg_height 61 ≡ 430) × (svg_height 3000 ≡ 2614)
+heights : (svg_height 4 ≡ 192) × (svg_height 60 ≡ 1256) × (svg_height 61 ≡ 430) × (svg_height 800 ≡ 2614) × (svg_height 3000 ≡ 742)
 unfolding row_count
-heights = (refl, refl, refl, refl)
+heights = (refl, refl, refl, refl, refl)

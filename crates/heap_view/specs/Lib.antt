@@ -1,7 +1,11 @@
 pub mod Line
 pub mod View
+pub mod Digits
 pub mod Text
 pub mod Totals
+pub mod Choice
+pub mod Listing
+pub mod Bytes
 pub mod Inner
 pub mod Drawing
 pub mod Strip

@@ -116,9 +116,9 @@ unfoldable pub arrow_style : List ℕ
 arrow_style = codes "<style>.a{stroke:#222;stroke-width:1;marker-end:url(#head)}.h{paint-order:stroke;stroke:#fff;stroke-width:4}#head path{fill:#222}@media(prefers-color-scheme:dark){.a{stroke:#eee}.h{stroke:#161616}#head path{fill:#eee}}</style>\n<marker id=\"head\" viewBox=\"0 0 6 6\" refX=\"6\" refY=\"3\" markerWidth=\"7\" markerHeight=\"7\" orient=\"auto\"><path d=\"M0 0L6 3L0 6z\"/></marker>\n"
 
 -- How many moments are drawn of `n`, which have so many blocks together: no more than 40, and of these just some that have
--- together about 1500.
+-- together about 800.
 abbrev pub room : ℕ → ℕ → ℕ
-room n blocks = min 40 (max 4 (1500 * n / max 1 blocks))
+room n blocks = min 40 (max 4 (800 * n / max 1 blocks))
 
 -- The title: how large the zone is, and how many moments there are, and how many of them are drawn.
 unfoldable pub drawn_words : ℕ → List ℕ

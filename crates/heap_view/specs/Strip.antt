@@ -42,10 +42,10 @@ unit w = w.width / 16777216 + 1
 abbrev pub in_units : Window → Extent → Extent
 in_units w e = record { place = e.place / unit w; size = (e.place + e.size) / unit w - e.place / unit w }
 
--- How many bytes a bin has that is full: what two units of the strip have; and where there are more than 1500 blocks, at
--- least a 200th of the part of the zone that is shown.
+-- How many bytes a bin has that is full: what two units of the strip have; and where there are more than 800 blocks, at
+-- least a 150th of the part of the zone that is shown.
 abbrev pub least_bin : ℕ → ℕ → Window → ℕ
-least_bin count size w = max (2 * w.width / 696 + 1) (if nat_le count 1500 then 1 else size / 200 + 1)
+least_bin count size w = max (2 * w.width / 696 + 1) (if nat_le count 800 then 1 else size / 150 + 1)
 
 -- The bins of blocks, after a bin that is begun. A block that has as many bytes as a full bin stands alone.
 abbrev pub is_full : ℕ → ℕ → Line → Bool
@@ -179,7 +179,8 @@ bins_text which w least bin lines = flat_map (bin_text which w) (bins least bin 
 
 -- The strip of a window.
 unfoldable pub strip_opened : Window → List ℕ
-strip_opened w = codes "<svg width=\"696\" height=\"32\" viewBox=\"" ++ decimal (w.from / unit w) ++ codes " 0 " ++ decimal (w.width / unit w)
+strip_opened w = codes "<svg width=\"696\" height=\"32\" viewBox=\"" ++ decimal (w.from / unit w) ++ codes " 0 "
+    ++ decimal (w.width / unit w)
     ++ codes " 100\" preserveAspectRatio=\"none\">\n"
 
 unfoldable pub strip : Window → ℕ → List Line → List ℕ

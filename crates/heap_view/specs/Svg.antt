@@ -8,7 +8,8 @@ use Rattle.heap_view.specs.declared.line.Shape.{Shape}
 use Rattle.heap_view.specs.declared.strip.Extent.{Extent}
 use Rattle.heap_view.specs.declared.strip.Window.{Window}
 use Rattle.heap_view.specs.declared.svg.Part.{Part}
-use Rattle.heap_view.specs.Drawing.{attribute, escaped, group_opened, kind_class, line_sizes, mark, scale, svg_legend, svg_opened, svg_style}
+use Rattle.heap_view.specs.Drawing.{attribute, escaped, group_opened, kind_class, line_sizes, mark}
+use Rattle.heap_view.specs.Drawing.{scale, svg_legend, svg_opened, svg_style}
 use Rattle.heap_view.specs.Line.{Line}
 use Rattle.heap_view.specs.Strip.{caption, is_in, least_bin, strip}
 use Rattle.heap_view.specs.Text.{is_locked, is_purgeable, type_text}
@@ -56,9 +57,9 @@ abbrev pub cells : ℕ → List Line → List ℕ
 cells i [] = []
 cells i (l ∷ lines) = cell i l ++ cells (i + 1) lines
 
--- How many rows there are, 48 at most, and the window of each of them.
+-- How many rows there are: 48 at most, and 12 of so many blocks that these stand in bins; and the window of each of them.
 unfoldable pub row_count : ℕ → ℕ
-row_count count = min 48 (count / 12 + 1)
+row_count count = if nat_le count 800 then min 48 (count / 12 + 1) else 12
 
 unfoldable pub row_window : Window → ℕ → ℕ → Window
 row_window w rows i =
@@ -120,10 +121,15 @@ legend_at y = group_opened 12 y ++ svg_legend ++ codes "</g>\n"
 unfoldable pub overview : Window → ℕ → List Line → List ℕ
 overview w least lines = group_opened 12 28 ++ strip w least lines ++ codes "</g>\n" ++ scale_at 76 w ++ legend_at 88
 
+-- How many bytes a bin has that is full, in the strip of the whole window. Where rows stand below it, it is a hundredth of the
+-- window, since the rows have the blocks.
+abbrev pub least_above : ℕ → Window → ℕ
+least_above count w = if nat_le count 60 then 2 * w.width / 696 + 1 else w.width / 100 + 1
+
 -- The picture of a window of a zone of this many bytes, which has these blocks, so many.
 unfoldable pub window_svg : ℕ → Window → ℕ → List Line → List ℕ → List ℕ
 window_svg size w count lines step = svg_opened (svg_height count) ++ svg_style ++ svg_title size w step
-    ++ overview w (least_bin count w.width w) lines ++ below w count lines ++ codes "</svg>\n"
+    ++ overview w (least_above count w) lines ++ below w count lines ++ codes "</svg>\n"
 
 -- The picture of a part of a zone after a step.
 abbrev pub part_svg : ℕ → Window → List Line → List ℕ → List ℕ

@@ -4,11 +4,13 @@ use Rattle.std.specs.List.{flat_map, list_all}
 use Rattle.std.specs.Fmt.{signed_decimal}
 use Rattle.byteorder.specs.Endian.{big_bytes}
 use Rattle.script_text.specs.Transcript.{hex}
+use Rattle.heap_view.specs.declared.digits.Digits.{Digits}
 use Rattle.heap_view.specs.declared.line.Owner.{Owner}
 use Rattle.heap_view.specs.declared.line.Shape.{Shape}
 use Rattle.heap_view.specs.declared.line.Shape.TheVariants as shape
 use Rattle.heap_view.specs.declared.style.Style.{Style}
 use Rattle.heap_view.specs.declared.style.Style.TheVariants as style
+use Rattle.heap_view.specs.Digits.{size_text}
 use Rattle.heap_view.specs.Line.{Line}
 
 -- How the blocks of a zone are written: in columns for people, or for other programs with a tab between fields.
@@ -45,11 +47,11 @@ shape_text shape.Masters = codes "master pointers"
 shape_text (shape.Relocatable flags) = codes "relocatable"
 
 -- The logical size, where a block has a content of its own.
-abbrev pub logical_text : Shape → ℕ → List ℕ
-logical_text shape.Free bytes = codes "-"
-logical_text shape.Nonrelocatable bytes = decimal bytes
-logical_text shape.Masters bytes = codes "-"
-logical_text (shape.Relocatable flags) bytes = decimal bytes
+abbrev pub logical_text : Digits → Shape → ℕ → List ℕ
+logical_text d shape.Free bytes = codes "-"
+logical_text d shape.Nonrelocatable bytes = size_text d bytes
+logical_text d shape.Masters bytes = codes "-"
+logical_text d (shape.Relocatable flags) bytes = size_text d bytes
 
 -- Whether a block is locked, and whether it is purgeable.
 abbrev pub is_locked : Shape → Bool
@@ -96,9 +98,9 @@ file_field None = codes "-"
 file_field (Some o) = decimal o.file
 
 -- The fields of a block: where it lies and what it is; what is known of it; and the resource that it holds.
-abbrev pub place_fields : Style → Line → List ℕ
-place_fields s l = right s 9 (decimal l.place) ++ between s ++ right s 9 (decimal l.size) ++ between s
-    ++ left s 15 (shape_text l.shape) ++ between s ++ right s 9 (logical_text l.shape l.bytes)
+abbrev pub place_fields : Digits → Style → Line → List ℕ
+place_fields d s l = right s 9 (size_text d l.place) ++ between s ++ right s 9 (size_text d l.size) ++ between s
+    ++ left s 15 (shape_text l.shape) ++ between s ++ right s 9 (logical_text d l.shape l.bytes)
 
 abbrev pub state_fields : Style → Line → List ℕ
 state_fields s l = left s (name_width s) (name_text l.tag.name) ++ between s
@@ -110,12 +112,12 @@ owner_fields s o = left s 9 (type_field o) ++ between s ++ right s 6 (id_field o
     ++ right s 4 (file_field o)
 
 -- The line of a block, and those of blocks.
-abbrev pub line_text : Style → Line → List ℕ
-line_text s l = opened s (codes "block") ++ place_fields s l ++ between s ++ state_fields s l ++ between s
+abbrev pub line_text : Digits → Style → Line → List ℕ
+line_text d s l = opened s (codes "block") ++ place_fields d s l ++ between s ++ state_fields s l ++ between s
     ++ owner_fields s l.tag.owner ++ codes "\n"
 
-abbrev pub lines_text : Style → List Line → List ℕ
-lines_text s lines = flat_map (line_text s) lines
+abbrev pub lines_text : Digits → Style → List Line → List ℕ
+lines_text d s lines = flat_map (line_text d s) lines
 
 -- The line above columns: what stands before the title of the column of names, and after it.
 unfoldable pub head_before : List ℕ

@@ -3,6 +3,7 @@ use Rattle.block_store.specs.Block.{Block, size, free_of, total}
 use Rattle.block_store.specs.Block as block
 use Rattle.block_store.specs.Run.{runs}
 use Rattle.block_store.specs.Compact.{largest, largest_free, largest_run}
+use Rattle.heap_view.specs.declared.digits.Digits.{Digits}
 use Rattle.heap_view.specs.declared.line.Shape.{Shape}
 use Rattle.heap_view.specs.declared.line.Shape.TheVariants as shape
 use Rattle.heap_view.specs.declared.style.Style.{Style}
@@ -10,8 +11,9 @@ use Rattle.heap_view.specs.declared.style.Style.TheVariants as style
 use Rattle.heap_view.specs.declared.totals.Class.{Class}
 use Rattle.heap_view.specs.declared.totals.Class.TheVariants as class
 use Rattle.heap_view.specs.declared.totals.Largest.{Largest}
+use Rattle.heap_view.specs.Digits.{size_text}
 use Rattle.heap_view.specs.Line.{Line}
-use Rattle.heap_view.specs.Text.{between, left, right, opened, is_locked, is_purgeable, head_text, lines_text}
+use Rattle.heap_view.specs.Text.{between, left, right, opened, is_locked, is_purgeable}
 
 -- The totals of a zone, as MacsBug's command HT gives them: how many blocks there are of each kind, and how many bytes
 -- they have; and what could be allocated.
@@ -90,24 +92,26 @@ class_text class.Both = codes "locked and purgeable"
 class_text class.All = codes "zone"
 
 -- The line with the totals of a class; those of the kinds; and those of the marked blocks and of the whole zone.
-abbrev pub total_text : Style → List Line → Class → List ℕ
-total_text s lines c = opened s (codes "total") ++ left s 15 (class_text c) ++ between s
-    ++ right s 9 (decimal (counted c lines)) ++ between s ++ right s 9 (decimal (sized c lines)) ++ codes "\n"
+abbrev pub total_text : Digits → Style → List Line → Class → List ℕ
+total_text d s lines c = opened s (codes "total") ++ left s 15 (class_text c) ++ between s
+    ++ right s 9 (decimal (counted c lines)) ++ between s ++ right s 9 (size_text d (sized c lines)) ++ codes "\n"
 
-abbrev pub kinds_text : Style → List Line → List ℕ
-kinds_text s lines = total_text s lines class.Free ++ total_text s lines class.Nonrelocatable
-    ++ total_text s lines class.Masters ++ total_text s lines class.Relocatable
+abbrev pub kinds_text : Digits → Style → List Line → List ℕ
+kinds_text d s lines = total_text d s lines class.Free ++ total_text d s lines class.Nonrelocatable
+    ++ total_text d s lines class.Masters ++ total_text d s lines class.Relocatable
 
-abbrev pub marks_text : Style → List Line → List ℕ
-marks_text s lines = total_text s lines class.Locked ++ total_text s lines class.Purgeable ++ total_text s lines class.All
+abbrev pub marks_text : Digits → Style → List Line → List ℕ
+marks_text d s lines =
+    total_text d s lines class.Locked ++ total_text d s lines class.Purgeable ++ total_text d s lines class.All
 
 -- The line with a size that could be allocated, and those of all three.
-abbrev pub largest_line : Style → List ℕ → ℕ → List ℕ
-largest_line s word n = opened s (codes "largest") ++ left s 15 word ++ between s ++ right s 19 (decimal n) ++ codes "\n"
+abbrev pub largest_line : Digits → Style → List ℕ → ℕ → List ℕ
+largest_line d s word n =
+    opened s (codes "largest") ++ left s 15 word ++ between s ++ right s 19 (size_text d n) ++ codes "\n"
 
-abbrev pub largest_text : Style → Largest → List ℕ
-largest_text s l = largest_line s (codes "largest now") l.now ++ largest_line s (codes "compacted") l.compacted
-    ++ largest_line s (codes "purged too") l.purged
+abbrev pub largest_text : Digits → Style → Largest → List ℕ
+largest_text d s l = largest_line d s (codes "largest now") l.now ++ largest_line d s (codes "compacted") l.compacted
+    ++ largest_line d s (codes "purged too") l.purged
 
 -- What stands above the totals, and below them.
 abbrev pub totals_head : Style → List ℕ
@@ -118,16 +122,10 @@ abbrev pub totals_end : Style → List ℕ
 totals_end style.Tabs = []
 totals_end (style.Columns names) = codes "\n"
 
--- The blocks of a zone, with titles; its totals; and the line that says after which step it is shown.
-abbrev pub blocks_text : Style → List Line → List ℕ
-blocks_text s lines = head_text s ++ lines_text s lines
-
-abbrev pub totals_text : Style → List Line → Largest → List ℕ
-totals_text s lines l = totals_head s ++ kinds_text s lines ++ marks_text s lines ++ largest_text s l ++ totals_end s
+-- The totals of a zone; and the line that says after which step it is shown.
+abbrev pub totals_text : Digits → Style → List Line → Largest → List ℕ
+totals_text d s lines l =
+    totals_head s ++ kinds_text d s lines ++ marks_text d s lines ++ largest_text d s l ++ totals_end s
 
 abbrev pub after_text : Style → List ℕ → List ℕ
 after_text s step = codes "after" ++ between s ++ step ++ codes "\n"
-
--- A zone as it is written.
-abbrev pub zone_text : Style → List Line → Largest → List ℕ → List ℕ
-zone_text s lines l step = blocks_text s lines ++ totals_text s lines l ++ after_text s step

@@ -2,12 +2,16 @@
 //! holds, as a list and as a picture.
 #![tactic(auto)]
 
+mod bytes;
+mod choice;
+mod digits;
 mod drawing;
 mod gather;
 mod kept;
 mod laws;
 mod line;
 mod lines;
+mod listing;
 mod steps;
 mod strip;
 mod style;
@@ -16,14 +20,21 @@ mod text;
 mod totals;
 mod walk;
 
+pub use bytes::write_bytes;
+pub use choice::Choice;
+pub use digits::Digits;
 pub use gather::add_moment;
 pub use kept::kept_of;
-pub use laws::{each_block_is_drawn, each_part_is_drawn, pictures_are_low};
+pub use laws::{
+    chosen_blocks_add_up, each_block_is_drawn, each_byte_is_shown, each_part_is_drawn,
+    pictures_are_low,
+};
 pub use line::{BlockLine, KeptLine, Moment, Owner, Passed, Shape, Tag};
 pub use lines::lines_of;
+pub use listing::{Listing, write_zone};
 pub use steps::write_steps_svg;
 pub use style::Style;
 pub use svg::{Part, write_svg};
 pub use text::widest;
-pub use totals::{Class, Largest, largest_of, write_zone};
+pub use totals::{Class, Largest, largest_of};
 pub use walk::blocks_of;

@@ -451,7 +451,7 @@ fn write_by(
 fn room(n: usize, blocks: u128) -> usize
     ensures { result ≡ spec.room n blocks }
 {
-    let many = (1500 * n as u128 / blocks.max(1)).max(4);
+    let many = (800 * n as u128 / blocks.max(1)).max(4);
     many.min(40) as usize
 }
 

@@ -131,7 +131,7 @@ pub fn least_bin(count: u128, size: u128, window: Window) -> u128
     ensures { result ≡ spec.least_bin count size window }
 {
     let seen = 2 * window.width as u128 / 696 + 1;
-    let few = if count <= 1500 { 1 } else { size / 200 + 1 };
+    let few = if count <= 800 { 1 } else { size / 150 + 1 };
     seen.max(few)
 }
 

@@ -173,7 +173,11 @@ fn row_count(count: usize) -> u64
     ensures some { 0 < result }
     ensures most { result ≤ 48 }
 {
-    (count as u64 / 12 + 1).min(48)
+    if count <= 800 {
+        (count as u64 / 12 + 1).min(48)
+    } else {
+        12
+    }
 }
 
 /// Returns the window of a row.
@@ -425,6 +429,17 @@ fn push_overview(
     Ok(())
 }
 
+/// Returns how many bytes a bin has that is full, in the strip of a whole window with `count` blocks.
+fn least_above(count: usize, window: Window) -> u128
+    ensures { result ≡ spec.least_above count window }
+{
+    if count <= 60 {
+        2 * window.width as u128 / 696 + 1
+    } else {
+        window.width as u128 / 100 + 1
+    }
+}
+
 /// Appends the picture of a window of a zone of `size` bytes, which has these blocks, so many.
 fn write_window(
     alloc: Global,
@@ -439,7 +454,7 @@ fn write_window(
     ensures { OnOk result (text.new.items
         ≡ text.old.items ++ spec.window_svg size window count (map view_line lines.now) step.now) }
 {
-    let least = least_bin(count as u128, window.width as u128, window);
+    let least = least_above(count, window);
     push_svg_opened(text, height_of(count))?;
     put(text, svg_style())?;
     push_title(text, size, window, step)?;

@@ -4,12 +4,15 @@ ghost use Rattle.std.specs.Prelude.{◌≡◌, ◌++◌, OnOk, IfOk, Some, None,
 ghost use Rattle.std.specs.Option.{option_map};
 ghost use Rattle.std.specs.List.{list_all};
 ghost use Rattle.byteorder.specs.Endian.{big_bytes};
+ghost use Rattle.heap_view.specs.Choice.{chosen};
 ghost use Rattle.heap_view.specs.Text.{shape_text, logical_text, is_locked, is_purgeable, marked, name_text};
 ghost use Rattle.heap_view.specs.Text.{is_plain, type_text, left, right};
 ghost use Rattle.heap_view.specs.Text.{place_fields, state_fields, owner_fields, line_text, lines_text, head_text};
 ghost use Rattle.heap_view.specs.Text.{head_before, head_after, widest};
 ghost use Rattle.heap_view.specs.View.{view_line};
 
+use crate::choice::{Choice, is_chosen};
+use crate::digits::{Digits, push_size};
 use crate::line::{BlockLine, Owner, Shape};
 use crate::style::{
     Style, name_width, push_between, push_id, push_left, push_number, push_opened, push_right, put,
@@ -71,31 +74,37 @@ pub fn name_text<'a>(name: Option<&'a Label>) -> &'a [u8]
 /// Appends the field of a logical size.
 fn push_logical(
     text: &mut Vec<u8>,
+    digits: Digits,
     style: Style,
     shape: Shape,
     bytes: u32,
 ) -> Result<(), AllocError>
-    ensures { OnOk result (text.new.items ≡ text.old.items ++ right style 9 (logical_text shape bytes)) }
+    ensures { OnOk result (text.new.items ≡ text.old.items ++ right style 9 (logical_text digits shape bytes)) }
 {
     match shape {
         Shape::Nonrelocatable | Shape::Relocatable(_) => {
-            push_number(text, style, 9, bytes as u128)
+            push_size(text, digits, style, 9, bytes as u128)
         }
         Shape::Free | Shape::Masters => push_right(text, style, 9, b"-"),
     }
 }
 
 /// Appends where a block lies and what it is.
-fn push_place(text: &mut Vec<u8>, style: Style, line: &BlockLine<'_>) -> Result<(), AllocError>
-    ensures { OnOk result (text.new.items ≡ text.old.items ++ place_fields style (view_line line.now)) }
+fn push_place(
+    text: &mut Vec<u8>,
+    digits: Digits,
+    style: Style,
+    line: &BlockLine<'_>,
+) -> Result<(), AllocError>
+    ensures { OnOk result (text.new.items ≡ text.old.items ++ place_fields digits style (view_line line.now)) }
 {
-    push_number(text, style, 9, line.place as u128)?;
+    push_size(text, digits, style, 9, line.place as u128)?;
     push_between(text, style)?;
-    push_number(text, style, 9, line.size as u128)?;
+    push_size(text, digits, style, 9, line.size as u128)?;
     push_between(text, style)?;
     push_left(text, style, 15, shape_text(line.shape))?;
     push_between(text, style)?;
-    push_logical(text, style, line.shape, line.bytes)?;
+    push_logical(text, digits, style, line.shape, line.bytes)?;
     Ok(())
 }
 
@@ -213,13 +222,14 @@ fn push_owned(
 fn push_line(
     alloc: Global,
     text: &mut Vec<u8>,
+    digits: Digits,
     style: Style,
     line: &BlockLine<'_>,
 ) -> Result<(), AllocError>
-    ensures { OnOk result (text.new.items ≡ text.old.items ++ line_text style (view_line line.now)) }
+    ensures { OnOk result (text.new.items ≡ text.old.items ++ line_text digits style (view_line line.now)) }
 {
     push_opened(text, style, b"block")?;
-    push_place(text, style, line)?;
+    push_place(text, digits, style, line)?;
     push_between(text, style)?;
     push_state(text, style, line)?;
     push_between(text, style)?;
@@ -228,17 +238,22 @@ fn push_line(
     Ok(())
 }
 
-/// Appends the lines of blocks.
+/// Appends the lines of the blocks that are chosen.
 pub fn push_lines(
     alloc: Global,
     text: &mut Vec<u8>,
+    digits: Digits,
+    choice: Choice,
     style: Style,
     lines: &[BlockLine<'_>],
 ) -> Result<(), AllocError>
-    ensures { OnOk result (text.new.items ≡ text.old.items ++ lines_text style (map view_line lines.now)) }
+    ensures { OnOk result (text.new.items
+        ≡ text.old.items ++ lines_text digits style (chosen choice (map view_line lines.now))) }
 {
     for line in lines {
-        push_line(alloc, text, style, line)?;
+        if is_chosen(choice, line) {
+            push_line(alloc, text, digits, style, line)?;
+        }
     }
     Ok(())
 }

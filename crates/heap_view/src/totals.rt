@@ -9,14 +9,15 @@ ghost use Rattle.heap_view.specs.Inner.{in_run, could_be_free};
 ghost use Rattle.heap_view.specs.Line.{seen_sizes};
 ghost use Rattle.heap_view.specs.Totals.{in_class, counted, sized, largest_purged, largest_of, class_text, total_text};
 ghost use Rattle.heap_view.specs.Totals.{kinds_text, marks_text, largest_line, largest_text, totals_head, totals_end};
-ghost use Rattle.heap_view.specs.Totals.{blocks_text, totals_text, after_text, zone_text};
+ghost use Rattle.heap_view.specs.Totals.{totals_text, after_text};
 ghost use Rattle.heap_view.specs.View.{view_line};
 
+use crate::digits::{Digits, push_size};
 use crate::line::{BlockLine, Shape};
 use crate::style::{Style, push_between, push_left, push_number, push_opened, put};
-use crate::text::{is_locked, is_purgeable, push_head, push_lines};
+use crate::text::{is_locked, is_purgeable};
 use block_store::{BlockStore, Seen, size_of_seen};
-use std::alloc::{AllocError, Global};
+use std::alloc::AllocError;
 
 /// A class of blocks that has a total of its own.
 #[derive(Clone, Copy, Debug, PartialEq, Eq)]
@@ -179,62 +180,84 @@ pub fn class_text(class: Class) -> &'static [u8]
 /// Appends the line with the totals of a class.
 fn push_total(
     text: &mut Vec<u8>,
+    digits: Digits,
     style: Style,
     lines: &[BlockLine<'_>],
     class: Class,
 ) -> Result<(), AllocError>
-    ensures { OnOk result (text.new.items ≡ text.old.items ++ total_text style (map view_line lines.now) class) }
+    ensures { OnOk result (text.new.items ≡ text.old.items ++ total_text digits style (map view_line lines.now) class) }
 {
     push_opened(text, style, b"total")?;
     push_left(text, style, 15, class_text(class))?;
     push_between(text, style)?;
     push_number(text, style, 9, count(class, lines) as u128)?;
     push_between(text, style)?;
-    push_number(text, style, 9, bytes(class, lines))?;
+    push_size(text, digits, style, 9, bytes(class, lines))?;
     text.extend_from_slice(b"\n")?;
     Ok(())
 }
 
 /// Appends the lines with the totals of the kinds.
-fn push_kinds(text: &mut Vec<u8>, style: Style, lines: &[BlockLine<'_>]) -> Result<(), AllocError>
-    ensures { OnOk result (text.new.items ≡ text.old.items ++ kinds_text style (map view_line lines.now)) }
+fn push_kinds(
+    text: &mut Vec<u8>,
+    digits: Digits,
+    style: Style,
+    lines: &[BlockLine<'_>],
+) -> Result<(), AllocError>
+    ensures { OnOk result (text.new.items ≡ text.old.items ++ kinds_text digits style (map view_line lines.now)) }
 {
-    push_total(text, style, lines, Class::Free)?;
-    push_total(text, style, lines, Class::Nonrelocatable)?;
-    push_total(text, style, lines, Class::Masters)?;
-    push_total(text, style, lines, Class::Relocatable)?;
+    push_total(text, digits, style, lines, Class::Free)?;
+    push_total(text, digits, style, lines, Class::Nonrelocatable)?;
+    push_total(text, digits, style, lines, Class::Masters)?;
+    push_total(text, digits, style, lines, Class::Relocatable)?;
     Ok(())
 }
 
 /// Appends the lines with the totals of the marked blocks and of the whole zone.
-fn push_marks(text: &mut Vec<u8>, style: Style, lines: &[BlockLine<'_>]) -> Result<(), AllocError>
-    ensures { OnOk result (text.new.items ≡ text.old.items ++ marks_text style (map view_line lines.now)) }
+fn push_marks(
+    text: &mut Vec<u8>,
+    digits: Digits,
+    style: Style,
+    lines: &[BlockLine<'_>],
+) -> Result<(), AllocError>
+    ensures { OnOk result (text.new.items ≡ text.old.items ++ marks_text digits style (map view_line lines.now)) }
 {
-    push_total(text, style, lines, Class::Locked)?;
-    push_total(text, style, lines, Class::Purgeable)?;
-    push_total(text, style, lines, Class::All)?;
+    push_total(text, digits, style, lines, Class::Locked)?;
+    push_total(text, digits, style, lines, Class::Purgeable)?;
+    push_total(text, digits, style, lines, Class::All)?;
     Ok(())
 }
 
 /// Appends the line with a size that could be allocated.
-fn push_size(text: &mut Vec<u8>, style: Style, word: &[u8], size: u32) -> Result<(), AllocError>
-    ensures { OnOk result (text.new.items ≡ text.old.items ++ largest_line style word.now size) }
+fn push_room(
+    text: &mut Vec<u8>,
+    digits: Digits,
+    style: Style,
+    word: &[u8],
+    size: u32,
+) -> Result<(), AllocError>
+    ensures { OnOk result (text.new.items ≡ text.old.items ++ largest_line digits style word.now size) }
 {
     push_opened(text, style, b"largest")?;
     push_left(text, style, 15, word)?;
     push_between(text, style)?;
-    push_number(text, style, 19, size as u128)?;
+    push_size(text, digits, style, 19, size as u128)?;
     text.extend_from_slice(b"\n")?;
     Ok(())
 }
 
 /// Appends the lines with the sizes that could be allocated.
-fn push_largest(text: &mut Vec<u8>, style: Style, largest: Largest) -> Result<(), AllocError>
-    ensures { OnOk result (text.new.items ≡ text.old.items ++ largest_text style largest) }
+fn push_largest(
+    text: &mut Vec<u8>,
+    digits: Digits,
+    style: Style,
+    largest: Largest,
+) -> Result<(), AllocError>
+    ensures { OnOk result (text.new.items ≡ text.old.items ++ largest_text digits style largest) }
 {
-    push_size(text, style, b"largest now", largest.now)?;
-    push_size(text, style, b"compacted", largest.compacted)?;
-    push_size(text, style, b"purged too", largest.purged)?;
+    push_room(text, digits, style, b"largest now", largest.now)?;
+    push_room(text, digits, style, b"compacted", largest.compacted)?;
+    push_room(text, digits, style, b"purged too", largest.purged)?;
     Ok(())
 }
 
@@ -258,62 +281,31 @@ fn push_totals_end(text: &mut Vec<u8>, style: Style) -> Result<(), AllocError>
     }
 }
 
-/// Appends the blocks of a zone, with titles.
-fn push_blocks(
-    alloc: Global,
-    text: &mut Vec<u8>,
-    style: Style,
-    lines: &[BlockLine<'_>],
-) -> Result<(), AllocError>
-    ensures { OnOk result (text.new.items ≡ text.old.items ++ blocks_text style (map view_line lines.now)) }
-{
-    push_head(text, style)?;
-    push_lines(alloc, text, style, lines)?;
-    Ok(())
-}
-
 /// Appends the totals of a zone.
-fn push_totals(
+pub fn push_totals(
     text: &mut Vec<u8>,
+    digits: Digits,
     style: Style,
     lines: &[BlockLine<'_>],
     largest: Largest,
 ) -> Result<(), AllocError>
-    ensures { OnOk result (text.new.items ≡ text.old.items ++ totals_text style (map view_line lines.now) largest) }
+    ensures { OnOk result (text.new.items ≡ text.old.items ++ totals_text digits style (map view_line lines.now) largest) }
 {
     push_totals_head(text, style)?;
-    push_kinds(text, style, lines)?;
-    push_marks(text, style, lines)?;
-    push_largest(text, style, largest)?;
+    push_kinds(text, digits, style, lines)?;
+    push_marks(text, digits, style, lines)?;
+    push_largest(text, digits, style, largest)?;
     push_totals_end(text, style)?;
     Ok(())
 }
 
 /// Appends the line that says after which step a zone is shown.
-fn push_after(text: &mut Vec<u8>, style: Style, step: &[u8]) -> Result<(), AllocError>
+pub fn push_after(text: &mut Vec<u8>, style: Style, step: &[u8]) -> Result<(), AllocError>
     ensures { OnOk result (text.new.items ≡ text.old.items ++ after_text style step.now) }
 {
     put(text, b"after")?;
     push_between(text, style)?;
     put(text, step)?;
     put(text, b"\n")?;
-    Ok(())
-}
-
-/// Appends a zone: its blocks, its totals, and the line that says after which step it is shown.
-pub fn write_zone(
-    alloc: Global,
-    text: &mut Vec<u8>,
-    style: Style,
-    lines: &[BlockLine<'_>],
-    largest: Largest,
-    step: &[u8],
-) -> Result<(), AllocError>
-    ensures { OnOk result (text.new.items
-        ≡ text.old.items ++ zone_text style (map view_line lines.now) largest step.now) }
-{
-    push_blocks(alloc, text, style, lines)?;
-    push_totals(text, style, lines, largest)?;
-    push_after(text, style, step)?;
     Ok(())
 }

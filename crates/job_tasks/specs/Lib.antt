@@ -10,3 +10,4 @@ pub mod Running
 pub mod Loading
 pub mod JobZones
 pub mod Playing
+pub mod ZoneForms

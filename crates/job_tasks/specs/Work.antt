@@ -24,6 +24,7 @@ use Rattle.job_tasks.specs.declared.work.ToldLines.{ToldLines}
 use Rattle.job_tasks.specs.declared.work.ToldLines.TheVariants as told
 use Rattle.job_tasks.specs.declared.work.ZoneView.{ZoneView}
 use Rattle.job_tasks.specs.declared.work.Form.TheVariants.{Canonical, Accepted}
+use Rattle.job_tasks.specs.ZoneForms.{shown_as}
 
 -- The transcript of a script's text in a fresh partition of `n` bytes: that of the steps and the grow-zone scripts
 -- which the text spells.
@@ -34,7 +35,7 @@ IsTranscriptOf n text out =
 -- What is shown of an application with these steps: its zone after the steps up to a line, in a form; or after those up
 -- to one line and after each further step up to another line, as a picture.
 abbrev pub sight_of : Lines → List Line → Sight
-sight_of (lines.One line form) steps = sight.Zone (steps_at line steps) form
+sight_of (lines.One line form) steps = sight.Zone (steps_at line steps) (shown_as form)
 sight_of (lines.Each from to strips) steps = sight.Moments (steps_at (Some from) steps) (steps_at (Some to) steps) strips
 
 -- How much of the transcript of an application with these steps is told in words: all of it, to the end of the script; or the

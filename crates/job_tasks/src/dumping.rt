@@ -29,7 +29,8 @@ fn fault_at(alloc: Global, path: &str, fault: ViewFault) -> Result<ToolFault, Al
 fn answer_at(alloc: Global, asked: DumpView, path: &str, bytes: &[u8]) -> Result<Answer, ToolFault>
     ensures text { IfOk result (λ answer. IsAnswer asked bytes.now answer.text.items) }
     ensures good { IfOk result (λ answer. answer.is_good ≡ is_good asked bytes.now) }
-    ensures fault { IfErr result (λ fault. IsDumpFault path.now asked bytes.now (message_of fault)) }
+    ensures fault { IfErr result (λ fault.
+        IsDumpFault path.now asked bytes.now (message_of fault)) }
 {
     match answer(alloc, asked, bytes) {
         Ok(answer) => Ok(answer),
@@ -41,7 +42,8 @@ fn answer_at(alloc: Global, asked: DumpView, path: &str, bytes: &[u8]) -> Result
 ///
 /// # Errors
 ///
-/// The dump has no answer, and then nothing is printed; or the answer can't be printed to its end, or the host is out of memory.
+/// The dump has no answer, and then nothing is printed; or the answer can't be printed to its end,
+/// or the host is out of memory.
 #[tactic(auto, using(crate::proofs::Described::refused_print, crate::proofs::Described::refused_bytes))]
 pub fn print_answer<H: Host>(
     alloc: Global,
@@ -50,10 +52,12 @@ pub fn print_answer<H: Host>(
     path: &str,
     bytes: &[u8],
 ) -> Result<Ending, ToolFault>
-    ensures printed { OnOk result (Prints (work.Zone asked) bytes.now (H.printed host.old) (H.printed host.new)) }
+    ensures printed { OnOk result
+        (Prints (work.Zone asked) bytes.now (H.printed host.old) (H.printed host.new)) }
     ensures ending { IfOk result (λ ending. ending ≡ ending_for (work.Zone asked) bytes.now) }
-    ensures fault { IfErr result (λ fault. IsRefusal (work.Zone asked) path.now bytes.now
-        (H.printed host.old) (H.printed host.new) (H.accesses host.old) (H.accesses host.new) (message_of fault)) }
+    ensures fault { IfErr result (λ fault.
+        IsRefusal (work.Zone asked) path.now bytes.now (H.printed host.old) (H.printed host.new)
+        (H.accesses host.old) (H.accesses host.new) (message_of fault)) }
     ensures files { OnOk result (H.accesses host.new ≡ H.accesses host.old) }
 {
     let answer = answer_at(alloc, asked, path, bytes)?;

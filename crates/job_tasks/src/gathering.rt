@@ -1,16 +1,19 @@
 //! The inputs that the lines of a job name are read, in the order of the lines.
 
-ghost use Rattle.std.specs.Prelude.{◌≡◌, ◌<◌, ◌++◌, ◌∷◌, [], ℕ, List, Ok, map, length, option_map, OnOk, IfOk, IfErr, IsTrue};
+ghost use Rattle.std.specs.Prelude.{◌≡◌, ◌<◌, ◌++◌, ◌∷◌, [], ℕ, List, Ok, map, length, option_map};
+ghost use Rattle.std.specs.Prelude.{OnOk, IfOk, IfErr, IsTrue};
 ghost use Rattle.script_text.specs.Job.{System, App as AppLine, File, input_seen, app_names};
 ghost use Rattle.script_text.specs.JobFacts.{AreInOrder};
 ghost use Rattle.script_text.specs.Script.{spelled};
 ghost use Rattle.fork_commands.specs.Reading.{fork_in};
 ghost use Rattle.fork_tasks.specs.Accesses.{Read, and_then};
 ghost use Rattle.fork_tasks.specs.Fault.{message_of, IsForkFault};
-ghost use Rattle.job_tasks.specs.Gathering.{name_of, owner_is_in, system_path, nothing_given, with_file, source_of, with_source, fork_at};
-ghost use Rattle.job_tasks.specs.Gathering.{script_at, IsStop, app_at, file_at, with_input, with_inputs, paths_of, Reads, ReadsOf};
-ghost use Rattle.job_tasks.specs.Gathering.{IsGiven, file_given, app_given, gathered, job_given, fork_told, fork_found, script_found};
-ghost use Rattle.job_tasks.specs.Gathering.{app_found, file_found, source_given};
+ghost use Rattle.job_tasks.specs.Gathering.{name_of, owner_is_in, system_path, nothing_given};
+ghost use Rattle.job_tasks.specs.Gathering.{with_file, source_of, with_source, fork_at, script_at};
+ghost use Rattle.job_tasks.specs.Gathering.{IsStop, app_at, file_at, with_input, with_inputs};
+ghost use Rattle.job_tasks.specs.Gathering.{paths_of, Reads, ReadsOf, IsGiven, file_given};
+ghost use Rattle.job_tasks.specs.Gathering.{app_given, gathered, job_given, fork_told, fork_found};
+ghost use Rattle.job_tasks.specs.Gathering.{script_found, app_found, file_found, source_given};
 
 use crate::tasks::script_fault;
 use desk::{App, AppFile, Job};
@@ -76,8 +79,10 @@ fn source_of(alloc: Global, bytes: &[u8]) -> Result<Option<Vec<u8>>, AllocError>
 /// Returns the fork in the bytes of a file, and the bytes themselves, unless they are the fork.
 #[tactic(auto, using(fork_tasks::proofs::Faults::fork_stopped, crate::proofs::Forks::told_found))]
 pub(crate) fn fork_of(alloc: Global, path: &str, bytes: Vec<u8>) -> Result<FoundFork, ToolFault>
-    ensures fork { IfOk result (λ found. fork_told path.now bytes.items (fork_in bytes.items) ≡ Ok (fork_found found)) }
-    ensures fault { IfErr result (λ fault. IsForkFault path.now (fork_in bytes.items) (message_of fault)) }
+    ensures fork { IfOk result (λ found. fork_told path.now bytes.items (fork_in bytes.items)
+        ≡ Ok (fork_found found)) }
+    ensures fault { IfErr result (λ fault.
+        IsForkFault path.now (fork_in bytes.items) (message_of fault)) }
 {
     let source = source_of(alloc, bytes.as_slice())?;
     match fork_bytes(alloc, bytes) {
@@ -92,7 +97,8 @@ fn fork_at<H: Host>(alloc: Global, host: &mut H, path: &str) -> Result<FoundFork
     ensures fork { IfOk result (λ found. (bytes : List ℕ) × (H.accesses host.new
         ≡ and_then (H.accesses host.old) (Read path.now bytes ∷ []))
         × (fork_told path.now bytes (fork_in bytes) ≡ Ok (fork_found found))) }
-    ensures stop { IfErr result (λ fault. Reads (path.now ∷ []) (H.accesses host.old) (H.accesses host.new) result (λ texts.
+    ensures stop { IfErr result (λ fault.
+        Reads (path.now ∷ []) (H.accesses host.old) (H.accesses host.new) result (λ texts.
         IsStop (fork_at path.now texts) (message_of fault))) }
 {
     let bytes = read_input(alloc, host, path)?;
@@ -105,8 +111,8 @@ fn fork_at<H: Host>(alloc: Global, host: &mut H, path: &str) -> Result<FoundFork
 /// Reads the script at a path.
 fn script_at<H: Host>(alloc: Global, host: &mut H, path: &str) -> Result<FoundScript, ToolFault>
     ensures silent { H.printed host.new ≡ H.printed host.old }
-    ensures script { Reads (path.now ∷ []) (H.accesses host.old) (H.accesses host.new) result (λ texts.
-        IsGiven script_found (script_at path.now texts) result) }
+    ensures script { Reads (path.now ∷ []) (H.accesses host.old) (H.accesses host.new) result
+        (λ texts. IsGiven script_found (script_at path.now texts) result) }
 {
     let text = read_input(alloc, host, path)?;
     match read_script(alloc, &text) {
@@ -139,7 +145,8 @@ fn app_at<H: Host>(
 ) -> Result<FoundApp, ToolFault>
     ensures silent { H.printed host.new ≡ H.printed host.old }
     ensures name { IfOk result (λ found. found.app.name.0.items ≡ name.now.0.items) }
-    ensures app { Reads (fork.now ∷ script.now ∷ []) (H.accesses host.old) (H.accesses host.new) result (λ texts.
+    ensures app { Reads (fork.now ∷ script.now ∷ [])
+        (H.accesses host.old) (H.accesses host.new) result (λ texts.
         IsGiven app_found (app_at name.now.0.items fork.now script.now texts) result) }
 {
     let bytes = fork_at(alloc, host, fork)?;
@@ -166,8 +173,8 @@ fn file_at<H: Host>(
     path: &str,
 ) -> Result<FoundFile, ToolFault>
     ensures silent { H.printed host.new ≡ H.printed host.old }
-    ensures file { Reads (path.now ∷ []) (H.accesses host.old) (H.accesses host.new) result (λ texts.
-        IsGiven file_found (file_at name.now.0.items path.now texts) result) }
+    ensures file { Reads (path.now ∷ []) (H.accesses host.old) (H.accesses host.new) result
+        (λ texts. IsGiven file_found (file_at name.now.0.items path.now texts) result) }
 {
     let fork = fork_at(alloc, host, path)?;
     let file = AppFile {
@@ -206,7 +213,8 @@ pub(crate) fn push_source(
     file: Option<Vec<u8>>,
 ) -> Result<(), AllocError>
     ensures { OnOk result (map source_given sources.new.items
-        ≡ with_source app (option_map (λ bytes. bytes.items) file) (map source_given sources.old.items)) }
+        ≡ with_source app (option_map (λ bytes. bytes.items) file)
+        (map source_given sources.old.items)) }
 {
     sources.push(Source { app, file })?;
     Ok(())
@@ -214,7 +222,8 @@ pub(crate) fn push_source(
 
 /// Adds the text of an application's script.
 fn push_text(scripts: &mut Vec<Vec<u8>>, text: Vec<u8>) -> Result<(), AllocError>
-    ensures { OnOk result (map (λ t. t.items) scripts.new.items ≡ map (λ t. t.items) scripts.old.items ++ text.items ∷ []) }
+    ensures { OnOk result (map (λ t. t.items) scripts.new.items
+        ≡ map (λ t. t.items) scripts.old.items ++ text.items ∷ []) }
 {
     scripts.push(text)?;
     Ok(())
@@ -242,8 +251,9 @@ fn add_system<H: Host>(
 ) -> Result<(), ToolFault>
     ensures silent { H.printed host.new ≡ H.printed host.old }
     ensures names { map name_of inputs.new.apps.items ≡ map name_of inputs.old.apps.items }
-    ensures given { Reads (path.now ∷ []) (H.accesses host.old) (H.accesses host.new) result (λ texts.
-        IsGiven (λ _. gathered inputs.new) (with_input (gathered inputs.old) (System path.now) texts) result) }
+    ensures given { Reads (path.now ∷ []) (H.accesses host.old)
+        (H.accesses host.new) result (λ texts. IsGiven (λ _. gathered inputs.new)
+        (with_input (gathered inputs.old) (System path.now) texts) result) }
 {
     let found = fork_at(alloc, host, path)?;
     inputs.system = Some(found.fork);
@@ -262,9 +272,9 @@ fn add_app<H: Host>(
     ensures silent { H.printed host.new ≡ H.printed host.old }
     ensures names { OnOk result (map name_of inputs.new.apps.items
         ≡ map name_of inputs.old.apps.items ++ name.now.0.items ∷ []) }
-    ensures given { Reads (fork.now ∷ script.now ∷ []) (H.accesses host.old) (H.accesses host.new) result (λ texts.
-        IsGiven (λ _. gathered inputs.new)
-        (with_input (gathered inputs.old) (AppLine name.now.0.items fork.now script.now) texts) result) }
+    ensures given { Reads (fork.now ∷ script.now ∷ []) (H.accesses host.old) (H.accesses host.new)
+        result (λ texts. IsGiven (λ _. gathered inputs.new) (with_input (gathered inputs.old)
+        (AppLine name.now.0.items fork.now script.now) texts) result) }
 {
     let place = inputs.apps.len();
     let found = app_at(alloc, host, name, fork, script)?;
@@ -286,8 +296,8 @@ fn add_file<H: Host>(
     requires { app < length inputs.old.apps.items }
     ensures silent { H.printed host.new ≡ H.printed host.old }
     ensures names { map name_of inputs.new.apps.items ≡ map name_of inputs.old.apps.items }
-    ensures given { Reads (path.now ∷ []) (H.accesses host.old) (H.accesses host.new) result (λ texts.
-        IsGiven (λ _. gathered inputs.new)
+    ensures given { Reads (path.now ∷ []) (H.accesses host.old)
+        (H.accesses host.new) result (λ texts. IsGiven (λ _. gathered inputs.new)
         (with_input (gathered inputs.old) (File app name.now.0.items path.now) texts) result) }
 {
     let found = file_at(alloc, host, name, path)?;
@@ -296,7 +306,8 @@ fn add_file<H: Host>(
     Ok(())
 }
 
-/// Reads what a line names: the System file's fork, an application, or a file of an application named before.
+/// Reads what a line names: the System file's fork, an application, or a file of an application
+/// named before.
 fn add<H: Host>(
     alloc: Global,
     host: &mut H,
@@ -309,8 +320,9 @@ fn add<H: Host>(
         ≡ map name_of inputs.old.apps.items ++ app_names (input_seen input.now ∷ [])) }
 
     // What the line gives is added, with the bytes at its paths.
-    ensures given { Reads (paths_of (input_seen input.now)) (H.accesses host.old) (H.accesses host.new) result (λ texts.
-        IsGiven (λ _. gathered inputs.new) (with_input (gathered inputs.old) (input_seen input.now) texts) result) }
+    ensures given { Reads (paths_of (input_seen input.now)) (H.accesses host.old)
+        (H.accesses host.new) result (λ texts. IsGiven (λ _. gathered inputs.new)
+        (with_input (gathered inputs.old) (input_seen input.now) texts) result) }
 {
     match input {
         Input::System { path } => add_system(alloc, host, *path, inputs),
@@ -327,10 +339,12 @@ fn read_inputs<H: Host>(
 ) -> Result<Gathered, ToolFault>
     requires order { AreInOrder (map input_seen inputs.now) }
     ensures silent { H.printed host.new ≡ H.printed host.old }
-    ensures names { IfOk result (λ g. map name_of g.apps.items ≡ app_names (map input_seen inputs.now)) }
+    ensures names { IfOk result (λ g. map name_of g.apps.items
+        ≡ app_names (map input_seen inputs.now)) }
 
     // What each line gives is added, with the bytes at its paths, in the order of the lines.
-    ensures given { ReadsOf (map input_seen inputs.now) (H.accesses host.old) (H.accesses host.new) result (λ texts.
+    ensures given { ReadsOf (map input_seen inputs.now)
+        (H.accesses host.old) (H.accesses host.new) result (λ texts.
         IsGiven gathered (with_inputs nothing_given (map input_seen inputs.now) texts) result) }
 {
     let mut all = Gathered {
@@ -363,7 +377,8 @@ pub struct GatheredJob {
     pub job: Job,
     /// The texts of the scripts of the applications, in their order.
     pub scripts: Vec<Vec<u8>>,
-    /// One for the own fork of each application, and one for each of its other files, in the order of their lines.
+    /// One for the own fork of each application, and one for each of its other files, in the order
+    /// of their lines.
     pub sources: Vec<Source>,
 }
 
@@ -371,8 +386,8 @@ pub struct GatheredJob {
 ///
 /// # Errors
 ///
-/// The first input that can't be read, or the first script that is faulty, in the order of the lines; an application's
-/// fork precedes its script.
+/// The first input that can't be read, or the first script that is faulty, in the order of the
+/// lines; an application's fork precedes its script.
 pub fn gather<H: Host>(
     alloc: Global,
     host: &mut H,
@@ -382,12 +397,15 @@ pub fn gather<H: Host>(
     ensures silent { H.printed host.new ≡ H.printed host.old }
     ensures memory { IfOk result (λ g. g.job.memory ≡ text.entry.memory) }
     ensures events { IfOk result (λ g. g.job.events.items ≡ text.entry.events.items) }
-    ensures names { IfOk result (λ g. map name_of g.job.apps.items ≡ app_names (map input_seen text.entry.inputs.items)) }
+    ensures names { IfOk result (λ g. map name_of g.job.apps.items
+        ≡ app_names (map input_seen text.entry.inputs.items)) }
 
-    // The job, the texts of its scripts and its sources are what the lines give, with the bytes at their paths, which are read in the order of the
-    // lines; or the first path that can't be read, or the first script that is faulty, stops it. No other file is read.
-    ensures given { ReadsOf (map input_seen text.entry.inputs.items) (H.accesses host.old) (H.accesses host.new)
-        result (λ texts. IsGiven (λ g. job_given g.job (map (λ t. t.items) g.scripts.items) (map source_given g.sources.items))
+    // The job, the texts of its scripts and its sources are what the lines give, with the bytes at
+    // their paths, which are read in the order of the lines; or the first path that can't be read,
+    // or the first script that is faulty, stops it. No other file is read.
+    ensures given { ReadsOf (map input_seen text.entry.inputs.items)
+        (H.accesses host.old) (H.accesses host.new) result (λ texts. IsGiven (λ g.
+        job_given g.job (map (λ t. t.items) g.scripts.items) (map source_given g.sources.items))
         (with_inputs nothing_given (map input_seen text.entry.inputs.items) texts) result) }
 {
     let Gathered {

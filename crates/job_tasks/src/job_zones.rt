@@ -1,6 +1,7 @@
 //! The zone of an application of a job, as it lies after a line of the application's script.
 
-ghost use Rattle.std.specs.Prelude.{◌≡◌, ◌<◌, ◌≤◌, Ok, length, option_map, is_ok, true, bytes_eq, IfOk, IfErr, IfSome};
+ghost use Rattle.std.specs.Prelude.{◌≡◌, ◌<◌, ◌≤◌, Ok, length, option_map, is_ok, true, bytes_eq};
+ghost use Rattle.std.specs.Prelude.{IfOk, IfErr, IfSome};
 ghost use Rattle.script_text.specs.JobFacts.{IsMemory};
 ghost use Rattle.desk.specs.Live.{leaves_seen};
 ghost use Rattle.desk.specs.View.{outcome_seen};
@@ -9,14 +10,16 @@ ghost use Rattle.zone_view.specs.Behind.{zone_behind};
 ghost use Rattle.fork_tasks.specs.declared.ending.Ending.TheVariants.{Done};
 ghost use Rattle.fork_tasks.specs.Fault.{message_of, IsQuiet};
 ghost use Rattle.job_tasks.specs.Gathering.{name_of};
-ghost use Rattle.job_tasks.specs.JobZones.{number_of, launched_at, steps_shown, IsShown, IsZoneLeft, IsJobZone, IsNotLaunched, Sees};
-ghost use Rattle.job_tasks.specs.JobZones.{IsZoneFault, IsUnseen, Shows, IsUnshown};
+ghost use Rattle.job_tasks.specs.JobZones.{number_of, launched_at, steps_shown, IsShown};
+ghost use Rattle.job_tasks.specs.JobZones.{IsZoneLeft, IsJobZone, IsNotLaunched, Sees, IsZoneFault};
+ghost use Rattle.job_tasks.specs.JobZones.{IsUnseen, Shows, IsUnshown};
 
 use crate::gathering::{gather, system_path};
 use crate::running::{job_text, outcome_of};
 use crate::showing::show_in_region;
 use crate::size::PartitionSize;
 use crate::sizing::not_launched;
+use crate::zone_form::ZoneForm;
 use applications::Unwatched;
 use desk::{App, Job, Launched, Outcome, open_resources};
 use fork_tasks::{Ending, Host, Target, ToolFault, deliver, read_input};
@@ -34,9 +37,10 @@ pub struct JobZone<'a> {
     pub job: &'a str,
     /// The application's name.
     pub app: &'a str,
-    /// The line of the application's script after which the zone is shown; `None` for the last step that it took.
+    /// The line of the application's script after which the zone is shown; `None` for the last step
+    /// that it took.
     pub line: Option<usize>,
-    pub form: Form,
+    pub form: ZoneForm,
 }
 
 /// Reports whether an application has this name.
@@ -63,7 +67,8 @@ fn number_of(apps: &[App], name: &[u8]) -> Option<usize>
 
 /// Returns what the application of a number leaves, if it was launched.
 fn launched_at(outcome: &Outcome, number: usize) -> Option<&Launched>
-    ensures { option_map (λ l. leaves_seen l.now) result ≡ launched_at number (outcome_seen outcome.now).apps }
+    ensures { option_map (λ l. leaves_seen l.now) result
+        ≡ launched_at number (outcome_seen outcome.now).apps }
 {
     match outcome.apps.get(number) {
         Some(app) => app.launched.as_ref(),
@@ -88,8 +93,8 @@ fn steps_shown(line: Option<usize>, script: &Script, taken: usize) -> usize
     if steps < taken { steps } else { taken }
 }
 
-/// Runs the first `n` steps of a script in a fresh partition, which is a region of its own, and returns the zone as it
-/// then lies.
+/// Runs the first `n` steps of a script in a fresh partition, which is a region of its own, and
+/// returns the zone as it then lies.
 fn show_alone(
     alloc: Global,
     size: PartitionSize,
@@ -98,7 +103,8 @@ fn show_alone(
     n: usize,
     form: Form,
 ) -> Result<Vec<u8>, AllocError>
-    ensures { IfOk result (λ text. text.items ≡ zone_behind form resources size.bytes script.now n) }
+    ensures { IfOk result (λ text. text.items
+        ≡ zone_behind form resources size.bytes script.now n) }
 {
     let region = Region::new(alloc, size.bytes as usize)?;
     let sight = Sight::Zone(n, form);
@@ -122,7 +128,8 @@ fn opened(alloc: Global, job: &Job, app: &App) -> Result<Resources, AllocError>
     }
 }
 
-/// Returns the zone of an application that was launched, as it lies where the application runs alone.
+/// Returns the zone of an application that was launched, as it lies where the application runs
+/// alone.
 fn show_app(
     alloc: Global,
     job: &Job,
@@ -131,7 +138,8 @@ fn show_app(
     asked: JobZone<'_>,
 ) -> Result<Vec<u8>, AllocError>
     requires { is_ok (start_with (system_of job.now) app.now) ≡ true }
-    ensures { IfOk result (λ text. IsShown asked.entry job.now app.now (leaves_seen launched.now) text.items) }
+    ensures { IfOk result (λ text.
+        IsShown asked.entry job.now app.now (leaves_seen launched.now) text.items) }
 {
     let resources = opened(alloc, job, app)?;
     let steps = steps_shown(asked.line, &app.script, launched.steps);
@@ -141,7 +149,7 @@ fn show_app(
         resources,
         &app.script,
         steps,
-        asked.form,
+        asked.form.shown_as(),
     )
 }
 
@@ -153,9 +161,10 @@ fn zone_left(
     asked: JobZone<'_>,
 ) -> Result<Vec<u8>, ToolFault>
     requires { EachLaunched IsAlone job.now outcome.now }
-    ensures zone { IfOk result (λ text. IsZoneLeft asked.entry job.now (outcome_seen outcome.now) text.items) }
-    ensures fault { IfErr result (λ fault. IsNotLaunched asked.entry job.now (outcome_seen outcome.now)
-        (message_of fault)) }
+    ensures zone { IfOk result (λ text.
+        IsZoneLeft asked.entry job.now (outcome_seen outcome.now) text.items) }
+    ensures fault { IfErr result (λ fault.
+        IsNotLaunched asked.entry job.now (outcome_seen outcome.now) (message_of fault)) }
 {
     let Some(number) = number_of(&job.apps, asked.app.as_bytes()) else {
         return Err(not_launched(alloc, asked.job, asked.app)?);
@@ -176,7 +185,8 @@ fn zone_of_job(
     requires memory { IsMemory job.now.memory }
     requires few { length job.now.apps.items ≤ 64 }
     ensures zone { IfOk result (λ text. IsJobZone asked.entry job.now text.items) }
-    ensures fault { IfErr result (λ fault. IsZoneFault system.now asked.entry job.now (message_of fault)) }
+    ensures fault { IfErr result (λ fault.
+        IsZoneFault system.now asked.entry job.now (message_of fault)) }
 {
     let outcome = outcome_of(alloc, job, system, false, &mut Unwatched)?;
     if outcome.stopped {
@@ -188,12 +198,14 @@ fn zone_of_job(
     }
 }
 
-/// Reads a job, and what its lines name, in their order; performs its events; and returns the zone of the request.
+/// Reads a job, and what its lines name, in their order; performs its events; and returns the zone
+/// of the request.
 fn see<H: Host>(alloc: Global, host: &mut H, asked: JobZone<'_>) -> Result<Vec<u8>, ToolFault>
     ensures silent { H.printed host.new ≡ H.printed host.old }
-    ensures sees { IfOk result (λ text. Sees asked.entry text.items (H.accesses host.old) (H.accesses host.new)) }
-    ensures unseen { IfErr result (λ fault. IsUnseen asked.entry (H.accesses host.old) (H.accesses host.new)
-        (message_of fault)) }
+    ensures sees { IfOk result (λ text.
+        Sees asked.entry text.items (H.accesses host.old) (H.accesses host.new)) }
+    ensures unseen { IfErr result (λ fault.
+        IsUnseen asked.entry (H.accesses host.old) (H.accesses host.new) (message_of fault)) }
 {
     let bytes = read_input(alloc, host, asked.job)?;
     let text = job_text(alloc, asked.job, &bytes)?;
@@ -205,24 +217,25 @@ fn see<H: Host>(alloc: Global, host: &mut H, asked: JobZone<'_>) -> Result<Vec<u
     }
 }
 
-/// Prints the zone of an application of a job, as it lies after a line of the application's script, or after the last
-/// step that it took in the job. No file is written.
+/// Prints the zone of an application of a job, as it lies after a line of the application's script,
+/// or after the last step that it took in the job. No file is written.
 ///
 /// # Errors
 ///
-/// A file that can't be read, the first faulty line of the job or of a script, a System file that is no resource fork, or
-/// an application that was not launched: then nothing is printed. Or the zone can't be printed to its end, or the host is
-/// out of memory.
+/// A file that can't be read, the first faulty line of the job or of a script, a System file that
+/// is no resource fork, or an application that was not launched: then nothing is printed. Or the
+/// zone can't be printed to its end, or the host is out of memory.
 pub fn show_in_job<H: Host>(
     alloc: Global,
     host: &mut H,
     asked: JobZone<'_>,
 ) -> Result<Ending, ToolFault>
-    ensures done { IfOk result (λ ending. (ending ≡ Done) × Shows asked.entry (H.printed host.old) (H.printed host.new)
-        (H.accesses host.old) (H.accesses host.new)) }
-    ensures undone { IfErr result (λ fault. IsUnshown asked.entry (H.printed host.old) (H.printed host.new)
-        (H.accesses host.old) (H.accesses host.new) (message_of fault)) }
-    ensures quiet { IfErr result (λ fault. IsQuiet (H.printed host.old) (H.printed host.new) (message_of fault)) }
+    ensures done { IfOk result (λ ending. (ending ≡ Done) × Shows asked.entry (H.printed host.old)
+        (H.printed host.new) (H.accesses host.old) (H.accesses host.new)) }
+    ensures undone { IfErr result (λ fault. IsUnshown asked.entry (H.printed host.old)
+        (H.printed host.new) (H.accesses host.old) (H.accesses host.new) (message_of fault)) }
+    ensures quiet { IfErr result (λ fault.
+        IsQuiet (H.printed host.old) (H.printed host.new) (message_of fault)) }
 {
     let text = see(alloc, host, asked)?;
     deliver(alloc, host, Target::Printed, text.as_slice())?;

@@ -1,11 +1,14 @@
-//! What an application is given that runs alone: its own fork, that of the System file, and those of its other files.
+//! What an application is given that runs alone: its own fork, that of the System file, and those
+//! of its other files.
 
 ghost use Rattle.std.specs.Prelude.{◌≡◌, ◌++◌, ◌∷◌, [], map, length, Ok, OnOk, IfOk};
 ghost use Rattle.fork_format.specs.Canonical.{canon};
 ghost use Rattle.applications.specs.Trying.{no_content};
-ghost use Rattle.job_tasks.specs.Gathering.{IsGiven, fork_found, file_given, source_given, with_source};
-ghost use Rattle.job_tasks.specs.Loading.{part_seen, path_of, own_path, system_path, nothing_given, with_found, with_part, with_parts};
-ghost use Rattle.job_tasks.specs.Loading.{forks_seen, sources_of};
+ghost use Rattle.job_tasks.specs.Gathering.{IsGiven, fork_found, file_given, source_given};
+ghost use Rattle.job_tasks.specs.Gathering.{with_source};
+ghost use Rattle.job_tasks.specs.Loading.{part_seen, path_of, own_path, system_path, nothing_given};
+ghost use Rattle.job_tasks.specs.Loading.{with_found, with_part, with_parts, forks_seen};
+ghost use Rattle.job_tasks.specs.Loading.{sources_of};
 
 use crate::gathering::{FoundFork, Source, fork_of, name_copy, push_source};
 use applications::empty_content;
@@ -116,7 +119,8 @@ fn no_forks(alloc: Global) -> Result<Forks, AllocError>
 /// Adds a file.
 fn push_file(files: &mut Vec<AppFile>, name: &FileName, fork: Vec<u8>) -> Result<(), AllocError>
     ensures { OnOk result (map file_given files.new.items
-        ≡ map file_given files.old.items ++ record { name = name.now.0.items; fork = fork.items } ∷ []) }
+        ≡ map file_given files.old.items
+        ++ record { name = name.now.0.items; fork = fork.items } ∷ []) }
 {
     let file = AppFile {
         name: name_copy(name)?,
@@ -149,7 +153,8 @@ fn add_part(
     bytes: &[u8],
     forks: &mut Forks,
 ) -> Result<(), ToolFault>
-    ensures { IsGiven (λ _. forks_seen forks.new) (with_part (forks_seen forks.old) (part_seen part.now) bytes.now) result }
+    ensures { IsGiven (λ _. forks_seen forks.new)
+        (with_part (forks_seen forks.old) (part_seen part.now) bytes.now) result }
 {
     let found = fork_of(alloc, part.path(), copied(alloc, bytes)?)?;
     add_found(part, found, forks)?;
@@ -167,8 +172,8 @@ pub fn forks_given(
     texts: &[Vec<u8>],
 ) -> Result<Forks, ToolFault>
     requires { length texts.now ≡ length parts.now }
-    ensures { IsGiven forks_seen
-        (with_parts nothing_given (map part_seen parts.now) (map (λ text. text.items) texts.now)) result }
+    ensures { IsGiven forks_seen (with_parts nothing_given (map part_seen parts.now)
+        (map (λ text. text.items) texts.now)) result }
 {
     let mut forks = no_forks(alloc)?;
     for i in 0..parts.len() {

@@ -1,13 +1,15 @@
-//! What a run leaves is written: the folder is made, and then the files are written, each straight from the outcome; a fork
-//! that was read in a wrapped file is put into it.
+//! What a run leaves is written: the folder is made, and then the files are written, each straight
+//! from the outcome; a fork that was read in a wrapped file is put into it.
 
-ghost use Rattle.std.specs.Prelude.{◌≡◌, ◌∷◌, [], map, option_map, OnOk, IfErr, string_bytes, string_capacity};
+ghost use Rattle.std.specs.Prelude.{◌≡◌, ◌∷◌, [], map, option_map, OnOk, IfErr, string_bytes};
+ghost use Rattle.std.specs.Prelude.{string_capacity};
 ghost use Rattle.desk.specs.View.{told_seen, outcome_seen};
 ghost use Rattle.res_calls.specs.View.{view_file};
 ghost use Rattle.fork_tasks.specs.Accesses.{Write, and_then, StopsAt, RefusesFile};
 ghost use Rattle.job_tasks.specs.Gathering.{source_given};
-ghost use Rattle.job_tasks.specs.Outputs.{log_left, logs_left, source_at, owner_source, kept, forks_within, forks_left, all_forks_left};
-ghost use Rattle.job_tasks.specs.Outputs.{sources_unless, left_by, HasRoom};
+ghost use Rattle.job_tasks.specs.Outputs.{log_left, logs_left, source_at, owner_source, kept};
+ghost use Rattle.job_tasks.specs.Outputs.{forks_within, forks_left, all_forks_left, sources_unless};
+ghost use Rattle.job_tasks.specs.Outputs.{left_by, HasRoom};
 ghost use Rattle.job_tasks.specs.Running.{write_of, writes_for};
 
 use crate::gathering::Source;
@@ -30,7 +32,8 @@ fn write_log<H: Host>(
     ensures silent { H.printed host.new ≡ H.printed host.old }
     ensures written { OnOk result (H.accesses host.new
         ≡ and_then (H.accesses host.old) (map write_of (log_left folder.now (told_seen app.now)))) }
-    ensures stopped { IfErr result (λ error. StopsAt (map write_of (log_left folder.now (told_seen app.now)))
+    ensures stopped { IfErr result (λ error.
+        StopsAt (map write_of (log_left folder.now (told_seen app.now)))
         (H.accesses host.old) (H.accesses host.new) (string_bytes path.new) error) }
     ensures room { HasRoom folder.now (string_capacity path.new) }
 {
@@ -52,8 +55,10 @@ fn write_logs<H: Host>(
     requires { HasRoom folder.now (string_capacity path.old) }
     ensures silent { H.printed host.new ≡ H.printed host.old }
     ensures written { OnOk result (H.accesses host.new
-        ≡ and_then (H.accesses host.old) (map write_of (logs_left folder.now (map told_seen apps.now)))) }
-    ensures stopped { IfErr result (λ error. StopsAt (map write_of (logs_left folder.now (map told_seen apps.now)))
+        ≡ and_then (H.accesses host.old)
+        (map write_of (logs_left folder.now (map told_seen apps.now)))) }
+    ensures stopped { IfErr result (λ error.
+        StopsAt (map write_of (logs_left folder.now (map told_seen apps.now)))
         (H.accesses host.old) (H.accesses host.new) (string_bytes path.new) error) }
     ensures room { HasRoom folder.now (string_capacity path.new) }
 {
@@ -63,9 +68,11 @@ fn write_logs<H: Host>(
     Ok(())
 }
 
-/// Returns the file in which the fork of an application's `k`-th file was read, unless it was read alone.
+/// Returns the file in which the fork of an application's `k`-th file was read, unless it was read
+/// alone.
 fn source_at(sources: &[Source], app: usize, k: usize) -> Option<&[u8]>
-    ensures { option_map (λ bytes. bytes.now) result ≡ source_at app (map source_given sources.entry.now) k }
+    ensures { option_map (λ bytes. bytes.now) result
+        ≡ source_at app (map source_given sources.entry.now) k }
 {
     let mut left = k;
     for source in sources {
@@ -79,8 +86,8 @@ fn source_at(sources: &[Source], app: usize, k: usize) -> Option<&[u8]>
     None
 }
 
-/// Writes a fork, in the place of its own in the file in which it was read; or alone, where there is no such file, or where it
-/// doesn't fit the file.
+/// Writes a fork, in the place of its own in the file in which it was read; or alone, where there
+/// is no such file, or where it doesn't fit the file.
 #[tactic(auto, using(crate::proofs::Kept::kept_made, crate::proofs::Kept::kept_alone))]
 fn write_kept<H: Host>(
     alloc: Global,
@@ -92,7 +99,8 @@ fn write_kept<H: Host>(
     ensures silent { H.printed host.new ≡ H.printed host.old }
     ensures written { OnOk result (H.accesses host.new ≡ and_then (H.accesses host.old)
         (Write path.now (kept (option_map (λ bytes. bytes.now) source.entry) fork.now) ∷ [])) }
-    ensures front { IfErr result (λ error. RefusesFile path.now (kept (option_map (λ bytes. bytes.now) source.entry) fork.now)
+    ensures front { IfErr result (λ error.
+        RefusesFile path.now (kept (option_map (λ bytes. bytes.now) source.entry) fork.now)
         error (H.accesses host.old) (H.accesses host.new)) }
 {
     let Some(file) = source else {
@@ -127,12 +135,11 @@ fn write_fork<H: Host>(
 ) -> Result<(), WriteError>
     requires { HasRoom folder.now (string_capacity path.old) }
     ensures silent { H.printed host.new ≡ H.printed host.old }
-    ensures written { OnOk result (H.accesses host.new ≡ and_then (H.accesses host.old)
-        (map write_of (forks_within folder.now owner.entry.name.now.0.items (owner_source owner.entry) k
-        (view_file file.now ∷ [])))) }
-    ensures stopped { IfErr result (λ error. StopsAt
-        (map write_of (forks_within folder.now owner.entry.name.now.0.items (owner_source owner.entry) k
-        (view_file file.now ∷ [])))
+    ensures written { OnOk result (H.accesses host.new
+        ≡ and_then (H.accesses host.old) (map write_of (forks_within folder.now
+        owner.entry.name.now.0.items (owner_source owner.entry) k (view_file file.now ∷ [])))) }
+    ensures stopped { IfErr result (λ error. StopsAt (map write_of (forks_within folder.now
+        owner.entry.name.now.0.items (owner_source owner.entry) k (view_file file.now ∷ [])))
         (H.accesses host.old) (H.accesses host.new) (string_bytes path.new) error) }
     ensures room { HasRoom folder.now (string_capacity path.new) }
 {
@@ -155,12 +162,11 @@ pub(crate) fn write_forks_within<H: Host>(
 ) -> Result<(), WriteError>
     requires { HasRoom folder.now (string_capacity path.old) }
     ensures silent { H.printed host.new ≡ H.printed host.old }
-    ensures written { OnOk result (H.accesses host.new ≡ and_then (H.accesses host.old)
-        (map write_of (forks_within folder.now owner.entry.name.now.0.items (owner_source owner.entry) 0
-        (map view_file files.now)))) }
-    ensures stopped { IfErr result (λ error. StopsAt
-        (map write_of (forks_within folder.now owner.entry.name.now.0.items (owner_source owner.entry) 0
-        (map view_file files.now)))
+    ensures written { OnOk result (H.accesses host.new
+        ≡ and_then (H.accesses host.old) (map write_of (forks_within folder.now
+        owner.entry.name.now.0.items (owner_source owner.entry) 0 (map view_file files.now)))) }
+    ensures stopped { IfErr result (λ error. StopsAt (map write_of (forks_within folder.now
+        owner.entry.name.now.0.items (owner_source owner.entry) 0 (map view_file files.now)))
         (H.accesses host.old) (H.accesses host.new) (string_bytes path.new) error) }
     ensures room { HasRoom folder.now (string_capacity path.new) }
 {
@@ -170,8 +176,8 @@ pub(crate) fn write_forks_within<H: Host>(
     Ok(())
 }
 
-/// Writes the forks that were written of an application, if the application was launched. `n` is its place among the
-/// applications.
+/// Writes the forks that were written of an application, if the application was launched. `n` is
+/// its place among the applications.
 fn write_forks_of<H: Host>(
     alloc: Global,
     host: &mut H,
@@ -183,10 +189,11 @@ fn write_forks_of<H: Host>(
 ) -> Result<(), WriteError>
     requires { HasRoom folder.now (string_capacity path.old) }
     ensures silent { H.printed host.new ≡ H.printed host.old }
-    ensures written { OnOk result (H.accesses host.new ≡ and_then (H.accesses host.old)
-        (map write_of (forks_left folder.now (source_at n (map source_given sources.now)) (told_seen app.now)))) }
-    ensures stopped { IfErr result (λ error. StopsAt
-        (map write_of (forks_left folder.now (source_at n (map source_given sources.now)) (told_seen app.now)))
+    ensures written { OnOk result (H.accesses host.new
+        ≡ and_then (H.accesses host.old) (map write_of
+        (forks_left folder.now (source_at n (map source_given sources.now)) (told_seen app.now)))) }
+    ensures stopped { IfErr result (λ error. StopsAt (map write_of
+        (forks_left folder.now (source_at n (map source_given sources.now)) (told_seen app.now)))
         (H.accesses host.old) (H.accesses host.new) (string_bytes path.new) error) }
     ensures room { HasRoom folder.now (string_capacity path.new) }
 {
@@ -212,10 +219,11 @@ fn write_forks<H: Host>(
 ) -> Result<(), WriteError>
     requires { HasRoom folder.now (string_capacity path.old) }
     ensures silent { H.printed host.new ≡ H.printed host.old }
-    ensures written { OnOk result (H.accesses host.new ≡ and_then (H.accesses host.old)
-        (map write_of (all_forks_left folder.now (map source_given sources.now) 0 (map told_seen apps.now)))) }
-    ensures stopped { IfErr result (λ error. StopsAt
-        (map write_of (all_forks_left folder.now (map source_given sources.now) 0 (map told_seen apps.now)))
+    ensures written { OnOk result (H.accesses host.new
+        ≡ and_then (H.accesses host.old) (map write_of
+        (all_forks_left folder.now (map source_given sources.now) 0 (map told_seen apps.now)))) }
+    ensures stopped { IfErr result (λ error. StopsAt (map write_of
+        (all_forks_left folder.now (map source_given sources.now) 0 (map told_seen apps.now)))
         (H.accesses host.old) (H.accesses host.new) (string_bytes path.new) error) }
     ensures room { HasRoom folder.now (string_capacity path.new) }
 {
@@ -227,13 +235,14 @@ fn write_forks<H: Host>(
 
 /// Returns the sources, but none where the forks are to be written alone.
 pub fn sources_unless(alone: bool, sources: &[Source]) -> &[Source]
-    ensures { map source_given result.now ≡ sources_unless alone (map source_given sources.entry.now) }
+    ensures { map source_given result.now
+        ≡ sources_unless alone (map source_given sources.entry.now) }
 {
     if alone { &[] } else { sources }
 }
 
-/// Writes the files that a run leaves, in order: the desk's log, the logs of the applications that were launched, and
-/// the forks that were written.
+/// Writes the files that a run leaves, in order: the desk's log, the logs of the applications that
+/// were launched, and the forks that were written.
 fn write_files<H: Host>(
     alloc: Global,
     host: &mut H,
@@ -244,10 +253,10 @@ fn write_files<H: Host>(
 ) -> Result<(), WriteError>
     requires { HasRoom folder.now (string_capacity path.old) }
     ensures silent { H.printed host.new ≡ H.printed host.old }
-    ensures written { OnOk result (H.accesses host.new ≡ and_then (H.accesses host.old)
-        (map write_of (left_by folder.now (map source_given sources.now) (outcome_seen outcome.now)))) }
-    ensures stopped { IfErr result (λ error. StopsAt
-        (map write_of (left_by folder.now (map source_given sources.now) (outcome_seen outcome.now)))
+    ensures written { OnOk result (H.accesses host.new ≡ and_then (H.accesses host.old) (map
+        write_of (left_by folder.now (map source_given sources.now) (outcome_seen outcome.now)))) }
+    ensures stopped { IfErr result (λ error. StopsAt (map write_of
+        (left_by folder.now (map source_given sources.now) (outcome_seen outcome.now)))
         (H.accesses host.old) (H.accesses host.new) (string_bytes path.new) error) }
 {
     let kept = sources_unless(outcome.stopped, sources);
@@ -258,14 +267,15 @@ fn write_files<H: Host>(
     Ok(())
 }
 
-/// Writes what a run leaves into a new folder, up to the first file that can't be written. A fork that was read in a wrapped
-/// file is put into it. The paths are built in a text that `room_for_paths` returned for the folder, so no memory is taken
-/// for them; nor for the forks of a run that stopped, which are written alone.
+/// Writes what a run leaves into a new folder, up to the first file that can't be written. A fork
+/// that was read in a wrapped file is put into it. The paths are built in a text that
+/// `room_for_paths` returned for the folder, so no memory is taken for them; nor for the forks of a
+/// run that stopped, which are written alone.
 ///
 /// # Errors
 ///
-/// The folder, or a file, can't be made or written to its end, or the host is out of memory where a fork is put into a file;
-/// the path stands in the text.
+/// The folder, or a file, can't be made or written to its end, or the host is out of memory where a
+/// fork is put into a file; the path stands in the text.
 pub fn write_outcome<H: Host>(
     alloc: Global,
     host: &mut H,

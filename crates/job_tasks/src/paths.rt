@@ -1,24 +1,27 @@
-//! The paths of the files that a run leaves. They are built one after the other in one text, whose memory is taken
-//! before the run.
+//! The paths of the files that a run leaves. They are built one after the other in one text, whose
+//! memory is taken before the run.
 
-ghost use Rattle.std.specs.Prelude.{◌≡◌, ◌≤◌, ◌+◌, ◌*◌, ◌++◌, length, IfOk, string_bytes, string_len, string_capacity};
+ghost use Rattle.std.specs.Prelude.{◌≡◌, ◌≤◌, ◌+◌, ◌*◌, ◌++◌, length, IfOk, string_bytes};
+ghost use Rattle.std.specs.Prelude.{string_len, string_capacity};
 ghost use Rattle.std.specs.Str.{encode_utf8_all};
-ghost use Rattle.job_tasks.specs.Outputs.{app_within, log_within, fork_within, desk_within, HasRoom};
+ghost use Rattle.job_tasks.specs.Outputs.{app_within, log_within, fork_within, desk_within};
+ghost use Rattle.job_tasks.specs.Outputs.{HasRoom};
 ghost use Rattle.job_tasks.specs.declared.paths.TheConstants.{LONGEST_ENDING};
 
 use itoa::Buffer;
 use mac_words::Label;
 use std::alloc::{AllocError, Global};
 
-/// The most bytes of a path after the name of an application: `-`, the 20 digits of a number, and `.rsrc`.
+/// The most bytes of a path after the name of an application: `-`, the 20 digits of a number, and
+/// `.rsrc`.
 pub const LONGEST_ENDING: usize = 1 + 20 + 5;
 
-/// The most bytes of a path after the folder's: `/app-`, the 63 letters of a name, which have at most two bytes each,
-/// and the ending.
+/// The most bytes of a path after the folder's: `/app-`, the 63 letters of a name, which have at
+/// most two bytes each, and the ending.
 pub const LONGEST_NAME: usize = 5 + 2 * 63 + LONGEST_ENDING;
 
-/// Takes room for the path of each file that a run can leave in a folder, and returns the text in which the paths are
-/// built.
+/// Takes room for the path of each file that a run can leave in a folder, and returns the text in
+/// which the paths are built.
 ///
 /// # Errors
 ///

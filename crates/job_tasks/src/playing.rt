@@ -1,7 +1,7 @@
 //! A script is run with files, as an application alone.
 
-ghost use Rattle.std.specs.Prelude.{◌≡◌, ◌≤◌, ◌%◌, ◌++◌, ◌∷◌, [], None, map, length, option_map, Ok, OnOk, IfOk, IfErr};
-ghost use Rattle.std.specs.Prelude.{string_bytes, string_capacity};
+ghost use Rattle.std.specs.Prelude.{◌≡◌, ◌≤◌, ◌%◌, ◌++◌, ◌∷◌, [], None, map, length, option_map};
+ghost use Rattle.std.specs.Prelude.{Ok, OnOk, IfOk, IfErr, string_bytes, string_capacity};
 ghost use Rattle.block_store.specs.declared.measures.TheConstants.{GREATEST_ZONE, LEAST_ZONE};
 ghost use Rattle.script_text.specs.Script.{script_of, spelled};
 ghost use Rattle.applications.specs.Alone.{to_its_end};
@@ -17,9 +17,10 @@ ghost use Rattle.fork_commands.specs.declared.fault.FileFault.TheVariants.{Code}
 ghost use Rattle.job_tasks.specs.Gathering.{source_given, app_given};
 ghost use Rattle.job_tasks.specs.Loading.{part_seen, path_of, forks_seen, sources_of};
 ghost use Rattle.job_tasks.specs.Outputs.{HasRoom};
-ghost use Rattle.job_tasks.specs.Playing.{player_name, paths_read, IsTaken, IsUntaken, script_among, Takes, IsNotTaken, path_at_fault};
-ghost use Rattle.job_tasks.specs.Playing.{IsLaunchFault, leaves_alone, left_alone, writes_alone, DoesPlay, IsPlayUndone, Plays};
-ghost use Rattle.job_tasks.specs.Playing.{IsUnplayed};
+ghost use Rattle.job_tasks.specs.Playing.{player_name, paths_read, IsTaken, IsUntaken};
+ghost use Rattle.job_tasks.specs.Playing.{script_among, Takes, IsNotTaken, path_at_fault};
+ghost use Rattle.job_tasks.specs.Playing.{IsLaunchFault, leaves_alone, left_alone, writes_alone};
+ghost use Rattle.job_tasks.specs.Playing.{DoesPlay, IsPlayUndone, Plays, IsUnplayed};
 ghost use Rattle.job_tasks.specs.Running.{write_of};
 ghost use Rattle.job_tasks.specs.Tasks.{IsScriptFault};
 ghost use Rattle.job_tasks.specs.Work.{sight_of, telling_of};
@@ -52,7 +53,8 @@ pub enum PlayWork<'a> {
     Transcript,
     /// The transcript is printed in words, or that of these lines.
     Words(ToldLines),
-    /// What the application leaves is written into a new folder, whose path this is as it was given.
+    /// What the application leaves is written into a new folder, whose path this is as it was
+    /// given.
     Leavings(&'a str),
     /// The zone is printed, after these lines.
     Zone(Lines),
@@ -73,13 +75,15 @@ pub struct Playing<'a> {
 
 /// Adds a copy of a path.
 fn push_path(alloc: Global, paths: &mut Vec<String>, path: &str) -> Result<(), AllocError>
-    ensures { OnOk result (map string_bytes paths.new.items ≡ map string_bytes paths.old.items ++ path.now ∷ []) }
+    ensures { OnOk result (map string_bytes paths.new.items
+        ≡ map string_bytes paths.old.items ++ path.now ∷ []) }
 {
     paths.push(String::from_str(alloc, path)?)?;
     Ok(())
 }
 
-/// Returns the paths at which files are read, in their order: that of the script, and those of the parts.
+/// Returns the paths at which files are read, in their order: that of the script, and those of the
+/// parts.
 fn paths_for(alloc: Global, script: &str, parts: &[AppFork<'_>]) -> Result<Vec<String>, AllocError>
     ensures { IfOk result (λ paths. map string_bytes paths.items
         ≡ script.now ∷ map path_of (map part_seen parts.now)) }
@@ -135,7 +139,8 @@ fn player_name() -> Label
 /// Returns the sources of all forks of the application, its own first.
 fn all_sources(own: Option<Vec<u8>>, others: Vec<Source>) -> Result<Vec<Source>, AllocError>
     ensures { IfOk result (λ all. map source_given all.items
-        ≡ record { app = 0; file = option_map (λ bytes. bytes.items) own } ∷ map source_given others.items) }
+        ≡ record { app = 0; file = option_map (λ bytes. bytes.items) own }
+        ∷ map source_given others.items) }
 {
     let mut all = others;
     all.insert(0, Source { app: 0, file: own })?;
@@ -160,7 +165,8 @@ fn player_of(
     forks: Forks,
     script: Script,
 ) -> Result<Player, AllocError>
-    ensures system { IfOk result (λ player. option_map (λ fork. fork.items) player.job.system ≡ (forks_seen forks).system) }
+    ensures system { IfOk result (λ player. option_map (λ fork. fork.items) player.job.system
+        ≡ (forks_seen forks).system) }
     ensures app { IfOk result (λ player. app_given player.app ≡ record {
       name = player_name;
       fork = (forks_seen forks).own.0;
@@ -169,7 +175,8 @@ fn player_of(
       script = spelled script;
     }) }
     ensures script { IfOk result (λ player. player.app.script ≡ script) }
-    ensures sources { IfOk result (λ player. map source_given player.sources.items ≡ sources_of (forks_seen forks)) }
+    ensures sources { IfOk result (λ player. map source_given player.sources.items
+        ≡ sources_of (forks_seen forks)) }
 {
     let Forks {
         own,
@@ -197,9 +204,10 @@ fn player_of(
 /// Returns the application that the script and the forks make which were read, the script first.
 fn taken(alloc: Global, play: &Playing<'_>, texts: &[Vec<u8>]) -> Result<Player, ToolFault>
     requires { length texts.now ≡ length (paths_read play.now) }
-    ensures taken { IfOk result (λ player. IsTaken play.now (map (λ text. text.items) texts.now) player.job player.app
-        (map source_given player.sources.items)) }
-    ensures fault { IfErr result (λ fault. IsUntaken play.now (map (λ text. text.items) texts.now) (message_of fault)) }
+    ensures taken { IfOk result (λ player. IsTaken play.now (map (λ text. text.items) texts.now)
+        player.job player.app (map source_given player.sources.items)) }
+    ensures fault { IfErr result (λ fault.
+        IsUntaken play.now (map (λ text. text.items) texts.now) (message_of fault)) }
 {
     match texts {
         [text, forks @ ..] => {
@@ -257,8 +265,10 @@ fn opened(
     job: &Job,
     app: &App,
 ) -> Result<Resources, ToolFault>
-    ensures opened { IfOk result (λ resources. start_with (system_of job.now) app.now ≡ Ok resources) }
-    ensures fault { IfErr result (λ fault. IsLaunchFault (map part_seen parts.now) job.now app.now (message_of fault)) }
+    ensures opened { IfOk result (λ resources. start_with (system_of job.now) app.now
+        ≡ Ok resources) }
+    ensures fault { IfErr result (λ fault.
+        IsLaunchFault (map part_seen parts.now) job.now app.now (message_of fault)) }
 {
     match open_resources(alloc, job, app) {
         Ok(resources) => Ok(resources),
@@ -280,7 +290,8 @@ fn run_in<W: Watch>(
     requires even { length region.bytes % 16 ≡ 0 }
     requires low { LEAST_ZONE ≤ length region.bytes }
     requires high { length region.bytes ≤ GREATEST_ZONE }
-    ensures given { IfOk result.0 (λ given. given ≡ to_its_end resources (length region.bytes) script.now) }
+    ensures given { IfOk result.0 (λ given. given
+        ≡ to_its_end resources (length region.bytes) script.now) }
     ensures home { result.1.out ≡ [] }
 {
     let steps = script.steps().len() + 1;
@@ -298,8 +309,8 @@ fn run_in<W: Watch>(
     )
 }
 
-/// Runs a script to its end in a fresh partition, which is a region of its own. The progress is reported to the watch if
-/// `watched` is set.
+/// Runs a script to its end in a fresh partition, which is a region of its own. The progress is
+/// reported to the watch if `watched` is set.
 fn ran<W: Watch>(
     alloc: Global,
     size: PartitionSize,
@@ -319,8 +330,8 @@ fn ran<W: Watch>(
     }
 }
 
-/// Runs a script up to some lines in a fresh partition, which is a region of its own, and returns the zone as it then lies, or
-/// a picture of its moments. `text` is the text of the script.
+/// Runs a script up to some lines in a fresh partition, which is a region of its own, and returns
+/// the zone as it then lies, or a picture of its moments. `text` is the text of the script.
 fn shown(
     alloc: Global,
     size: PartitionSize,
@@ -342,8 +353,8 @@ fn shown(
     }
 }
 
-/// Writes the files that an application leaves into a folder that was made: the forks that were written, and then the
-/// transcript.
+/// Writes the files that an application leaves into a folder that was made: the forks that were
+/// written, and then the transcript.
 fn write_files<H: Host>(
     alloc: Global,
     host: &mut H,
@@ -395,7 +406,8 @@ fn write_left<H: Host>(
     Ok(())
 }
 
-/// Writes what an application leaves into a new folder. The text has room for the paths of the files, and goes into the fault.
+/// Writes what an application leaves into a new folder. The text has room for the paths of the
+/// files, and goes into the fault.
 fn written<H: Host>(
     alloc: Global,
     host: &mut H,
@@ -419,8 +431,8 @@ fn written<H: Host>(
     }
 }
 
-/// Runs a script in a fresh partition, which is a region of its own, and returns so much of its transcript in words. `text` is
-/// the text of the script.
+/// Runs a script in a fresh partition, which is a region of its own, and returns so much of its
+/// transcript in words. `text` is the text of the script.
 pub(crate) fn told(
     alloc: Global,
     size: PartitionSize,
@@ -429,7 +441,8 @@ pub(crate) fn told(
     text: &[u8],
     telling: Telling,
 ) -> Result<Vec<u8>, AllocError>
-    ensures { IfOk result (λ out. out.items ≡ telling_text telling resources size.bytes script.now text.now) }
+    ensures { IfOk result (λ out. out.items
+        ≡ telling_text telling resources size.bytes script.now text.now) }
 {
     let region = Region::new(alloc, size.bytes as usize)?;
     let (told, region) = tell_in_region(alloc, region, resources, script, text, telling);
@@ -440,7 +453,8 @@ pub(crate) fn told(
     }
 }
 
-/// Runs a script, and prints its transcript in words, or that of some lines. `text` is the text of the script.
+/// Runs a script, and prints its transcript in words, or that of some lines. `text` is the text of
+/// the script.
 fn print_words<H: Host>(
     alloc: Global,
     host: &mut H,
@@ -450,12 +464,12 @@ fn print_words<H: Host>(
     text: &[u8],
     lines: ToldLines,
 ) -> Result<(), ToolFault>
-    ensures done { OnOk result (Delivers Printed
-        (telling_text (telling_of lines script.now.steps) resources play.now.size.bytes script.now text.now)
+    ensures done { OnOk result (Delivers Printed (telling_text (telling_of lines script.now.steps)
+        resources play.now.size.bytes script.now text.now)
         (H.printed host.old) (H.printed host.new) (H.accesses host.old) (H.accesses host.new)) }
-    ensures undone { IfErr result (λ fault. IsUndelivered Printed
-        (telling_text (telling_of lines script.now.steps) resources play.now.size.bytes script.now text.now)
-        (H.printed host.old) (H.printed host.new) (H.accesses host.old) (H.accesses host.new) (message_of fault)) }
+    ensures undone { IfErr result (λ fault. IsUndelivered Printed (telling_text (telling_of lines
+        script.now.steps) resources play.now.size.bytes script.now text.now) (H.printed host.old)
+        (H.printed host.new) (H.accesses host.old) (H.accesses host.new) (message_of fault)) }
 {
     let telling = telling_of(lines, script);
     let out = told(alloc, play.size, resources, script, text, telling)?;
@@ -471,18 +485,20 @@ fn print_transcript<H: Host, W: Watch>(
     script: &Script,
     watch: &mut W,
 ) -> Result<(), ToolFault>
-    ensures done { OnOk result (Delivers Printed (to_its_end resources play.now.size.bytes script.now).transcript
+    ensures done { OnOk result
+        (Delivers Printed (to_its_end resources play.now.size.bytes script.now).transcript
         (H.printed host.old) (H.printed host.new) (H.accesses host.old) (H.accesses host.new)) }
-    ensures undone { IfErr result (λ fault. IsUndelivered Printed (to_its_end resources play.now.size.bytes script.now).transcript
-        (H.printed host.old) (H.printed host.new) (H.accesses host.old) (H.accesses host.new) (message_of fault)) }
+    ensures undone { IfErr result (λ fault. IsUndelivered Printed
+        (to_its_end resources play.now.size.bytes script.now).transcript (H.printed host.old)
+        (H.printed host.new) (H.accesses host.old) (H.accesses host.new) (message_of fault)) }
 {
     let given = ran(alloc, play.size, resources, script, play.watched, watch)?;
     let text = given.into_transcript();
     deliver(alloc, host, Target::Printed, text.as_slice())
 }
 
-/// Runs a script to its end, and writes what the application leaves into a new folder. What the paths need is taken before the
-/// run.
+/// Runs a script to its end, and writes what the application leaves into a new folder. What the
+/// paths need is taken before the run.
 fn write_leavings<H: Host, W: Watch>(
     alloc: Global,
     host: &mut H,
@@ -497,8 +513,8 @@ fn write_leavings<H: Host, W: Watch>(
         (writes_alone folder.now (map source_given player.now.sources.items)
         (leaves_alone play.now player.now.app resources))) }
     ensures undone { IfErr result (λ fault. StopsAmong
-        (writes_alone folder.now (map source_given player.now.sources.items)
-        (leaves_alone play.now player.now.app resources)) (H.accesses host.old) (H.accesses host.new) (message_of fault)) }
+        (writes_alone folder.now (map source_given player.now.sources.items) (leaves_alone play.now
+        player.now.app resources)) (H.accesses host.old) (H.accesses host.new) (message_of fault)) }
 {
     let room = room_for_paths(alloc, folder)?;
     let given = ran(
@@ -522,12 +538,12 @@ fn print_zone<H: Host>(
     text: &[u8],
     lines: Lines,
 ) -> Result<(), ToolFault>
-    ensures done { OnOk result (Delivers Printed
-        (sight_text (sight_of lines script.now.steps) resources play.now.size.bytes script.now text.now)
+    ensures done { OnOk result (Delivers Printed (sight_text (sight_of lines script.now.steps)
+        resources play.now.size.bytes script.now text.now)
         (H.printed host.old) (H.printed host.new) (H.accesses host.old) (H.accesses host.new)) }
-    ensures undone { IfErr result (λ fault. IsUndelivered Printed
-        (sight_text (sight_of lines script.now.steps) resources play.now.size.bytes script.now text.now)
-        (H.printed host.old) (H.printed host.new) (H.accesses host.old) (H.accesses host.new) (message_of fault)) }
+    ensures undone { IfErr result (λ fault. IsUndelivered Printed (sight_text (sight_of lines
+        script.now.steps) resources play.now.size.bytes script.now text.now) (H.printed host.old)
+        (H.printed host.new) (H.accesses host.old) (H.accesses host.new) (message_of fault)) }
 {
     let out = shown(alloc, play.size, resources, script, text, lines)?;
     deliver(alloc, host, Target::Printed, out.as_slice())
@@ -561,13 +577,14 @@ fn do_work<H: Host, W: Watch>(
     taken: &ReadPlayer,
     watch: &mut W,
 ) -> Result<(), ToolFault>
-    ensures done { OnOk result (DoesPlay play.now play.now.work (map (λ text. text.items) taken.now.texts.items)
+    ensures done { OnOk result
+        (DoesPlay play.now play.now.work (map (λ text. text.items) taken.now.texts.items)
         taken.now.player.app (map source_given taken.now.player.sources.items) resources
         (H.printed host.old) (H.printed host.new) (H.accesses host.old) (H.accesses host.new)) }
     ensures undone { IfErr result (λ fault. IsPlayUndone play.now play.now.work
-        (map (λ text. text.items) taken.now.texts.items)
-        taken.now.player.app (map source_given taken.now.player.sources.items) resources
-        (H.printed host.old) (H.printed host.new) (H.accesses host.old) (H.accesses host.new) (message_of fault)) }
+        (map (λ text. text.items) taken.now.texts.items) taken.now.player.app
+        (map source_given taken.now.player.sources.items) resources (H.printed host.old)
+        (H.printed host.new) (H.accesses host.old) (H.accesses host.new) (message_of fault)) }
 {
     let player = &taken.player;
     let script = &player.app.script;
@@ -588,11 +605,11 @@ fn do_work<H: Host, W: Watch>(
 /// Reads the script and the files of a request, and returns the application that they make.
 fn take<H: Host>(alloc: Global, host: &mut H, play: &Playing<'_>) -> Result<ReadPlayer, ToolFault>
     ensures silent { H.printed host.new ≡ H.printed host.old }
-    ensures taken { IfOk result (λ taken. Takes play.now (map (λ text. text.items) taken.texts.items)
-        taken.player.job taken.player.app (map source_given taken.player.sources.items)
-        (H.accesses host.old) (H.accesses host.new)) }
-    ensures untaken { IfErr result (λ fault. IsNotTaken play.now (H.accesses host.old) (H.accesses host.new)
-        (message_of fault)) }
+    ensures taken { IfOk result (λ taken. Takes play.now
+        (map (λ text. text.items) taken.texts.items) taken.player.job taken.player.app
+        (map source_given taken.player.sources.items) (H.accesses host.old) (H.accesses host.new)) }
+    ensures untaken { IfErr result (λ fault.
+        IsNotTaken play.now (H.accesses host.old) (H.accesses host.new) (message_of fault)) }
 {
     let texts = read_all(alloc, host, play)?;
     match taken(alloc, play, texts.as_slice()) {
@@ -601,30 +618,34 @@ fn take<H: Host>(alloc: Global, host: &mut H, play: &Playing<'_>) -> Result<Read
     }
 }
 
-/// Runs a script with files, as an application alone: reads the script, and then the files, in their order; and prints the
-/// transcript, or writes what the application leaves into a new folder, or prints the zone.
+/// Runs a script with files, as an application alone: reads the script, and then the files, in
+/// their order; and prints the transcript, or writes what the application leaves into a new folder,
+/// or prints the zone.
 ///
 /// # Errors
 ///
-/// A file that can't be read, a script that is faulty, a fork in a wrapper that is damaged, or one that can't be opened: then
-/// nothing is printed or written. Or the standard output, the folder or a file can't be written, or the host is out of memory.
+/// A file that can't be read, a script that is faulty, a fork in a wrapper that is damaged, or one
+/// that can't be opened: then nothing is printed or written. Or the standard output, the folder or
+/// a file can't be written, or the host is out of memory.
 pub fn play<H: Host, W: Watch>(
     alloc: Global,
     host: &mut H,
     play: &Playing<'_>,
     watch: &mut W,
 ) -> Result<Ending, ToolFault>
-    // The script and the files are read, and then what is asked for is printed or written, by what the application leaves alone
-    // with them in a partition of the size. No other file is read or written.
-    ensures done { IfOk result (λ ending. (ending ≡ Done) × Plays play.now (H.printed host.old) (H.printed host.new)
-        (H.accesses host.old) (H.accesses host.new)) }
+    // The script and the files are read, and then what is asked for is printed or written, by what
+    // the application leaves alone with them in a partition of the size. No other file is read or
+    // written.
+    ensures done { IfOk result (λ ending. (ending ≡ Done) × Plays play.now (H.printed host.old)
+        (H.printed host.new) (H.accesses host.old) (H.accesses host.new)) }
 
     // The fault is the first in that order.
-    ensures undone { IfErr result (λ fault. IsUnplayed play.now (H.printed host.old) (H.printed host.new)
-        (H.accesses host.old) (H.accesses host.new) (message_of fault)) }
+    ensures undone { IfErr result (λ fault. IsUnplayed play.now (H.printed host.old)
+        (H.printed host.new) (H.accesses host.old) (H.accesses host.new) (message_of fault)) }
 
     // Nothing is printed of files or a script that are at fault.
-    ensures quiet { IfErr result (λ fault. IsQuiet (H.printed host.old) (H.printed host.new) (message_of fault)) }
+    ensures quiet { IfErr result (λ fault.
+        IsQuiet (H.printed host.old) (H.printed host.new) (message_of fault)) }
 {
     let taken = take(alloc, host, play)?;
     let resources = opened(alloc, &play.parts, &taken.player.job, &taken.player.app)?;

@@ -1,6 +1,7 @@
 //! A job is run, and what it leaves is written.
 
-ghost use Rattle.std.specs.Prelude.{◌≡◌, ◌≤◌, [], map, length, false, Ok, IfOk, IfErr, OnOk, string_capacity};
+ghost use Rattle.std.specs.Prelude.{◌≡◌, ◌≤◌, [], map, length, false, Ok, IfOk, IfErr, OnOk};
+ghost use Rattle.std.specs.Prelude.{string_capacity};
 ghost use Rattle.script_text.specs.Job.{input_seen, job_seen, job_of};
 ghost use Rattle.script_text.specs.JobFacts.{IsMemory, AreInOrder, AreApps};
 ghost use Rattle.desk.specs.View.{outcome_seen};
@@ -10,7 +11,8 @@ ghost use Rattle.fork_tasks.specs.Accesses.{and_then, StopsAmong};
 ghost use Rattle.job_tasks.specs.Gathering.{source_given};
 ghost use Rattle.job_tasks.specs.Outputs.{sources_unless, HasRoom};
 ghost use Rattle.job_tasks.specs.Sizing.{IsSized, IsUnnamed};
-ghost use Rattle.job_tasks.specs.Running.{writes_for, IsJobFault, IsRunFault, Hears, Leaves, IsUnwell, IsUnleft, Runs, IsStopped};
+ghost use Rattle.job_tasks.specs.Running.{writes_for, IsJobFault, IsRunFault, Hears, Leaves};
+ghost use Rattle.job_tasks.specs.Running.{IsUnwell, IsUnleft, Runs, IsStopped};
 
 use crate::gathering::{GatheredJob, Source, gather, system_path};
 use crate::outputs::{sources_unless, write_outcome};
@@ -26,9 +28,9 @@ use raw_region::Region;
 use script_text::{JobText, read_job};
 use std::alloc::Global;
 
-/// A request to run a job: its path and the folder for what it leaves, as they were given, whether forks are to be written
-/// alone, whether transcripts are to be written in words, whether the progress of the job is to be reported, and the sizes of
-/// partitions that are asked for.
+/// A request to run a job: its path and the folder for what it leaves, as they were given, whether
+/// forks are to be written alone, whether transcripts are to be written in words, whether the
+/// progress of the job is to be reported, and the sizes of partitions that are asked for.
 #[derive(Drop)]
 pub struct Errand<'a> {
     pub job: &'a str,
@@ -67,7 +69,8 @@ fn run_in<W: Watch>(
     requires few { length job.now.apps.items ≤ 64 }
     ensures outcome { IsOutcome job.now result.0 }
     ensures alone { IfOk result.0 (λ outcome. EachLaunched IsAlone job.now outcome) }
-    ensures heard { IfOk result.0 (λ outcome. Hears watched job.now outcome.done (W.heard watch.old) (W.heard watch.new)) }
+    ensures heard { IfOk result.0 (λ outcome.
+        Hears watched job.now outcome.done (W.heard watch.old) (W.heard watch.new)) }
     ensures unheard { IfErr result.0 (λ _. W.heard watch.new ≡ W.heard watch.old) }
     ensures home { result.1.out ≡ [] }
 {
@@ -77,8 +80,8 @@ fn run_in<W: Watch>(
     run(alloc, region, job, &mut Unwatched)
 }
 
-/// Runs a job and returns what it leaves, or why the job does not begin. The job's memory is one region. The progress is
-/// reported to the watch if `watched` is set.
+/// Runs a job and returns what it leaves, or why the job does not begin. The job's memory is one
+/// region. The progress is reported to the watch if `watched` is set.
 fn ran<W: Watch>(
     alloc: Global,
     job: &Job,
@@ -94,8 +97,10 @@ fn ran<W: Watch>(
     // What each application leaves that was launched is what it leaves alone.
     ensures alone { IfOk result (λ outcome. EachLaunched IsAlone job.now outcome) }
 
-    // The watch has heard of the events that were completed, if the run is watched; of a run that did not begin, nothing.
-    ensures heard { IfOk result (λ outcome. Hears watched job.now outcome.done (W.heard watch.old) (W.heard watch.new)) }
+    // The watch has heard of the events that were completed, if the run is watched; of a run that
+    // did not begin, nothing.
+    ensures heard { IfOk result (λ outcome.
+        Hears watched job.now outcome.done (W.heard watch.old) (W.heard watch.new)) }
     ensures unheard { IfErr result (λ _. W.heard watch.new ≡ W.heard watch.old) }
 {
     let region = match Region::new(alloc, job.memory as usize) {
@@ -119,7 +124,8 @@ pub fn outcome_of<W: Watch>(
     requires few { length job.now.apps.items ≤ 64 }
     ensures outcome { IfOk result (λ outcome. LeftByRun job.now (outcome_seen outcome)) }
     ensures alone { IfOk result (λ outcome. EachLaunched IsAlone job.now outcome) }
-    ensures heard { IfOk result (λ outcome. Hears watched job.now outcome.done (W.heard watch.old) (W.heard watch.new)) }
+    ensures heard { IfOk result (λ outcome.
+        Hears watched job.now outcome.done (W.heard watch.old) (W.heard watch.new)) }
     ensures unheard { IfErr result (λ _. W.heard watch.new ≡ W.heard watch.old) }
     ensures fault { IfErr result (λ fault. IsRunFault system.now job.now (message_of fault)) }
 {
@@ -133,7 +139,8 @@ pub fn outcome_of<W: Watch>(
     }
 }
 
-/// Writes what a run leaves into a new folder. The text has room for the paths of the files, and goes into the fault.
+/// Writes what a run leaves into a new folder. The text has room for the paths of the files, and
+/// goes into the fault.
 fn write_all<H: Host>(
     alloc: Global,
     host: &mut H,
@@ -157,7 +164,8 @@ fn write_all<H: Host>(
     }
 }
 
-/// Writes what a run leaves into a new folder. A run that stopped is a fault once all that it leaves is written.
+/// Writes what a run leaves into a new folder. A run that stopped is a fault once all that it
+/// leaves is written.
 fn written<H: Host>(
     alloc: Global,
     host: &mut H,
@@ -171,8 +179,8 @@ fn written<H: Host>(
     ensures whole { OnOk result (outcome.now.stopped ≡ false) }
     ensures written { OnOk result (H.accesses host.new ≡ and_then (H.accesses host.old)
         (writes_for folder.now (map source_given sources.now) (outcome_seen outcome.now))) }
-    ensures unwell { IfErr result (λ fault. IsUnwell folder.now (map source_given sources.now) (outcome_seen outcome.now)
-        (H.accesses host.old) (H.accesses host.new) (message_of fault)) }
+    ensures unwell { IfErr result (λ fault. IsUnwell folder.now (map source_given sources.now)
+        (outcome_seen outcome.now) (H.accesses host.old) (H.accesses host.new) (message_of fault)) }
 {
     write_all(alloc, host, folder, sources, outcome, room)?;
     if outcome.stopped {
@@ -181,8 +189,8 @@ fn written<H: Host>(
     Ok(())
 }
 
-/// Runs a job whose System file is read at the path `system`, and writes what the job leaves into a new folder. What the
-/// paths need is taken before the run.
+/// Runs a job whose System file is read at the path `system`, and writes what the job leaves into a
+/// new folder. What the paths need is taken before the run.
 fn leave<H: Host, W: Watch>(
     alloc: Global,
     host: &mut H,
@@ -194,12 +202,14 @@ fn leave<H: Host, W: Watch>(
     requires memory { IsMemory gathered.now.job.memory }
     requires few { length gathered.now.job.apps.items ≤ 64 }
     ensures silent { H.printed host.new ≡ H.printed host.old }
-    ensures left { OnOk result (Leaves errand.now gathered.now.job (map (λ t. t.items) gathered.now.scripts.items)
+    ensures left { OnOk result
+        (Leaves errand.now gathered.now.job (map (λ t. t.items) gathered.now.scripts.items)
         (sources_unless errand.now.bare (map source_given gathered.now.sources.items))
         (W.heard watch.old) (W.heard watch.new) (H.accesses host.old) (H.accesses host.new)) }
-    ensures unleft { IfErr result (λ fault. IsUnleft system.now errand.now gathered.now.job (map (λ t. t.items) gathered.now.scripts.items)
-        (sources_unless errand.now.bare (map source_given gathered.now.sources.items))
-        (W.heard watch.old) (W.heard watch.new) (H.accesses host.old) (H.accesses host.new) (message_of fault)) }
+    ensures unleft { IfErr result (λ fault. IsUnleft system.now errand.now gathered.now.job
+        (map (λ t. t.items) gathered.now.scripts.items) (sources_unless errand.now.bare
+        (map source_given gathered.now.sources.items)) (W.heard watch.old) (W.heard watch.new)
+        (H.accesses host.old) (H.accesses host.new) (message_of fault)) }
 {
     let room = room_for_paths(alloc, errand.out)?;
     let outcome = outcome_of(alloc, &gathered.job, system, errand.watched, watch)?;
@@ -222,10 +232,12 @@ fn with_sizes(
     gathered: GatheredJob,
 ) -> Result<GatheredJob, ToolFault>
     ensures sized { IfOk result (λ sized. IsSized errand.now.sizes.items gathered.job sized.job) }
-    ensures few { IfOk result (λ sized. length sized.job.apps.items ≡ length gathered.job.apps.items) }
+    ensures few { IfOk result (λ sized. length sized.job.apps.items
+        ≡ length gathered.job.apps.items) }
     ensures scripts { IfOk result (λ sized. sized.scripts ≡ gathered.scripts) }
     ensures sources { IfOk result (λ sized. sized.sources ≡ gathered.sources) }
-    ensures fault { IfErr result (λ fault. IsUnnamed errand.now.job.now errand.now.sizes.items gathered.job (message_of fault)) }
+    ensures fault { IfErr result (λ fault.
+        IsUnnamed errand.now.job.now errand.now.sizes.items gathered.job (message_of fault)) }
 {
     let GatheredJob {
         job,
@@ -242,15 +254,18 @@ fn with_sizes(
     }
 }
 
-/// Runs a job: reads the job, and what its lines name, in their order; performs its events, where an application is launched
-/// in a partition of the size that is asked for it, if one is; and writes what it leaves into a new folder.
+/// Runs a job: reads the job, and what its lines name, in their order; performs its events, where
+/// an application is launched in a partition of the size that is asked for it, if one is; and
+/// writes what it leaves into a new folder.
 ///
 /// # Errors
 ///
-/// A file that can't be read, the first faulty line of the job or of a script, a size for an application that the job doesn't
-/// have, or a System file that is no resource fork: then nothing is written. A folder that exists already, or a file that can't be written: then no other file is
-/// written after it. Or the host is out of memory: before the first event nothing is written; within an event the run
-/// stops, and what was completed is written; where a fork is put into a file, no other file is written after it.
+/// A file that can't be read, the first faulty line of the job or of a script, a size for an
+/// application that the job doesn't have, or a System file that is no resource fork: then nothing
+/// is written. A folder that exists already, or a file that can't be written: then no other file is
+/// written after it. Or the host is out of memory: before the first event nothing is written;
+/// within an event the run stops, and what was completed is written; where a fork is put into a
+/// file, no other file is written after it.
 pub fn run_job<H: Host, W: Watch>(
     alloc: Global,
     host: &mut H,
@@ -260,16 +275,17 @@ pub fn run_job<H: Host, W: Watch>(
     // Nothing is printed.
     ensures silent { H.printed host.new ≡ H.printed host.old }
 
-    // The job and all that its lines name are read; then the folder is made, and the files that the run leaves, by the
-    // definition of the desk, are written, in their order. No other file is read or written.
+    // The job and all that its lines name are read; then the folder is made, and the files that the
+    // run leaves, by the definition of the desk, are written, in their order. No other file is read
+    // or written.
     ensures runs { OnOk result (Runs errand.now (W.heard watch.old) (W.heard watch.new)
         (H.accesses host.old) (H.accesses host.new)) }
 
-    // The fault is the first in that order, and nothing is read or written after it; but a run that stops, since the host
-    // is out of memory, has its fault after all that it leaves is written. The watch has heard nothing of a run that did
-    // not begin.
-    ensures stopped { IfErr result (λ fault. IsStopped errand.now (W.heard watch.old) (W.heard watch.new)
-        (H.accesses host.old) (H.accesses host.new) (message_of fault)) }
+    // The fault is the first in that order, and nothing is read or written after it; but a run that
+    // stops, since the host is out of memory, has its fault after all that it leaves is written.
+    // The watch has heard nothing of a run that did not begin.
+    ensures stopped { IfErr result (λ fault. IsStopped errand.now (W.heard watch.old)
+        (W.heard watch.new) (H.accesses host.old) (H.accesses host.new) (message_of fault)) }
 {
     let bytes = read_input(alloc, host, errand.job)?;
     let text = job_text(alloc, errand.job, &bytes)?;

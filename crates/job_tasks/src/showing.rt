@@ -14,8 +14,9 @@ use script_text::Script;
 use std::alloc::{AllocError, Global};
 use zone_view::{Sight, Telling, show, tell};
 
-/// Runs a script as far as is to be shown, as `show` does, in a partition that fills a region, whatever the region's
-/// bytes were. Returns what is shown, and the region. `text` is the text of the script.
+/// Runs a script as far as is to be shown, as `show` does, in a partition that fills a region,
+/// whatever the region's bytes were. Returns what is shown, and the region. `text` is the text of
+/// the script.
 ///
 /// # Errors
 ///
@@ -44,8 +45,8 @@ pub fn show_in_region(
     (shown, region)
 }
 
-/// Runs a script as far as is to be shown in a partition that fills a region, as an application without resources.
-/// Returns what is shown, and the region. `text` is the text of the script.
+/// Runs a script as far as is to be shown in a partition that fills a region, as an application
+/// without resources. Returns what is shown, and the region. `text` is the text of the script.
 ///
 /// # Errors
 ///
@@ -76,8 +77,9 @@ pub fn show_script(
     }
 }
 
-/// Runs an application with these resources alone, as `tell` does, in a partition that fills a region, whatever the
-/// region's bytes were. Returns so much of its transcript in words, and the region. `text` is the text of the script.
+/// Runs an application with these resources alone, as `tell` does, in a partition that fills a
+/// region, whatever the region's bytes were. Returns so much of its transcript in words, and the
+/// region. `text` is the text of the script.
 ///
 /// # Errors
 ///

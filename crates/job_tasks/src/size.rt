@@ -26,7 +26,8 @@ fn has_digits_only(text: &str) -> bool
 }
 
 impl PartitionSize {
-    /// Returns a number of bytes rounded down to a multiple of 16, if the number is within the limits.
+    /// Returns a number of bytes rounded down to a multiple of 16, if the number is within the
+    /// limits.
     fn within_limits(size: u32) -> Option<PartitionSize>
         ensures { option_map (λ s. s.bytes) result ≡ within_limits size }
     {

@@ -11,7 +11,8 @@ use desk::{App, Job};
 use fork_tasks::ToolFault;
 use std::alloc::{AllocError, Global};
 
-/// The size of a partition that is asked for an application of a job, in place of the sizes of its 'SIZE' -1.
+/// The size of a partition that is asked for an application of a job, in place of the sizes of its
+/// 'SIZE' -1.
 #[derive(Clone, Copy)]
 pub struct AskedSize<'a> {
     /// The application's name, as it was given.

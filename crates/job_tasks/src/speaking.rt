@@ -4,7 +4,8 @@ ghost use Rattle.std.specs.Prelude.{◌≡◌, option_map, slice_get, map, OnOk,
 ghost use Rattle.desk.specs.Live.{leaves_seen};
 ghost use Rattle.desk.specs.View.{told_seen, outcome_seen};
 ghost use Rattle.desk.specs.Whole.{system_of, start_with};
-ghost use Rattle.job_tasks.specs.Speaking.{launched_in_words, app_in_words, apps_in_words, written_of};
+ghost use Rattle.job_tasks.specs.Speaking.{launched_in_words, app_in_words, apps_in_words};
+ghost use Rattle.job_tasks.specs.Speaking.{written_of};
 
 use crate::job_zones::size_of;
 use crate::playing::told;
@@ -13,7 +14,8 @@ use heap_calls::Refusal;
 use std::alloc::{AllocError, Global};
 use zone_view::Telling;
 
-/// Puts the transcript of an application that was launched into words. `text` is the text of its script.
+/// Puts the transcript of an application that was launched into words. `text` is the text of its
+/// script.
 fn speak(
     alloc: Global,
     job: &Job,
@@ -22,7 +24,8 @@ fn speak(
     launched: &mut Launched,
 ) -> Result<(), AllocError>
     ensures { OnOk result (leaves_seen launched.new
-        ≡ launched_in_words (start_with (system_of job.now) app.now) app.now.script text.now (leaves_seen launched.old)) }
+        ≡ launched_in_words (start_with (system_of job.now) app.now) app.now.script text.now
+        (leaves_seen launched.old)) }
 {
     let telling = Telling::Whole(launched.steps, launched.asked);
     match open_resources(alloc, job, app) {
@@ -45,8 +48,8 @@ fn speak_app(
     left: &mut AppOutcome,
 ) -> Result<(), AllocError>
     ensures { OnOk result (told_seen left.new
-        ≡ app_in_words (system_of job.now) (option_map (λ a. a.now) app.entry) (option_map (λ t. t.now.items) text.entry)
-        (told_seen left.old)) }
+        ≡ app_in_words (system_of job.now) (option_map (λ a. a.now) app.entry)
+        (option_map (λ t. t.now.items) text.entry) (told_seen left.old)) }
 {
     let (Some(app), Some(text)) = (app, text) else {
         return Ok(());
@@ -57,7 +60,8 @@ fn speak_app(
     }
 }
 
-/// Puts the transcripts of all applications that were launched into words. `scripts` are the texts of their scripts.
+/// Puts the transcripts of all applications that were launched into words. `scripts` are the texts
+/// of their scripts.
 fn speak_apps(
     alloc: Global,
     job: &Job,
@@ -73,7 +77,8 @@ fn speak_apps(
     Ok(())
 }
 
-/// Returns what is written of a run: its transcripts are in words where that is asked for, unless the run stopped.
+/// Returns what is written of a run: its transcripts are in words where that is asked for, unless
+/// the run stopped.
 pub fn written_of(
     alloc: Global,
     in_words: bool,

@@ -12,7 +12,8 @@ ghost use Rattle.fork_tasks.specs.Delivering.{Delivers, IsUndelivered};
 ghost use Rattle.fork_tasks.specs.Fault.{message_of, IsForkFault};
 ghost use Rattle.fork_tasks.specs.Listing as spec;
 ghost use Rattle.job_tasks.specs.Work.{IsTranscriptOf, IsZoneOf, IsFormText, IsDescription};
-ghost use Rattle.job_tasks.specs.Tasks.{script_message, IsScriptFault, Prints, IsRefusal, description_text, is_state, ending_for};
+ghost use Rattle.job_tasks.specs.Tasks.{script_message, IsScriptFault, Prints, IsRefusal};
+ghost use Rattle.job_tasks.specs.Tasks.{description_text, is_state, ending_for};
 
 use crate::dumping::print_answer;
 use crate::size::PartitionSize;
@@ -57,7 +58,8 @@ pub struct Task<'a> {
 
 /// Returns the fault of a script or of a job, with its path.
 pub fn script_fault(alloc: Global, path: &str, fault: ScriptFault) -> Result<ToolFault, AllocError>
-    ensures { IfOk result (λ made. message_of made ≡ script_message path.now fault.line fault.kind) }
+    ensures { IfOk result (λ made. message_of made
+        ≡ script_message path.now fault.line fault.kind) }
 {
     match fault.kind {
         FaultKind::HostMemory => Ok(ToolFault::HostMemory),
@@ -69,7 +71,8 @@ pub fn script_fault(alloc: Global, path: &str, fault: ScriptFault) -> Result<Too
     }
 }
 
-/// Runs a script and returns its transcript. The progress is reported to the watch if that is asked for.
+/// Runs a script and returns its transcript. The progress is reported to the watch if that is asked
+/// for.
 fn transcript_at<W: Watch>(
     alloc: Global,
     size: PartitionSize,
@@ -78,7 +81,8 @@ fn transcript_at<W: Watch>(
     watch: &mut W,
 ) -> Result<Vec<u8>, ToolFault>
     ensures transcript { IfOk result (λ out. IsTranscriptOf size.bytes text.now out.items) }
-    ensures fault { IfErr result (λ fault. IsScriptFault task.entry.path.now text.now (message_of fault)) }
+    ensures fault { IfErr result (λ fault.
+        IsScriptFault task.entry.path.now text.now (message_of fault)) }
 {
     let transcript = if task.watched {
         transcript_of(alloc, size, text, watch)
@@ -101,10 +105,12 @@ fn print_transcript<H: Host, W: Watch>(
     text: &[u8],
     watch: &mut W,
 ) -> Result<Ending, ToolFault>
-    ensures printed { OnOk result (Prints (work.Script size) text.now (H.printed host.old) (H.printed host.new)) }
+    ensures printed { OnOk result
+        (Prints (work.Script size) text.now (H.printed host.old) (H.printed host.new)) }
     ensures ending { IfOk result (λ ending. ending ≡ Done) }
-    ensures fault { IfErr result (λ fault. IsRefusal (work.Script size) task.entry.path.now text.now
-        (H.printed host.old) (H.printed host.new) (H.accesses host.old) (H.accesses host.new) (message_of fault)) }
+    ensures fault { IfErr result (λ fault.
+        IsRefusal (work.Script size) task.entry.path.now text.now (H.printed host.old)
+        (H.printed host.new) (H.accesses host.old) (H.accesses host.new) (message_of fault)) }
     ensures files { OnOk result (H.accesses host.new ≡ H.accesses host.old) }
 {
     let out = transcript_at(alloc, size, task, text, watch)?;
@@ -132,10 +138,12 @@ fn print_zone<H: Host>(
     path: &str,
     text: &[u8],
 ) -> Result<Ending, ToolFault>
-    ensures printed { OnOk result (Prints (work.Heap asked) text.now (H.printed host.old) (H.printed host.new)) }
+    ensures printed { OnOk result
+        (Prints (work.Heap asked) text.now (H.printed host.old) (H.printed host.new)) }
     ensures ending { IfOk result (λ ending. ending ≡ Done) }
-    ensures fault { IfErr result (λ fault. IsRefusal (work.Heap asked) path.now text.now
-        (H.printed host.old) (H.printed host.new) (H.accesses host.old) (H.accesses host.new) (message_of fault)) }
+    ensures fault { IfErr result (λ fault.
+        IsRefusal (work.Heap asked) path.now text.now (H.printed host.old) (H.printed host.new)
+        (H.accesses host.old) (H.accesses host.new) (message_of fault)) }
     ensures files { OnOk result (H.accesses host.new ≡ H.accesses host.old) }
 {
     let out = zone_at(alloc, asked, path, text)?;
@@ -143,11 +151,13 @@ fn print_zone<H: Host>(
     Ok(Ending::Done)
 }
 
-/// Returns the line with the form of a resource fork: whether it is the canonical fork of its content.
+/// Returns the line with the form of a resource fork: whether it is the canonical fork of its
+/// content.
 #[tactic(auto, using(fork_tasks::proofs::Faults::fork_stopped))]
 fn form_at(alloc: Global, path: &str, bytes: &[u8]) -> Result<&'static [u8], ToolFault>
     ensures form { IfOk result (λ out. IsFormText bytes.now out.now) }
-    ensures fault { IfErr result (λ fault. IsForkFault path.now (content_in bytes.now) (message_of fault)) }
+    ensures fault { IfErr result (λ fault.
+        IsForkFault path.now (content_in bytes.now) (message_of fault)) }
 {
     match form_of(alloc, bytes) {
         Ok(form) => Ok(form.text()),
@@ -163,10 +173,12 @@ fn print_form<H: Host>(
     path: &str,
     bytes: &[u8],
 ) -> Result<Ending, ToolFault>
-    ensures printed { OnOk result (Prints work.Check bytes.now (H.printed host.old) (H.printed host.new)) }
+    ensures printed { OnOk result
+        (Prints work.Check bytes.now (H.printed host.old) (H.printed host.new)) }
     ensures ending { IfOk result (λ ending. ending ≡ Done) }
-    ensures fault { IfErr result (λ fault. IsRefusal work.Check path.now bytes.now
-        (H.printed host.old) (H.printed host.new) (H.accesses host.old) (H.accesses host.new) (message_of fault)) }
+    ensures fault { IfErr result (λ fault.
+        IsRefusal work.Check path.now bytes.now (H.printed host.old) (H.printed host.new)
+        (H.accesses host.old) (H.accesses host.new) (message_of fault)) }
     ensures files { OnOk result (H.accesses host.new ≡ H.accesses host.old) }
 {
     let out = form_at(alloc, path, bytes)?;
@@ -183,9 +195,9 @@ fn deliver_listing<H: Host>(
     ensures delivered { OnOk result (Delivers Printed
         (spec.listing listing.now.spelling listing.now.info.items (view listing.now.content))
         (H.printed host.old) (H.printed host.new) (H.accesses host.old) (H.accesses host.new)) }
-    ensures undelivered { IfErr result (λ fault. IsUndelivered Printed
-        (spec.listing listing.now.spelling listing.now.info.items (view listing.now.content))
-        (H.printed host.old) (H.printed host.new) (H.accesses host.old) (H.accesses host.new) (message_of fault)) }
+    ensures undelivered { IfErr result (λ fault. IsUndelivered Printed (spec.listing
+        listing.now.spelling listing.now.info.items (view listing.now.content)) (H.printed host.old)
+        (H.printed host.new) (H.accesses host.old) (H.accesses host.new) (message_of fault)) }
 {
     match print_listing(alloc, host, listing) {
         Ok(()) => Ok(()),
@@ -202,7 +214,8 @@ fn content_at<'f>(
 ) -> Result<Content<'f>, ToolFault>
     requires { IsOpen file.now }
     ensures content { IfOk result (λ c. content_in (bytes_of file.now) ≡ Ok (view c)) }
-    ensures fault { IfErr result (λ fault. IsForkFault path.now (content_in (bytes_of file.now)) (message_of fault)) }
+    ensures fault { IfErr result (λ fault.
+        IsForkFault path.now (content_in (bytes_of file.now)) (message_of fault)) }
 {
     match content_in(alloc, file) {
         Ok(content) => Ok(content),
@@ -220,10 +233,12 @@ fn print_opened<H: Host>(
     file: &OpenFile<'_>,
 ) -> Result<Ending, ToolFault>
     requires { IsOpen file.now }
-    ensures printed { OnOk result (Prints (work.Map spelling) (bytes_of file.now) (H.printed host.old) (H.printed host.new)) }
+    ensures printed { OnOk result
+        (Prints (work.Map spelling) (bytes_of file.now) (H.printed host.old) (H.printed host.new)) }
     ensures ending { IfOk result (λ ending. ending ≡ Done) }
-    ensures fault { IfErr result (λ fault. IsRefusal (work.Map spelling) path.now (bytes_of file.now)
-        (H.printed host.old) (H.printed host.new) (H.accesses host.old) (H.accesses host.new) (message_of fault)) }
+    ensures fault { IfErr result (λ fault.
+        IsRefusal (work.Map spelling) path.now (bytes_of file.now) (H.printed host.old)
+        (H.printed host.new) (H.accesses host.old) (H.accesses host.new) (message_of fault)) }
     ensures files { OnOk result (H.accesses host.new ≡ H.accesses host.old) }
 {
     let content = content_at(alloc, path, file)?;
@@ -245,17 +260,20 @@ fn print_map<H: Host>(
     path: &str,
     bytes: &[u8],
 ) -> Result<Ending, ToolFault>
-    ensures printed { OnOk result (Prints (work.Map spelling) bytes.now (H.printed host.old) (H.printed host.new)) }
+    ensures printed { OnOk result
+        (Prints (work.Map spelling) bytes.now (H.printed host.old) (H.printed host.new)) }
     ensures ending { IfOk result (λ ending. ending ≡ Done) }
-    ensures fault { IfErr result (λ fault. IsRefusal (work.Map spelling) path.now bytes.now
-        (H.printed host.old) (H.printed host.new) (H.accesses host.old) (H.accesses host.new) (message_of fault)) }
+    ensures fault { IfErr result (λ fault.
+        IsRefusal (work.Map spelling) path.now bytes.now (H.printed host.old) (H.printed host.new)
+        (H.accesses host.old) (H.accesses host.new) (message_of fault)) }
     ensures files { OnOk result (H.accesses host.new ≡ H.accesses host.old) }
 {
     let file = opened_at(alloc, path, bytes)?;
     print_opened(alloc, host, spelling, path, &file)
 }
 
-/// What a file is, and the listing of its resource fork; or the state of a file whose fork has no content.
+/// What a file is, and the listing of its resource fork; or the state of a file whose fork has no
+/// content.
 #[derive(Drop)]
 enum Description<'f> {
     Listing(Listing<'f>),
@@ -319,8 +337,9 @@ fn deliver_description<H: Host>(
 ) -> Result<(), ToolFault>
     ensures delivered { OnOk result (Delivers Printed (description_text description.now)
         (H.printed host.old) (H.printed host.new) (H.accesses host.old) (H.accesses host.new)) }
-    ensures undelivered { IfErr result (λ fault. IsUndelivered Printed (description_text description.now)
-        (H.printed host.old) (H.printed host.new) (H.accesses host.old) (H.accesses host.new) (message_of fault)) }
+    ensures undelivered { IfErr result (λ fault.
+        IsUndelivered Printed (description_text description.now) (H.printed host.old)
+        (H.printed host.new) (H.accesses host.old) (H.accesses host.new) (message_of fault)) }
 {
     match description {
         Description::Listing(listing) => deliver_listing(alloc, host, listing),
@@ -337,10 +356,13 @@ fn print_description<H: Host>(
     path: &str,
     bytes: &[u8],
 ) -> Result<Ending, ToolFault>
-    ensures printed { OnOk result (Prints (work.Describe spelling) bytes.now (H.printed host.old) (H.printed host.new)) }
-    ensures ending { IfOk result (λ ending. ending ≡ ending_for (work.Describe spelling) bytes.now) }
-    ensures fault { IfErr result (λ fault. IsRefusal (work.Describe spelling) path.now bytes.now
-        (H.printed host.old) (H.printed host.new) (H.accesses host.old) (H.accesses host.new) (message_of fault)) }
+    ensures printed { OnOk result
+        (Prints (work.Describe spelling) bytes.now (H.printed host.old) (H.printed host.new)) }
+    ensures ending { IfOk result (λ ending. ending
+        ≡ ending_for (work.Describe spelling) bytes.now) }
+    ensures fault { IfErr result (λ fault.
+        IsRefusal (work.Describe spelling) path.now bytes.now (H.printed host.old)
+        (H.printed host.new) (H.accesses host.old) (H.accesses host.new) (message_of fault)) }
     ensures files { OnOk result (H.accesses host.new ≡ H.accesses host.old) }
 {
     let file = opened_at(alloc, path, bytes)?;
@@ -349,13 +371,14 @@ fn print_description<H: Host>(
     Ok(Ending::of(said.is_state()))
 }
 
-/// Does a task: prints what it prints of the bytes of its file. Nothing is printed before the bytes are known to have
-/// no fault. The progress of a script is reported to the watch if the task asks for that.
+/// Does a task: prints what it prints of the bytes of its file. Nothing is printed before the bytes
+/// are known to have no fault. The progress of a script is reported to the watch if the task asks
+/// for that.
 ///
 /// # Errors
 ///
-/// The fault of the bytes, with the file's path. If the standard output fails, or the host is out of memory, a front
-/// of what is to be printed may have been printed.
+/// The fault of the bytes, with the file's path. If the standard output fails, or the host is out
+/// of memory, a front of what is to be printed may have been printed.
 pub fn do_task<H: Host, W: Watch>(
     alloc: Global,
     host: &mut H,
@@ -363,16 +386,19 @@ pub fn do_task<H: Host, W: Watch>(
     bytes: &[u8],
     watch: &mut W,
 ) -> Result<Ending, ToolFault>
-    // A script's transcript or its zone, a fork's listing, the line with a fork's form, or what is asked of a dump is printed,
-    // and nothing else.
-    ensures printed { OnOk result (Prints task.entry.work bytes.now (H.printed host.old) (H.printed host.new)) }
+    // A script's transcript or its zone, a fork's listing, the line with a fork's form, or what is
+    // asked of a dump is printed, and nothing else.
+    ensures printed { OnOk result
+        (Prints task.entry.work bytes.now (H.printed host.old) (H.printed host.new)) }
 
-    // The ending says whether a file that is described has a fork with a content, a zone that is checked is whole, and a zone is found.
+    // The ending says whether a file that is described has a fork with a content, a zone that is
+    // checked is whole, and a zone is found.
     ensures ending { IfOk result (λ ending. ending ≡ ending_for task.entry.work bytes.now) }
 
     // The bytes are faulty and nothing is printed, or printing failed.
-    ensures fault { IfErr result (λ fault. IsRefusal task.entry.work task.entry.path.now bytes.now
-        (H.printed host.old) (H.printed host.new) (H.accesses host.old) (H.accesses host.new) (message_of fault)) }
+    ensures fault { IfErr result (λ fault.
+        IsRefusal task.entry.work task.entry.path.now bytes.now (H.printed host.old)
+        (H.printed host.new) (H.accesses host.old) (H.accesses host.new) (message_of fault)) }
 
     // No file is read or written.
     ensures files { OnOk result (H.accesses host.new ≡ H.accesses host.old) }

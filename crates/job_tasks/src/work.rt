@@ -8,10 +8,12 @@ ghost use Rattle.fork_format.specs.View.{view};
 ghost use Rattle.fork_commands.specs.Faults.{Stops};
 ghost use Rattle.fork_commands.specs.Opening.{bytes_of, IsOpen};
 ghost use Rattle.fork_commands.specs.Reading.{content_of_fork, content_in};
-ghost use Rattle.job_tasks.specs.Work.{IsTranscriptOf, IsZoneOf, IsForkForm, IsFormOf, TellsForm, text_of, sight_of, telling_of};
+ghost use Rattle.job_tasks.specs.Work.{IsTranscriptOf, IsZoneOf, IsForkForm, IsFormOf, TellsForm};
+ghost use Rattle.job_tasks.specs.Work.{text_of, sight_of, telling_of};
 
 use crate::showing::show_script;
 use crate::size::PartitionSize;
+use crate::zone_form::ZoneForm;
 use applications::Watch;
 use desk::run_script;
 use fork_commands::{OpenFile, WorkFault, content_of_fork, fork_in, open_file};
@@ -19,7 +21,7 @@ use fork_format::{Content, WriteFault, write_fork};
 use raw_region::Region;
 use script_text::{FaultKind, Script, ScriptFault, read_script};
 use std::alloc::{AllocError, Global};
-use zone_view::{Form as ZoneForm, Sight, Strips, Telling, steps_at};
+use zone_view::{Sight, Strips, Telling, steps_at};
 
 /// The form of a resource fork: what its bytes are to its content.
 #[derive(Clone, Copy)]
@@ -48,8 +50,8 @@ const NO_MEMORY: ScriptFault = ScriptFault {
     kind: FaultKind::HostMemory,
 };
 
-/// Runs a script in a fresh partition, which is a region of its own, and returns the script's transcript. `watch` is
-/// informed of the number of lines that are done.
+/// Runs a script in a fresh partition, which is a region of its own, and returns the script's
+/// transcript. `watch` is informed of the number of lines that are done.
 pub fn transcript_of<W: Watch>(
     alloc: Global,
     size: PartitionSize,
@@ -79,7 +81,8 @@ pub fn transcript_of<W: Watch>(
 pub enum Lines {
     /// After this line, or after the last step where no line is given, in a form.
     One(Option<usize>, ZoneForm),
-    /// After the first line, and after each further step up to the second line, as a picture that is drawn so.
+    /// After the first line, and after each further step up to the second line, as a picture that
+    /// is drawn so.
     Each(usize, usize, Strips),
 }
 
@@ -117,7 +120,7 @@ pub(crate) fn sight_of(lines: Lines, script: &Script) -> Sight
     ensures { result ≡ sight_of lines script.now.steps }
 {
     match lines {
-        Lines::One(line, form) => Sight::Zone(steps_at(line, script), form),
+        Lines::One(line, form) => Sight::Zone(steps_at(line, script), form.shown_as()),
         Lines::Each(from, to, strips) => {
             Sight::Moments(
                 steps_at(Some(from), script),
@@ -128,8 +131,8 @@ pub(crate) fn sight_of(lines: Lines, script: &Script) -> Sight
     }
 }
 
-/// Runs a script up to a line in a fresh partition, which is a region of its own, and returns the zone as it then lies, or
-/// a picture of its moments.
+/// Runs a script up to a line in a fresh partition, which is a region of its own, and returns the
+/// zone as it then lies, or a picture of its moments.
 pub fn zone_of(alloc: Global, asked: ZoneView, text: &[u8]) -> Result<Vec<u8>, ScriptFault>
     // The zone is that of the script's application after the steps up to the lines.
     ensures zone { IfOk result (λ out. IsZoneOf asked text.now out.items) }

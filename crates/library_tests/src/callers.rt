@@ -1,4 +1,5 @@
-//! What a caller writes of each library below applications: the README of the library shows the same lines.
+//! What a caller writes of each library below applications: the README of the library shows the
+//! same lines.
 
 use crate::forks::{NOTE, joined};
 use arrayvec::ArrayVec;

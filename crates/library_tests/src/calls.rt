@@ -174,8 +174,8 @@ pub fn heap_of(alloc: Global) -> Result<Heap<ListStore>, AllocError> {
     Ok(Heap::new(alloc, ListStore::new(alloc, 1024)?))
 }
 
-/// Makes calls one after another, and asserts that each has its expected result. Where `again` is set, a call for which
-/// the host was out of memory is made once more.
+/// Makes calls one after another, and asserts that each has its expected result. Where `again` is
+/// set, a call for which the host was out of memory is made once more.
 pub fn assert_rows(
     rt: &impl Abort,
     heap: &mut Heap<ListStore>,
@@ -191,8 +191,8 @@ pub fn assert_rows(
     }
 }
 
-/// Makes calls one after another in a zone of 1024 bytes, and asserts that each has its expected result. Where `again`
-/// is set, a call for which the host was out of memory is made once more.
+/// Makes calls one after another in a zone of 1024 bytes, and asserts that each has its expected
+/// result. Where `again` is set, a call for which the host was out of memory is made once more.
 pub fn assert_answers(
     rt: &impl Abort,
     alloc: Global,

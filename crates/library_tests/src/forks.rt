@@ -11,8 +11,8 @@ use std::test::Fail;
 /// The bytes between a header and the data of a fork.
 const AREA: &[u8] = &[0; 240];
 
-/// A fork without resources: its header, its data area, which has no bytes, the copy of the header, and the rest of the
-/// resource map.
+/// A fork without resources: its header, its data area, which has no bytes, the copy of the header,
+/// and the rest of the resource map.
 const EMPTY: &[&[u8]] = &[
     b"\0\0\x01\0\0\0\x01\0\0\0\0\0\0\0\0\x1e",
     AREA,
@@ -117,8 +117,8 @@ fn each_changed_byte_is_refused_or_rewritten(rt: HostRuntime) -> Result<(), Fail
     Ok(())
 }
 
-/// Returns a fork whose type list has 65,535 entries, which share one reference. The type of an entry is its number
-/// modulo `kinds`.
+/// Returns a fork whose type list has 65,535 entries, which share one reference. The type of an
+/// entry is its number modulo `kinds`.
 fn fork_of_types(alloc: Global, kinds: u32) -> Result<Vec<u8>, AllocError>
     requires { 0 < kinds }
 {
@@ -143,7 +143,8 @@ fn are_in_order(groups: &[Group<'_>]) -> bool {
     true
 }
 
-/// Returns the number of types that are read from a fork of `fork_of_types`, and whether the types are in order.
+/// Returns the number of types that are read from a fork of `fork_of_types`, and whether the types
+/// are in order.
 fn types_read(alloc: Global, kinds: u32) -> Result<(usize, bool), Fail>
     requires { 0 < kinds }
 {
@@ -159,7 +160,8 @@ fn types_are_read_in_order_however_many(rt: HostRuntime) -> Result<(), Fail> {
     Ok(())
 }
 
-/// Returns a content of one type with `count` references, whose data have no bytes, and which have no names.
+/// Returns a content of one type with `count` references, whose data have no bytes, and which have
+/// no names.
 fn content_of(alloc: Global, count: i16) -> Result<Content<'static>, AllocError> {
     let mut refs = Vec::new(alloc);
     for id in 0..count {
@@ -183,8 +185,8 @@ fn content_of(alloc: Global, count: i16) -> Result<Content<'static>, AllocError>
 
 #[test]
 fn one_type_has_5458_references_at_most(rt: HostRuntime) -> Result<(), Fail> {
-    // The map begins past the header, the area and the data, which have a length word each; its bytes 26 and 27 are the
-    // offset of the name list.
+    // The map begins past the header, the area and the data, which have a length word each; its
+    // bytes 26 and 27 are the offset of the name list.
     const NAME_LIST: usize = 256 + 4 * 5_458 + 26;
     let most = content_of(rt.alloc(), 5_458)?;
     assert!(rt; fits(&most));

@@ -176,7 +176,8 @@ fn three_numbers_are_busy_at_most(rt: HostRuntime) -> Result<(), Fail> {
 fn a_call_that_was_refused_memory_is_made_again(rt: HostRuntime) {
     const ROWS: &[(Call, Answer)] = &[
         (Call::NewHandle(4), Answer::Made(0)),
-        // The block grows in place, becomes shorter, moves past the next block, and becomes shorter again.
+        // The block grows in place, becomes shorter, moves past the next block, and becomes shorter
+        // again.
         (Call::SetHandleSize(A, 40), Answer::Done),
         (Call::SetHandleSize(A, 4), Answer::Done),
         (Call::NewHandle(20), Answer::Made(1)),

@@ -6,7 +6,8 @@ ghost use Rattle.heap_calls.specs.Gone.{IsIdle};
 use heap_calls::PurgeSink;
 use std::alloc::{AllocError, Global};
 
-/// A sink that keeps the blocks that it is offered: the number of each block's handle, and the block's bytes.
+/// A sink that keeps the blocks that it is offered: the number of each block's handle, and the
+/// block's bytes.
 #[derive(Drop)]
 pub struct Recorder {
     alloc: Global,
@@ -18,8 +19,8 @@ pub struct Recorder {
 }
 
 impl Recorder {
-    /// Makes a sink that was offered nothing. It refuses the offer of the number `refuses`, counted from 0, as where the
-    /// host is out of memory; where there is no such number, it refuses none.
+    /// Makes a sink that was offered nothing. It refuses the offer of the number `refuses`, counted
+    /// from 0, as where the host is out of memory; where there is no such number, it refuses none.
     pub fn new(alloc: Global, refuses: Option<usize>) -> Recorder
         ensures { IsIdle ⟦<Recorder as PurgeSink>⟧.told ⟦<Recorder as PurgeSink>⟧.waits result }
     {
@@ -48,7 +49,8 @@ impl PurgeSink for Recorder {
 
     ghost listens = { λ _. true };
 
-    ghost told = { λ sink gone. gone ≡ map (λ p. (p.0, p.1.items)) (take sink.committed sink.kept.items) };
+    ghost told = { λ sink gone. gone
+        ≡ map (λ p. (p.0, p.1.items)) (take sink.committed sink.kept.items) };
 
     ghost waits = { λ sink gone. gone ≡ map (λ p. (p.0, p.1.items)) sink.kept.items };
 

@@ -1,4 +1,5 @@
-//! Calls that purge blocks for room, made with a sink to which the blocks are reported, and with one that does not listen.
+//! Calls that purge blocks for room, made with a sink to which the blocks are reported, and with
+//! one that does not listen.
 
 ghost use Rattle.heap_calls.specs.Gone.{IsIdle};
 
@@ -39,8 +40,9 @@ pub type Rows = &'static [(Call, Answer)];
 /// The number of a handle, and the bytes of its block.
 pub type Block = (usize, &'static [u8]);
 
-/// A call in a zone of its own: the calls before it, the call, its expected result, the blocks that are to be reported to
-/// a sink, in order, and the numbers of the handles that are to have a block after it.
+/// A call in a zone of its own: the calls before it, the call, its expected result, the blocks that
+/// are to be reported to a sink, in order, and the numbers of the handles that are to have a block
+/// after it.
 pub type Case = (Rows, RoomCall, Answer, &'static [Block], &'static [usize]);
 
 /// Cases in zones in which the same calls come first.
@@ -48,8 +50,8 @@ pub type Case = (Rows, RoomCall, Answer, &'static [Block], &'static [usize]);
 pub struct Scene {
     pub first: &'static [Rows],
     pub cases: &'static [Case],
-    /// How many blocks each call purges for a new master pointer block, if it makes one and purges as many: they stay
-    /// purged where the sink refuses a block that is purged after them.
+    /// How many blocks each call purges for a new master pointer block, if it makes one and purges
+    /// as many: they stay purged where the sink refuses a block that is purged after them.
     pub for_masters: usize,
 }
 
@@ -113,7 +115,8 @@ fn heap_after(
     Ok(heap)
 }
 
-/// Asserts that these blocks were reported to a sink, in order, and that it was offered nothing else that it keeps.
+/// Asserts that these blocks were reported to a sink, in order, and that it was offered nothing
+/// else that it keeps.
 fn assert_reported(rt: &impl Abort, sink: &Recorder, expected: &[Block]) {
     assert!(rt; sink.is_idle());
     assert!(rt; sink.reported().len() == expected.len());
@@ -131,7 +134,8 @@ fn assert_left(rt: &impl Abort, heap: &Heap<ListStore>, left: &[usize]) {
     }
 }
 
-/// Reports whether the handle of a number has a block with the same bytes in both heaps, or has no block in either.
+/// Reports whether the handle of a number has a block with the same bytes in both heaps, or has no
+/// block in either.
 fn is_same(heap: &Heap<ListStore>, other: &Heap<ListStore>, number: usize) -> bool {
     match (heap.bytes(number), other.bytes(number)) {
         (Some(bytes), Some(others)) => *bytes == *others,
@@ -145,8 +149,8 @@ fn is_reported(sink: &Recorder, number: usize) -> bool {
     sink.reported().iter().any(|(handle, _)| *handle == number)
 }
 
-/// Asserts that the blocks that were reported to a sink are purged, and that all others have the bytes that they have in a
-/// heap in which nothing was purged.
+/// Asserts that the blocks that were reported to a sink are purged, and that all others have the
+/// bytes that they have in a heap in which nothing was purged.
 fn assert_purged(
     rt: &impl Abort,
     heap: &Heap<ListStore>,
@@ -181,8 +185,9 @@ fn assert_case(
     Ok(())
 }
 
-/// Asserts that a call fails where the sink refuses an offer, that as many blocks are reported to it as stay purged all
-/// the same and that no others are purged, and that the call does what is expected of it once it is made again.
+/// Asserts that a call fails where the sink refuses an offer, that as many blocks are reported to
+/// it as stay purged all the same and that no others are purged, and that the call does what is
+/// expected of it once it is made again.
 fn assert_refusal(
     rt: &impl Abort,
     alloc: Global,
@@ -223,8 +228,8 @@ fn assert_refusals(
     Ok(())
 }
 
-/// Asserts what each case of a scene is expected to do, with a sink that refuses no offer, with each offer refused in
-/// turn, and with a sink that does not listen.
+/// Asserts what each case of a scene is expected to do, with a sink that refuses no offer, with
+/// each offer refused in turn, and with a sink that does not listen.
 pub fn assert_scene(rt: &impl Abort, alloc: Global, scene: Scene) -> Result<(), AllocError> {
     for case in scene.cases {
         assert_case(rt, alloc, scene.first, *case)?;

@@ -1,7 +1,8 @@
 //! The blocks that calls purge for room are reported to a sink.
 //!
-//! A block of `n` bytes takes 16 bytes for its header, and `n` rounded up to a multiple of 16. The zone of 1024 bytes
-//! begins with a master pointer block of 272 bytes, which has 64 master pointers; 752 bytes are free.
+//! A block of `n` bytes takes 16 bytes for its header, and `n` rounded up to a multiple of 16. The
+//! zone of 1024 bytes begins with a master pointer block of 272 bytes, which has 64 master
+//! pointers; 752 bytes are free.
 
 use crate::calls::{A, Answer, B, C, Call, D, E, FULL};
 use crate::room_calls::{Block, Case, RoomCall, Rows, Scene, assert_scene};
@@ -16,8 +17,9 @@ const TURQUOISE: Block = (2, b"turquoise");
 /// The numbers of the four handles of a full zone.
 const ALL: &[usize] = &[0, 1, 2, 3];
 
-/// Fills the zone. The blocks of A, B and C take 32 bytes each, and are purgeable. A moves to the top, and then B; D
-/// takes the 752 - 96 = 656 bytes between A and B, and is not purgeable. So the blocks stand in the order C, A, D, B.
+/// Fills the zone. The blocks of A, B and C take 32 bytes each, and are purgeable. A moves to the
+/// top, and then B; D takes the 752 - 96 = 656 bytes between A and B, and is not purgeable. So the
+/// blocks stand in the order C, A, D, B.
 const FULL_ZONE: Rows = &[
     (Call::NewHandle(9), Answer::Made(0)),
     (Call::NewHandle(10), Answer::Made(1)),
@@ -122,8 +124,9 @@ fn the_lowest_blocks_that_serve_are_reported(rt: HostRuntime) -> Result<(), Fail
     Ok(assert_scene(&rt, rt.alloc(), SCENE)?)
 }
 
-/// Cuts D to 416 bytes, so that 240 bytes are free above it, and uses the other 60 of the 64 master pointers. A block of
-/// more, of 272 bytes, then takes these 240 bytes and the 32 bytes of a block that is purged for it.
+/// Cuts D to 416 bytes, so that 240 bytes are free above it, and uses the other 60 of the 64 master
+/// pointers. A block of more, of 272 bytes, then takes these 240 bytes and the 32 bytes of a block
+/// that is purged for it.
 const NO_MASTERS: Rows = &[
     (Call::SetHandleSize(D, 400), Answer::Done),
     (Call::NewEmptyHandles(60), Answer::Done),
@@ -132,7 +135,8 @@ const NO_MASTERS: Rows = &[
 #[test]
 fn what_a_master_pointer_block_purges_is_reported(rt: HostRuntime) -> Result<(), Fail> {
     const CASES: &[Case] = &[
-        // C is purged for the master pointers; then A and B, which have the 64 bytes of the new block.
+        // C is purged for the master pointers; then A and B, which have the 64 bytes of the new
+        // block.
         (
             &[],
             RoomCall::NewHandle(33),
@@ -171,7 +175,8 @@ fn what_a_master_pointer_block_purges_is_reported(rt: HostRuntime) -> Result<(),
             &[TURQUOISE],
             &[0, 1, 3],
         ),
-        // C is the block to be copied: A is purged for the master pointers, and B for the 32 bytes of the copy.
+        // C is the block to be copied: A is purged for the master pointers, and B for the 32 bytes
+        // of the copy.
         (
             &[],
             RoomCall::HandToHand(C),
@@ -250,7 +255,8 @@ fn the_blocks_that_a_call_names_are_not_reported(rt: HostRuntime) -> Result<(), 
             &[VERMILION],
             &[1, 2, 3],
         ),
-        // 64 bytes more are the 64 bytes of A and B; 80 bytes more are not there without those of C.
+        // 64 bytes more are the 64 bytes of A and B; 80 bytes more are not there without those of
+        // C.
         (
             &[],
             RoomCall::SetHandleSize(C, 65),
@@ -358,7 +364,8 @@ fn the_run_above_a_block_that_stays_is_purged(rt: HostRuntime) -> Result<(), Fai
             &[],
             &[1, 2, 3],
         ),
-        // E, a pointer, takes the place of C. 16 bytes more are those of A; 48 bytes more those of A and B.
+        // E, a pointer, takes the place of C. 16 bytes more are those of A; 48 bytes more those of
+        // A and B.
         (
             &[
                 (Call::EmptyHandle(C), Answer::Done),

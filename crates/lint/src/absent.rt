@@ -11,10 +11,12 @@ const NO_ADDRESS: &str = "an address is an offset, and has no flags: leave the l
 
 const NO_STACK: &str = "a partition has no stack: leave the line out";
 
+const NO_ATTRIBUTES: &str = "an update writes each file that was touched: leave the line out";
+
 const ONE_ZONE: &str = "the partition is the one zone: leave the line out";
 
 /// The calls that are not here.
-const ABSENT: [AbsentCall; 27] = [
+const ABSENT: [AbsentCall; 22] = [
     AbsentCall {
         word: "ApplicationZone",
         instead: ONE_ZONE,
@@ -28,10 +30,6 @@ const ABSENT: [AbsentCall; 27] = [
         instead: "use Put or PutPtr with the bytes",
     },
     AbsentCall {
-        word: "CountResources",
-        instead: "use Count1Resources, of the current file",
-    },
-    AbsentCall {
         word: "CountTypes",
         instead: "use Count1Types, of the current file",
     },
@@ -40,12 +38,12 @@ const ABSENT: [AbsentCall; 27] = [
         instead: ONE_ZONE,
     },
     AbsentCall {
-        word: "GetIndResource",
-        instead: "use Get1IndResource, of the current file",
-    },
-    AbsentCall {
         word: "GetIndType",
         instead: "use Get1IndType, of the current file",
+    },
+    AbsentCall {
+        word: "GetResFileAttrs",
+        instead: NO_ATTRIBUTES,
     },
     AbsentCall {
         word: "GetZone",
@@ -60,16 +58,8 @@ const ABSENT: [AbsentCall; 27] = [
         instead: "a handle has the resource bit while it is a resource's: use AddResource",
     },
     AbsentCall {
-        word: "HandleZone",
-        instead: ONE_ZONE,
-    },
-    AbsentCall {
         word: "InitApplZone",
         instead: ONE_ZONE,
-    },
-    AbsentCall {
-        word: "InlineGetHandleSize",
-        instead: "use GetHandleSize",
     },
     AbsentCall {
         word: "MaxApplZone",
@@ -84,16 +74,16 @@ const ABSENT: [AbsentCall; 27] = [
         instead: "use SetHandleSize, and Put with the bytes",
     },
     AbsentCall {
-        word: "PtrZone",
-        instead: ONE_ZONE,
-    },
-    AbsentCall {
         word: "RecoverHandle",
         instead: "a handle is known by its name: leave the line out",
     },
     AbsentCall {
         word: "SetApplLimit",
         instead: ONE_ZONE,
+    },
+    AbsentCall {
+        word: "SetResFileAttrs",
+        instead: NO_ATTRIBUTES,
     },
     AbsentCall {
         word: "SetZone",
@@ -114,14 +104,6 @@ const ABSENT: [AbsentCall; 27] = [
     AbsentCall {
         word: "TempNewHandle",
         instead: "there is no temporary memory: use NewHandle",
-    },
-    AbsentCall {
-        word: "Unique1ID",
-        instead: "take an ID that no resource of the type has",
-    },
-    AbsentCall {
-        word: "UniqueID",
-        instead: "take an ID that no resource of the type has",
     },
 ];
 

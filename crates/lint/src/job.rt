@@ -6,7 +6,8 @@ ghost use Rattle.script_text.specs.declared.fault.FaultKind.TheVariants.{BadArgu
 ghost use Rattle.script_text.specs.Job.{nothing, with_line, with_stated};
 ghost use Rattle.script_text.specs.Stating.{line_seen};
 ghost use Rattle.lint.specs.Faults.{FirstIsTheJobReaders, job_faults, job_faults_from, or_of_whole};
-ghost use Rattle.lint.specs.Reading.{OnWrong, Reads, Says, after_line, left_by, line_fault, memory_stated};
+ghost use Rattle.lint.specs.Reading.{OnWrong, Reads, Says, after_line, left_by, line_fault};
+ghost use Rattle.lint.specs.Reading.{memory_stated};
 ghost use Rattle.lint.specs.Seen.{seen};
 
 use crate::form::Form;
@@ -168,9 +169,9 @@ fn say_memory<'t>(memory: Option<u32>, faults: &mut Vec<Fault<'t>>) -> Result<()
     Ok(())
 }
 
-/// Returns the faulty lines of a job, each with what is wrong with it: the lines that the reader of a line refuses, in
-/// their order, where a faulty line states nothing. Where no line is faulty and none states the memory, the first line
-/// is faulty.
+/// Returns the faulty lines of a job, each with what is wrong with it: the lines that the reader of
+/// a line refuses, in their order, where a faulty line states nothing. Where no line is faulty and
+/// none states the memory, the first line is faulty.
 ///
 /// # Errors
 ///
@@ -185,7 +186,8 @@ pub fn job_faults<'t>(alloc: Global, text: &'t [u8]) -> Result<Vec<Fault<'t>>, A
     Ok(faults)
 }
 
-/// The first faulty line is the one that `read_job` finds; there is none exactly where `read_job` takes the job.
+/// The first faulty line is the one that `read_job` finds; there is none exactly where `read_job`
+/// takes the job.
 pub fn first_is_the_job_readers()
     ensures { FirstIsTheJobReaders }
 {}

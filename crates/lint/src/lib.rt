@@ -1,5 +1,5 @@
-//! What is wrong with a script or a job: every faulty line, in words, with its line and column. Where a line is faulty is
-//! exactly what the readers of `script_text` say.
+//! What is wrong with a script or a job: every faulty line, in words, with its line and column.
+//! Where a line is faulty is exactly what the readers of `script_text` say.
 #![tactic(auto)]
 
 mod absent;

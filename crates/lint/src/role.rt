@@ -1,6 +1,7 @@
 //! What the arguments of calls, and of the lines of a job, stand for.
 
-/// What an argument stands for. The names are those of the tables in docs/calls.md and docs/jobs.md.
+/// What an argument stands for. The names are those of the tables in docs/calls.md and
+/// docs/jobs.md.
 #[derive(Clone, Copy, Debug, PartialEq, Eq)]
 pub enum Role {
     /// `h`: a variable for a handle.

@@ -3,8 +3,8 @@
 ghost use Rattle.std.specs.Prelude.{◌≡◌, ℕ, ◌+◌, List, ◌∷◌, ◌++◌, map, IfOk, OnOk};
 ghost use Rattle.script_text.specs.declared.fault.FaultKind.TheVariants.{BadArgument, UnknownCall};
 ghost use Rattle.script_text.specs.Script.{read_at, statement};
-ghost use Rattle.lint.specs.Faults.{FirstIsTheReaders, script_faults, begun_lines, faults_from, missing_lines, unfinished_at};
-ghost use Rattle.lint.specs.Faults.{unfinished_lines};
+ghost use Rattle.lint.specs.Faults.{FirstIsTheReaders, script_faults, begun_lines, faults_from};
+ghost use Rattle.lint.specs.Faults.{missing_lines, unfinished_at, unfinished_lines};
 ghost use Rattle.lint.specs.Judging.{kind_of};
 ghost use Rattle.lint.specs.Reading.{OnWrong, Reads, Says};
 ghost use Rattle.lint.specs.Seen.{seen};
@@ -26,8 +26,8 @@ fn grow_form() -> Form {
     }
 }
 
-/// Returns how a line with this first word is written. Of the words that are no calls, the last line of a grow-zone script
-/// has no argument.
+/// Returns how a line with this first word is written. Of the words that are no calls, the last
+/// line of a grow-zone script has no argument.
 fn form_of_line(word: &[u8]) -> Form {
     match CallWord::find(word) {
         Some(word) => form_of(word),
@@ -124,7 +124,8 @@ fn take_line<'t>(
     number: usize,
     line: &'t [u8],
 ) -> Result<(), AllocError>
-    ensures { OnOk result ((more : List (List ℕ)) → map seen faults.new.items ++ faults_from (number + 1) above.new more
+    ensures { OnOk result ((more : List (List ℕ))
+        → map seen faults.new.items ++ faults_from (number + 1) above.new more
         ≡ map seen faults.old.items ++ faults_from number above.old (line.now ∷ more)) }
 {
     match judge(alloc, above, number, line) {
@@ -186,7 +187,8 @@ fn say_missing<'t>(
     faults: &mut Vec<Fault<'t>>,
 ) -> Result<(), AllocError>
     ensures { OnOk result (map seen faults.new.items
-        ≡ map seen faults.old.items ++ map unfinished_at (missing_lines above.now (map statement steps.now))) }
+        ≡ map seen faults.old.items
+        ++ map unfinished_at (missing_lines above.now (map statement steps.now))) }
 {
     let mut lines = Lines::of(text);
     for step in steps {
@@ -223,15 +225,16 @@ fn say_unfinished<'t>(
     text: &'t [u8],
     faults: &mut Vec<Fault<'t>>,
 ) -> Result<(), AllocError>
-    ensures { OnOk result (map seen faults.new.items ≡ map seen faults.old.items ++ unfinished_lines above.now) }
+    ensures { OnOk result (map seen faults.new.items
+        ≡ map seen faults.old.items ++ unfinished_lines above.now) }
 {
     say_missing(above, above.steps(), text, faults)?;
     say_begun(above, text, faults)
 }
 
-/// Returns the faulty lines of a script, each with what is wrong with it: first the lines that the reader of a line
-/// refuses, in their order, where a faulty line states nothing; then those that set a grow-zone script which is nowhere
-/// in the text, and a `grow` without `end`.
+/// Returns the faulty lines of a script, each with what is wrong with it: first the lines that the
+/// reader of a line refuses, in their order, where a faulty line states nothing; then those that
+/// set a grow-zone script which is nowhere in the text, and a `grow` without `end`.
 ///
 /// # Errors
 ///
@@ -254,7 +257,8 @@ pub fn script_faults<'t>(alloc: Global, text: &'t [u8]) -> Result<Vec<Fault<'t>>
     Ok(faults)
 }
 
-/// The first faulty line is the one that `read_script` finds; there is none exactly where `read_script` takes the script.
+/// The first faulty line is the one that `read_script` finds; there is none exactly where
+/// `read_script` takes the script.
 pub fn first_is_the_readers()
     ensures { FirstIsTheReaders }
 {}

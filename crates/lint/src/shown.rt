@@ -7,12 +7,13 @@ use std::fmt;
 /// The most bytes of a word that are shown.
 const MOST_SHOWN: usize = 40;
 
-/// Bytes that are shown as text: UTF-8 as it stands, and each byte that can't be shown as `\x` and two digits. Of a long
-/// word the front is shown, and `..`.
+/// Bytes that are shown as text: UTF-8 as it stands, and each byte that can't be shown as `\x` and
+/// two digits. Of a long word the front is shown, and `..`.
 #[derive(Clone, Copy)]
 pub(crate) struct Bare<'t>(pub &'t [u8]);
 
-/// Bytes that are shown as text in single quotes, unless they begin with a quotation mark of their own.
+/// Bytes that are shown as text in single quotes, unless they begin with a quotation mark of their
+/// own.
 #[derive(Clone, Copy)]
 pub(crate) struct Quoted<'t>(pub &'t [u8]);
 

@@ -27,6 +27,7 @@ pub fn roles_of(word: CallWord) -> &'static [Role]
         | CallWord::HPurge
         | CallWord::HNoPurge
         | CallWord::HGetState
+        | CallWord::HandleZone
         | CallWord::MoveHHi
         | CallWord::HLockHi
         | CallWord::HomeResFile
@@ -41,6 +42,7 @@ pub fn roles_of(word: CallWord) -> &'static [Role]
         | CallWord::GetResourceSizeOnDisk
         | CallWord::SizeResource
         | CallWord::MaxSizeRsrc
+        | CallWord::InlineGetHandleSize
         | CallWord::Show => &[Role::Handle],
         CallWord::HSetState | CallWord::SetResAttrs => &[Role::Handle, Role::Byte],
         CallWord::HandToHand => &[Role::Target, Role::Source],
@@ -50,7 +52,9 @@ pub fn roles_of(word: CallWord) -> &'static [Role]
             Role::Pointer,
             Role::Size,
         ],
-        CallWord::DisposePtr | CallWord::GetPtrSize | CallWord::ShowPtr => &[Role::Pointer],
+        CallWord::DisposePtr | CallWord::GetPtrSize | CallWord::PtrZone | CallWord::ShowPtr => &[
+            Role::Pointer,
+        ],
         CallWord::FreeMem
         | CallWord::MaxBlock
         | CallWord::PurgeSpace
@@ -77,8 +81,15 @@ pub fn roles_of(word: CallWord) -> &'static [Role]
             Role::Type,
             Role::Text,
         ],
-        CallWord::Count1Resources => &[Role::Type],
-        CallWord::Get1IndResource => &[Role::Handle, Role::Type, Role::Number],
+        CallWord::CountResources
+        | CallWord::Count1Resources
+        | CallWord::UniqueID
+        | CallWord::Unique1ID => &[Role::Type],
+        CallWord::GetIndResource | CallWord::Get1IndResource => &[
+            Role::Handle,
+            Role::Type,
+            Role::Number,
+        ],
         CallWord::AddResource => &[Role::Handle, Role::Type, Role::Id, Role::Text],
         CallWord::SetResInfo => &[Role::Handle, Role::Id, Role::Text],
         CallWord::ReadPartialResource => &[Role::Handle, Role::Offset, Role::Count],

@@ -61,7 +61,8 @@ fn write_unknown<W: fmt::Write>(
     }
 }
 
-/// Writes that a first word is no call, and what stands in its place where it is one of the Macintosh.
+/// Writes that a first word is no call, and what stands in its place where it is one of the
+/// Macintosh.
 fn write_unknown_call<W: fmt::Write>(f: &mut fmt::Formatter<W>, word: &[u8]) -> fmt::Result {
     match instead_of(word) {
         Some(instead) => write!(f, "{} is not here: {instead}", Bare(word)),

@@ -24,7 +24,8 @@ pub enum Wrong<'t> {
     LongLine {
         length: usize,
     },
-    /// An argument is missing, or is not written as one that stands for this; what was found may have no bytes.
+    /// An argument is missing, or is not written as one that stands for this; what was found may
+    /// have no bytes.
     Argument {
         form: Form,
         /// Which argument, from 1 on.

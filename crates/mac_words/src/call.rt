@@ -50,6 +50,8 @@ pub enum HeapCall {
     HGetState(Label),
     /// Sets whether a handle's block is locked and whether it is purgeable, from the bits 128 and 64 of the byte.
     HSetState(Label, u8),
+    /// Returns the place of the heap zone that a handle is of, as the offset from its start.
+    HandleZone(Label),
     /// Moves a handle's block to the top of its run of movable blocks.
     MoveHHi(Label),
     /// Moves a handle's block to the top of its run of movable blocks, and locks the block.
@@ -70,6 +72,8 @@ pub enum HeapCall {
     GetPtrSize(Label),
     /// Changes the logical size of a nonrelocatable block; new bytes are 0.
     SetPtrSize(Label, u32),
+    /// Returns the place of the heap zone that a nonrelocatable block is in, as the offset from its start.
+    PtrZone(Label),
     /// Returns the total size in bytes of the free blocks, headers included.
     FreeMem,
     /// Returns the size of the largest block that could be allocated after compaction, without purging.

@@ -36,11 +36,20 @@ pub enum ResourceCall {
     Count1Types,
     /// Returns the type at the given place, from 1 on, in the current resource fork.
     Get1IndType(u32),
+    /// Returns the number of resources of a type in all open resource forks together.
+    CountResources(OsType),
     /// Returns the number of resources of a type in the current resource fork.
     Count1Resources(OsType),
+    /// Binds the name to the handle of the resource of a type at the given place, from 1 on, in all open resource forks
+    /// together.
+    GetIndResource(Label, OsType, u32),
     /// Binds the name to the handle of the resource of a type at the given place, from 1 on, in the current resource
     /// fork.
     Get1IndResource(Label, OsType, u32),
+    /// Returns an ID that no resource of a type has in any open resource fork.
+    UniqueID(OsType),
+    /// Returns an ID that no resource of a type has in the current resource fork.
+    Unique1ID(OsType),
     /// Reads a resource's stored data into its block, if its handle is an empty handle.
     LoadResource(Label),
     /// Disposes of a resource's handle; the resource stays in its resource fork.

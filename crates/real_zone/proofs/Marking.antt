@@ -1,5 +1,5 @@
-use Rattle.std.proofs.Common.{◌≡◌, ℕ, zero, suc, ◌+◌, ◌-◌, ◌*◌, ◌/◌, ◌%◌, ◌<◌, ◌≤◌, Bool, true, false, ◌&&◌, ◌||◌, cond, List, [], ◌∷◌, ◌++◌}
-use Rattle.std.proofs.Common.{length, get_or, refl, sym, ◌∙◌, ap, arith, append_assoc, inl, inr, ◌⊎◌}
+use Rattle.std.proofs.Common.{◌≡◌, ℕ, zero, suc, ◌+◌, ◌-◌, ◌*◌, ◌/◌, ◌%◌, ◌<◌, ◌≤◌, Bool, true, false, ◌&&◌, ◌||◌, cond, List, [], ◌∷◌}
+use Rattle.std.proofs.Common.{◌++◌, length, get_or, refl, sym, ◌∙◌, ap, arith, append_assoc, inl, inr, ◌⊎◌}
 use Rattle.std.specs.Prelude.{◌==◌, nat_le}
 use Rattle.std.specs.List.{list_all, list_any, flat_map}
 use Rattle.std.proofs.lemmas.Bool.{and_parts, and_left, and_right, leb-true, eqb-true, lt-leb, cases_lt}
@@ -101,7 +101,8 @@ none_below f bytes (suc n) at master h =
 
 -- the mark of a place in one block, or after it
 in_block : (f : Form) (bytes : List ℕ) (n at j : ℕ) → Passes f bytes at → size_at f bytes at % 2 ≡ 0
-    → (size_at f bytes at / 2 ≤ j → get_or (flat_map (block_marks f bytes) (places f bytes n (next f bytes at))) (j - size_at f bytes at / 2) false
+    → (size_at f bytes at / 2 ≤ j
+    → get_or (flat_map (block_marks f bytes) (places f bytes n (next f bytes at))) (j - size_at f bytes at / 2) false
     ≡ list_any (covers f bytes (next f bytes at + 2 * (j - size_at f bytes at / 2))) (places f bytes n (next f bytes at)))
     → get_or (block_marks f bytes at ++ flat_map (block_marks f bytes) (places f bytes n (next f bytes at))) j false
     ≡ (covers f bytes (at + 2 * j) at || list_any (covers f bytes (at + 2 * j)) (places f bytes n (next f bytes at)))
@@ -118,7 +119,8 @@ in_block f bytes n at j passing halves later = split (cases_lt j (size_at f byte
     rest = flat_map (block_marks f bytes) (places f bytes n (next f bytes at))
 
     split : (j < size_at f bytes at / 2) ⊎ (size_at f bytes at / 2 ≤ j)
-        → get_or (marks f bytes at (size_at f bytes at / 2) at ++ flat_map (block_marks f bytes) (places f bytes n (next f bytes at))) j false
+        → get_or
+        (marks f bytes at (size_at f bytes at / 2) at ++ flat_map (block_marks f bytes) (places f bytes n (next f bytes at))) j false
         ≡ (covers f bytes (at + 2 * j) at || list_any (covers f bytes (at + 2 * j)) (places f bytes n (next f bytes at)))
     split (inl h) =
         let long = length-marks f bytes at (size_at f bytes at / 2) at in

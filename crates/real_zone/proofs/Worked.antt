@@ -67,51 +67,60 @@ sound : (damages form.Bits24 zone24 0x1000 0x1000 ≡ [])
     × (damages form.Bits24 (with 0 (0xAB ∷ []) zone24) 0x1000 0x1000 ≡ [])
     × (damages form.Bits24 (with 8 (0xAB ∷ []) zone24) 0x1000 0x1000 ≡ [])
     × (damages form.Bits24 (with 56 (0xAB ∷ []) zone24) 0x1000 0x1000 ≡ [])
-unfolding number is_passable places free_size is_master_place length_rule correction_rule zone_rule handle_rule kind_rule owner_rule block_rules block_damages covers is_covered may_be_free list_damages damages damages_of_zone
+unfolding number is_passable places free_size is_master_place length_rule correction_rule zone_rule handle_rule kind_rule owner_rule
+    block_rules block_damages covers is_covered may_be_free list_damages damages damages_of_zone
 sound = (refl, refl, refl, refl, refl, refl)
 
 -- the zone record cut off, or below the dump
 no_record : (damages form.Bits24 (take 51 zone24) 0x1000 0x1000 ≡ broken 0x1000 rule.ZonePointer ∷ [])
     × (damages form.Bits24 zone24 0x1001 0x1000 ≡ broken 0x1000 rule.ZonePointer ∷ [])
-unfolding number is_passable places free_size is_master_place length_rule correction_rule zone_rule handle_rule kind_rule owner_rule block_rules block_damages covers is_covered may_be_free list_damages damages damages_of_zone
+unfolding number is_passable places free_size is_master_place length_rule correction_rule zone_rule handle_rule kind_rule owner_rule
+    block_rules block_damages covers is_covered may_be_free list_damages damages damages_of_zone
 no_record = (refl, refl)
 
 -- bkLim below heapData, or past the dump
 no_limit : (damages form.Bits24 (with 3 (0x33 ∷ []) zone24) 0x1000 0x1000 ≡ broken 0x1000 rule.Limit ∷ [])
     × (damages form.Bits24 (take 119 zone24) 0x1000 0x1000 ≡ broken 0x1000 rule.Limit ∷ [])
-unfolding number is_passable places free_size is_master_place length_rule correction_rule zone_rule handle_rule kind_rule owner_rule block_rules block_damages covers is_covered may_be_free list_damages damages damages_of_zone
+unfolding number is_passable places free_size is_master_place length_rule correction_rule zone_rule handle_rule kind_rule owner_rule
+    block_rules block_damages covers is_covered may_be_free list_damages damages damages_of_zone
 no_limit = (refl, refl)
 
 -- the last block goes past bkLim: that is too low, or the block too long
 too_long : (damages form.Bits24 (with 3 (0x74 ∷ []) zone24) 0x1000 0x1000 ≡ broken 0x106C rule.HeapLength ∷ [])
     × (damages form.Bits24 (with 111 (16 ∷ []) zone24) 0x1000 0x1000 ≡ broken 0x106C rule.HeapLength ∷ [])
     × (damages form.Bits32 (with 135 (20 ∷ []) zone32) 0x2000 0x2000 ≡ broken 0x2080 rule.HeapLength ∷ [])
-unfolding number is_passable places free_size is_master_place length_rule correction_rule zone_rule handle_rule kind_rule owner_rule block_rules block_damages covers is_covered may_be_free list_damages damages damages_of_zone
+unfolding number is_passable places free_size is_master_place length_rule correction_rule zone_rule handle_rule kind_rule owner_rule
+    block_rules block_damages covers is_covered may_be_free list_damages damages damages_of_zone
 too_long = (refl, refl, refl)
 
 -- a tag of no kind
 other_kind : (damages form.Bits24 (with 76 (0xC2 ∷ []) zone24) 0x1000 0x1000 ≡ broken 0x104C rule.BlockType ∷ [])
     × (damages form.Bits32 (with 80 (0xC0 ∷ []) zone32) 0x2000 0x2000 ≡ broken 0x2050 rule.BlockType ∷ [])
-unfolding number is_passable places free_size is_master_place length_rule correction_rule zone_rule handle_rule kind_rule owner_rule block_rules block_damages covers is_covered may_be_free list_damages damages damages_of_zone
+unfolding number is_passable places free_size is_master_place length_rule correction_rule zone_rule handle_rule kind_rule owner_rule
+    block_rules block_damages covers is_covered may_be_free list_damages damages damages_of_zone
 other_kind = (refl, refl)
 
 -- an odd size, one below the least (which leaves no content either), and one of two bytes more in a 32-bit zone: the walk ends there
 no_length : (damages form.Bits24 (with 79 (17 ∷ []) zone24) 0x1000 0x1000 ≡ broken 0x104C rule.BlockLength ∷ [])
-    × (damages form.Bits24 (with 79 (8 ∷ []) zone24) 0x1000 0x1000 ≡ broken 0x104C rule.BlockLength ∷ broken 0x104C rule.SizeCorrection ∷ [])
+    × (damages form.Bits24 (with 79 (8 ∷ []) zone24) 0x1000 0x1000
+    ≡ broken 0x104C rule.BlockLength ∷ broken 0x104C rule.SizeCorrection ∷ [])
     × (damages form.Bits32 (with 87 (30 ∷ []) zone32) 0x2000 0x2000 ≡ broken 0x2050 rule.BlockLength ∷ [])
-unfolding number is_passable places free_size is_master_place length_rule correction_rule zone_rule handle_rule kind_rule owner_rule block_rules block_damages covers is_covered may_be_free list_damages damages damages_of_zone
+unfolding number is_passable places free_size is_master_place length_rule correction_rule zone_rule handle_rule kind_rule owner_rule
+    block_rules block_damages covers is_covered may_be_free list_damages damages damages_of_zone
 no_length = (refl, refl, refl)
 
 -- a size correction that leaves less than nothing
 no_content : (damages form.Bits24 (with 108 (0x85 ∷ []) zone24) 0x1000 0x1000 ≡ broken 0x106C rule.SizeCorrection ∷ [])
     × (damages form.Bits32 (with 131 (5 ∷ []) zone32) 0x2000 0x2000 ≡ broken 0x2080 rule.SizeCorrection ∷ [])
-unfolding number is_passable places free_size is_master_place length_rule correction_rule zone_rule handle_rule kind_rule owner_rule block_rules block_damages covers is_covered may_be_free list_damages damages damages_of_zone
+unfolding number is_passable places free_size is_master_place length_rule correction_rule zone_rule handle_rule kind_rule owner_rule
+    block_rules block_damages covers is_covered may_be_free list_damages damages damages_of_zone
 no_content = (refl, refl)
 
 -- a nonrelocatable block that names another zone
 other_zone : (damages form.Bits24 (with 59 (4 ∷ []) zone24) 0x1000 0x1000 ≡ broken 0x1034 rule.ZoneOfBlock ∷ [])
     × (damages form.Bits32 (with 62 (0x21 ∷ []) zone32) 0x2000 0x2000 ≡ broken 0x2034 rule.ZoneOfBlock ∷ [])
-unfolding number is_passable places free_size is_master_place length_rule correction_rule zone_rule handle_rule kind_rule owner_rule block_rules block_damages covers is_covered may_be_free list_damages damages damages_of_zone
+unfolding number is_passable places free_size is_master_place length_rule correction_rule zone_rule handle_rule kind_rule owner_rule
+    block_rules block_damages covers is_covered may_be_free list_damages damages damages_of_zone
 other_zone = (refl, refl)
 
 -- a relative handle below heapData, at bkLim, and at an odd place
@@ -119,43 +128,51 @@ no_handle : (damages form.Bits24 (with 83 (48 ∷ []) zone24) 0x1000 0x1000 ≡ 
     × (damages form.Bits24 (with 83 (120 ∷ []) zone24) 0x1000 0x1000 ≡ broken 0x104C rule.RelativeHandle ∷ [])
     × (damages form.Bits24 (with 83 (61 ∷ []) zone24) 0x1000 0x1000 ≡ broken 0x104C rule.RelativeHandle ∷ [])
     × (damages form.Bits32 (with 91 (66 ∷ []) zone32) 0x2000 0x2000 ≡ broken 0x2050 rule.RelativeHandle ∷ [])
-unfolding number is_passable places free_size is_master_place length_rule correction_rule zone_rule handle_rule kind_rule owner_rule block_rules block_damages covers is_covered may_be_free list_damages damages damages_of_zone
+unfolding number is_passable places free_size is_master_place length_rule correction_rule zone_rule handle_rule kind_rule owner_rule
+    block_rules block_damages covers is_covered may_be_free list_damages damages damages_of_zone
 no_handle = (refl, refl, refl, refl)
 
 -- a master pointer that leads elsewhere
 other_block : (damages form.Bits24 (with 63 (0x58 ∷ []) zone24) 0x1000 0x1000 ≡ broken 0x104C rule.MasterPointer ∷ [])
     × (damages form.Bits32 (with 64 (0x80 ∷ []) zone32) 0x2000 0x2000 ≡ broken 0x2050 rule.MasterPointer ∷ [])
-unfolding number is_passable places free_size is_master_place length_rule correction_rule zone_rule handle_rule kind_rule owner_rule block_rules block_damages covers is_covered may_be_free list_damages damages damages_of_zone
+unfolding number is_passable places free_size is_master_place length_rule correction_rule zone_rule handle_rule kind_rule owner_rule
+    block_rules block_damages covers is_covered may_be_free list_damages damages damages_of_zone
 other_block = (refl, refl)
 
 -- a list of free master pointers that begins in a relocatable block, or where a nonrelocatable one has two bytes left
 no_free_master : (damages form.Bits24 (with 11 (0x54 ∷ []) zone24) 0x1000 0x1000 ≡ broken 0x1054 rule.FreeMaster ∷ [])
     × (damages form.Bits24 (with 11 (0x4A ∷ []) zone24) 0x1000 0x1000 ≡ broken 0x104A rule.FreeMaster ∷ [])
     × (damages form.Bits32 (with 11 (0x4E ∷ []) zone32) 0x2000 0x2000 ≡ broken 0x204E rule.FreeMaster ∷ [])
-unfolding number is_passable places free_size is_master_place length_rule correction_rule zone_rule handle_rule kind_rule owner_rule block_rules block_damages covers is_covered may_be_free list_damages damages damages_of_zone
+unfolding number is_passable places free_size is_master_place length_rule correction_rule zone_rule handle_rule kind_rule owner_rule
+    block_rules block_damages covers is_covered may_be_free list_damages damages damages_of_zone
 no_free_master = (refl, refl, refl)
 
 -- a list that comes back to its first one
 circle : (damages form.Bits24 (with 74 (0x10 ∷ 0x44 ∷ []) zone24) 0x1000 0x1000 ≡ broken 0x1044 rule.EndlessList ∷ [])
     × (damages form.Bits32 (with 78 (0x20 ∷ 0x48 ∷ []) zone32) 0x2000 0x2000 ≡ broken 0x2048 rule.EndlessList ∷ [])
-unfolding number is_passable places free_size is_master_place length_rule correction_rule zone_rule handle_rule kind_rule owner_rule block_rules block_damages covers is_covered may_be_free list_damages damages damages_of_zone
+unfolding number is_passable places free_size is_master_place length_rule correction_rule zone_rule handle_rule kind_rule owner_rule
+    block_rules block_damages covers is_covered may_be_free list_damages damages damages_of_zone
 circle = (refl, refl)
 
 -- a wrong number of free bytes
 other_sum : (damages form.Bits24 (with 15 (12 ∷ []) zone24) 0x1000 0x1000 ≡ broken 0x1000 rule.FreeBytes ∷ [])
     × (damages form.Bits32 (with 15 (0 ∷ []) zone32) 0x2000 0x2000 ≡ broken 0x2000 rule.FreeBytes ∷ [])
-unfolding number is_passable places free_size is_master_place length_rule correction_rule zone_rule handle_rule kind_rule owner_rule block_rules block_damages covers is_covered may_be_free list_damages damages damages_of_zone
+unfolding number is_passable places free_size is_master_place length_rule correction_rule zone_rule handle_rule kind_rule owner_rule
+    block_rules block_damages covers is_covered may_be_free list_damages damages damages_of_zone
 other_sum = (refl, refl)
 
 -- several things wrong, in the order of the definition
-several : (damages form.Bits24 (with 15 (12 ∷ []) (with 59 (4 ∷ []) (with 63 (0x58 ∷ []) zone24))) 0x1000 0x1000 ≡ broken 0x1034 rule.ZoneOfBlock ∷ broken 0x104C rule.MasterPointer ∷ broken 0x1000 rule.FreeBytes ∷ [])
-unfolding number is_passable places free_size is_master_place length_rule correction_rule zone_rule handle_rule kind_rule owner_rule block_rules block_damages covers is_covered may_be_free list_damages damages damages_of_zone
+several : (damages form.Bits24 (with 15 (12 ∷ []) (with 59 (4 ∷ []) (with 63 (0x58 ∷ []) zone24))) 0x1000 0x1000
+    ≡ broken 0x1034 rule.ZoneOfBlock ∷ broken 0x104C rule.MasterPointer ∷ broken 0x1000 rule.FreeBytes ∷ [])
+unfolding number is_passable places free_size is_master_place length_rule correction_rule zone_rule handle_rule kind_rule owner_rule
+    block_rules block_damages covers is_covered may_be_free list_damages damages damages_of_zone
 several = refl
 
 -- in the other form they are no zones
 other_form : (first (damages form.Bits32 zone24 0x1000 0x1000) ≡ Some (broken 0x1034 rule.HeapLength))
     × (first (damages form.Bits24 zone32 0x2000 0x2000) ≡ Some (broken 0x2034 rule.BlockLength))
-unfolding number is_passable places free_size is_master_place length_rule correction_rule zone_rule handle_rule kind_rule owner_rule block_rules block_damages covers is_covered may_be_free list_damages damages damages_of_zone
+unfolding number is_passable places free_size is_master_place length_rule correction_rule zone_rule handle_rule kind_rule owner_rule
+    block_rules block_damages covers is_covered may_be_free list_damages damages damages_of_zone
 other_form = (refl, refl)
 
 -- their blocks

@@ -63,5 +63,6 @@ in_zone : (resource_of form.Bits24 (zone 0x82) 0x1040 ≡ Some (record { kind = 
     × (resource_of form.Bits24 (zone 0x82) 0x1048 ≡ None)
     × (resource_of form.Bits24 (zone 0x42) 0x1040 ≡ None)
     × (resource_of form.Bits24 (zone 0x83) 0x1040 ≡ None)
-unfolding number is_passable places logical_size content_at spaced has_types has_references is_resource_map named_in_type named_in_map named_in_block resource_of
+unfolding number is_passable places logical_size content_at spaced has_types has_references is_resource_map named_in_type named_in_map
+    named_in_block resource_of
 in_zone = (refl, refl, refl, refl)

@@ -9,7 +9,8 @@ use Rattle.real_zone.specs.Lists.{first, is_empty}
 use Rattle.real_zone.specs.Blocks.{is_passable, block_places, is_tiled, free_bytes}
 use Rattle.real_zone.specs.Rules.{broken, keeps_rules, block_rules, block_damages, damages_of_blocks}
 use Rattle.real_zone.specs.Masters.{damages_of_list}
-use Rattle.real_zone.specs.Zone.{is_zone, is_zone_at, zone_bytes, damages_of_sum, damages_of_zone, damages, damages_from, has_record, has_limit, from_zone, zone_part}
+use Rattle.real_zone.specs.Zone.{is_zone, is_zone_at, zone_bytes, damages_of_sum, damages_of_zone, damages, damages_from, has_record}
+use Rattle.real_zone.specs.Zone.{has_limit, from_zone, zone_part}
 use Rattle.real_zone.specs.declared.form.Form.{Form}
 use Rattle.real_zone.specs.declared.fault.Rule.TheVariants as rule
 use Rattle.real_zone.specs.declared.fault.Damage.{Damage}

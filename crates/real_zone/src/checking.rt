@@ -18,7 +18,8 @@ use std::alloc::{AllocError, Global};
 
 /// Appends a rule that is broken at an address, if one is.
 fn push_rule(found: &mut Vec<Damage>, rule: Option<Rule>, address: u32) -> Result<(), AllocError>
-    ensures { OnOk result (found.new.items ≡ found.old.items ++ map (broken address) (option_to_list rule)) }
+    ensures { OnOk result (found.new.items
+        ≡ found.old.items ++ map (broken address) (option_to_list rule)) }
 {
     if let Some(rule) = rule {
         found.push(Damage { rule, address })?;
@@ -47,7 +48,8 @@ fn push_rules(
 ) -> Result<(), AllocError>
     requires room { at + 12 ≤ length bytes.now }
     requires fits { zone + at < 2 ^ 32 }
-    ensures { OnOk result (found.new.items ≡ found.old.items ++ block_damages form zone bytes.now at) }
+    ensures { OnOk result (found.new.items
+        ≡ found.old.items ++ block_damages form zone bytes.now at) }
 {
     let address = zone + at as u32;
     let kind = kind(bytes, at);
@@ -67,7 +69,8 @@ fn push_damages(
 ) -> Result<(), AllocError>
     requires inside { at ≤ length bytes.now }
     requires fits { zone + at < 2 ^ 32 }
-    ensures { OnOk result (found.new.items ≡ found.old.items ++ block_damages form zone bytes.now at) }
+    ensures { OnOk result (found.new.items
+        ≡ found.old.items ++ block_damages form zone bytes.now at) }
 {
     if bytes.len() < at + 12 {
         push_rule(found, Some(Rule::HeapLength), zone + at as u32)
@@ -86,7 +89,8 @@ fn push_blocks(
 ) -> Result<bool, AllocError>
     requires record { 52 ≤ length bytes.now }
     requires fits { zone + length bytes.now ≤ 2 ^ 32 }
-    ensures found { OnOk result (found.new.items ≡ found.old.items ++ damages_of_blocks form zone bytes.now) }
+    ensures found { OnOk result (found.new.items
+        ≡ found.old.items ++ damages_of_blocks form zone bytes.now) }
     ensures tiled { IfOk result (λ tiled. tiled ≡ is_tiled form bytes.now) }
 {
     let mut at = 52;
@@ -111,7 +115,8 @@ fn push_zone(
 ) -> Result<(), AllocError>
     requires record { 52 ≤ length bytes.now }
     requires fits { zone + length bytes.now ≤ 2 ^ 32 }
-    ensures { OnOk result (found.new.items ≡ found.old.items ++ damages_of_zone form zone bytes.now) }
+    ensures { OnOk result (found.new.items
+        ≡ found.old.items ++ damages_of_zone form zone bytes.now) }
 {
     if !push_blocks(found, form, zone, bytes)? {
         return Ok(());
@@ -145,10 +150,11 @@ fn all_damages(
     Ok(found)
 }
 
-/// Returns all that is wrong with the zone at an address in the bytes of a dump, whose first byte stands at the address `base`.
+/// Returns all that is wrong with the zone at an address in the bytes of a dump, whose first byte
+/// stands at the address `base`.
 ///
-/// A block whose physical size is wrong ends the walk over the blocks; the list of free master pointers and the number of free bytes
-/// are then not judged.
+/// A block whose physical size is wrong ends the walk over the blocks; the list of free master
+/// pointers and the number of free bytes are then not judged.
 #[tactic(auto, using(crate::proofs::Zones::dump_whole))]
 pub fn check_zone(
     alloc: Global,
@@ -158,7 +164,8 @@ pub fn check_zone(
     form: Form,
 ) -> Result<Vec<Damage>, AllocError>
     ensures found { IfOk result (λ found. found.items ≡ damages form bytes.now base address) }
-    ensures zone { IfOk result (λ found. is_zone_at form bytes.now base address ≡ is_empty found.items) }
+    ensures zone { IfOk result (λ found. is_zone_at form bytes.now base address
+        ≡ is_empty found.items) }
 {
     all_damages(alloc, bytes, base, address, form)
 }

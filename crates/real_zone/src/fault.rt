@@ -21,7 +21,8 @@ pub enum Rule {
     /// A tag has none of the three kinds.
     #[error("block type is bad")]
     BlockType,
-    /// A physical size is below that of the least block, or no multiple of what sizes are multiples of.
+    /// A physical size is below that of the least block, or no multiple of what sizes are multiples
+    /// of.
     #[error("block length is bad")]
     BlockLength,
     /// A block's size correction leaves less than nothing for its content.
@@ -30,7 +31,8 @@ pub enum Rule {
     /// A nonrelocatable block doesn't name the zone.
     #[error("nonrelocatable block: pointer to zone is bad")]
     ZoneOfBlock,
-    /// The relative handle of a relocatable block leads to no place for a master pointer in the zone.
+    /// The relative handle of a relocatable block leads to no place for a master pointer in the
+    /// zone.
     #[error("relative handle is bad")]
     RelativeHandle,
     /// The master pointer of a relocatable block doesn't lead to the block's content.
@@ -47,7 +49,8 @@ pub enum Rule {
     FreeBytes,
 }
 
-/// A rule that is broken, and where: the address of the zone, of a block, or of a free master pointer.
+/// A rule that is broken, and where: the address of the zone, of a block, or of a free master
+/// pointer.
 #[derive(Clone, Copy, Debug, PartialEq, Eq, Error)]
 #[error("{address:08X}: {rule}")]
 pub struct Damage {

@@ -88,7 +88,8 @@ fn push_found(
     base: u32,
     address: u32,
 ) -> Result<(), AllocError>
-    ensures { OnOk result (found.new.items ≡ found.old.items ++ spec.found_at bytes.now base address) }
+    ensures { OnOk result (found.new.items
+        ≡ found.old.items ++ spec.found_at bytes.now base address) }
 {
     if let Some(form) = form_of(alloc, bytes, base, address)? {
         found.push(FoundZone { address, form })?;
@@ -105,7 +106,8 @@ fn push_named(
     base: u32,
     global: Option<u32>,
 ) -> Result<(), AllocError>
-    ensures { OnOk result (found.new.items ≡ found.old.items ++ spec.found_named bytes.now base global) }
+    ensures { OnOk result (found.new.items
+        ≡ found.old.items ++ spec.found_named bytes.now base global) }
 {
     match global {
         Some(address) => push_found(found, alloc, bytes, base, address),
@@ -132,7 +134,8 @@ fn push_unnamed(
     base: u32,
     address: u32,
 ) -> Result<(), AllocError>
-    ensures { OnOk result (found.new.items ≡ found.old.items ++ spec.found_unnamed bytes.now base address) }
+    ensures { OnOk result (found.new.items
+        ≡ found.old.items ++ spec.found_unnamed bytes.now base address) }
 {
     if does_name(long_at(bytes, base, SYS_ZONE), address)
         || does_name(long_at(bytes, base, APPL_ZONE), address)
@@ -181,8 +184,8 @@ fn push_globals(
     push_named(found, alloc, bytes, base, application)
 }
 
-/// Returns the zones that stand in the bytes of a dump: first those that the low-memory globals SysZone and ApplZone name, where these
-/// lie in the dump, and then any other at a multiple of 4.
+/// Returns the zones that stand in the bytes of a dump: first those that the low-memory globals
+/// SysZone and ApplZone name, where these lie in the dump, and then any other at a multiple of 4.
 ///
 /// # Errors
 ///
@@ -220,7 +223,8 @@ pub fn global_of(bytes: &[u8], base: u32, address: u32) -> Option<ZoneGlobal>
     }
 }
 
-/// Returns the size of the zone at an address in a dump, from its zone record up to bkLim; 0 where the record doesn't lie in the dump.
+/// Returns the size of the zone at an address in a dump, from its zone record up to bkLim; 0 where
+/// the record doesn't lie in the dump.
 #[tactic(auto, unfolding(crate::specs::Finding::zone_size))]
 pub fn zone_size(bytes: &[u8], base: u32, address: u32, form: Form) -> usize
     ensures { result ≡ spec.zone_size form bytes.now base address }

@@ -57,9 +57,9 @@ fn likely_form(bytes: &[u8], base: u32, address: u32) -> Form
     }
 }
 
-/// Returns the form in which to judge the zone at an address in the bytes of a dump: its form where a zone stands there, and else the
-/// form in which more blocks stand one at the end of the other, which of a damaged zone is its own unless the damage is near its
-/// beginning.
+/// Returns the form in which to judge the zone at an address in the bytes of a dump: its form where
+/// a zone stands there, and else the form in which more blocks stand one at the end of the other,
+/// which of a damaged zone is its own unless the damage is near its beginning.
 ///
 /// # Errors
 ///

@@ -1,4 +1,5 @@
-//! Heap zones as a real Macintosh lays them, read from the bytes of a memory dump and checked block by block.
+//! Heap zones as a real Macintosh lays them, read from the bytes of a memory dump and checked block
+//! by block.
 #![tactic(auto)]
 
 mod block;

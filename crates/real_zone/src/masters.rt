@@ -1,6 +1,7 @@
 //! The free master pointers of a zone.
 
-ghost use Rattle.std.specs.Prelude.{◌≡◌, ◌+◌, ◌*◌, ◌/◌, ◌≤◌, ◌<◌, ◌^◌, ◌++◌, length, IsTrue, OnOk, IfOk, get_or, false};
+ghost use Rattle.std.specs.Prelude.{◌≡◌, ◌+◌, ◌*◌, ◌/◌, ◌≤◌, ◌<◌, ◌^◌, ◌++◌, length, IsTrue, OnOk};
+ghost use Rattle.std.specs.Prelude.{IfOk, get_or, false};
 ghost use Rattle.real_zone.specs.Blocks.{is_passable, is_tiled};
 ghost use Rattle.real_zone.specs.Lists.{first};
 ghost use Rattle.real_zone.specs.Masters as spec;
@@ -30,11 +31,13 @@ fn does_cover(form: Form, bytes: &[u8], master: usize, at: usize) -> bool
     }
 }
 
-/// Appends, for each even offset of a block, whether a master pointer there is content of a nonrelocatable block.
+/// Appends, for each even offset of a block, whether a master pointer there is content of a
+/// nonrelocatable block.
 #[tactic(auto, using(crate::proofs::Marking::mark_more, crate::proofs::Marking::marks_end, crate::proofs::Walking::passes))]
 fn mark_block(marks: &mut Vec<bool>, form: Form, bytes: &[u8], at: usize) -> Result<(), AllocError>
     requires { IsTrue (is_passable form bytes.now at) }
-    ensures { OnOk result (marks.new.items ≡ marks.old.items ++ spec.block_marks form bytes.now at) }
+    ensures { OnOk result (marks.new.items
+        ≡ marks.old.items ++ spec.block_marks form bytes.now at) }
 {
     let count = physical_size(form, bytes, at) / 2;
     let mut master = at;
@@ -45,7 +48,8 @@ fn mark_block(marks: &mut Vec<bool>, form: Form, bytes: &[u8], at: usize) -> Res
     Ok(())
 }
 
-/// Returns, for each even offset of a zone from the first block on, whether it is in a nonrelocatable block.
+/// Returns, for each even offset of a zone from the first block on, whether it is in a
+/// nonrelocatable block.
 #[tactic(auto, using(crate::proofs::Walking::tiled_here, crate::proofs::Walking::tiled_after, crate::proofs::Marking::block_more, crate::proofs::Marking::blocks_end))]
 fn marks_of(alloc: Global, form: Form, bytes: &[u8]) -> Result<Vec<bool>, AllocError>
     requires record { 52 ≤ length bytes.now }

@@ -1,6 +1,7 @@
 //! Reading a zone in the bytes of a dump.
 
-ghost use Rattle.std.specs.Prelude.{◌≡◌, ◌+◌, ◌-◌, ◌≤◌, ◌<◌, ◌^◌, [], length, drop, IsTrue, IfOk, IfErr, IfSome, is_some};
+ghost use Rattle.std.specs.Prelude.{◌≡◌, ◌+◌, ◌-◌, ◌≤◌, ◌<◌, ◌^◌, [], length, drop, IsTrue, IfOk};
+ghost use Rattle.std.specs.Prelude.{IfErr, IfSome, is_some};
 ghost use Rattle.real_zone.specs.Blocks.{is_tiled};
 ghost use Rattle.real_zone.specs.Lists.{first};
 ghost use Rattle.real_zone.specs.Zone as spec;
@@ -92,11 +93,12 @@ pub fn bytes_to_limit<'b>(form: Form, address: u32, bytes: &'b [u8]) -> Option<&
     }
 }
 
-/// Returns the zone at an address in the bytes of a dump, whose first byte stands at the address `base`, though it may be damaged; `None`
-/// where no zone record with a bkLim stands there.
+/// Returns the zone at an address in the bytes of a dump, whose first byte stands at the address
+/// `base`, though it may be damaged; `None` where no zone record with a bkLim stands there.
 pub fn laid_zone<'b>(bytes: &'b [u8], base: u32, address: u32, form: Form) -> Option<LaidZone<'b>>
     ensures which { is_some result ≡ spec.is_laid form bytes.now base address }
-    ensures bytes { IfSome result (λ zone. zone.bytes.now ≡ spec.zone_bytes form bytes.now base address) }
+    ensures bytes { IfSome result (λ zone. zone.bytes.now
+        ≡ spec.zone_bytes form bytes.now base address) }
     ensures form { IfSome result (λ zone. zone.form ≡ form) }
     ensures address { IfSome result (λ zone. zone.address ≡ address) }
 {
@@ -113,10 +115,12 @@ pub fn laid_zone<'b>(bytes: &'b [u8], base: u32, address: u32, form: Form) -> Op
     }
 }
 
-/// Reads the zone at an address in the bytes of a dump, whose first byte stands at the address `base`, and checks it.
+/// Reads the zone at an address in the bytes of a dump, whose first byte stands at the address
+/// `base`, and checks it.
 ///
-/// The zone lends the bytes of the dump. While the list of free master pointers is checked, memory is taken for half as many
-/// bytes as the zone has, and given back. *Inside Macintosh: Memory*, chapter 2.
+/// The zone lends the bytes of the dump. While the list of free master pointers is checked, memory
+/// is taken for half as many bytes as the zone has, and given back. *Inside Macintosh: Memory*,
+/// chapter 2.
 ///
 /// # Errors
 ///
@@ -130,11 +134,14 @@ pub fn read_zone<'b>(
     form: Form,
 ) -> Result<RealZone<'b>, ZoneFault>
     ensures zone { IfOk result (λ zone. IsTrue (spec.is_zone_at form bytes.now base address)) }
-    ensures bytes { IfOk result (λ zone. zone.bytes.now ≡ spec.zone_bytes form bytes.now base address) }
+    ensures bytes { IfOk result (λ zone. zone.bytes.now
+        ≡ spec.zone_bytes form bytes.now base address) }
     ensures form { IfOk result (λ zone. zone.form ≡ form) }
     ensures address { IfOk result (λ zone. zone.address ≡ address) }
-    ensures fault { IfErr result (λ fault. spec.Tells fault (spec.damages form bytes.now base address)) }
-    ensures none { IfErr result (λ fault. spec.Denies fault (spec.is_zone_at form bytes.now base address)) }
+    ensures fault { IfErr result (λ fault.
+        spec.Tells fault (spec.damages form bytes.now base address)) }
+    ensures none { IfErr result (λ fault.
+        spec.Denies fault (spec.is_zone_at form bytes.now base address)) }
 {
     let Some(rest) = bytes_from(bytes, base, address) else {
         return Err(fault(Rule::ZonePointer, address));

@@ -48,7 +48,8 @@ fn enter_reference(
     requires entry { entry + 8 ≤ length content.now }
     requires reference { reference + 12 ≤ length content.now }
     ensures { OnOk result ((other : ℕ) → get nat_cmp resources.new other
-        ≡ option_or (get nat_cmp resources.old other) (spec.named_by form content.now entry other reference)) }
+        ≡ option_or (get nat_cmp resources.old other)
+        (spec.named_by form content.now entry other reference)) }
 {
     enter(
         resources,
@@ -69,7 +70,8 @@ fn enter_type(
     requires entry { entry + 8 ≤ length content.now }
     requires inside { IsTrue (spec.has_references content.now entry) }
     ensures { OnOk result ((other : ℕ) → get nat_cmp resources.new other
-        ≡ option_or (get nat_cmp resources.old other) (spec.named_in_type form content.now other entry)) }
+        ≡ option_or (get nat_cmp resources.old other)
+        (spec.named_in_type form content.now other entry)) }
 {
     let count = reference_count(content, entry);
     let mut reference = first_reference(content, entry);
@@ -88,7 +90,8 @@ fn enter_types(
     content: &[u8],
 ) -> Result<(), AllocError>
     requires types { IsTrue (spec.has_types content.now) }
-    requires inside { IsTrue (list_all (spec.has_references content.now) (spec.entries content.now)) }
+    requires inside { IsTrue (list_all (spec.has_references content.now)
+        (spec.entries content.now)) }
     ensures { OnOk result ((other : ℕ) → get nat_cmp resources.new other
         ≡ option_or (get nat_cmp resources.old other)
         (first_found (spec.named_in_type form content.now other) (spec.entries content.now))) }
@@ -129,7 +132,8 @@ fn enter_block(
 ) -> Result<(), AllocError>
     requires { IsTrue (is_passable form bytes.now at) }
     ensures { OnOk result ((other : ℕ) → get nat_cmp resources.new other
-        ≡ option_or (get nat_cmp resources.old other) (spec.named_in_block form bytes.now other at)) }
+        ≡ option_or (get nat_cmp resources.old other)
+        (spec.named_in_block form bytes.now other at)) }
 {
     match kind(bytes, at) {
         Some(Tag::Relocatable) => enter_map(resources, form, content(form, bytes, at)),
@@ -147,7 +151,8 @@ fn resources_in(
     bytes: &[u8],
 ) -> Result<BTreeMap<u32, Resource>, AllocError>
     requires { 52 ≤ length bytes.now }
-    ensures { IfOk result (λ resources. (handle : ℕ) → get nat_cmp resources handle ≡ spec.resource_of form bytes.now handle) }
+    ensures { IfOk result (λ resources. (handle : ℕ)
+        → get nat_cmp resources handle ≡ spec.resource_of form bytes.now handle) }
 {
     let mut resources = BTreeMap::new(alloc);
     let mut at = 52;
@@ -161,7 +166,8 @@ fn resources_in(
     Ok(resources)
 }
 
-/// Returns the resources that the resource maps in a zone name, by their handles, which are the addresses of master pointers.
+/// Returns the resources that the resource maps in a zone name, by their handles, which are the
+/// addresses of master pointers.
 ///
 /// # Errors
 ///

@@ -1,6 +1,7 @@
 //! The rules that each block of a zone keeps.
 
-ghost use Rattle.std.specs.Prelude.{◌≡◌, ◌+◌, ◌≤◌, ◌<◌, ◌^◌, length, Option, IsTrue, IfNone, IfSome};
+ghost use Rattle.std.specs.Prelude.{◌≡◌, ◌+◌, ◌≤◌, ◌<◌, ◌^◌, length, Option, IsTrue, IfNone};
+ghost use Rattle.std.specs.Prelude.{IfSome};
 ghost use Rattle.real_zone.specs.Blocks.{is_size, is_passable};
 ghost use Rattle.real_zone.specs.Header.{size_at};
 ghost use Rattle.real_zone.specs.Lists.{first};

@@ -7,7 +7,8 @@ use crate::blocks::after;
 use crate::form::Form;
 use crate::rules::can_pass;
 
-/// The blocks of a zone in the order of their addresses; where it is damaged, those up to the first whose physical size is wrong.
+/// The blocks of a zone in the order of their addresses; where it is damaged, those up to the first
+/// whose physical size is wrong.
 #[derive(Clone, Copy)]
 pub struct Blocks<'b> {
     pub form: Form,

@@ -46,7 +46,8 @@ impl<'b> RealZone<'b> {
     }
 }
 
-/// A zone that may be damaged, in the borrowed bytes of a dump: its zone record and bkLim alone are known to lie in them.
+/// A zone that may be damaged, in the borrowed bytes of a dump: its zone record and bkLim alone are
+/// known to lie in them.
 #[derive(Clone, Copy)]
 pub struct LaidZone<'b> {
     pub form: Form,
@@ -70,9 +71,11 @@ impl<'b> LaidZone<'b> {
         record_in(self.bytes)
     }
 
-    /// Returns the blocks of the zone, in the order of their addresses: all, or those before the first whose physical size is wrong.
+    /// Returns the blocks of the zone, in the order of their addresses: all, or those before the
+    /// first whose physical size is wrong.
     pub fn blocks(&self) -> Blocks<'b>
-        ensures { blocks_left result ≡ blocks_passed self.now.form self.now.address self.now.bytes.now }
+        ensures { blocks_left result
+            ≡ blocks_passed self.now.form self.now.address self.now.bytes.now }
     {
         Blocks {
             form: self.form,

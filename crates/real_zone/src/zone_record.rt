@@ -7,7 +7,8 @@ ghost use Rattle.real_zone.specs.Record.{record_of};
 use crate::numbers::word;
 use byteorder::{BigEndian, ByteOrder};
 
-/// The zone record, field by field, as it stands: in a 24-bit zone the high byte of an address may be anything.
+/// The zone record, field by field, as it stands: in a 24-bit zone the high byte of an address may
+/// be anything.
 ///
 /// *Inside Macintosh: Memory*, chapter 2, "Heap Zones" (the data type Zone).
 #[derive(Clone, Copy, Debug, PartialEq, Eq)]

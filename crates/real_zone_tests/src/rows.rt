@@ -6,8 +6,8 @@ use std::alloc::Global;
 /// The address of the 24-bit zone.
 pub const BASE_24: u32 = 0x1000;
 
-/// A block of four master pointers, of which the last two are free; a locked block of 6 bytes; 16 free bytes; a purgeable resource of 4
-/// bytes.
+/// A block of four master pointers, of which the last two are free; a locked block of 6 bytes; 16
+/// free bytes; a purgeable resource of 4 bytes.
 pub const ZONE_24: &str =
     "00001078 00000000 00001044 00000010 00000000 0004 0000 0000 0000 0000 0000 0000 0000
     00000000 00000000 00000000 00000000

@@ -115,7 +115,8 @@ fn forms(rt: HostRuntime) -> Result<()> {
 #[test]
 fn zones_of_a_dump(rt: HostRuntime) -> Result<()> {
     let alloc = rt.alloc();
-    // low memory from SysZone on, where the globals name the zone at 1000 alone, and one at 2000 follows it
+    // low memory from SysZone on, where the globals name the zone at 1000 alone, and one at 2000
+    // follows it
     let mut dump = Vec::new(alloc);
     dump.extend_from_slice(&[0, 0, 0x10, 0, 0, 0, 0x30, 0])?;
     for _ in 0..0x1000 - 0x2AE {

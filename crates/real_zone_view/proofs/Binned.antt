@@ -15,7 +15,8 @@ sized_more [] b = grind arith
 sized_more (a ∷ bin) b = grind (arith, sized_more bin b)
 
 -- a block that begins another bin
-pub bin_ends : (zone : ℕ) (named : ℕ → Option Resource) (least size : ℕ) (bin rest left grown : List Block) (b : Block) (old new all : List ℕ)
+pub bin_ends
+    : (zone : ℕ) (named : ℕ → Option Resource) (least size : ℕ) (bin rest left grown : List Block) (b : Block) (old new all : List ℕ)
     → is_full least size b ≡ true → size ≡ sized class.All bin → left ≡ b ∷ rest
     → old ++ bins_after zone named least bin left ≡ all → new ≡ old ++ bin_text zone named bin → grown ≡ b ∷ []
     → new ++ bins_after zone named least grown rest ≡ all

@@ -75,8 +75,8 @@ abbrev pub is_good : DumpView → List ℕ → Bool
 is_good asked dump = is_good_to asked.question asked.base dump
 
 -- Why there is no answer: the dump goes past the last address; the zone record would not lie in the dump; or, where blocks are to be
--- listed or drawn, its bkLim is bad, so that no block can be looked for. There is a script only of a zone that breaks no rule, and whose blocks
--- have room in a partition.
+-- listed or drawn, its bkLim is bad, so that no block can be looked for. There is a script only of a zone that breaks no rule, and whose
+-- blocks have room in a partition.
 abbrev pub record_fault : List ℕ → ℕ → ℕ → Option DumpFault
 record_fault dump base zone = if has_record dump base zone then None else Some (Outside zone)
 

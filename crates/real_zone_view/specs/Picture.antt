@@ -1,4 +1,5 @@
-use Rattle.std.specs.Prelude.{ℕ, zero, suc, ◌+◌, ◌-◌, ◌*◌, ◌/◌, min, nat_le, nat_lt, Bool, ◌||◌, List, [], ◌∷◌, ◌++◌, length, codes, decimal, Option, if◌then◌else◌}
+use Rattle.std.specs.Prelude.{ℕ, zero, suc, ◌+◌, ◌-◌, ◌*◌, ◌/◌, min, nat_le, nat_lt, Bool, ◌||◌, List, [], ◌∷◌, ◌++◌, length, codes}
+use Rattle.std.specs.Prelude.{decimal, Option, if◌then◌else◌}
 use Rattle.std.specs.List.{flat_map}
 use Rattle.real_zone.specs.Resources.{resource_of}
 use Rattle.real_zone.specs.Seen.{blocks_passed}

@@ -1,6 +1,7 @@
 //! What is answered to a question about a dump.
 
-ghost use Rattle.std.specs.Prelude.{◌≡◌, ◌+◌, ◌≤◌, ◌^◌, ◌++◌, length, IsTrue, IfOk, IfErr, OnOk, None};
+ghost use Rattle.std.specs.Prelude.{◌≡◌, ◌+◌, ◌≤◌, ◌^◌, ◌++◌, length, IsTrue, IfOk, IfErr, OnOk};
+ghost use Rattle.std.specs.Prelude.{None};
 ghost use Rattle.real_zone.specs.Zone.{has_record};
 ghost use Rattle.real_zone.specs.Zone as laid;
 ghost use Rattle.real_zone_view.specs.Answers as spec;
@@ -53,7 +54,8 @@ fn list_of(
     damages: &[Damage],
 ) -> Result<Vec<u8>, AllocError>
     ensures { IfOk result (λ text. text.items ≡ title_text style zone.now.form zone.now.address size
-        ++ zone_text style zone.now.form zone.now.address zone.now.bytes.now ++ damaged_text style.fields damages.now) }
+        ++ zone_text style zone.now.form zone.now.address zone.now.bytes.now
+        ++ damaged_text style.fields damages.now) }
 {
     let mut text = Vec::new(alloc);
     push_title(&mut text, style, zone.form, zone.address, size)?;
@@ -76,7 +78,8 @@ fn listed_in(
     requires damages { damages.now ≡ laid.damages form dump.now base zone }
     ensures text { IfOk result (λ text. text.items ≡ spec.list_text style form dump.now base zone) }
     ensures allowed { IfOk result (λ text. spec.zone_fault form dump.now base zone ≡ None) }
-    ensures fault { IfErr result (λ fault. spec.Tells fault (spec.zone_fault form dump.now base zone)) }
+    ensures fault { IfErr result (λ fault.
+        spec.Tells fault (spec.zone_fault form dump.now base zone)) }
 {
     let size = zone_size(dump, base, zone, form);
     match laid_zone(dump, base, zone, form) {
@@ -98,7 +101,8 @@ fn drawn_in(
     requires damages { damages.now ≡ laid.damages form dump.now base zone }
     ensures text { IfOk result (λ text. text.items ≡ spec.drawn form dump.now base zone) }
     ensures allowed { IfOk result (λ text. spec.zone_fault form dump.now base zone ≡ None) }
-    ensures fault { IfErr result (λ fault. spec.Tells fault (spec.zone_fault form dump.now base zone)) }
+    ensures fault { IfErr result (λ fault.
+        spec.Tells fault (spec.zone_fault form dump.now base zone)) }
 {
     let size = zone_size(dump, base, zone, form);
     let Some(laid) = laid_zone(dump, base, zone, form) else {
@@ -118,7 +122,8 @@ fn outside(address: u32) -> ViewFault
 
 /// Returns the fault that no block can be looked for at an address, since bkLim is bad.
 fn no_zone(address: u32) -> ViewFault
-    ensures { result ≡ ViewFault.Dump (DumpFault.Damaged (record { rule = Rule.Limit; address = address })) }
+    ensures { result
+        ≡ ViewFault.Dump (DumpFault.Damaged (record { rule = Rule.Limit; address = address })) }
 {
     ViewFault::Dump(DumpFault::Damaged {
         damage: Damage {
@@ -136,10 +141,14 @@ fn list(
     dump: &[u8],
     base: u32,
 ) -> Result<Answer, ViewFault>
-    ensures text { IfOk result (λ answer. answer.text.items ≡ spec.answer_to (question.List place style) base dump.now) }
-    ensures good { IfOk result (λ answer. answer.is_good ≡ spec.is_good_to (question.List place style) base dump.now) }
-    ensures allowed { IfOk result (λ answer. spec.fault_to (question.List place style) base dump.now ≡ None) }
-    ensures fault { IfErr result (λ fault. spec.Tells fault (spec.fault_to (question.List place style) base dump.now)) }
+    ensures text { IfOk result (λ answer. answer.text.items
+        ≡ spec.answer_to (question.List place style) base dump.now) }
+    ensures good { IfOk result (λ answer. answer.is_good
+        ≡ spec.is_good_to (question.List place style) base dump.now) }
+    ensures allowed { IfOk result (λ answer.
+        spec.fault_to (question.List place style) base dump.now ≡ None) }
+    ensures fault { IfErr result (λ fault.
+        spec.Tells fault (spec.fault_to (question.List place style) base dump.now)) }
 {
     if !has_record(dump, base, place.address) {
         return Err(outside(place.address));
@@ -163,10 +172,14 @@ fn list(
 
 /// Draws a zone.
 fn draw(alloc: Global, place: Place, dump: &[u8], base: u32) -> Result<Answer, ViewFault>
-    ensures text { IfOk result (λ answer. answer.text.items ≡ spec.answer_to (question.Draw place) base dump.now) }
-    ensures good { IfOk result (λ answer. answer.is_good ≡ spec.is_good_to (question.Draw place) base dump.now) }
-    ensures allowed { IfOk result (λ answer. spec.fault_to (question.Draw place) base dump.now ≡ None) }
-    ensures fault { IfErr result (λ fault. spec.Tells fault (spec.fault_to (question.Draw place) base dump.now)) }
+    ensures text { IfOk result (λ answer. answer.text.items
+        ≡ spec.answer_to (question.Draw place) base dump.now) }
+    ensures good { IfOk result (λ answer. answer.is_good
+        ≡ spec.is_good_to (question.Draw place) base dump.now) }
+    ensures allowed { IfOk result (λ answer.
+        spec.fault_to (question.Draw place) base dump.now ≡ None) }
+    ensures fault { IfErr result (λ fault.
+        spec.Tells fault (spec.fault_to (question.Draw place) base dump.now)) }
 {
     if !has_record(dump, base, place.address) {
         return Err(outside(place.address));
@@ -184,8 +197,10 @@ fn draw(alloc: Global, place: Place, dump: &[u8], base: u32) -> Result<Answer, V
 fn script_of_zone(alloc: Global, zone: &RealZone<'_>) -> Result<Vec<u8>, ViewFault>
     ensures text { IfOk result (λ text. text.items ≡ script_text zone.now.form zone.now.address
         (parts_in zone.now.form zone.now.address zone.now.bytes.now)) }
-    ensures allowed { IfOk result (λ text. spec.room_fault zone.now.form zone.now.address zone.now.bytes.now ≡ None) }
-    ensures fault { IfErr result (λ fault. spec.Tells fault (spec.room_fault zone.now.form zone.now.address zone.now.bytes.now)) }
+    ensures allowed { IfOk result (λ text.
+        spec.room_fault zone.now.form zone.now.address zone.now.bytes.now ≡ None) }
+    ensures fault { IfErr result (λ fault.
+        spec.Tells fault (spec.room_fault zone.now.form zone.now.address zone.now.bytes.now)) }
 {
     match script_of(alloc, zone) {
         Ok(text) => Ok(text),
@@ -199,10 +214,14 @@ fn script_of_zone(alloc: Global, zone: &RealZone<'_>) -> Result<Vec<u8>, ViewFau
 /// Makes a script of a zone.
 #[tactic(auto, using(crate::proofs::Scripted::sound_fault))]
 fn script(alloc: Global, place: Place, dump: &[u8], base: u32) -> Result<Answer, ViewFault>
-    ensures text { IfOk result (λ answer. answer.text.items ≡ spec.answer_to (question.Script place) base dump.now) }
-    ensures good { IfOk result (λ answer. answer.is_good ≡ spec.is_good_to (question.Script place) base dump.now) }
-    ensures allowed { IfOk result (λ answer. spec.fault_to (question.Script place) base dump.now ≡ None) }
-    ensures fault { IfErr result (λ fault. spec.Tells fault (spec.fault_to (question.Script place) base dump.now)) }
+    ensures text { IfOk result (λ answer. answer.text.items
+        ≡ spec.answer_to (question.Script place) base dump.now) }
+    ensures good { IfOk result (λ answer. answer.is_good
+        ≡ spec.is_good_to (question.Script place) base dump.now) }
+    ensures allowed { IfOk result (λ answer.
+        spec.fault_to (question.Script place) base dump.now ≡ None) }
+    ensures fault { IfErr result (λ fault.
+        spec.Tells fault (spec.fault_to (question.Script place) base dump.now)) }
 {
     let form = form_for(alloc, place, dump, base)?;
     match read_zone(alloc, dump, base, place.address, form) {
@@ -220,10 +239,14 @@ fn script(alloc: Global, place: Place, dump: &[u8], base: u32) -> Result<Answer,
 
 /// Checks a zone.
 fn check(alloc: Global, place: Place, dump: &[u8], base: u32) -> Result<Answer, ViewFault>
-    ensures text { IfOk result (λ answer. answer.text.items ≡ spec.answer_to (question.Check place) base dump.now) }
-    ensures good { IfOk result (λ answer. answer.is_good ≡ spec.is_good_to (question.Check place) base dump.now) }
-    ensures allowed { IfOk result (λ answer. spec.fault_to (question.Check place) base dump.now ≡ None) }
-    ensures fault { IfErr result (λ fault. spec.Tells fault (spec.fault_to (question.Check place) base dump.now)) }
+    ensures text { IfOk result (λ answer. answer.text.items
+        ≡ spec.answer_to (question.Check place) base dump.now) }
+    ensures good { IfOk result (λ answer. answer.is_good
+        ≡ spec.is_good_to (question.Check place) base dump.now) }
+    ensures allowed { IfOk result (λ answer.
+        spec.fault_to (question.Check place) base dump.now ≡ None) }
+    ensures fault { IfErr result (λ fault.
+        spec.Tells fault (spec.fault_to (question.Check place) base dump.now)) }
 {
     if !has_record(dump, base, place.address) {
         return Err(outside(place.address));
@@ -241,9 +264,12 @@ fn check(alloc: Global, place: Place, dump: &[u8], base: u32) -> Result<Answer, 
 /// Finds the zones in a dump.
 fn find(alloc: Global, style: Style, dump: &[u8], base: u32) -> Result<Answer, ViewFault>
     requires { base + length dump.now ≤ 2 ^ 32 }
-    ensures text { IfOk result (λ answer. answer.text.items ≡ spec.answer_to (question.Find style) base dump.now) }
-    ensures good { IfOk result (λ answer. answer.is_good ≡ spec.is_good_to (question.Find style) base dump.now) }
-    ensures fault { IfErr result (λ fault. spec.Tells fault (spec.fault_to (question.Find style) base dump.now)) }
+    ensures text { IfOk result (λ answer. answer.text.items
+        ≡ spec.answer_to (question.Find style) base dump.now) }
+    ensures good { IfOk result (λ answer. answer.is_good
+        ≡ spec.is_good_to (question.Find style) base dump.now) }
+    ensures fault { IfErr result (λ fault.
+        spec.Tells fault (spec.fault_to (question.Find style) base dump.now)) }
 {
     let zones = find_zones(alloc, dump, base)?;
     let mut text = Vec::new(alloc);
@@ -259,8 +285,10 @@ fn answer_to(alloc: Global, asked: DumpView, dump: &[u8]) -> Result<Answer, View
     requires { asked.base + length dump.now ≤ 2 ^ 32 }
     ensures text { IfOk result (λ answer. answer.text.items ≡ spec.answer_text asked dump.now) }
     ensures good { IfOk result (λ answer. answer.is_good ≡ spec.is_good asked dump.now) }
-    ensures allowed { IfOk result (λ answer. spec.fault_to asked.question asked.base dump.now ≡ None) }
-    ensures fault { IfErr result (λ fault. spec.Tells fault (spec.fault_to asked.question asked.base dump.now)) }
+    ensures allowed { IfOk result (λ answer.
+        spec.fault_to asked.question asked.base dump.now ≡ None) }
+    ensures fault { IfErr result (λ fault.
+        spec.Tells fault (spec.fault_to asked.question asked.base dump.now)) }
 {
     match asked.question {
         Question::List(place, style) => list(alloc, place, style, dump, asked.base),
@@ -271,16 +299,18 @@ fn answer_to(alloc: Global, asked: DumpView, dump: &[u8]) -> Result<Answer, View
     }
 }
 
-/// Answers a question about the bytes of a dump: lists the blocks of a zone with their totals, or draws them; a script that makes the zone
-/// anew; a line for each rule that a zone breaks; or the zones that stand in the dump.
+/// Answers a question about the bytes of a dump: lists the blocks of a zone with their totals, or
+/// draws them; a script that makes the zone anew; a line for each rule that a zone breaks; or the
+/// zones that stand in the dump.
 ///
-/// Of a damaged zone the blocks are listed or drawn that are passed: all, or those before the first whose physical size is wrong. After the totals
-/// stands the first rule that is broken.
+/// Of a damaged zone the blocks are listed or drawn that are passed: all, or those before the first
+/// whose physical size is wrong. After the totals stands the first rule that is broken.
 ///
 /// # Errors
 ///
-/// The dump goes past the last address, the zone record would not lie in it, or its bkLim is bad, so that no block could be listed; a
-/// script is asked for, and the zone breaks a rule or needs a partition that is larger than any can be; or the host is out of memory.
+/// The dump goes past the last address, the zone record would not lie in it, or its bkLim is bad,
+/// so that no block could be listed; a script is asked for, and the zone breaks a rule or needs a
+/// partition that is larger than any can be; or the host is out of memory.
 #[tactic(auto, unfolding(crate::specs::Answers::dump_fault))]
 pub fn answer(alloc: Global, asked: DumpView, dump: &[u8]) -> Result<Answer, ViewFault>
     ensures text { IfOk result (λ answer. answer.text.items ≡ spec.answer_text asked dump.now) }

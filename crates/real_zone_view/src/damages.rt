@@ -87,7 +87,8 @@ pub fn push_damaged(
     fields: Fields,
     damages: &[Damage],
 ) -> Result<(), AllocError>
-    ensures { OnOk result (text.new.items ≡ text.old.items ++ spec.damaged_text fields damages.now) }
+    ensures { OnOk result (text.new.items
+        ≡ text.old.items ++ spec.damaged_text fields damages.now) }
 {
     match damages {
         [] => Ok(()),

@@ -13,7 +13,8 @@ use thiserror::Error;
 pub struct Place {
     /// The address of the zone record.
     pub address: u32,
-    /// The form of the zone; `None` for the one in which it stands, or else in which most of its blocks do.
+    /// The form of the zone; `None` for the one in which it stands, or else in which most of its
+    /// blocks do.
     pub form: Option<Form>,
 }
 

@@ -50,7 +50,8 @@ pub fn push_first(
     width: usize,
     field: &[u8],
 ) -> Result<(), AllocError>
-    ensures { OnOk result (text.new.items ≡ text.old.items ++ spec.first_field fields width field.now) }
+    ensures { OnOk result (text.new.items
+        ≡ text.old.items ++ spec.first_field fields width field.now) }
 {
     match fields {
         Fields::Columns => push_left(text, width, field),
@@ -66,7 +67,8 @@ pub fn push_left_field(
     width: usize,
     field: &[u8],
 ) -> Result<(), AllocError>
-    ensures { OnOk result (text.new.items ≡ text.old.items ++ spec.left_field fields width field.now) }
+    ensures { OnOk result (text.new.items
+        ≡ text.old.items ++ spec.left_field fields width field.now) }
 {
     match fields {
         Fields::Columns => {
@@ -88,7 +90,8 @@ pub fn push_right_field(
     width: usize,
     field: &[u8],
 ) -> Result<(), AllocError>
-    ensures { OnOk result (text.new.items ≡ text.old.items ++ spec.right_field fields width field.now) }
+    ensures { OnOk result (text.new.items
+        ≡ text.old.items ++ spec.right_field fields width field.now) }
 {
     match fields {
         Fields::Columns => push_right(text, width, field),
@@ -106,7 +109,8 @@ pub fn push_number(
     width: usize,
     number: u128,
 ) -> Result<(), AllocError>
-    ensures { OnOk result (text.new.items ≡ text.old.items ++ spec.right_field fields width (decimal number)) }
+    ensures { OnOk result (text.new.items
+        ≡ text.old.items ++ spec.right_field fields width (decimal number)) }
 {
     push_right_field(text, fields, width, Buffer::new().format(number).as_bytes())
 }

@@ -30,7 +30,8 @@ fn push_find(
     base: u32,
     found: FoundZone,
 ) -> Result<(), AllocError>
-    ensures { OnOk result (text.new.items ≡ text.old.items ++ spec.find_text style dump.now base found) }
+    ensures { OnOk result (text.new.items
+        ≡ text.old.items ++ spec.find_text style dump.now base found) }
 {
     push_begin(text, style.fields, b"zone")?;
     push_hex(text, found.address as u128)?;
@@ -50,7 +51,8 @@ fn push_each(
     base: u32,
     zones: &[FoundZone],
 ) -> Result<(), AllocError>
-    ensures { OnOk result (text.new.items ≡ text.old.items ++ flat_map (spec.find_text style dump.now base) zones.now) }
+    ensures { OnOk result (text.new.items
+        ≡ text.old.items ++ flat_map (spec.find_text style dump.now base) zones.now) }
 {
     for zone in zones {
         push_find(text, style, dump, base, *zone)?;
@@ -67,7 +69,8 @@ pub fn push_finds(
     base: u32,
     zones: &[FoundZone],
 ) -> Result<(), AllocError>
-    ensures { OnOk result (text.new.items ≡ text.old.items ++ spec.finds_text style dump.now base zones.now) }
+    ensures { OnOk result (text.new.items
+        ≡ text.old.items ++ spec.finds_text style dump.now base zones.now) }
 {
     push_titles(text, style.fields, b"address       size bits global\n")?;
     push_each(text, style, dump, base, zones)

@@ -1,4 +1,5 @@
-//! The blocks of a zone as a real Macintosh lays it, as a text with totals; what is wrong with a zone, and the zones in a dump.
+//! The blocks of a zone as a real Macintosh lays it, as a text with totals; what is wrong with a
+//! zone, and the zones in a dump.
 #![tactic(auto)]
 
 mod answers;

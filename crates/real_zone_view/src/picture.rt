@@ -1,4 +1,5 @@
-//! A zone as a picture: a strip in which each block has the bytes that it has in the zone, wrapped into rows.
+//! A zone as a picture: a strip in which each block has the bytes that it has in the zone, wrapped
+//! into rows.
 
 ghost use Rattle.std.specs.Prelude.{◌≡◌, ◌<◌, ◌≤◌, ◌^◌, ◌++◌, [], OnOk, IfOk};
 ghost use Rattle.std.specs.BTreeMap.{get};
@@ -56,7 +57,8 @@ fn is_most(class: Class, bin: &[Block]) -> bool
 
 /// Appends a word where most of the bytes of a bin are of a class.
 fn push_most(text: &mut Vec<u8>, class: Class, bin: &[Block], word: &[u8]) -> Result<(), AllocError>
-    ensures { OnOk result (text.new.items ≡ text.old.items ++ mark (spec.most class bin.now) word.now) }
+    ensures { OnOk result (text.new.items
+        ≡ text.old.items ++ mark (spec.most class bin.now) word.now) }
 {
     put(text, mark(is_most(class, bin), word))
 }
@@ -74,7 +76,8 @@ fn push_classes(text: &mut Vec<u8>, bin: &[Block]) -> Result<(), AllocError>
     Ok(())
 }
 
-/// Appends the address of the first block of a bin, and how many blocks and bytes it has of each kind.
+/// Appends the address of the first block of a bin, and how many blocks and bytes it has of each
+/// kind.
 fn push_kinds_at(text: &mut Vec<u8>, address: u32, bin: &[Block]) -> Result<(), AllocError>
     ensures { OnOk result (text.new.items ≡ text.old.items ++ spec.kinds_at address bin.now) }
 {
@@ -90,7 +93,8 @@ fn bin_title(
     resources: &BTreeMap<u32, Resource>,
     bin: &[Block],
 ) -> Result<Vec<u8>, AllocError>
-    ensures { IfOk result (λ text. text.items ≡ spec.bin_title (get nat_cmp resources.now) bin.now) }
+    ensures { IfOk result (λ text. text.items
+        ≡ spec.bin_title (get nat_cmp resources.now) bin.now) }
 {
     let mut text = Vec::new(alloc);
     match bin {
@@ -108,7 +112,8 @@ fn push_bin_title(
     resources: &BTreeMap<u32, Resource>,
     bin: &[Block],
 ) -> Result<(), AllocError>
-    ensures { OnOk result (text.new.items ≡ text.old.items ++ escaped (spec.bin_title (get nat_cmp resources.now) bin.now)) }
+    ensures { OnOk result (text.new.items
+        ≡ text.old.items ++ escaped (spec.bin_title (get nat_cmp resources.now) bin.now)) }
 {
     let title = bin_title(alloc, resources, bin)?;
     push_escaped(text, title.as_slice())?;
@@ -230,7 +235,8 @@ fn push_mark(
     damages: &[Damage],
 ) -> Result<(), AllocError>
     requires { width ≤ 2 ^ 64 }
-    ensures { OnOk result (text.new.items ≡ text.old.items ++ spec.damage_mark zone width damages.now) }
+    ensures { OnOk result (text.new.items
+        ≡ text.old.items ++ spec.damage_mark zone width damages.now) }
 {
     match damages {
         [] => Ok(()),
@@ -326,7 +332,8 @@ fn push_titles(
     size: usize,
     damages: &[Damage],
 ) -> Result<(), AllocError>
-    ensures { OnOk result (text.new.items ≡ text.old.items ++ spec.picture_head form zone size damages.now) }
+    ensures { OnOk result (text.new.items
+        ≡ text.old.items ++ spec.picture_head form zone size damages.now) }
 {
     put(text, b"<text x=\"12\" y=\"18\" font-size=\"13\">")?;
     push_title(text, in_list(), form, zone, size)?;
@@ -350,7 +357,8 @@ fn push_strip(
 ) -> Result<(), AllocError>
     requires { width ≤ 2 ^ 64 }
     ensures { OnOk result (text.new.items
-        ≡ text.old.items ++ spec.strip zone size width (get nat_cmp resources.now) blocks.now damages.now) }
+        ≡ text.old.items
+        ++ spec.strip zone size width (get nat_cmp resources.now) blocks.now damages.now) }
 {
     push_strip_opened(text, size as u128)?;
     push_all_bins(alloc, text, zone, resources, blocks)?;
@@ -385,7 +393,8 @@ fn push_picture_by(
     requires width { width ≤ 2 ^ 64 }
     requires rows { rows ≤ 64 }
     ensures { OnOk result (text.new.items
-        ≡ text.old.items ++ spec.picture_by rows width form zone size (get nat_cmp resources.now) blocks.now damages.now) }
+        ≡ text.old.items ++ spec.picture_by rows width form zone size
+        (get nat_cmp resources.now) blocks.now damages.now) }
 {
     push_svg_opened(text, 84 + 24 * rows as u128)?;
     put(text, svg_style())?;
@@ -409,7 +418,8 @@ pub fn push_picture(
     damages: &[Damage],
 ) -> Result<(), AllocError>
     ensures { OnOk result (text.new.items
-        ≡ text.old.items ++ spec.picture form zone size (get nat_cmp resources.now) blocks.now damages.now) }
+        ≡ text.old.items
+        ++ spec.picture form zone size (get nat_cmp resources.now) blocks.now damages.now) }
 {
     let rows = row_count(blocks);
     let width = row_width(size, rows);

@@ -202,7 +202,8 @@ fn push_owner(
     resources: &BTreeMap<u32, Resource>,
     kind: Kind,
 ) -> Result<(), AllocError>
-    ensures { OnOk result (text.new.items ≡ text.old.items ++ spec.owner_text (get nat_cmp resources.now) kind) }
+    ensures { OnOk result (text.new.items
+        ≡ text.old.items ++ spec.owner_text (get nat_cmp resources.now) kind) }
 {
     match kind {
         Kind::Free | Kind::Nonrelocatable | Kind::Unknown => put(text, b"-"),
@@ -225,7 +226,8 @@ fn push_marks(
     resources: &BTreeMap<u32, Resource>,
     kind: Kind,
 ) -> Result<(), AllocError>
-    ensures { OnOk result (text.new.items ≡ text.old.items ++ spec.mark_fields fields (get nat_cmp resources.now) kind) }
+    ensures { OnOk result (text.new.items
+        ≡ text.old.items ++ spec.mark_fields fields (get nat_cmp resources.now) kind) }
 {
     let mut owner = Vec::new(alloc);
     push_owner(&mut owner, resources, kind)?;
@@ -244,7 +246,8 @@ fn push_line(
     resources: &BTreeMap<u32, Resource>,
     block: &Block,
 ) -> Result<(), AllocError>
-    ensures { OnOk result (text.new.items ≡ text.old.items ++ spec.line_text style (get nat_cmp resources.now) block.now) }
+    ensures { OnOk result (text.new.items
+        ≡ text.old.items ++ spec.line_text style (get nat_cmp resources.now) block.now) }
 {
     push_place(text, style, block)?;
     push_kind(alloc, text, style.fields, block.kind)?;
@@ -288,7 +291,8 @@ pub fn push_title(
     zone: u32,
     size: usize,
 ) -> Result<(), AllocError>
-    ensures { OnOk result (text.new.items ≡ text.old.items ++ spec.title_text style form zone size) }
+    ensures { OnOk result (text.new.items
+        ≡ text.old.items ++ spec.title_text style form zone size) }
 {
     match style.fields {
         Fields::Columns => {

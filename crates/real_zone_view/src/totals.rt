@@ -86,7 +86,8 @@ fn push_total(
     class: Class,
     blocks: &[Block],
 ) -> Result<(), AllocError>
-    ensures { OnOk result (text.new.items ≡ text.old.items ++ spec.total_text style class blocks.now) }
+    ensures { OnOk result (text.new.items
+        ≡ text.old.items ++ spec.total_text style class blocks.now) }
 {
     push_begin(text, style.fields, b"total")?;
     push_first(text, style.fields, 15, class_text(class))?;

@@ -17,7 +17,8 @@ use std::collections::BTreeMap;
 
 /// Returns the blocks of a zone that are passed.
 fn gathered(alloc: Global, zone: &LaidZone<'_>) -> Result<Vec<Block>, AllocError>
-    ensures { IfOk result (λ blocks. blocks.items ≡ blocks_passed zone.now.form zone.now.address zone.now.bytes.now) }
+    ensures { IfOk result (λ blocks. blocks.items
+        ≡ blocks_passed zone.now.form zone.now.address zone.now.bytes.now) }
 {
     zone.blocks().collect(alloc)
 }
@@ -31,15 +32,17 @@ fn push_blocks(
     resources: &BTreeMap<u32, Resource>,
     blocks: &[Block],
 ) -> Result<(), AllocError>
-    ensures { OnOk result (text.new.items ≡ text.old.items ++ blocks_text style (get nat_cmp resources.now) blocks.now) }
+    ensures { OnOk result (text.new.items
+        ≡ text.old.items ++ blocks_text style (get nat_cmp resources.now) blocks.now) }
 {
     push_head(text, style.fields)?;
     push_lines(alloc, text, style, resources, blocks)?;
     push_totals(text, style, blocks)
 }
 
-/// Appends the blocks of a zone, if it is damaged those before the first whose physical size is wrong: a line for each, in the order of
-/// their addresses, and then how many there are of each class and how many bytes these have.
+/// Appends the blocks of a zone, if it is damaged those before the first whose physical size is
+/// wrong: a line for each, in the order of their addresses, and then how many there are of each
+/// class and how many bytes these have.
 ///
 /// # Errors
 ///
@@ -74,7 +77,8 @@ pub fn push_drawn(
     damages: &[Damage],
 ) -> Result<(), AllocError>
     ensures { OnOk result (text.new.items
-        ≡ text.old.items ++ zone_picture zone.now.form zone.now.address size zone.now.bytes.now damages.now) }
+        ≡ text.old.items
+        ++ zone_picture zone.now.form zone.now.address size zone.now.bytes.now damages.now) }
 {
     let resources = resources_of(alloc, zone)?;
     let blocks = gathered(alloc, zone)?;

@@ -1,4 +1,5 @@
-//! What a caller writes of each library of the region: the README of the library shows the same lines.
+//! What a caller writes of each library of the region: the README of the library shows the same
+//! lines.
 
 use block_store::BlockStore;
 use heap_words::{Header, Tag, write_header};

@@ -9,7 +9,8 @@ use raw_region::{Part, Region};
 use std::alloc::{AllocError, Global};
 use std::test::Fail;
 
-/// Returns a region of 48 bytes and three parts cut from the region, each filled with a byte of its own.
+/// Returns a region of 48 bytes and three parts cut from the region, each filled with a byte of its
+/// own.
 fn three(alloc: Global) -> Result<(Region, Part, Part, Part), AllocError>
     ensures { IfOk result (λ t. AreThree t.0 t.1 t.2 t.3) }
 {
@@ -39,14 +40,15 @@ fn ends(mut region: Region) -> [u8; 3]
 /// Returns the last byte of each third of the region, after the parts are joined in this order.
 fn joined(mut region: Region, first: Part, second: Part, third: Part) -> [u8; 3]
     requires size { length region.bytes ≡ 48 }
-    requires homes { (first.home ≡ region.home) × (second.home ≡ region.home) × (third.home ≡ region.home) }
+    requires homes { (first.home ≡ region.home) × (second.home ≡ region.home)
+        × (third.home ≡ region.home) }
     requires first { Contains region.out (window first.at (length first.bytes)) }
     requires second { Contains (without_window first.at (length first.bytes) region.out)
         (window second.at (length second.bytes)) }
-    requires third { Contains (without_window second.at (length second.bytes)
-        (without_window first.at (length first.bytes) region.out)) (window third.at (length third.bytes)) }
-    requires all { without_window third.at (length third.bytes) (without_window second.at (length second.bytes)
-        (without_window first.at (length first.bytes) region.out)) ≡ [] }
+    requires third { Contains (without_window second.at (length second.bytes) (without_window
+        first.at (length first.bytes) region.out)) (window third.at (length third.bytes)) }
+    requires all { without_window third.at (length third.bytes) (without_window second.at
+        (length second.bytes) (without_window first.at (length first.bytes) region.out)) ≡ [] }
 {
     region.join(first);
     region.join(second);
@@ -54,8 +56,8 @@ fn joined(mut region: Region, first: Part, second: Part, third: Part) -> [u8; 3]
     ends(region)
 }
 
-/// Returns the last byte of each third of the region, after the parts are joined in the order of the letters in
-/// `order`.
+/// Returns the last byte of each third of the region, after the parts are joined in the order of
+/// the letters in `order`.
 fn joined_in(alloc: Global, order: &str) -> Result<[u8; 3], AllocError> {
     let (region, a, b, c) = three(alloc)?;
     Ok(match order {
@@ -77,8 +79,8 @@ fn parts_come_home_in_any_order(rt: HostRuntime) -> Result<(), Fail> {
     Ok(())
 }
 
-/// Returns the words at 0, 16 and 32 of a region of 48 bytes. The words are first written with the bytes 1, 2 and 3;
-/// then the 32 bytes at `from` slide to `to`.
+/// Returns the words at 0, 16 and 32 of a region of 48 bytes. The words are first written with the
+/// bytes 1, 2 and 3; then the 32 bytes at `from` slide to `to`.
 fn slid(alloc: Global, from: usize, to: usize) -> Result<[[u8; 4]; 3], AllocError>
     requires from { from ≤ 16 }
     requires to { to ≤ 16 }

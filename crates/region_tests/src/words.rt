@@ -9,7 +9,8 @@ use raw_region::Region;
 use std::alloc::{AllocError, Global};
 use std::test::Fail;
 
-/// Returns the header that is read after `header` is written, and the four words that the header takes.
+/// Returns the header that is read after `header` is written, and the four words that the header
+/// takes.
 fn header_in(alloc: Global, header: Header) -> Result<(Header, [[u8; 4]; 4]), AllocError>
     requires size { header.size % UNIT ≡ 0 }
     requires small_size { header.size + 4 ≤ 2 ^ 32 }

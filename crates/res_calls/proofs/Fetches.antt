@@ -9,7 +9,7 @@ use Rattle.heap_calls.specs.Inner.Given.{IsAnswer}
 use Rattle.heap_calls.specs.declared.refusal.Refusal.{Refusal}
 use Rattle.heap_calls.specs.declared.refusal.Refusal.TheVariants.{Code, HostMemory}
 use Rattle.res_map.specs.Map.{Reference, with_handle}
-use Rattle.res_calls.specs.Files.{OpenFile, Resources, Found, with_reference, file_of}
+use Rattle.res_calls.specs.Files.{OpenFile, Resources, Found, with_reference}
 use Rattle.res_calls.specs.Fetch.{Managers, Answer, is_system, flags_of, fetch_new, fetch_again, now_filled}
 use Rattle.res_calls.specs.Fetch.{now_empty, now_refilled}
 use Rattle.res_calls.specs.Fetch as fetch
@@ -151,13 +151,13 @@ pub here_of : (o : Option Found) (f : Found) (x : Reference) → o ≡ Some f
 here_of o f x e p = let same : Some f.reference.here
     ≡ Some x = ap (option_map (λ (f : Found). f.reference.here)) (sym e) ∙ p in cc
 
--- the n-th reference of the current file is fetched
-pub ind_noted : (kind n : ℕ) (r : Resources) (m m' : Memory) (found : Option Spot) (loading : Bool)
+-- the n-th reference is fetched
+pub ind_noted : (among : rows.Among) (kind n : ℕ) (r : Resources) (m m' : Memory) (found : Option Spot) (loading : Bool)
     (answer result : Result Fetched Unread) (new after : Resources)
-    → found_from found r.chain ≡ rows.nth_in kind n (file_of r.current r) → loading ≡ r.loading
+    → found_from found r.chain ≡ rows.nth_among among kind n r → loading ≡ r.loading
     → IsFetched (fetched_as loading (found_from found r.chain) (managers r m)) answer (managers new m')
     → result ≡ answer → after ≡ record new { error = last_fetched answer new.error }
-    → IsFetched (noting (rows.get1_ind_resource kind n) (managers r m)) result (managers after m')
-ind_noted kind n r m m' found loading answer result new after there on fetched same kept =
-    rw (same, kept) (fetch_noted (rows.get1_ind_resource kind n) (managers r m) answer new m'
+    → IsFetched (noting (rows.get_ind_resource among kind n) (managers r m)) result (managers after m')
+ind_noted among kind n r m m' found loading answer result new after there on fetched same kept =
+    rw (same, kept) (fetch_noted (rows.get_ind_resource among kind n) (managers r m) answer new m'
     (rw (there, on) at fetched))

@@ -44,13 +44,13 @@ find-cons within test f older = cases (within f)
     cases true = refl
     cases false = refl
 
-here_spot : (i n : ℕ) (f : OpenFile) (older : List OpenFile) (o : Option (Split Reference)) (rest : Option Found)
+pub here_spot : (i n : ℕ) (f : OpenFile) (older : List OpenFile) (o : Option (Split Reference)) (rest : Option Found)
     → Some n ≡ option_map place o → spot_from i (option_or (option_map (found_in f older) o) rest)
     ≡ Some (let s : Spot = record { file = i; reference = n } in s)
 here_spot i n f older None rest e = cc
 here_spot i n f older (Some at) rest e = let z : i + 0 ≡ i = omega arith in cc
 
-on_spot : (i : ℕ) (f : OpenFile) (older : List OpenFile) (o : Option (Split Reference)) (rest : Option Found)
+pub on_spot : (i : ℕ) (f : OpenFile) (older : List OpenFile) (o : Option (Split Reference)) (rest : Option Found)
     → None ≡ option_map place o → spot_from i
     (option_or (option_map (found_in f older) o) (option_map (found_behind f) rest))
     ≡ spot_from (i + 1) rest
@@ -109,47 +109,57 @@ in_behind f k (Some s) at e = cases (at_index k s.here.map.references) e
     cases None is = cc
     cases (Some x) is = let same : reference_in s x ≡ at = cc in ap (λ (g : Found). Some (found_behind f g)) same
 
-pub find_stands : (within : OpenFile → Bool) (test : Reference → Bool) (chain : List OpenFile) (at : Found)
+-- what the first file gives, or else those after it
+pub either_stands : (f : OpenFile) (older : List OpenFile) (at : Found) (o : Option (Split Reference))
+    → ((x : Split Reference) → o ≡ Some x → at_index (place x) f.map.references ≡ Some x)
+    → (rest : Option Found) → ((b : Found) → rest ≡ Some b → found_at (spot_of b) older ≡ Some b)
+    → option_or (option_map (found_in f older) o) (option_map (found_behind f) rest) ≡ Some at
+    → found_at (spot_of at) (f ∷ older) ≡ Some at
+either_stands f older at (Some x) first rest again is =
+    let same : found_in f older x ≡ at = cc in
+    subst (λ (g : Found). found_at (spot_of g) (f ∷ older) ≡ Some g) same
+    (ap (option_map (reference_in (let s : Split OpenFile = record { before = []; here = f; after = older } in s))) (first x refl))
+either_stands f older at None first None again is = cc
+either_stands f older at None first (Some b) again is =
+    let same : found_behind f b ≡ at = cc in
+    subst (λ (g : Found). found_at (spot_of g) (f ∷ older) ≡ Some g) same
+    (in_behind f (place b.reference) (at_index (place b.file) older) b (again b refl))
+
+find_stands : (within : OpenFile → Bool) (test : Reference → Bool) (chain : List OpenFile) (at : Found)
     → find within test chain ≡ Some at → found_at (spot_of at) chain ≡ Some at
 find_stands within test [] at e = cc
 find_stands within test (f ∷ older) at e =
-    cases (first_of within test f) (first_stands within test f) (find within test older) (find_stands within test older)
-    (sym (find-cons within test f older) ∙ e)
-  where
-    cases : (o : Option (Split Reference))
-        → ((x : Split Reference) → o ≡ Some x → at_index (place x) f.map.references ≡ Some x)
-        → (rest : Option Found) → ((b : Found) → rest ≡ Some b → found_at (spot_of b) older ≡ Some b)
-        → option_or (option_map (found_in f older) o) (option_map (found_behind f) rest) ≡ Some at
-        → found_at (spot_of at) (f ∷ older) ≡ Some at
-    cases (Some x) first rest again is =
-        let same : found_in f older x ≡ at = cc in
-        subst (λ (g : Found). found_at (spot_of g) (f ∷ older) ≡ Some g) same
-        (ap (option_map (reference_in (let s : Split OpenFile = record { before = []; here = f; after = older } in s))) (first x refl))
-    cases None first None again is = cc
-    cases None first (Some b) again is =
-        let same : found_behind f b ≡ at = cc in
-        subst (λ (g : Found). found_at (spot_of g) (f ∷ older) ≡ Some g) same
-        (in_behind f (place b.reference) (at_index (place b.file) older) b (again b refl))
+    either_stands f older at (first_of within test f) (first_stands within test f) (find within test older)
+    (find_stands within test older) (sym (find-cons within test f older) ∙ e)
 
--- the place that was found gives what was found
-pub found_again : (within : OpenFile → Bool) (test : Reference → Bool) (chain : List OpenFile) (o : Option Spot)
-    → o ≡ option_map spot_of (find within test chain) → found_from o chain ≡ find within test chain
-found_again within test chain o e =
-    ap (λ p. found_from p chain) e ∙ cases (find within test chain) (find_stands within test chain)
+-- the place of what was found gives what was found
+pub again_from : (p : Option Found) (chain : List OpenFile) (o : Option Spot)
+    → ((b : Found) → p ≡ Some b → found_at (spot_of b) chain ≡ Some b) → o ≡ option_map spot_of p
+    → found_from o chain ≡ p
+again_from p chain o stands e = ap (λ q. found_from q chain) e ∙ cases p stands
   where
     cases : (p : Option Found) → ((b : Found) → p ≡ Some b → found_at (spot_of b) chain ≡ Some b)
         → found_from (option_map spot_of p) chain ≡ p
     cases None stands = refl
     cases (Some b) stands = stands b refl
 
-pub placed_again : (within : OpenFile → Bool) (test : Reference → Bool) (chain : List OpenFile) (o : Option Spot)
-    → o ≡ option_map spot_of (find within test chain) → is_some (found_from o chain) ≡ is_some o
-placed_again within test chain o e =
-    ap is_some (found_again within test chain o e) ∙ cases (find within test chain) ∙ ap is_some (sym e)
+pub placed_from : (p : Option Found) (chain : List OpenFile) (o : Option Spot) → found_from o chain ≡ p
+    → o ≡ option_map spot_of p → is_some (found_from o chain) ≡ is_some o
+placed_from p chain o found e = ap is_some found ∙ cases p ∙ ap is_some (sym e)
   where
     cases : (p : Option Found) → is_some p ≡ is_some (option_map spot_of p)
     cases None = refl
     cases (Some b) = refl
+
+pub found_again : (within : OpenFile → Bool) (test : Reference → Bool) (chain : List OpenFile) (o : Option Spot)
+    → o ≡ option_map spot_of (find within test chain) → found_from o chain ≡ find within test chain
+found_again within test chain o e =
+    again_from (find within test chain) chain o (find_stands within test chain) e
+
+pub placed_again : (within : OpenFile → Bool) (test : Reference → Bool) (chain : List OpenFile) (o : Option Spot)
+    → o ≡ option_map spot_of (find within test chain) → is_some (found_from o chain) ≡ is_some o
+placed_again within test chain o e =
+    placed_from (find within test chain) chain o (found_again within test chain o e) e
 
 -- a search among items, and among items behind others
 split_found : (test : Reference → Bool) (xs : List Reference)

@@ -10,11 +10,11 @@ use Rattle.res_map.specs.Map.{Reference, Map, is_named, is_resource}
 use Rattle.res_calls.specs.Asked as asks
 use Rattle.res_calls.specs.Asked.{ResourceAsked}
 use Rattle.res_calls.specs.Fetch.{Managers, Loaded, preload_one}
-use Rattle.res_calls.specs.Files.{File, OpenFile, Found, file_named, file_of, find_from_current, find_in_current, open_at}
+use Rattle.res_calls.specs.Files.{File, OpenFile, Found, file_named, find_from_current, find_in_current, open_at}
 use Rattle.res_calls.specs.Gone.{fetch_gone_as, fetch_gone, preload_gone, load_gone, map_gone, fork_gone}
 use Rattle.res_calls.specs.Gone.{unless_open_gone, open_gone, gone_for, own_gone, preload_one_gone}
 use Rattle.res_calls.specs.Own.{find_own}
-use Rattle.res_calls.specs.Rows.{greatest_number, map_in, nth_in, resource_of}
+use Rattle.res_calls.specs.Rows.{greatest_number, map_in, nth_among, resource_of}
 use Rattle.res_calls.proofs.Walks.Place.{moved, one-place}
 
 -- a fetch
@@ -71,35 +71,10 @@ gone-elsewhere window (asks.GetNamedResource kind name) s =
     fetch-elsewhere window s.resources.loading (find_from_current (is_named kind name) s.resources) s
 gone-elsewhere window (asks.Get1NamedResource kind name) s =
     fetch-elsewhere window s.resources.loading (find_in_current (is_named kind name) s.resources) s
-gone-elsewhere window (asks.Get1IndResource kind index) s =
-    fetch-elsewhere window s.resources.loading (nth_in kind index (file_of s.resources.current s.resources)) s
+gone-elsewhere window (asks.GetIndResource among kind index) s =
+    fetch-elsewhere window s.resources.loading (nth_among among kind index s.resources) s
 gone-elsewhere window (asks.LoadResource handle) s = fetch-elsewhere window true (resource_of handle s.resources) s
-gone-elsewhere window (asks.CreateResFile name) s = refl
-gone-elsewhere window (asks.CloseResFile n) s = refl
-gone-elsewhere window (asks.UpdateResFile n) s = refl
-gone-elsewhere window (asks.UseResFile n) s = refl
-gone-elsewhere window asks.CurResFile s = refl
-gone-elsewhere window (asks.HomeResFile handle) s = refl
-gone-elsewhere window asks.Count1Types s = refl
-gone-elsewhere window (asks.Get1IndType index) s = refl
-gone-elsewhere window (asks.Count1Resources kind) s = refl
-gone-elsewhere window (asks.ReleaseResource handle) s = refl
-gone-elsewhere window (asks.DetachResource handle) s = refl
-gone-elsewhere window (asks.AddResource handle kind id name) s = refl
-gone-elsewhere window (asks.RemoveResource handle) s = refl
-gone-elsewhere window (asks.ChangedResource handle) s = refl
-gone-elsewhere window (asks.WriteResource handle) s = refl
-gone-elsewhere window (asks.GetResInfo handle) s = refl
-gone-elsewhere window (asks.SetResInfo handle id name) s = refl
-gone-elsewhere window (asks.GetResAttrs handle) s = refl
-gone-elsewhere window (asks.SetResAttrs handle attrs) s = refl
-gone-elsewhere window (asks.GetResourceSizeOnDisk handle) s = refl
-gone-elsewhere window (asks.ReadPartialResource handle from n) s = refl
-gone-elsewhere window (asks.WritePartialResource handle from x) s = refl
-gone-elsewhere window (asks.SetResourceSize handle n) s = refl
-gone-elsewhere window (asks.SetResPurge on) s = refl
-gone-elsewhere window (asks.SetResLoad on) s = refl
-gone-elsewhere window asks.ResError s = refl
+gone-elsewhere window a s = refl
 
 pub own-elsewhere : (window : Site) (kind : ℕ) (id : ℤ) (s : Managers)
     → own_gone kind id (moved window s) ≡ own_gone kind id s

@@ -1,6 +1,7 @@
 pub mod Walks
 mod Worked
 pub mod Finding
+pub mod Indexing
 pub mod Standing
 pub mod Fetches
 pub mod FetchGone

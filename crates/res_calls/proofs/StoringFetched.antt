@@ -17,18 +17,17 @@ use Rattle.res_calls.specs.Asked as asks
 use Rattle.res_calls.specs.Fetch.{Managers, Answer, done, flags_of, is_system, now_filled, now_empty, now_refilled, fetch_as}
 use Rattle.res_calls.specs.Fetching.{fetches, without_handles}
 use Rattle.res_calls.specs.Files.{OpenFile, Resources, Found, holding, find_from_current, find_in_current}
-use Rattle.res_calls.specs.Files.{file_of}
 use Rattle.res_calls.specs.Files.{is_at}
 use Rattle.res_calls.specs.Gone.{gone_for, own_gone}
 use Rattle.res_calls.specs.Own.{find_own, fetch_own}
 use Rattle.res_calls.specs.Owning.{Owns}
 use Rattle.res_calls.specs.Purging.{heard, stored_gone}
 use Rattle.res_calls.specs.Rows as rows
-use Rattle.res_calls.specs.Rows.{fetched_as, noting, nth_in, resource_of}
+use Rattle.res_calls.specs.Rows.{fetched_as, noting, nth_among, resource_of}
 use Rattle.res_calls.specs.Storing.{stored_by, stored_of, stored_first, file_stored, all_stored, after_purges, StoresJust}
 use Rattle.res_calls.proofs.Keeping.{either-keeps, found-keeps}
 use Rattle.res_calls.proofs.Owning.Laws.{owns-served}
-use Rattle.res_calls.proofs.Owning.Places.{Stands, same-there, find-finds, nth-stands}
+use Rattle.res_calls.proofs.Owning.Places.{Stands, same-there, find-finds, among-stands}
 use Rattle.res_calls.proofs.StoringAll.{stores-all, with_references}
 use Rattle.res_calls.proofs.ToldGone.Calls.{fetched-none, own-none}
 use Rattle.res_calls.proofs.Walks.Own.{own-owns}
@@ -148,9 +147,10 @@ module _ (gone : List Gone) (s : Managers) (untold : (k : ℕ) → length s.memo
         (find_from_current (is_named kind name) s.resources) (λ at e. (find-finds _ _ s.resources.chain at e).0))
     served-stores (asks.Get1NamedResource kind name) is = noted-stores (rows.get1_named_resource kind name) (fetched-stores s.resources.loading
         (find_in_current (is_named kind name) s.resources) (λ at e. (find-finds _ _ s.resources.chain at e).0))
-    served-stores (asks.Get1IndResource kind index) is = noted-stores (rows.get1_ind_resource kind index) (fetched-stores s.resources.loading
-        (nth_in kind index (file_of s.resources.current s.resources))
-        (λ at e. nth-stands kind index _ s.resources.chain at e))
+    served-stores (asks.GetIndResource among kind index) is =
+        noted-stores (rows.get_ind_resource among kind index) (fetched-stores s.resources.loading
+        (nth_among among kind index s.resources)
+        (λ at e. among-stands among kind index s.resources at e))
     served-stores (asks.LoadResource handle) is = noted-stores (rows.load_resource handle) (fetched-stores true
         (resource_of handle s.resources) (λ at e. of-handle handle at e))
       where

@@ -4,7 +4,7 @@ use Rattle.mac_words.specs.Told.{Told, Bytes, Done, Kind, Number, Code, Refused}
 use Rattle.heap_calls.specs.Asked.{told_as}
 use Rattle.res_calls.specs.Fetch.{Managers, Reads, Answer, Fetched}
 use Rattle.res_calls.specs.Rows as rows
-use Rattle.res_calls.specs.Rows.{noting}
+use Rattle.res_calls.specs.Rows.{Among, noting}
 use Rattle.res_calls.specs.Changing as changing
 use Rattle.res_calls.specs.Partial as partial
 
@@ -24,8 +24,9 @@ pub data ResourceAsked : Type 0 where
   Get1NamedResource : (kind : ℕ) (name : List ℕ) → ResourceAsked
   Count1Types : ResourceAsked
   Get1IndType : (index : ℕ) → ResourceAsked
-  Count1Resources : (kind : ℕ) → ResourceAsked
-  Get1IndResource : (kind : ℕ) (index : ℕ) → ResourceAsked
+  CountResources : (among : Among) (kind : ℕ) → ResourceAsked
+  GetIndResource : (among : Among) (kind : ℕ) (index : ℕ) → ResourceAsked
+  UniqueID : (among : Among) (kind : ℕ) → ResourceAsked
   LoadResource : (handle : Option ℕ) → ResourceAsked
   ReleaseResource : (handle : Option ℕ) → ResourceAsked
   DetachResource : (handle : Option ℕ) → ResourceAsked
@@ -79,8 +80,9 @@ served (GetNamedResource kind name) s = telling tell_fetched (noting (rows.get_n
 served (Get1NamedResource kind name) s = telling tell_fetched (noting (rows.get1_named_resource kind name) s)
 served Count1Types s = telling Number (noting rows.count1_types s)
 served (Get1IndType index) s = telling Kind (noting (rows.get1_ind_type index) s)
-served (Count1Resources kind) s = telling Number (noting (rows.count1_resources kind) s)
-served (Get1IndResource kind index) s = telling tell_fetched (noting (rows.get1_ind_resource kind index) s)
+served (CountResources among kind) s = telling Number (noting (rows.count_resources among kind) s)
+served (GetIndResource among kind index) s = telling tell_fetched (noting (rows.get_ind_resource among kind index) s)
+served (UniqueID among kind) s = telling Number (noting (rows.unique_id among kind) s)
 served (LoadResource handle) s = telling tell_fetched (noting (rows.load_resource handle) s)
 served (ReleaseResource handle) s = telling (λ _. Done) (noting (rows.release_resource handle) s)
 served (DetachResource handle) s = telling (λ _. Done) (noting (rows.detach_resource handle) s)

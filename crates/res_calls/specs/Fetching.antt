@@ -5,7 +5,7 @@ use Rattle.res_map.specs.Map.{Map, with_handle}
 use Rattle.res_calls.specs.Files.{File, OpenFile, Resources, file_named, opened}
 use Rattle.res_calls.specs.Rows.{map_in}
 use Rattle.res_calls.specs.Asked.{ResourceAsked, GetResource, Get1Resource, GetNamedResource, Get1NamedResource}
-use Rattle.res_calls.specs.Asked.{Get1IndResource, LoadResource}
+use Rattle.res_calls.specs.Asked.{GetIndResource, LoadResource}
 
 -- What a fetch may change of the resources, whatever blocks it purges. More Macintosh Toolbox, chapter 1, "Reading
 -- Resources into Memory" and "Releasing Resources".
@@ -16,7 +16,7 @@ fetches (GetResource kind id) = true
 fetches (Get1Resource kind id) = true
 fetches (GetNamedResource kind name) = true
 fetches (Get1NamedResource kind name) = true
-fetches (Get1IndResource kind index) = true
+fetches (GetIndResource among kind index) = true
 fetches (LoadResource handle) = true
 fetches asked = false
 

@@ -8,11 +8,11 @@ use Rattle.heap_calls.specs.State.{Memory}
 use Rattle.res_map.specs.Split.{Split, place}
 use Rattle.res_map.specs.Map.{Reference, Map, is_named, is_preload, is_resource}
 use Rattle.res_calls.specs.Asked.{ResourceAsked, OpenResFile, GetResource, Get1Resource, GetNamedResource}
-use Rattle.res_calls.specs.Asked.{Get1NamedResource, Get1IndResource, LoadResource}
+use Rattle.res_calls.specs.Asked.{Get1NamedResource, GetIndResource, LoadResource}
 use Rattle.res_calls.specs.Fetch.{Managers, preload_one}
-use Rattle.res_calls.specs.Files.{File, OpenFile, Found, file_named, file_of, find_from_current, find_in_current, open_at}
+use Rattle.res_calls.specs.Files.{File, OpenFile, Found, file_named, find_from_current, find_in_current, open_at}
 use Rattle.res_calls.specs.Own.{find_own}
-use Rattle.res_calls.specs.Rows.{greatest_number, map_in, nth_in, resource_of}
+use Rattle.res_calls.specs.Rows.{greatest_number, map_in, nth_among, resource_of}
 
 -- What a call of the Resource Manager purges for room: the handle and the bytes of each block, the lowest block of each
 -- search first. More Macintosh Toolbox, chapter 1, "Reading Resources into Memory".
@@ -68,8 +68,7 @@ gone_for (GetResource kind id) s = fetched_gone (find_from_current (is_resource 
 gone_for (Get1Resource kind id) s = fetched_gone (find_in_current (is_resource kind id) s.resources) s
 gone_for (GetNamedResource kind name) s = fetched_gone (find_from_current (is_named kind name) s.resources) s
 gone_for (Get1NamedResource kind name) s = fetched_gone (find_in_current (is_named kind name) s.resources) s
-gone_for (Get1IndResource kind index) s =
-    fetched_gone (nth_in kind index (file_of s.resources.current s.resources)) s
+gone_for (GetIndResource among kind index) s = fetched_gone (nth_among among kind index s.resources) s
 gone_for (LoadResource handle) s = fetch_gone true (resource_of handle s.resources) s
 gone_for asked s = []
 

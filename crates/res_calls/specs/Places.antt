@@ -1,5 +1,5 @@
 use Rattle.std.specs.Prelude.{◌≡◌, ℕ, zero, suc, Bool, true, Option, Some, None, Result, Ok, Err, List, [], ◌∷◌}
-use Rattle.std.specs.Prelude.{map, option_map, nat_le, ◌==◌, if◌then◌else◌}
+use Rattle.std.specs.Prelude.{map, option_map, nat_le, ◌==◌, if◌then◌else◌, is_some, pos}
 use Rattle.byteorder.specs.Endian.{big_number}
 use Rattle.mac_words.specs.declared.code.OsErr.{OsErr}
 use Rattle.mac_words.specs.declared.code.TheConstants.OsErr.{NO_ERR}
@@ -68,6 +68,10 @@ abbrev pub is_wanted : Wanted → Reference → Bool
 is_wanted (wanted.Id ty id) = is_resource (big_number 4 ty.0) id
 is_wanted (wanted.Named ty name) = is_named (big_number 4 ty.0) name.now
 is_wanted (wanted.Handle h) = has_handle h
+
+-- Holds of an ID that a resource of a type has in the files that a search passes through.
+abbrev pub is_taken_in : Within → ℕ → List OpenFile → ℕ → Bool
+is_taken_in files kind chain id = is_some (find (is_searched files) (is_resource kind (pos id)) chain)
 
 -- The host was out of memory during a fetch.
 abbrev pub WantsHost : Result Fetched Unread → Type 0

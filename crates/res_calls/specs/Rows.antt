@@ -1,5 +1,6 @@
-use Rattle.std.specs.Prelude.{ℕ, ℤ, ◌+◌, Bool, true, false, ◌==◌, nat_lt, Option, Some, None, Result, Ok, Err, List, [], ◌∷◌}
-use Rattle.std.specs.Prelude.{length, if◌then◌else◌, option_map, unwrap_or, filter_map}
+use Rattle.std.specs.Prelude.{ℕ, zero, suc, ℤ, pos, ◌+◌, ◌-◌, is_some, Bool, true, false, ◌==◌, nat_lt, Option}
+use Rattle.std.specs.Prelude.{Some, None, Result, Ok, Err, List, [], ◌∷◌}
+use Rattle.std.specs.Prelude.{min, length, if◌then◌else◌, option_map, unwrap_or, filter_map}
 use Rattle.mac_words.specs.declared.code.OsErr.{OsErr}
 use Rattle.mac_words.specs.declared.code.TheConstants.OsErr.{FILE_NOT_FOUND, LOCKED, PROFILE}
 use Rattle.mac_words.specs.declared.code.TheConstants.OsErr.{DISK_FULL}
@@ -13,7 +14,9 @@ use Rattle.fork_format.specs.Code.{content_or_code}
 use Rattle.res_map.specs.Split.{Split, removed, place}
 use Rattle.res_map.specs.Map.{Reference, Map, has_handle, is_changed, is_named, is_of, is_resource, map_of, nth, of_type}
 use Rattle.res_map.specs.Map.{split_nth, types}
+use Rattle.std.specs.Option.{option_or}
 use Rattle.res_calls.specs.Files.{File, OpenFile, Resources, Found, find_from_current, find_in_current, find_open, holding}
+use Rattle.res_calls.specs.Files.{found_in, found_behind}
 use Rattle.res_calls.specs.Files.{file_of, file_named, open_at, current_references, opened, fresh_resources}
 use Rattle.res_calls.specs.Fetch.{Managers, Reads, Answer, done, refused, Fetched, fetch, Loaded, preload}
 use Rattle.res_calls.specs.Update.{update}
@@ -209,16 +212,38 @@ get1_named_resource kind text s = fetched (find_in_current (is_named kind text) 
 abbrev pub count1_types : Managers → Answer ℕ
 count1_types s = done (length (types (current_references s.resources))) s
 
-abbrev pub told_type : Option ℕ → Managers → Answer ℕ
-told_type None s = refused RES_NOT_FOUND s
-told_type (Some kind) s = done kind s
+abbrev pub told_or : OsErr → Option ℕ → Managers → Answer ℕ
+told_or code None s = refused code s
+told_or code (Some n) s = done n s
 
 abbrev pub get1_ind_type : ℕ → Managers → Answer ℕ
-get1_ind_type n s = told_type (nth n (types (current_references s.resources))) s
+get1_ind_type n s = told_or RES_NOT_FOUND (nth n (types (current_references s.resources))) s
 
--- Count1Resources: returns the number of resources of a type in the current file.
-abbrev pub count1_resources : ℕ → Managers → Answer ℕ
-count1_resources kind s = done (length (of_type kind (current_references s.resources))) s
+-- The open files whose resources a call counts: the current file, or all open files together, the file opened last
+-- first. More Macintosh Toolbox, chapter 1, "Counting and Listing Resource Types" and "Getting a Unique Resource ID".
+-- See decision 235 (all open files are counted, whichever file is current).
+pub data Among : Type 0 where
+  Current : Among
+  EachFile : Among
+
+-- The number of resources of a type in open files, one after the other.
+abbrev pub count_each : ℕ → List OpenFile → ℕ
+count_each kind [] = 0
+count_each kind (f ∷ older) = length (of_type kind f.map.references) + count_each kind older
+
+-- A count of all open files, as it is told.
+-- See decision 236 (`CountResources` tells no greater number than 9223372036854775807).
+abbrev pub told_count : ℕ → ℕ
+told_count n = min n 9223372036854775807
+
+abbrev pub counted_among : Among → ℕ → Resources → ℕ
+counted_among Current kind r = length (of_type kind (current_references r))
+counted_among EachFile kind r = told_count (count_each kind r.chain)
+
+-- CountResources and Count1Resources: return the number of resources of a type, in all open files and in the current
+-- file.
+abbrev pub count_resources : Among → ℕ → Managers → Answer ℕ
+count_resources among kind s = done (counted_among among kind s.resources) s
 
 -- A found reference, by its open file and its place in the file.
 abbrev pub reference_in : Split OpenFile → Split Reference → Found
@@ -229,9 +254,49 @@ abbrev pub nth_in : ℕ → ℕ → Option (Split OpenFile) → Option Found
 nth_in kind n None = None
 nth_in kind n (Some f) = option_map (reference_in f) (split_nth n (is_of kind) f.here.map.references)
 
--- Get1IndResource: fetches the n-th resource of a type in the current file.
-abbrev pub get1_ind_resource : ℕ → ℕ → Managers → Answer Fetched
-get1_ind_resource kind n s = fetched (nth_in kind n (file_of s.resources.current s.resources)) s
+-- The n-th reference of a type in open files, one after the other, counted from 1.
+abbrev pub nth_each : ℕ → ℕ → List OpenFile → Option Found
+nth_each kind n [] = None
+nth_each kind n (f ∷ older) = option_or
+    (option_map (found_in f older) (split_nth n (is_of kind) f.map.references))
+    (option_map (found_behind f) (nth_each kind (n - length (of_type kind f.map.references)) older))
+
+abbrev pub nth_among : Among → ℕ → ℕ → Resources → Option Found
+nth_among Current kind n r = nth_in kind n (file_of r.current r)
+nth_among EachFile kind n r = nth_each kind n r.chain
+
+-- GetIndResource and Get1IndResource: fetch the n-th resource of a type, in all open files and in the current file.
+abbrev pub get_ind_resource : Among → ℕ → ℕ → Managers → Answer Fetched
+get_ind_resource among kind n s = fetched (nth_among among kind n s.resources) s
+
+-- Holds of an ID that a resource of a type has.
+abbrev pub found_among : Among → (Reference → Bool) → Resources → Option Found
+found_among Current test r = find_in_current test r
+found_among EachFile test r = find_open test r
+
+abbrev pub is_taken : Among → ℕ → Resources → ℕ → Bool
+is_taken among kind r id = is_some (found_among among (is_resource kind (pos id)) r)
+
+-- The first of so many IDs, from one on, that isn't taken.
+unfoldable pub first_free : (ℕ → Bool) → ℕ → ℕ → Option ℕ
+first_free taken zero id = None
+first_free taken (suc n) id = elim (taken id) [
+  | true ↦ first_free taken n (id + 1)
+  | false ↦ Some id
+]
+
+-- The IDs from 128 to 32767: those below 128 are the System's.
+abbrev pub lowest_id : ℕ
+lowest_id = 128
+
+abbrev pub all_ids : ℕ
+all_ids = 32640
+
+-- UniqueID and Unique1ID: return the lowest ID that no resource of a type has, in all open files and in the current
+-- file; -30001 (profileErr) where all are taken.
+-- See decision 237 (`UniqueID` returns the lowest ID from 128 on that is free).
+abbrev pub unique_id : Among → ℕ → Managers → Answer ℕ
+unique_id among kind s = told_or PROFILE (first_free (is_taken among kind s.resources) all_ids lowest_id) s
 
 -- LoadResource: fetches the resource of a handle as with loading on, whatever SetResLoad has set.
 abbrev pub load_resource : Option ℕ → Managers → Answer Fetched

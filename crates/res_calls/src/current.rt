@@ -128,7 +128,7 @@ impl Resources {
 
     /// `Count1Resources`: returns the number of resources of a type in the current file.
     pub fn count1_resources(&mut self, ty: OsType) -> usize
-        ensures answer { (m : Memory) → IsAnswered (λ (n : ℕ). n) (noting (rows.count1_resources
+        ensures answer { (m : Memory) → IsAnswered (λ (n : ℕ). n) (noting (rows.count_resources rows.Current
             (big_number 4 ty.0)) (managers self.old m)) (Ok result) (managers self.new m) }
         ensures fits { result < 2 ^ 63 }
     {

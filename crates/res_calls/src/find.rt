@@ -94,7 +94,7 @@ fn find_in_file(file: &OpenFile, within: Within, wanted: Wanted<'_>) -> Option<u
 /// Returns the place of the first reference that is `wanted`, in the first file within `within` that has such a
 /// reference.
 #[tactic(auto, using(crate::proofs::Finding::spot_start, crate::proofs::Finding::found_here, crate::proofs::Finding::found_on))]
-fn find_spot(files: &[OpenFile], within: Within, wanted: Wanted<'_>) -> Option<Spot>
+pub(crate) fn find_spot(files: &[OpenFile], within: Within, wanted: Wanted<'_>) -> Option<Spot>
     ensures { result ≡ option_map spot_of
         (find (is_searched within) (is_wanted wanted.entry) (map view_open files.now)) }
 {

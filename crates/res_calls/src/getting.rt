@@ -5,7 +5,7 @@ ghost use Rattle.byteorder.specs.Endian.{big_number};
 ghost use Rattle.heap_calls.specs.Gone.{IsIdle, Hears};
 ghost use Rattle.res_map.specs.Split.{split};
 ghost use Rattle.res_calls.specs.Asked.{GetResource, Get1Resource, GetNamedResource};
-ghost use Rattle.res_calls.specs.Asked.{Get1NamedResource, Get1IndResource, LoadResource};
+ghost use Rattle.res_calls.specs.Asked.{Get1NamedResource, GetIndResource, LoadResource};
 ghost use Rattle.res_calls.specs.Files.{OpenFile as OpenFileValue, file_of, find};
 ghost use Rattle.res_calls.specs.Gone.{fetch_gone, gone_for};
 ghost use Rattle.res_calls.specs.Rows as rows;
@@ -190,10 +190,10 @@ impl Resources {
         sink: &mut K,
     ) -> Result<Fetched, Unread>
         requires idle { IsIdle K.told K.waits sink.old }
-        ensures answer { IsFetched (noting (rows.get1_ind_resource (big_number 4 ty.0) n)
+        ensures answer { IsFetched (noting (rows.get_ind_resource rows.Current (big_number 4 ty.0) n)
             (managers self.old heap.old.memory)) result (managers self.new heap.new.memory) }
-        ensures hears { Hears K.told K.waits K.listens (¬ (WantsHost result)) (gone_for (Get1IndResource (big_number 4
-            ty.0) n) (managers self.old heap.old.memory)) sink.old sink.new }
+        ensures hears { Hears K.told K.waits K.listens (¬ (WantsHost result)) (gone_for (GetIndResource rows.Current
+            (big_number 4 ty.0) n) (managers self.old heap.old.memory)) sink.old sink.new }
         ensures stops { WantsHost result → StopsFetching S.TAKES_HOST K.told K.listens (self.new ≡ self.old) heap.old
             heap.new sink.old sink.new }
         ensures lies { heap.new.memory.window ≡ heap.old.memory.window }

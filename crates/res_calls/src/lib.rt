@@ -16,6 +16,7 @@ mod info;
 mod launching;
 mod laws;
 mod leaving;
+mod listing;
 mod opening;
 mod own;
 mod partial;

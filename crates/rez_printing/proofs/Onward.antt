@@ -12,7 +12,8 @@ use Rattle.rez_printing.specs.declared.layout.Layout.TheVariants as layout
 use Rattle.rez_printing.specs.declared.layout.Layout.{Layout}
 use Rattle.rez_printing.specs.Layouts.{gap_next}
 use Rattle.rez_printing.specs.Pieces.{signed_number, row_text, more_rows}
-use Rattle.rez_printing.specs.Showing.{Showing, next_number, next_of, stated, with_gap, numbered, shown_numbers, shown_elements, shown_fields, shown_block}
+use Rattle.rez_printing.specs.Showing.{Showing, next_number, next_of, stated, with_gap, numbered, shown_numbers, shown_elements}
+use Rattle.rez_printing.specs.Showing.{shown_fields, shown_block}
 use Rattle.rez_printing.specs.TypeText.{block_text, fields_from, fields_text}
 
 -- what is left of n turns before the i-th

@@ -12,10 +12,10 @@ use Rattle.rez_printing.specs.declared.style.Numbering.TheVariants as numbering
 use Rattle.rez_printing.specs.declared.style.Letters.TheVariants as letter
 use Rattle.rez_printing.specs.declared.style.Pictures.TheVariants as picture
 use Rattle.rez_printing.specs.declared.style.Style.{Style}
-use Rattle.rez_printing.specs.Pieces.{in_quotes, string_text, hex_text, points, row_text, picture_text, fill_comment, array_comment, element_comment}
-use Rattle.rez_printing.specs.Pieces.{hex_number, binary_number}
-use Rattle.rez_printing.specs.Showing.{next_value, next_number, opened, closed, commented, filled, counted_at, shown_integer, shown_bits, passed_count}
-use Rattle.rez_printing.specs.Showing.{shown_fill, shown_text, shown_coordinates, shown_array, shown_switch, shown}
+use Rattle.rez_printing.specs.Pieces.{in_quotes, string_text, hex_text, points, row_text, picture_text, fill_comment, array_comment}
+use Rattle.rez_printing.specs.Pieces.{element_comment, hex_number, binary_number}
+use Rattle.rez_printing.specs.Showing.{next_value, next_number, opened, closed, commented, filled, counted_at, shown_integer, shown_bits}
+use Rattle.rez_printing.specs.Showing.{passed_count, shown_fill, shown_text, shown_coordinates, shown_array, shown_switch, shown}
 use Rattle.rez_printing.specs.TypeText.{in_brackets, constant_named, count_head, count_text, fixed_text, string_word}
 use Rattle.rez_printing.specs.TypeText.{array_word, case_word, array_text, switch_text, type_word, open_text, declared_text, tailed_text}
 
@@ -88,7 +88,8 @@ items = record {
   fields = Run 2 (Count 16 true ∷ []) ∷ Array (codes "DITLarray") (Counted 0) 2 ∷ [];
   blocks =
       (Run 1 (Integer 1 form.Boolean enabled ∷ Constant 7 4 true ∷ []) ∷ Text end.Pascal false [] ∷ []) ∷
-      (Run 1 (Integer 1 form.Boolean enabled ∷ Constant 7 32 true ∷ []) ∷ Run 1 (Constant 8 2 false ∷ []) ∷ Run 2 (Integer 16 form.Signed [] ∷ []) ∷ []) ∷
+      (Run 1 (Integer 1 form.Boolean enabled ∷ Constant 7 32 true ∷ []) ∷ Run 1 (Constant 8 2 false ∷ [])
+      ∷ Run 2 (Integer 16 form.Signed [] ∷ []) ∷ []) ∷
       (
       Fill 4 ∷ Rect ∷
       Switch
@@ -106,13 +107,17 @@ two_items : shown plain items (
     value.Number 0 ∷ value.Number 0 ∷ value.Number 32 ∷ value.Number 32 ∷
     value.Case 1 ∷ value.Number 1 ∷ value.Number 128 ∷ value.Filled [] ∷ value.NoElement ∷ []
     )
-    ≡ Some (codes "\t{\n\t\t{10, -10, 30, 80}, Button { enabled, \"Hi\" } /* fill $6B */;\n\t\t/* fill $00000001 */ {0, 0, 32, 32}, Icon { disabled, 128 }\n\t}\n")
-unfolding shown shown_array shown_switch shown_coordinates shown_fill shown_integer shown_text passed_count next_number next_value opened closed digits string_text commented fill_comment filled
+    ≡ Some (codes
+    "\t{\n\t\t{10, -10, 30, 80}, Button { enabled, \"Hi\" } /* fill $6B */;\n\t\t/* fill $00000001 */ {0, 0, 32, 32}, Icon { disabled, 128 }\n\t}\n")
+unfolding shown shown_array shown_switch shown_coordinates shown_fill shown_integer shown_text passed_count next_number next_value opened
+    closed digits string_text commented fill_comment filled
 two_items = refl
 
 items_declared : declared_text 0x4449544C items
-    ≡ codes "type 'DITL' { integer = $$CountOf(DITLarray) - 1; array DITLarray { fill byte[4]; rect; switch { case Button: boolean enabled = 0, disabled = 1; key bitstring[7] = 0x4; pstring; case Icon: boolean enabled = 0, disabled = 1; key bitstring[7] = 0x20; byte = 0x2; integer; }; align word; }; };"
-unfolding declared_text open_text type_word in_quotes count_text count_head fixed_text string_word constant_named in_brackets array_word case_word array_text switch_text hex_number digits
+    ≡ codes
+    "type 'DITL' { integer = $$CountOf(DITLarray) - 1; array DITLarray { fill byte[4]; rect; switch { case Button: boolean enabled = 0, disabled = 1; key bitstring[7] = 0x4; pstring; case Icon: boolean enabled = 0, disabled = 1; key bitstring[7] = 0x20; byte = 0x2; integer; }; align word; }; };"
+unfolding declared_text open_text type_word in_quotes count_text count_head fixed_text string_word constant_named in_brackets array_word
+    case_word array_text switch_text hex_number digits
 items_declared = refl
 
 -- an item of a menu: named numbers, characters, and bits of a fill that are not all 0
@@ -134,7 +139,8 @@ unfolding shown shown_integer shown_bits shown_text next_number next_value opene
 one_entry = refl
 
 entry_declared : declared_text 0x4D454E55 entry
-    ≡ codes "type 'MENU' { hex bitstring[31] allEnabled = 0x7FFFFFFF; boolean; pstring; byte none = 0, last = -1; char; fill bit[1]; unsigned bitstring[7]; };"
+    ≡ codes
+    "type 'MENU' { hex bitstring[31] allEnabled = 0x7FFFFFFF; boolean; pstring; byte none = 0, last = -1; char; fill bit[1]; unsigned bitstring[7]; };"
 unfolding declared_text open_text type_word in_quotes string_word constant_named in_brackets hex_number digits
 entry_declared = refl
 
@@ -155,12 +161,15 @@ all_forms : shown plain forms (
     value.Text (0 ∷ 1 ∷ 2 ∷ 3 ∷ 4 ∷ 5 ∷ 6 ∷ 7 ∷ 8 ∷ 9 ∷ 10 ∷ 11 ∷ 12 ∷ 13 ∷ 14 ∷ 15 ∷ 16 ∷ 17 ∷ []) ∷
     value.Filled (0 ∷ []) ∷ value.Text [] ∷ []
     )
-    ≡ Some (codes "\t'a\\'\\0x00\\t',\n\t10,\n\t0b110,\n\t0xAB,\n\t{-1, -32768},\n\t$\"0001 0203 0405 0607 0809 0A0B 0C0D 0E0F\"\n\t\t$\"1011\",\n\tempty\n")
-unfolding shown shown_integer shown_coordinates shown_fill shown_text next_number next_value opened closed digits in_quotes hex_number binary_number hex_text filled
+    ≡ Some (codes
+    "\t'a\\'\\0x00\\t',\n\t10,\n\t0b110,\n\t0xAB,\n\t{-1, -32768},\n\t$\"0001 0203 0405 0607 0809 0A0B 0C0D 0E0F\"\n\t\t$\"1011\",\n\tempty\n")
+unfolding shown shown_integer shown_coordinates shown_fill shown_text next_number next_value opened closed digits in_quotes hex_number
+    binary_number hex_text filled
 all_forms = refl
 
 forms_declared : declared_text 0x54455354 forms
-    ≡ codes "type 'TEST' { literal longint; literal bitstring[4]; binary bitstring[4]; hex integer; point; hex string[18]; align long; hex string empty = \"\"; };"
+    ≡ codes
+    "type 'TEST' { literal longint; literal bitstring[4]; binary bitstring[4]; hex integer; point; hex string[18]; align long; hex string empty = \"\"; };"
 unfolding declared_text open_text type_word in_quotes string_word constant_named in_brackets digits
 forms_declared = refl
 
@@ -192,7 +201,8 @@ rows_numbered : shown numbered_roman grid (
     value.Element ∷ value.Number 3 ∷ value.Number 254 ∷ value.NoElement ∷
     value.Element ∷ value.Count 0 ∷ value.NoElement ∷ value.NoElement ∷ []
     )
-    ≡ Some (codes "\t{\t/* array: 2 elements */\n\t\t/* [1] */\n\t\t{ /* array Row: 2 elements */ /* [1] */ 1, 2; /* [2] */ 3, -2 };\n\t\t/* [2] */\n\t\t{ /* array Row: 0 elements */ }\n\t}\n")
+    ≡ Some (codes
+    "\t{\t/* array: 2 elements */\n\t\t/* [1] */\n\t\t{ /* array Row: 2 elements */ /* [1] */ 1, 2; /* [2] */ 3, -2 };\n\t\t/* [2] */\n\t\t{ /* array Row: 0 elements */ }\n\t}\n")
 unfolding shown shown_array shown_integer passed_count next_number next_value opened closed counted_at array_comment element_comment digits
 rows_numbered = refl
 
@@ -202,7 +212,8 @@ pictured = record { numbering = numbering.None; letters = letter.Ascii; pictures
 
 one_pattern : shown pictured (of_fields (Text (end.Fixed 8) true [] ∷ Text (end.Fixed 2) true [] ∷ []))
     (value.Text (0 ∷ 255 ∷ 1 ∷ 128 ∷ 0x55 ∷ 0xAA ∷ 0x3C ∷ 0xC3 ∷ []) ∷ value.Text (1 ∷ 2 ∷ []) ∷ [])
-    ≡ Some (codes "\t$\"00\" /* ........ */\n\t$\"FF\" /* ######## */\n\t$\"01\" /* .......# */\n\t$\"80\" /* #....... */\n\t$\"55\" /* .#.#.#.# */\n\t$\"AA\" /* #.#.#.#. */\n\t$\"3C\" /* ..####.. */\n\t$\"C3\" /* ##....## */,\n\t$\"0102\"\n")
+    ≡ Some (codes
+    "\t$\"00\" /* ........ */\n\t$\"FF\" /* ######## */\n\t$\"01\" /* .......# */\n\t$\"80\" /* #....... */\n\t$\"55\" /* .#.#.#.# */\n\t$\"AA\" /* #.#.#.#. */\n\t$\"3C\" /* ..####.. */\n\t$\"C3\" /* ##....## */,\n\t$\"0102\"\n")
 unfolding shown shown_text next_value opened hex_text points row_text picture_text
 one_pattern = refl
 

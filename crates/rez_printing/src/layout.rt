@@ -102,7 +102,8 @@ impl Layout {
         }
     }
 
-    /// Returns what stands between the brace that opens it and the comment that says how many elements it has.
+    /// Returns what stands between the brace that opens it and the comment that says how many
+    /// elements it has.
     pub fn array_gap(self) -> &'static [u8]
         ensures { result.now ≡ spec.array_gap self }
     {

@@ -1,6 +1,7 @@
 //! Numbers and strings, as the language of Rez writes them.
 
-ghost use Rattle.std.specs.Prelude.{◌≡◌, ◌≤◌, ◌<◌, ◌^◌, ◌∷◌, ◌++◌, OnOk, IfSome, take, drop, map, decimal, bytes_eq};
+ghost use Rattle.std.specs.Prelude.{◌≡◌, ◌≤◌, ◌<◌, ◌^◌, ◌∷◌, ◌++◌, OnOk, IfSome, take, drop, map};
+ghost use Rattle.std.specs.Prelude.{decimal, bytes_eq};
 ghost use Rattle.std.specs.List.{flat_map, list_all};
 ghost use Rattle.byteorder.specs.Endian.{big_bytes};
 ghost use Rattle.rez_types.specs.View.{number_of, text_of};
@@ -75,7 +76,8 @@ fn push_escaped(out: &mut Vec<u8>, letters: Letters, quote: u8, byte: u8) -> Res
 
 /// Appends bytes that stand between quotes, in ASCII.
 fn push_all_escaped(out: &mut Vec<u8>, quote: u8, bytes: &[u8]) -> Result<(), AllocError>
-    ensures { OnOk result (out.new.items ≡ out.old.items ++ flat_map (spec.escaped letter.Ascii quote) bytes.now) }
+    ensures { OnOk result (out.new.items
+        ≡ out.old.items ++ flat_map (spec.escaped letter.Ascii quote) bytes.now) }
 {
     for byte in bytes {
         push_escaped(out, Letters::Ascii, quote, *byte)?;
@@ -228,7 +230,8 @@ fn push_more_rows(
     count: usize,
     bytes: &[u8],
 ) -> Result<(), AllocError>
-    ensures { OnOk result (out.new.items ≡ out.old.items ++ spec.more_rows before.now row count bytes.now) }
+    ensures { OnOk result (out.new.items
+        ≡ out.old.items ++ spec.more_rows before.now row count bytes.now) }
 {
     let mut rest = bytes;
     for i in 0..count {
@@ -249,7 +252,8 @@ fn push_picture(
     bytes: &[u8],
 ) -> Result<(), AllocError>
     requires { 0 < row }
-    ensures { OnOk result (out.new.items ≡ out.old.items ++ spec.picture_text before.now row bytes.now) }
+    ensures { OnOk result (out.new.items
+        ≡ out.old.items ++ spec.picture_text before.now row bytes.now) }
 {
     let (here, more) = first_row(row, bytes);
     push_row(out, here)?;
@@ -282,7 +286,8 @@ fn push_hex_value(
     layout: Layout,
     bytes: &[u8],
 ) -> Result<(), AllocError>
-    ensures { OnOk result (out.new.items ≡ out.old.items ++ spec.hex_value pictures layout bytes.now) }
+    ensures { OnOk result (out.new.items
+        ≡ out.old.items ++ spec.hex_value pictures layout bytes.now) }
 {
     match pictures {
         Pictures::None => push_hex_string(out, bytes),
@@ -301,7 +306,8 @@ fn push_bytes(
     is_hex: bool,
     bytes: &[u8],
 ) -> Result<(), AllocError>
-    ensures { OnOk result (out.new.items ≡ out.old.items ++ spec.bytes_text style layout is_hex bytes.now) }
+    ensures { OnOk result (out.new.items
+        ≡ out.old.items ++ spec.bytes_text style layout is_hex bytes.now) }
 {
     if is_hex {
         push_hex_value(out, style.pictures, layout, bytes)
@@ -326,7 +332,8 @@ pub(crate) fn push_text(
     bytes: &[u8],
 ) -> Result<(), AllocError>
     ensures { OnOk result (out.new.items ≡ out.old.items
-        ++ spec.named_text style layout text.now.is_hex (map text_of text.now.constants.items) bytes.now) }
+        ++ spec.named_text style layout text.now.is_hex
+        (map text_of text.now.constants.items) bytes.now) }
 {
     for constant in &text.constants {
         if is_text(constant, bytes) {
@@ -455,7 +462,8 @@ pub(crate) fn push_signed(out: &mut Vec<u8>, width: Width, number: u32) -> Resul
 /// Appends the characters of a number of so many bytes.
 fn push_characters(out: &mut Vec<u8>, count: u8, number: u32) -> Result<(), AllocError>
     requires { count ≤ 4 }
-    ensures { OnOk result (out.new.items ≡ out.old.items ++ spec.in_quotes 39 (big_bytes count number)) }
+    ensures { OnOk result (out.new.items
+        ≡ out.old.items ++ spec.in_quotes 39 (big_bytes count number)) }
 {
     let bytes = number.to_be_bytes();
     push_quoted(out, b'\'', &bytes[4 - count as usize..])
@@ -486,7 +494,8 @@ fn push_truth(out: &mut Vec<u8>, number: u32) -> Result<(), AllocError>
 
 /// Appends a number in a form.
 fn push_number(out: &mut Vec<u8>, form: Form, width: Width, number: u32) -> Result<(), AllocError>
-    ensures { OnOk result (out.new.items ≡ out.old.items ++ spec.number_text form width.bits number) }
+    ensures { OnOk result (out.new.items
+        ≡ out.old.items ++ spec.number_text form width.bits number) }
 {
     match form {
         Form::Signed => push_signed(out, width, number),
@@ -505,7 +514,8 @@ pub(crate) fn push_integer(
     number: u32,
 ) -> Result<(), AllocError>
     ensures { OnOk result (out.new.items ≡ out.old.items
-        ++ spec.integer_text integer.now.form integer.now.width.bits (map number_of integer.now.constants.items) number) }
+        ++ spec.integer_text integer.now.form integer.now.width.bits
+        (map number_of integer.now.constants.items) number) }
 {
     for constant in &integer.constants {
         if constant.pattern == number {

@@ -1,6 +1,7 @@
 //! A printer of values: the fields that hold no others.
 
-ghost use Rattle.std.specs.Prelude.{◌≡◌, ◌≤◌, ◌<◌, ◌^◌, map, drop, Some, None, IfSome, IfNone, IfOk, OnOk};
+ghost use Rattle.std.specs.Prelude.{◌≡◌, ◌≤◌, ◌<◌, ◌^◌, map, drop, Some, None, IfSome, IfNone};
+ghost use Rattle.std.specs.Prelude.{IfOk, OnOk};
 ghost use Rattle.byteorder.specs.Endian.{big_bytes};
 ghost use Rattle.rez_types.specs.declared.declaration.Part.TheVariants as parts;
 ghost use Rattle.rez_types.specs.View.{case_of, part_of, number_of, text_of, value_of, values_of};
@@ -78,7 +79,8 @@ impl<'a> Printer<'a> {
     /// Passes over a number of at most so many bits, and returns it.
     #[tactic(auto, unfolding(crate::specs::Showing::next_number))]
     fn next_number(&mut self, width: Width) -> Result<u32, CodingFault>
-        ensures { Gives same result (showing_of self.new) (spec.next_number width.bits (showing_of self.old)) }
+        ensures { Gives same result (showing_of self.new)
+            (spec.next_number width.bits (showing_of self.old)) }
     {
         let Some(value) = self.next_value() else {
             return Err(CodingFault::Misfit);
@@ -94,7 +96,8 @@ impl<'a> Printer<'a> {
 
     /// Passes over the value that tells whether another element follows.
     pub fn next_more(&mut self) -> Result<bool, CodingFault>
-        ensures { Gives flag result (showing_of self.new) (spec.next_of more_in (showing_of self.old)) }
+        ensures { Gives flag result (showing_of self.new)
+            (spec.next_of more_in (showing_of self.old)) }
     {
         let Some(value) = self.next_value() else {
             return Err(CodingFault::Misfit);
@@ -108,7 +111,8 @@ impl<'a> Printer<'a> {
 
     /// Passes over a case, and returns its place.
     pub fn next_case(&mut self) -> Result<usize, CodingFault>
-        ensures { Gives same result (showing_of self.new) (spec.next_of case_in (showing_of self.old)) }
+        ensures { Gives same result (showing_of self.new)
+            (spec.next_of case_in (showing_of self.old)) }
     {
         let Some(value) = self.next_value() else {
             return Err(CodingFault::Misfit);
@@ -122,7 +126,8 @@ impl<'a> Printer<'a> {
     /// Begins a text that goes on with values, before the first of which a gap stands.
     #[tactic(auto, unfolding(crate::specs::Showing::opened))]
     pub fn open(&mut self, more: &[u8], first: Gap) -> Result<(), AllocError>
-        ensures { OnOk result (showing_of self.new ≡ spec.opened more.now first (showing_of self.old)) }
+        ensures { OnOk result (showing_of self.new
+            ≡ spec.opened more.now first (showing_of self.old)) }
     {
         self.text.extend_from_slice(self.gap.text())?;
         self.text.extend_from_slice(more)?;
@@ -133,7 +138,8 @@ impl<'a> Printer<'a> {
     /// Begins the values of a case.
     #[tactic(auto, unfolding(crate::specs::Showing::opened))]
     pub fn open_case(&mut self, case: &Case) -> Result<(), AllocError>
-        ensures { OnOk result (showing_of self.new ≡ spec.opened_case (case_of case.now) (showing_of self.old)) }
+        ensures { OnOk result (showing_of self.new
+            ≡ spec.opened_case (case_of case.now) (showing_of self.old)) }
     {
         self.text.extend_from_slice(self.gap.text())?;
         self.text.extend_from_slice(case.name.as_slice())?;
@@ -145,7 +151,8 @@ impl<'a> Printer<'a> {
     /// Ends such a text.
     #[tactic(auto, unfolding(crate::specs::Showing::closed))]
     pub fn close(&mut self, more: &[u8], layout: Layout) -> Result<(), AllocError>
-        ensures { OnOk result (showing_of self.new ≡ spec.closed more.now layout (showing_of self.old)) }
+        ensures { OnOk result (showing_of self.new
+            ≡ spec.closed more.now layout (showing_of self.old)) }
     {
         self.text.extend_from_slice(more)?;
         self.gap = layout.between();
@@ -160,9 +167,9 @@ impl<'a> Printer<'a> {
         integer: &Integer,
         number: u32,
     ) -> Result<(), AllocError>
-        ensures { OnOk result (showing_of self.new ≡ spec.stated
-            (integer_text integer.now.form integer.now.width.bits (map number_of integer.now.constants.items) number)
-            layout (showing_of self.old)) }
+        ensures { OnOk result (showing_of self.new
+            ≡ spec.stated (integer_text integer.now.form integer.now.width.bits
+            (map number_of integer.now.constants.items) number) layout (showing_of self.old)) }
     {
         self.text.extend_from_slice(self.gap.text())?;
         push_integer(&mut self.text, integer, number)?;
@@ -173,9 +180,9 @@ impl<'a> Printer<'a> {
     /// States a string.
     #[tactic(auto, unfolding(crate::specs::Showing::opened))]
     fn state_text(&mut self, layout: Layout, text: &Text, bytes: &[u8]) -> Result<(), AllocError>
-        ensures { OnOk result (showing_of self.new ≡ spec.stated
-            (named_text self.old.style layout text.now.is_hex (map text_of text.now.constants.items) bytes.now)
-            layout (showing_of self.old)) }
+        ensures { OnOk result (showing_of self.new
+            ≡ spec.stated (named_text self.old.style layout text.now.is_hex
+            (map text_of text.now.constants.items) bytes.now) layout (showing_of self.old)) }
     {
         self.text.extend_from_slice(self.gap.text())?;
         push_text(&mut self.text, self.style, layout, text, bytes)?;
@@ -198,7 +205,8 @@ impl<'a> Printer<'a> {
     /// Prints the bytes of a fill or an alignment as a comment.
     #[tactic(auto, unfolding(crate::specs::Showing::commented))]
     fn comment(&mut self, bytes: &[u8]) -> Result<(), AllocError>
-        ensures { OnOk result (showing_of self.new ≡ spec.commented bytes.now (showing_of self.old)) }
+        ensures { OnOk result (showing_of self.new
+            ≡ spec.commented bytes.now (showing_of self.old)) }
     {
         self.text.extend_from_slice(self.gap.before_fill())?;
         push_fill_comment(&mut self.text, bytes)?;
@@ -220,7 +228,8 @@ impl<'a> Printer<'a> {
     /// Prints the bits of a fill as so many bytes.
     fn fill_number(&mut self, count: u8, number: u32) -> Result<(), AllocError>
         requires { count ≤ 4 }
-        ensures { OnOk result (showing_of self.new ≡ spec.filled (big_bytes count number) (showing_of self.old)) }
+        ensures { OnOk result (showing_of self.new
+            ≡ spec.filled (big_bytes count number) (showing_of self.old)) }
     {
         let bytes = number.to_be_bytes();
         self.fill(&bytes[4 - count as usize..])
@@ -230,7 +239,8 @@ impl<'a> Printer<'a> {
     #[tactic(auto, unfolding(crate::specs::Showing::opened))]
     pub fn number(&mut self, layout: Layout, count: usize) -> Result<(), AllocError>
         requires { count < 2 ^ 63 }
-        ensures { OnOk result (showing_of self.new ≡ spec.numbered layout count (showing_of self.old)) }
+        ensures { OnOk result (showing_of self.new
+            ≡ spec.numbered layout count (showing_of self.old)) }
     {
         match self.style.numbering {
             Numbering::None => {}
@@ -252,7 +262,8 @@ impl<'a> Printer<'a> {
         place: usize,
         count: usize,
     ) -> Result<(), AllocError>
-        ensures { OnOk result (showing_of self.new ≡ spec.counted_at layout name.now place count (showing_of self.old)) }
+        ensures { OnOk result (showing_of self.new
+            ≡ spec.counted_at layout name.now place count (showing_of self.old)) }
     {
         let after = bytes_after(*self.text.allocator(), self.text.as_slice(), place)?;
         self.text.truncate(place);
@@ -270,7 +281,8 @@ impl<'a> Printer<'a> {
         place: usize,
         count: usize,
     ) -> Result<(), AllocError>
-        ensures { OnOk result (showing_of self.new ≡ spec.counted layout name.now place count (showing_of self.old)) }
+        ensures { OnOk result (showing_of self.new
+            ≡ spec.counted layout name.now place count (showing_of self.old)) }
     {
         match self.style.numbering {
             Numbering::None => Ok(()),
@@ -292,7 +304,8 @@ impl<'a> Printer<'a> {
     /// Prints the next bits of a fill.
     #[tactic(auto, unfolding(crate::specs::Showing::shown_bits))]
     fn print_bits(&mut self, width: Width) -> Result<(), CodingFault>
-        ensures { LeadsTo result (showing_of self.new) (spec.shown_bits width.bits (showing_of self.old)) }
+        ensures { LeadsTo result (showing_of self.new)
+            (spec.shown_bits width.bits (showing_of self.old)) }
     {
         let number = self.next_number(width)?;
         self.fill_number((width.bits + 7) / 8, number)?;
@@ -355,8 +368,8 @@ impl<'a> Printer<'a> {
     /// Prints the next string.
     #[tactic(auto, unfolding(crate::specs::Showing::shown_text))]
     pub fn print_text(&mut self, layout: Layout, text: &Text) -> Result<(), CodingFault>
-        ensures { LeadsTo result (showing_of self.new)
-            (spec.shown_text layout text.now.is_hex (map text_of text.now.constants.items) (showing_of self.old)) }
+        ensures { LeadsTo result (showing_of self.new) (spec.shown_text layout text.now.is_hex
+            (map text_of text.now.constants.items) (showing_of self.old)) }
     {
         let Some(value) = self.next_value() else {
             return Err(CodingFault::Misfit);
@@ -371,7 +384,8 @@ impl<'a> Printer<'a> {
     /// Prints so many coordinates.
     #[tactic(auto, using(crate::proofs::Onward::numbers_on))]
     fn print_numbers(&mut self, count: u8) -> Result<(), CodingFault>
-        ensures { LeadsTo result (showing_of self.new) (spec.shown_numbers count (showing_of self.old)) }
+        ensures { LeadsTo result (showing_of self.new)
+            (spec.shown_numbers count (showing_of self.old)) }
     {
         for i in 0..count {
             let number = self.next_number(COORDINATE)?;

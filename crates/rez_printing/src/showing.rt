@@ -1,7 +1,8 @@
 //! The text of a resource's values.
 
 ghost use Rattle.std.specs.Prelude.{◌≡◌, map};
-ghost use Rattle.rez_types.specs.View.{fields_of, field_of, blocks_of, case_of, declaration_of, values_of};
+ghost use Rattle.rez_types.specs.View.{fields_of, field_of, blocks_of, case_of, declaration_of};
+ghost use Rattle.rez_types.specs.View.{values_of};
 ghost use Rattle.rez_types.specs.Leads.{Gives, LeadsTo, Returns, bytes_in, same};
 ghost use Rattle.rez_printing.specs.Leads.{showing_of};
 ghost use Rattle.rez_printing.specs.Showing as spec;
@@ -41,8 +42,8 @@ impl<'a> Printer<'a> {
         layout: Layout,
         fields: &[Field],
     ) -> Result<(), CodingFault>
-        ensures { LeadsTo result (showing_of self.new)
-            (spec.shown_fields (spec.shown_block depth (blocks_of blocks.now)) layout (fields_of fields.now) (showing_of self.old)) }
+        ensures { LeadsTo result (showing_of self.new) (spec.shown_fields (spec.shown_block depth
+            (blocks_of blocks.now)) layout (fields_of fields.now) (showing_of self.old)) }
     {
         for field in fields {
             self.print_field(depth, blocks, layout, field)?;
@@ -59,8 +60,8 @@ impl<'a> Printer<'a> {
         layout: Layout,
         field: &Field,
     ) -> Result<(), CodingFault>
-        ensures { LeadsTo result (showing_of self.new)
-            (spec.shown_field (spec.shown_block depth (blocks_of blocks.now)) layout (field_of field.now) (showing_of self.old)) }
+        ensures { LeadsTo result (showing_of self.new) (spec.shown_field (spec.shown_block depth
+            (blocks_of blocks.now)) layout (field_of field.now) (showing_of self.old)) }
     {
         match field {
             Field::Run(run) => self.print_parts(layout, run.parts.as_slice()),
@@ -89,8 +90,8 @@ impl<'a> Printer<'a> {
         name: &[u8],
         block: usize,
     ) -> Result<(), CodingFault>
-        ensures { LeadsTo result (showing_of self.new)
-            (spec.shown_array (spec.shown_block depth (blocks_of blocks.now) block) name.now layout (showing_of self.old)) }
+        ensures { LeadsTo result (showing_of self.new) (spec.shown_array (spec.shown_block depth
+            (blocks_of blocks.now) block) name.now layout (showing_of self.old)) }
     {
         self.open(b"{", layout.first())?;
         let place = self.text.len();
@@ -100,7 +101,8 @@ impl<'a> Printer<'a> {
         Ok(())
     }
 
-    /// Prints the elements of an array, with a gap before each but the first one, and returns how many they are.
+    /// Prints the elements of an array, with a gap before each but the first one, and returns how
+    /// many they are.
     #[cycle(print)]
     #[tactic(auto, using(crate::proofs::Onward::elements_on))]
     fn print_elements(
@@ -110,8 +112,8 @@ impl<'a> Printer<'a> {
         layout: Layout,
         block: usize,
     ) -> Result<usize, CodingFault>
-        ensures { Gives same result (showing_of self.new)
-            (spec.all_elements (spec.shown_block depth (blocks_of blocks.now) block) layout (showing_of self.old)) }
+        ensures { Gives same result (showing_of self.new) (spec.all_elements
+            (spec.shown_block depth (blocks_of blocks.now) block) layout (showing_of self.old)) }
     {
         let most = self.values.len();
         for count in 0..most {
@@ -135,8 +137,8 @@ impl<'a> Printer<'a> {
         layout: Layout,
         cases: &[Case],
     ) -> Result<(), CodingFault>
-        ensures { LeadsTo result (showing_of self.new)
-            (spec.shown_switch (spec.shown_block depth (blocks_of blocks.now)) layout (map case_of cases.now) (showing_of self.old)) }
+        ensures { LeadsTo result (showing_of self.new) (spec.shown_switch (spec.shown_block depth
+            (blocks_of blocks.now)) layout (map case_of cases.now) (showing_of self.old)) }
     {
         let place = self.next_case()?;
         let Some(case) = cases.get(place) else {
@@ -149,11 +151,13 @@ impl<'a> Printer<'a> {
     }
 }
 
-/// Returns the text of a resource's values, by a declaration and in a style: what stands between the braces of a statement `resource`.
+/// Returns the text of a resource's values, by a declaration and in a style: what stands between
+/// the braces of a statement `resource`.
 ///
 /// # Errors
 ///
-/// Returns `Misfit` where the values are none of the declaration, and `HostMemory` where the host is out of memory.
+/// Returns `Misfit` where the values are none of the declaration, and `HostMemory` where the host
+/// is out of memory.
 #[tactic(auto, unfolding(crate::specs::Showing::shown))]
 pub fn show(
     alloc: Global,

@@ -5,7 +5,8 @@
 pub enum Numbering {
     /// They are not.
     None,
-    /// A comment at the head of an array says how many elements it has, and one before each element which one it is.
+    /// A comment at the head of an array says how many elements it has, and one before each element
+    /// which one it is.
     Elements,
 }
 
@@ -23,8 +24,8 @@ pub enum Letters {
 pub enum Pictures {
     /// None is.
     None,
-    /// Those of 8, 24, 32 and 128 bytes are, with a bit for each point: their rows stand on lines of their own, and beside each the
-    /// points in a comment.
+    /// Those of 8, 24, 32 and 128 bytes are, with a bit for each point: their rows stand on lines
+    /// of their own, and beside each the points in a comment.
     OneBit,
 }
 

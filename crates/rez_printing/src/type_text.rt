@@ -2,7 +2,8 @@
 
 ghost use Rattle.std.specs.Prelude.{◌≡◌, ◌++◌, codes, map, IfOk, OnOk, option_map};
 ghost use Rattle.byteorder.specs.Endian.{big_number};
-ghost use Rattle.rez_types.specs.View.{fields_of, field_of, blocks_of, case_of, part_of, number_of, text_of, end_of, declaration_of};
+ghost use Rattle.rez_types.specs.View.{fields_of, field_of, blocks_of, case_of, part_of, number_of};
+ghost use Rattle.rez_types.specs.View.{text_of, end_of, declaration_of};
 ghost use Rattle.rez_printing.specs.Pieces.{in_quotes};
 ghost use Rattle.rez_printing.specs.TypeText as spec;
 
@@ -49,7 +50,8 @@ fn push_width(out: &mut Vec<u8>, width: Width) -> Result<(), AllocError>
 
 /// Appends the word for an integer of so many bits after another word.
 fn push_modified(out: &mut Vec<u8>, word: &[u8], width: Width) -> Result<(), AllocError>
-    ensures { OnOk result (out.new.items ≡ out.old.items ++ (word.now ++ spec.width_word width.bits)) }
+    ensures { OnOk result (out.new.items
+        ≡ out.old.items ++ (word.now ++ spec.width_word width.bits)) }
 {
     out.extend_from_slice(word)?;
     push_width(out, width)
@@ -72,7 +74,8 @@ fn push_integer_word(out: &mut Vec<u8>, form: Form, width: Width) -> Result<(), 
 
 /// Appends the number of a named constant.
 fn push_constant(out: &mut Vec<u8>, form: Form, width: Width, number: u32) -> Result<(), AllocError>
-    ensures { OnOk result (out.new.items ≡ out.old.items ++ spec.constant_text form width.bits number) }
+    ensures { OnOk result (out.new.items
+        ≡ out.old.items ++ spec.constant_text form width.bits number) }
 {
     match form {
         Form::Signed => push_signed(out, width, number),
@@ -101,8 +104,9 @@ fn push_named_number(
     integer: &Integer,
     constant: &NamedNumber,
 ) -> Result<(), AllocError>
-    ensures { OnOk result (out.new.items ≡ out.old.items ++ spec.constant_named place (number_of constant.now).name
-        (spec.constant_text integer.now.form integer.now.width.bits (number_of constant.now).pattern)) }
+    ensures { OnOk result (out.new.items ≡ out.old.items
+        ++ spec.constant_named place (number_of constant.now).name (spec.constant_text
+        integer.now.form integer.now.width.bits (number_of constant.now).pattern)) }
 {
     push_before(out, place)?;
     out.extend_from_slice(constant.name.as_slice())?;
@@ -112,8 +116,9 @@ fn push_named_number(
 
 /// Appends an integer.
 fn push_integer(out: &mut Vec<u8>, integer: &Integer) -> Result<(), AllocError>
-    ensures { OnOk result (out.new.items ≡ out.old.items ++ (spec.integer_word integer.now.form integer.now.width.bits
-        ++ spec.numbers_from 0 integer.now.form integer.now.width.bits (map number_of integer.now.constants.items))) }
+    ensures { OnOk result (out.new.items ≡ out.old.items
+        ++ (spec.integer_word integer.now.form integer.now.width.bits ++ spec.numbers_from 0
+        integer.now.form integer.now.width.bits (map number_of integer.now.constants.items))) }
 {
     push_integer_word(out, integer.form, integer.width)?;
     push_numbers(out, integer)
@@ -122,7 +127,8 @@ fn push_integer(out: &mut Vec<u8>, integer: &Integer) -> Result<(), AllocError>
 /// Appends the named constants of an integer.
 fn push_numbers(out: &mut Vec<u8>, integer: &Integer) -> Result<(), AllocError>
     ensures { OnOk result (out.new.items ≡ out.old.items
-        ++ spec.numbers_from 0 integer.now.form integer.now.width.bits (map number_of integer.now.constants.items)) }
+        ++ spec.numbers_from 0 integer.now.form integer.now.width.bits
+        (map number_of integer.now.constants.items)) }
 {
     for (place, constant) in integer.constants.iter().enumerate() {
         push_named_number(out, place, integer, constant)?;
@@ -133,8 +139,8 @@ fn push_numbers(out: &mut Vec<u8>, integer: &Integer) -> Result<(), AllocError>
 /// Appends the named string at a place.
 #[tactic(auto, unfolding(crate::specs::TypeText::constant_named))]
 fn push_named_text(out: &mut Vec<u8>, place: usize, constant: &NamedText) -> Result<(), AllocError>
-    ensures { OnOk result (out.new.items ≡ out.old.items ++ spec.constant_named place (text_of constant.now).name
-        (in_quotes 34 (text_of constant.now).text)) }
+    ensures { OnOk result (out.new.items ≡ out.old.items ++ spec.constant_named place
+        (text_of constant.now).name (in_quotes 34 (text_of constant.now).text)) }
 {
     push_before(out, place)?;
     out.extend_from_slice(constant.name.as_slice())?;
@@ -144,7 +150,8 @@ fn push_named_text(out: &mut Vec<u8>, place: usize, constant: &NamedText) -> Res
 
 /// Appends the named strings of a string.
 fn push_texts(out: &mut Vec<u8>, constants: &[NamedText]) -> Result<(), AllocError>
-    ensures { OnOk result (out.new.items ≡ out.old.items ++ spec.texts_from 0 (map text_of constants.now)) }
+    ensures { OnOk result (out.new.items
+        ≡ out.old.items ++ spec.texts_from 0 (map text_of constants.now)) }
 {
     for (place, constant) in constants.iter().enumerate() {
         push_named_text(out, place, constant)?;
@@ -167,7 +174,8 @@ fn name_counted(place: usize, field: &Field) -> Option<&[u8]>
 
 /// Appends the name of the first such array among fields.
 fn push_counted_name(out: &mut Vec<u8>, place: usize, fields: &[Field]) -> Result<(), AllocError>
-    ensures { OnOk result (out.new.items ≡ out.old.items ++ spec.array_counted place (fields_of fields.now)) }
+    ensures { OnOk result (out.new.items
+        ≡ out.old.items ++ spec.array_counted place (fields_of fields.now)) }
 {
     for field in fields {
         if let Some(name) = name_counted(place, field) {
@@ -198,7 +206,8 @@ fn push_count_head(out: &mut Vec<u8>, width: Width) -> Result<(), AllocError>
     Ok(())
 }
 
-/// Appends a count, where so many counts of its block stand before it, and the block has these fields.
+/// Appends a count, where so many counts of its block stand before it, and the block has these
+/// fields.
 #[tactic(auto, unfolding(crate::specs::TypeText::count_text))]
 fn push_count(
     out: &mut Vec<u8>,
@@ -207,7 +216,8 @@ fn push_count(
     count: Count,
 ) -> Result<(), AllocError>
     ensures { OnOk result (out.new.items ≡ out.old.items
-        ++ spec.count_text count.width.bits (spec.array_counted counts (fields_of all.now)) count.is_less_one) }
+        ++ spec.count_text count.width.bits
+        (spec.array_counted counts (fields_of all.now)) count.is_less_one) }
 {
     push_count_head(out, count.width)?;
     push_counted_name(out, counts, all)?;
@@ -239,7 +249,8 @@ fn push_fixed(out: &mut Vec<u8>, constant: Constant) -> Result<(), AllocError>
 
 /// Appends bits of a fill.
 fn push_bits(out: &mut Vec<u8>, width: Width) -> Result<(), AllocError>
-    ensures { OnOk result (out.new.items ≡ out.old.items ++ (codes "fill bit" ++ spec.in_brackets width.bits)) }
+    ensures { OnOk result (out.new.items
+        ≡ out.old.items ++ (codes "fill bit" ++ spec.in_brackets width.bits)) }
 {
     out.extend_from_slice(b"fill bit")?;
     push_brackets(out, width.bits as u64)
@@ -322,7 +333,8 @@ fn push_hex_word(out: &mut Vec<u8>, is_hex: bool) -> Result<(), AllocError>
 
 /// Appends a string of so many bytes.
 fn push_fixed_text(out: &mut Vec<u8>, count: u16) -> Result<(), AllocError>
-    ensures { OnOk result (out.new.items ≡ out.old.items ++ (codes "string" ++ spec.in_brackets count)) }
+    ensures { OnOk result (out.new.items
+        ≡ out.old.items ++ (codes "string" ++ spec.in_brackets count)) }
 {
     out.extend_from_slice(b"string")?;
     push_brackets(out, count as u64)
@@ -432,7 +444,8 @@ fn push_array(
     array: &Array,
 ) -> Result<(), AllocError>
     ensures { OnOk result (out.new.items ≡ out.old.items
-        ++ spec.array_text (spec.block_text depth (blocks_of blocks.now)) array.now.name.items (end_of array.now.end) array.now.block) }
+        ++ spec.array_text (spec.block_text depth (blocks_of blocks.now)) array.now.name.items
+        (end_of array.now.end) array.now.block) }
 {
     push_array_word(out, array)?;
     push_block(out, depth, blocks, array.block)?;
@@ -450,7 +463,8 @@ fn push_switch(
     switch: &Switch,
 ) -> Result<(), AllocError>
     ensures { OnOk result (out.new.items ≡ out.old.items
-        ++ spec.switch_text (spec.block_text depth (blocks_of blocks.now)) (map case_of switch.now.cases.items)) }
+        ++ spec.switch_text (spec.block_text depth (blocks_of blocks.now))
+        (map case_of switch.now.cases.items)) }
 {
     out.extend_from_slice(b"switch { ")?;
     push_cases(out, depth, blocks, switch.cases.as_slice())?;
@@ -498,7 +512,8 @@ fn push_ended(
     field: &Field,
 ) -> Result<(), AllocError>
     ensures { OnOk result (out.new.items ≡ out.old.items
-        ++ (spec.whole_text (spec.block_text depth (blocks_of blocks.now)) (field_of field.now) ++ codes "; ")) }
+        ++ (spec.whole_text (spec.block_text depth (blocks_of blocks.now)) (field_of field.now)
+        ++ codes "; ")) }
 {
     push_whole(out, depth, blocks, field)?;
     out.extend_from_slice(b"; ")?;
@@ -516,7 +531,8 @@ fn push_field(
     field: &Field,
 ) -> Result<usize, AllocError>
     ensures text { OnOk result (out.new.items ≡ out.old.items
-        ++ spec.field_text (spec.block_text depth (blocks_of blocks.now)) (fields_of all.now) counts (field_of field.now)) }
+        ++ spec.field_text (spec.block_text depth (blocks_of blocks.now)) (fields_of all.now) counts
+        (field_of field.now)) }
     ensures counts { IfOk result (λ n. n ≡ spec.counts_after_field (field_of field.now) counts) }
 {
     match field {
@@ -537,7 +553,8 @@ fn push_fields(
     fields: &[Field],
 ) -> Result<(), AllocError>
     ensures { OnOk result (out.new.items ≡ out.old.items
-        ++ spec.fields_from (spec.block_text depth (blocks_of blocks.now)) (fields_of fields.now) 0 (fields_of fields.now)) }
+        ++ spec.fields_from (spec.block_text depth (blocks_of blocks.now)) (fields_of fields.now) 0
+        (fields_of fields.now)) }
 {
     let mut counts = 0;
     for field in fields {
@@ -554,7 +571,8 @@ fn push_block(
     blocks: &[Block],
     block: usize,
 ) -> Result<(), AllocError>
-    ensures { OnOk result (out.new.items ≡ out.old.items ++ spec.block_text depth (blocks_of blocks.now) block) }
+    ensures { OnOk result (out.new.items
+        ≡ out.old.items ++ spec.block_text depth (blocks_of blocks.now) block) }
 {
     if depth == 0 {
         return Ok(());
@@ -595,8 +613,9 @@ fn open_text(alloc: Global, ty: [u8; 4], declaration: &Declaration) -> Result<Ve
     Ok(out)
 }
 
-/// Returns the declaration of a type as a statement `type` on one line, without the end of the line. What no statement can
-/// state, as a count without an array, is written as another text, which is refused or has another meaning.
+/// Returns the declaration of a type as a statement `type` on one line, without the end of the
+/// line. What no statement can state, as a count without an array, is written as another text,
+/// which is refused or has another meaning.
 #[tactic(auto, unfolding(crate::specs::TypeText::declared_text))]
 pub fn declaration_text(
     alloc: Global,
@@ -611,7 +630,8 @@ pub fn declaration_text(
     Ok(out)
 }
 
-/// Returns the same with one field more, at the end: a hexadecimal string up to the end of the resource.
+/// Returns the same with one field more, at the end: a hexadecimal string up to the end of the
+/// resource.
 #[tactic(auto, unfolding(crate::specs::TypeText::tailed_text))]
 pub fn tailed_declaration_text(
     alloc: Global,

@@ -1,4 +1,5 @@
-use Rattle.std.specs.Prelude.{ℕ, ◌==◌, Bool, true, false, filter, Option, Some, None, is_some, Result, Ok, Err, List, [], ◌∷◌, ◌++◌, if◌then◌else◌}
+use Rattle.std.specs.Prelude.{ℕ, ◌==◌, Bool, true, false, filter, Option, Some, None, is_some, Result, Ok, Err, List, [], ◌∷◌, ◌++◌}
+use Rattle.std.specs.Prelude.{if◌then◌else◌}
 use Rattle.rez_types.specs.Fields.{Declaration}
 use Rattle.rez_types.specs.Values.{Value}
 use Rattle.rez_types.specs.Encoding.{datum_of_values}

@@ -21,7 +21,8 @@ fn values_by(
     declaration: &Declaration,
     tokens: &[Token],
 ) -> Result<Vec<Value>, TypesFault>
-    ensures { Gives values_in result (spec.of_values (taken (declaration_of declaration.now) (map token_of tokens.now))) }
+    ensures { Gives values_in result
+        (spec.of_values (taken (declaration_of declaration.now) (map token_of tokens.now))) }
 {
     match take(alloc, declaration, tokens) {
         Ok(values) => Ok(values),
@@ -46,12 +47,13 @@ fn bytes_by(
     }
 }
 
-/// Returns the bytes of the resource that the text between the braces of a statement `resource` states, by a declaration.
+/// Returns the bytes of the resource that the text between the braces of a statement `resource`
+/// states, by a declaration.
 ///
 /// # Errors
 ///
-/// Returns the line in the text where it can't go on, and what is wrong there; `NotEncoded` where the values have no bytes; `HostMemory`
-/// where the host is out of memory.
+/// Returns the line in the text where it can't go on, and what is wrong there; `NotEncoded` where
+/// the values have no bytes; `HostMemory` where the host is out of memory.
 #[tactic(auto, unfolding(crate::specs::Types::datum_by))]
 pub fn datum_by(
     alloc: Global,

@@ -1,4 +1,5 @@
-//! Types that are declared in the language of Rez, and the bytes of resources that are stated by them.
+//! Types that are declared in the language of Rez, and the bytes of resources that are stated by
+//! them.
 #![tactic(auto)]
 
 mod datum;

@@ -39,7 +39,8 @@ pub(crate) fn tokens_of(alloc: Global, text: &[u8]) -> Result<Vec<Token>, TypesF
     }
 }
 
-/// Reports whether a token says something in a declaration: the bytes of a fill that a comment states do not.
+/// Reports whether a token says something in a declaration: the bytes of a fill that a comment
+/// states do not.
 fn is_said(token: &Token) -> bool
     ensures { result ≡ spec.is_said (token_of token.now) }
 {
@@ -83,7 +84,8 @@ fn read_alone(alloc: Global, tokens: &[Token]) -> Result<DeclaringStatement, Typ
 ///
 /// # Errors
 ///
-/// Returns the line in the text where it can't go on, and what is wrong there; `HostMemory` where the host is out of memory.
+/// Returns the line in the text where it can't go on, and what is wrong there; `HostMemory` where
+/// the host is out of memory.
 #[tactic(auto, unfolding(crate::specs::Types::declares))]
 pub fn read_declaring(alloc: Global, text: &[u8]) -> Result<DeclaringStatement, TypesFault>
     ensures { Gives said_by result (spec.declares text.now) }

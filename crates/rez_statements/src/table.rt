@@ -20,12 +20,14 @@ pub struct DeclaredType {
     pub declaration: Rc<Declaration>,
 }
 
-/// Types that are declared, in the order of their declarations. A type may have several; the last one is in force.
+/// Types that are declared, in the order of their declarations. A type may have several; the last
+/// one is in force.
 #[derive(Drop)]
 pub struct Types {
     pub(crate) alloc: Global,
     pub(crate) list: Vec<DeclaredType>,
     /// The place of each type's last declaration in the list.
     pub(crate) places: BTreeMap<u32, usize>,
-    ghost placed: { (kind : ℕ) → get nat_cmp places kind ≡ last_place kind list.items } by { Prim.hlevel props },
+    ghost placed: { (kind : ℕ)
+        → get nat_cmp places kind ≡ last_place kind list.items } by { Prim.hlevel props },
 }

@@ -6,7 +6,8 @@ ghost use Rattle.byteorder.specs.Endian.{big_number};
 ghost use Rattle.rez_declarations.specs.Parses.{stated_of};
 ghost use Rattle.rez_statements.specs.Places.{last_place};
 ghost use Rattle.rez_statements.specs.Types as spec;
-ghost use Rattle.rez_statements.specs.View.{Gives, LeadsTo, bytes_in, types_of, declared_of, shared, lent};
+ghost use Rattle.rez_statements.specs.View.{Gives, LeadsTo, bytes_in, types_of, declared_of};
+ghost use Rattle.rez_statements.specs.View.{shared, lent};
 
 use crate::datum::datum_by;
 use crate::fault::{StatementFault, TypeName, TypesFault};
@@ -117,11 +118,13 @@ impl Types {
     ///
     /// # Errors
     ///
-    /// Returns the line in the text where it can't go on, and what is wrong there, or `Undeclared` where it names a type that is not
-    /// declared; `HostMemory` where the host is out of memory. The types are then as they were.
+    /// Returns the line in the text where it can't go on, and what is wrong there, or `Undeclared`
+    /// where it names a type that is not declared; `HostMemory` where the host is out of memory.
+    /// The types are then as they were.
     #[tactic(auto, unfolding(crate::specs::Types::with_type))]
     pub fn declare(&mut self, text: &[u8]) -> Result<(), TypesFault>
-        ensures declared { LeadsTo result (types_of self.new) (spec.with_type text.now (types_of self.old)) }
+        ensures declared { LeadsTo result (types_of self.new)
+            (spec.with_type text.now (types_of self.old)) }
         ensures kept { OnErr result (types_of self.new ≡ types_of self.old) }
     {
         let statement = read_declaring(self.alloc, text)?;
@@ -130,15 +133,18 @@ impl Types {
         Ok(())
     }
 
-    /// Returns the bytes of the resource of a type that the text between the braces of a statement `resource` states.
+    /// Returns the bytes of the resource of a type that the text between the braces of a statement
+    /// `resource` states.
     ///
     /// # Errors
     ///
-    /// Returns `Undeclared` where the type is not declared, else the line in the text where it can't go on, and what is wrong there, or
-    /// `NotEncoded` where the values have no bytes; `HostMemory` where the host is out of memory.
+    /// Returns `Undeclared` where the type is not declared, else the line in the text where it
+    /// can't go on, and what is wrong there, or `NotEncoded` where the values have no bytes;
+    /// `HostMemory` where the host is out of memory.
     #[tactic(auto, unfolding(crate::specs::Types::datum_stated))]
     pub fn datum(&self, ty: [u8; 4], text: &[u8]) -> Result<Vec<u8>, TypesFault>
-        ensures { Gives bytes_in result (spec.datum_stated (big_number 4 ty) text.now (types_of self.now)) }
+        ensures { Gives bytes_in result
+            (spec.datum_stated (big_number 4 ty) text.now (types_of self.now)) }
     {
         let declaration = self.needed(BigEndian::read_u32(&ty))?;
         datum_by(self.alloc, declaration, text)

@@ -1,4 +1,5 @@
-//! The types of resources that are declared before the first line of a source. The file is made by tools/types.py.
+//! The types of resources that are declared before the first line of a source. The file is made by
+//! tools/types.py.
 #![tactic(auto)]
 
 ghost use Rattle.std.specs.Prelude.{◌≡◌};

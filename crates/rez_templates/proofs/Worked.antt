@@ -1,8 +1,8 @@
 -- Worked templates, on the definitions alone.
 use Rattle.std.proofs.Common.{◌≡◌, ℕ, Some, None, List, [], ◌∷◌, ◌++◌, codes, length, refl}
 use Rattle.std.specs.Fmt.{digits}
-use Rattle.rez_templates.specs.Items.{template_statement, statement, with_items, with_next, item_of, with_count, with_list, with_end, with_fill}
-use Rattle.rez_templates.specs.Items.{fields_text, fill_text, count_text, begin_text, end_text, hex_text}
+use Rattle.rez_templates.specs.Items.{template_statement, statement, with_items, with_next, item_of, with_count, with_list, with_end}
+use Rattle.rez_templates.specs.Items.{with_fill, fields_text, fill_text, count_text, begin_text, end_text, hex_text}
 
 -- an item: its label, and four characters
 abbrev item : List ℕ → List ℕ → List ℕ
@@ -18,7 +18,8 @@ strings : template_statement (codes "STR#")
     (item (codes "NumStrings") (codes "OCNT") ++ item (codes "*****") (codes "LSTC") ++ item (codes "The string") (codes "PSTR")
     ++ item (codes "*****") (codes "LSTE"))
     ≡ Some (statement (codes "STR#") (codes "integer = $$CountOf(List1); array List1 { pstring; }; "))
-unfolding template_statement with_items with_next item_of with_count with_list with_end fields_text fill_text count_text begin_text end_text digits
+unfolding template_statement with_items with_next item_of with_count with_list with_end fields_text fill_text count_text
+    begin_text end_text digits
 strings = refl
 
 -- lists in a list, with counts that are one less, as of 'BNDL'
@@ -27,7 +28,8 @@ bundle : template_statement (codes "BNDL")
     ++ item [] (codes "ZCNT") ++ item [] (codes "LSTC") ++ item [] (codes "DWRD") ++ item [] (codes "LSTE") ++ item [] (codes "LSTE"))
     ≡ Some (statement (codes "BNDL") (codes "literal longint; integer = $$CountOf(List1) - 1; array List1 { literal longint; "
     ++ codes "integer = $$CountOf(List2) - 1; array List2 { integer; }; }; "))
-unfolding template_statement with_items with_next item_of with_count with_list with_end fields_text fill_text count_text begin_text end_text digits
+unfolding template_statement with_items with_next item_of with_count with_list with_end fields_text fill_text count_text
+    begin_text end_text digits
 bundle = refl
 
 -- a list that a byte of 0 ends; fills side by side, also at the end; a string of 17 bytes
@@ -35,7 +37,8 @@ gaps : template_statement (codes "Abcd")
     (item [] (codes "FLNG") ++ item [] (codes "FBYT") ++ item [] (codes "LSTZ") ++ item [] (codes "CSTR") ++ item [] (codes "LSTE")
     ++ item [] (codes "H011") ++ item [] (codes "FWRD"))
     ≡ Some (statement (codes "Abcd") (codes "fill byte[5]; array { cstring; }; byte = 0; hex string[17]; fill byte[2]; "))
-unfolding template_statement with_items with_next item_of with_fill with_list with_end fields_text fill_text begin_text end_text hex_text digits
+unfolding template_statement with_items with_next item_of with_fill with_list with_end fields_text fill_text begin_text
+    end_text hex_text digits
 gaps = refl
 
 -- not stated: an item that isn't known; a list without its count, and a count without its list; a list that does not end, and an end
@@ -46,5 +49,6 @@ refused : (template_statement (codes "Abcd") (item [] (codes "ESTR")) ≡ None)
     × (template_statement (codes "Abcd") (item [] (codes "LSTB") ++ item [] (codes "DBYT")) ≡ None)
     × (template_statement (codes "Abcd") (item [] (codes "LSTE")) ≡ None)
     × (template_statement (codes "Abcd") (5 ∷ codes "DBYT") ≡ None)
-unfolding template_statement with_items with_next item_of with_count with_list with_end fields_text fill_text count_text begin_text end_text digits
+unfolding template_statement with_items with_next item_of with_count with_list with_end fields_text fill_text count_text
+    begin_text end_text digits
 refused = (refl, refl, refl, refl, refl, refl)

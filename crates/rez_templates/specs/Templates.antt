@@ -63,8 +63,8 @@ refs_of_type kind (g ∷ groups) = if is_of kind g then g.refs else refs_of_type
 unfoldable pub first_of : ℕ → List Group → List Ref
 first_of kind groups = take 1024 (refs_of_type kind groups)
 
--- The types after the first 1,024 templates and the first 1,024 bundles of a content. So each type is declared by the first of its templates
--- that can be stated; where there is none, as a signature.
+-- The types after the first 1,024 templates and the first 1,024 bundles of a content. So each type is declared by the first of its
+-- templates that can be stated; where there is none, as a signature.
 unfoldable pub with_templates : Content → List Declared → List Declared
 with_templates c types =
     with_all (with_bundle c.groups) (first_of (big_number 4 (codes "BNDL")) c.groups)

@@ -22,7 +22,8 @@ const MOST_RESOURCES: usize = 1024;
 
 /// Declares a type by a statement, if it can be read.
 fn declare(types: &mut Types, text: &[u8]) -> Result<(), AllocError>
-    ensures { OnOk result (types_of types.new ≡ spec.declared_by (with_type text.now (types_of types.old)) (types_of types.old)) }
+    ensures { OnOk result (types_of types.new
+        ≡ spec.declared_by (with_type text.now (types_of types.old)) (types_of types.old)) }
 {
     match types.declare(text) {
         Ok(()) => Ok(()),
@@ -52,7 +53,8 @@ fn has_resources(groups: &[Group<'_>], kind: u32) -> bool
 
 /// Reports whether a type is not declared, and there are resources of it.
 fn is_wanted(groups: &[Group<'_>], ty: [u8; 4], types: &Types) -> bool
-    ensures { result ≡ spec.is_wanted (map view_group groups.now) (big_number 4 ty) (types_of types.now) }
+    ensures { result
+        ≡ spec.is_wanted (map view_group groups.now) (big_number 4 ty) (types_of types.now) }
 {
     !types.is_declared(ty) && has_resources(groups, BigEndian::read_u32(&ty))
 }
@@ -154,7 +156,8 @@ fn declare_all_templates(
     refs: &[Ref<'_>],
 ) -> Result<(), AllocError>
     ensures { OnOk result (types_of types.new
-        ≡ spec.with_all (spec.with_template (map view_group groups.now)) (map view_ref refs.now) (types_of types.old)) }
+        ≡ spec.with_all (spec.with_template (map view_group groups.now)) (map view_ref refs.now)
+        (types_of types.old)) }
 {
     for r in refs {
         declare_template(alloc, types, groups, r)?;
@@ -170,7 +173,8 @@ fn declare_all_signatures(
     refs: &[Ref<'_>],
 ) -> Result<(), AllocError>
     ensures { OnOk result (types_of types.new
-        ≡ spec.with_all (spec.with_bundle (map view_group groups.now)) (map view_ref refs.now) (types_of types.old)) }
+        ≡ spec.with_all (spec.with_bundle (map view_group groups.now)) (map view_ref refs.now)
+        (types_of types.old)) }
 {
     for r in refs {
         declare_signature(alloc, types, groups, r)?;
@@ -178,11 +182,13 @@ fn declare_all_signatures(
     Ok(())
 }
 
-/// Declares the types of a content that are not declared yet and that its own resources say how to read: by the first template of the
-/// type that can be stated as a declaration, else, where a bundle names the type as its signature, as a Pascal string. All other types
-/// stay as they are. Labels of templates are not kept: a declaration has no place for them.
+/// Declares the types of a content that are not declared yet and that its own resources say how to
+/// read: by the first template of the type that can be stated as a declaration, else, where a
+/// bundle names the type as its signature, as a Pascal string. All other types stay as they are.
+/// Labels of templates are not kept: a declaration has no place for them.
 ///
-/// A template can be stated where it has only items that [the README](../README.md) lists, and what it says is sound.
+/// A template can be stated where it has only items that [the README](../README.md) lists, and what
+/// it says is sound.
 ///
 /// # Errors
 ///
@@ -193,7 +199,8 @@ pub fn declare_templates(
     types: Types,
     content: &Content<'_>,
 ) -> Result<Types, AllocError>
-    ensures { IfOk result (λ new. types_of new ≡ spec.with_templates (view content.now) (types_of types)) }
+    ensures { IfOk result (λ new. types_of new
+        ≡ spec.with_templates (view content.now) (types_of types)) }
 {
     let mut types = types;
     let groups = content.groups.as_slice();

@@ -154,7 +154,8 @@ impl Draft {
     /// Adds bytes without a meaning.
     #[tactic(auto, unfolding(crate::specs::Items::with_fill))]
     fn add_fill(&mut self, bytes: u16) -> Result<(), TemplateFault>
-        ensures { LeadsTo result (drafted_of self.new) (spec.with_fill bytes (drafted_of self.old)) }
+        ensures { LeadsTo result (drafted_of self.new)
+            (spec.with_fill bytes (drafted_of self.old)) }
     {
         let fill = self.fill.saturating_add(bytes);
         if 256 < fill {
@@ -167,7 +168,8 @@ impl Draft {
     /// Adds a count.
     #[tactic(auto, unfolding(crate::specs::Items::with_count))]
     fn add_count(&mut self, alloc: Global, from: CountFrom) -> Result<(), TemplateFault>
-        ensures { LeadsTo result (drafted_of self.new) (spec.with_count from (drafted_of self.old)) }
+        ensures { LeadsTo result (drafted_of self.new)
+            (spec.with_count from (drafted_of self.old)) }
     {
         if self.waits || 512 <= self.counts {
             return Err(TemplateFault::Unstated);
@@ -215,7 +217,8 @@ impl Draft {
 
     /// Adds a field by its text.
     fn add_field(&mut self, text: &[u8]) -> Result<(), TemplateFault>
-        ensures { LeadsTo result (drafted_of self.new) (spec.with_field text.now (drafted_of self.old)) }
+        ensures { LeadsTo result (drafted_of self.new)
+            (spec.with_field text.now (drafted_of self.old)) }
     {
         push_after(&mut self.text, self.fill, text)?;
         self.fill = 0;
@@ -224,7 +227,8 @@ impl Draft {
 
     /// Adds a string of so many bytes in hexadecimal.
     fn add_hex(&mut self, alloc: Global, bytes: u16) -> Result<(), TemplateFault>
-        ensures { LeadsTo result (drafted_of self.new) (spec.with_field (spec.hex_text bytes) (drafted_of self.old)) }
+        ensures { LeadsTo result (drafted_of self.new)
+            (spec.with_field (spec.hex_text bytes) (drafted_of self.old)) }
     {
         let text = hex_text(alloc, bytes)?;
         self.add_field(text.as_slice())
@@ -232,7 +236,8 @@ impl Draft {
 
     /// Adds an item.
     fn add(&mut self, alloc: Global, item: Item) -> Result<(), TemplateFault>
-        ensures { LeadsTo result (drafted_of self.new) (spec.with_item (item_in item) (drafted_of self.old)) }
+        ensures { LeadsTo result (drafted_of self.new)
+            (spec.with_item (item_in item) (drafted_of self.old)) }
     {
         match item {
             Item::Field(text) => self.add_field(text),
@@ -246,7 +251,8 @@ impl Draft {
 
     /// Adds what the four characters of an item stand for.
     fn add_code(&mut self, alloc: Global, code: &[u8]) -> Result<(), TemplateFault>
-        ensures { LeadsTo result (drafted_of self.new) (spec.with_code code.now (drafted_of self.old)) }
+        ensures { LeadsTo result (drafted_of self.new)
+            (spec.with_code code.now (drafted_of self.old)) }
     {
         match item_of(code) {
             Some(item) => self.add(alloc, item),
@@ -257,7 +263,8 @@ impl Draft {
     /// Adds the next item, and returns the bytes after it.
     #[tactic(auto, unfolding(crate::specs::Items::with_next))]
     fn add_next<'a>(&mut self, alloc: Global, bytes: &'a [u8]) -> Result<&'a [u8], TemplateFault>
-        ensures { Gives (λ rest. rest.now) result (drafted_of self.new) (spec.with_next bytes.now (drafted_of self.old)) }
+        ensures { Gives (λ rest. rest.now) result (drafted_of self.new)
+            (spec.with_next bytes.now (drafted_of self.old)) }
     {
         let [size, after @ ..] = bytes else {
             return Err(TemplateFault::Unstated);
@@ -270,7 +277,8 @@ impl Draft {
     /// Adds at most so many items.
     #[tactic(auto, using(crate::proofs::Turns::items_on, crate::proofs::Turns::items_end, crate::proofs::Turns::items_more))]
     fn add_items(&mut self, alloc: Global, most: usize, bytes: &[u8]) -> Result<(), TemplateFault>
-        ensures { LeadsTo result (drafted_of self.new) (spec.with_items most bytes.now (drafted_of self.old)) }
+        ensures { LeadsTo result (drafted_of self.new)
+            (spec.with_items most bytes.now (drafted_of self.old)) }
     {
         let mut rest = bytes;
         let mut left = most;

@@ -1,6 +1,6 @@
 -- Texts in UTF-8, which are read as the bytes of which they are made.
-use Rattle.std.proofs.Common.{◌≡◌, ◌<◌, ◌≤◌, ◌==◌, ◌&&◌, ◌||◌, ℕ, ◌+◌, Bool, true, false, cond, Result, Ok, Err, List, [], ◌∷◌, ◌++◌, length, take, drop}
-use Rattle.std.proofs.Common.{map, refl, sym, ap, ◌∙◌, arith, le-leb, nat_le}
+use Rattle.std.proofs.Common.{◌≡◌, ◌<◌, ◌≤◌, ◌==◌, ◌&&◌, ◌||◌, ℕ, ◌+◌, Bool, true, false, cond, Result, Ok, Err, List, [], ◌∷◌, ◌++◌}
+use Rattle.std.proofs.Common.{length, take, drop, map, refl, sym, ap, ◌∙◌, arith, le-leb, nat_le}
 use Rattle.std.proofs.lemmas.Bool.{agree_below_at, and_right}
 use Rattle.std.proofs.lemmas.List.Concat.{flat_map-append}
 use Rattle.std.proofs.lemmas.Str.{is_utf8-from_IsUtf8}
@@ -23,7 +23,8 @@ use Rattle.rez_text.specs.Bytes.{AreBytes}
 use Rattle.rez_text.specs.Remarks.{after_blanks, begins, remarked, comment}
 use Rattle.rez_text.specs.Coding.{coding_words, coding_comment, order_mark, is_coded, as_roman, decoded, with_line}
 use Rattle.rez_text.specs.Lexing.{step, between, slash, in_comment, star}
-use Rattle.rez_text.specs.Reading.{finish, first_line, read_from, stated, read_made, read_roman, read, later, Wrong, Lacking, ReadFault, unless_lacking}
+use Rattle.rez_text.specs.Reading.{finish, first_line, read_from, stated, read_made, read_roman, read, later, Wrong, Lacking, ReadFault}
+use Rattle.rez_text.specs.Reading.{unless_lacking}
 use Rattle.rez_text.proofs.Printed.{bytes_are, bytes_both}
 use Rattle.rez_text.proofs.Later.{further, moved, read_further}
 

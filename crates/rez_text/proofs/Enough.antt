@@ -1,6 +1,6 @@
 -- With as many files as the statements of a text name none is lacking: what a text names does not depend on what files are given.
-use Rattle.std.proofs.Common.{◌≡◌, ◌==◌, ◌&&◌, ◌||◌, ℕ, zero, suc, ◌+◌, ◌-◌, ◌*◌, Bool, true, false, cond, nat_lt, nat_le, Option, Some, None, Result, Ok, Err}
-use Rattle.std.proofs.Common.{List, [], ◌∷◌, ◌++◌, length, drop, codes, refl, sym, ap, ◌∙◌, subst, arith}
+use Rattle.std.proofs.Common.{◌≡◌, ◌==◌, ◌&&◌, ◌||◌, ℕ, zero, suc, ◌+◌, ◌-◌, ◌*◌, Bool, true, false, cond, nat_lt, nat_le, Option, Some}
+use Rattle.std.proofs.Common.{None, Result, Ok, Err, List, [], ◌∷◌, ◌++◌, length, drop, codes, refl, sym, ap, ◌∙◌, subst, arith}
 use Rattle.std.specs.Prelude.{bytes_eq}
 use Rattle.fork_format.specs.Content.{Content}
 use Rattle.rez_statements.specs.declared.fault.StatementFault.{StatementFault}
@@ -24,15 +24,17 @@ use Rattle.rez_text.specs.Coding.{as_roman}
 use Rattle.rez_text.specs.Ascii.{ends_line, is_digit, is_letter, begins_word, quote_byte, base, digit_in}
 use Rattle.rez_text.specs.Scopes.{ends}
 use Rattle.rez_text.specs.State.{State, with_types, start, gather, in_mode, come_to, with_content, ◌>>=◌}
-use Rattle.rez_text.specs.Remarks.{is_blank, hex_value, begins, bytes_after, with_map_attributes, with_area, after_blanks, remarked, comment, comment_at}
+use Rattle.rez_text.specs.Remarks.{is_blank, hex_value, begins, bytes_after, with_map_attributes, with_area, after_blanks, remarked}
+use Rattle.rez_text.specs.Remarks.{comment, comment_at}
 use Rattle.rez_text.specs.Tokens.{refused, attribute, with_attributes, word, word_at, type_token, type_at, attributes_in, number, number_at}
 use Rattle.rez_text.specs.Tokens.{named, file_named, string, string_at, datum, datum_at, of_text, type_statement, resource_body, with_datum}
 use Rattle.rez_text.specs.Tokens.{opened, mark, mark_at, statement_begun, declaration_begun}
-use Rattle.rez_text.specs.Lexing.{between, slash, in_comment, star, line_comment, declaring, body, after_word, in_word, number_ended, number_on}
-use Rattle.rez_text.specs.Lexing.{grown, in_number, by_digit, prefixed, after_zero, string_opened, dollar, hex_string, hex_half, closed, quoted}
-use Rattle.rez_text.specs.Lexing.{escaped_byte, escape_grown, escape_on, escape_number, escape_by, escape, escape_zero, step, step_in}
-use Rattle.rez_text.specs.Reading.{Wrong, Lacking, finish, ended, ended_in, first_line, lines_at, at_line, read_from, stated, unless_lacking}
-use Rattle.rez_text.specs.Reading.{read_made, read_roman, read}
+use Rattle.rez_text.specs.Lexing.{between, slash, in_comment, star, line_comment, declaring, body, after_word, in_word, number_ended}
+use Rattle.rez_text.specs.Lexing.{number_on, grown, in_number, by_digit, prefixed, after_zero, string_opened, dollar, hex_string, hex_half}
+use Rattle.rez_text.specs.Lexing.{closed, quoted, escaped_byte, escape_grown, escape_on, escape_number, escape_by, escape, escape_zero}
+use Rattle.rez_text.specs.Lexing.{step, step_in}
+use Rattle.rez_text.specs.Reading.{Wrong, Lacking, finish, ended, ended_in, first_line, lines_at, at_line, read_from, stated}
+use Rattle.rez_text.specs.Reading.{unless_lacking, read_made, read_roman, read}
 
 -- what has been read but for data, and for the files that are given
 abbrev blur : State → State
@@ -214,7 +216,8 @@ comment_same s = comment_at_same s.place s
 between_same : (b : ℕ) (s : State) → Same (between b s) (between b (blur s))
 unfolding between
 between_same b s =
-    either (is_blank b) _ _ _ _ refl (either (b == 47) _ _ _ _ refl (either (b == 34) _ _ _ _ refl (either (b == 39) _ _ _ _ refl (either (b == 36) _ _ _ _ refl
+    either (is_blank b) _ _ _ _ refl
+    (either (b == 47) _ _ _ _ refl (either (b == 34) _ _ _ _ refl (either (b == 39) _ _ _ _ refl (either (b == 36) _ _ _ _ refl
     (either (b == 48) _ _ _ _ refl (either (is_digit b) _ _ _ _ refl (either (begins_word b) _ _ _ _ refl (mark_same b s))))))))
 
 declaring_same : (r : Scope) (b : ℕ) (s : State) → Same (declaring r b s) (declaring r b (blur s))

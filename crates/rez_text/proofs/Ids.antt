@@ -1,7 +1,7 @@
 -- The ID and the name of a resource: what is printed is read again.
-use Rattle.std.proofs.Common.{◌≡◌, ◌<◌, ◌≤◌, ◌==◌, inl, inr, ℕ, ℤ, pos, negsuc, neg_ℤ, zero, suc, ◌+◌, ◌-◌, ◌*◌, ◌/◌, ◌%◌, Bool, true, false}
-use Rattle.std.proofs.Common.{nat_lt, Ok, Option, Some, None, List, [], ◌∷◌, ◌++◌, length, IfSome, refl, ap, ◌∙◌, arith, le-ltb, eqb-true}
-use Rattle.std.proofs.Common.{FitsSigned}
+use Rattle.std.proofs.Common.{◌≡◌, ◌<◌, ◌≤◌, ◌==◌, inl, inr, ℕ, ℤ, pos, negsuc, neg_ℤ, zero, suc, ◌+◌, ◌-◌, ◌*◌, ◌/◌, ◌%◌, Bool, true}
+use Rattle.std.proofs.Common.{false, nat_lt, Ok, Option, Some, None, List, [], ◌∷◌, ◌++◌, length, IfSome, refl, ap, ◌∙◌, arith, le-ltb}
+use Rattle.std.proofs.Common.{eqb-true, FitsSigned}
 use Rattle.std.proofs.lemmas.Bool.{agree_below_at, agree_below}
 use Rattle.std.proofs.lemmas.Fmt.{decimal_by_steps}
 use Rattle.std.specs.Int.{w16}

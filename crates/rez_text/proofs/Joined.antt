@@ -1,6 +1,6 @@
 -- Resources that are put where they belong, group by group, make the groups again.
-use Rattle.std.proofs.Common.{◌≡◌, ◌==◌, not, ℕ, true, false, cond, List, [], ◌∷◌, ◌++◌, map, length, nat_le, refl, ap, ◌∙◌, sym, append_assoc}
-use Rattle.std.proofs.Common.{append-nil, arith, rules}
+use Rattle.std.proofs.Common.{◌≡◌, ◌==◌, not, ℕ, true, false, cond, List, [], ◌∷◌, ◌++◌, map, length, nat_le, refl, ap, ◌∙◌, sym}
+use Rattle.std.proofs.Common.{append_assoc, append-nil, arith, rules}
 use Rattle.std.specs.List.{AllByRecursion, list_all}
 use Rattle.std.proofs.lemmas.Bool.{and_parts, not-true}
 use Rattle.fork_format.specs.Content.{Ref, Group}

@@ -1,6 +1,6 @@
 -- The same text one line further down.
-use Rattle.std.proofs.Common.{◌≡◌, ◌==◌, ◌&&◌, ◌||◌, ◌+◌, ◌-◌, ℕ, Bool, true, false, cond, Result, Ok, Err, List, [], ◌∷◌, ◌++◌, not, refl, sym, ap, ◌∙◌, arith}
-use Rattle.std.proofs.Common.{min}
+use Rattle.std.proofs.Common.{◌≡◌, ◌==◌, ◌&&◌, ◌||◌, ◌+◌, ◌-◌, ℕ, Bool, true, false, cond, Result, Ok, Err, List, [], ◌∷◌, ◌++◌, not, refl}
+use Rattle.std.proofs.Common.{sym, ap, ◌∙◌, arith, min}
 use Rattle.rez_statements.specs.declared.fault.StatementFault.{StatementFault}
 use Rattle.rez_text.specs.declared.fault.FaultKind.{FaultKind}
 use Rattle.rez_text.specs.declared.fault.FaultKind.TheVariants as faults

@@ -1,6 +1,7 @@
 -- What is printed is bytes.
-use Rattle.std.proofs.Common.{◌≡◌, ◌<◌, ◌≤◌, ◌==◌, ◌&&◌, ◌^◌, ℕ, ℤ, pos, negsuc, zero, suc, ◌+◌, ◌-◌, ◌*◌, ◌/◌, ◌%◌, Bool, true, false, cond, nat_lt, Some, None, codes}
-use Rattle.std.proofs.Common.{List, [], ◌∷◌, ◌++◌, length, take, drop, replicate, refl, arith, Option, rules}
+use Rattle.std.proofs.Common.{◌≡◌, ◌<◌, ◌≤◌, ◌==◌, ◌&&◌, ◌^◌, ℕ, ℤ, pos, negsuc, zero, suc, ◌+◌, ◌-◌, ◌*◌, ◌/◌, ◌%◌, Bool, true, false}
+use Rattle.std.proofs.Common.{cond, nat_lt, Some, None, codes, List, [], ◌∷◌, ◌++◌, length, take, drop, replicate, refl, arith, Option}
+use Rattle.std.proofs.Common.{rules}
 use Rattle.std.proofs.lemmas.Bool.{agree_below_at, and_parts, ltb-true}
 use Rattle.std.proofs.lemmas.Fmt.{decimal_by_steps}
 use Rattle.std.proofs.Common.{FitsSigned, IfSome}
@@ -13,8 +14,8 @@ use Rattle.fork_format.specs.Content.{Ref, IsRef}
 use Rattle.rez_text.specs.declared.lettering.Lettering.{Lettering}
 use Rattle.rez_text.specs.declared.lettering.Lettering.TheVariants.{Plain, Roman}
 use Rattle.rez_text.specs.Bytes.{AreBytes, HasBytes}
-use Rattle.rez_text.specs.Printing.{byte_hex, gap, grouped, shown, margin, hex_column, text_column, data_line, data_lines, line_count, escaped}
-use Rattle.rez_text.specs.Printing.{in_quotes, name_argument, attributes_argument, type_literal, statement_head, statement}
+use Rattle.rez_text.specs.Printing.{byte_hex, gap, grouped, shown, margin, hex_column, text_column, data_line, data_lines, line_count}
+use Rattle.rez_text.specs.Printing.{escaped, in_quotes, name_argument, attributes_argument, type_literal, statement_head, statement}
 use Rattle.rez_text.specs.Printing.{attributes_comment, attributes_remark, area_lines, area_comment, area_remark}
 use Rattle.rez_text.proofs.Lines.{bytes_take, bytes_drop}
 use Rattle.rez_text.proofs.Quotes.{kind_bytes}

@@ -1,7 +1,7 @@
 -- The comments before the statements: what is printed is read again.
-use Rattle.std.proofs.Common.{◌≡◌, ◌<◌, ◌≤◌, ◌==◌, ◌&&◌, ℕ, zero, suc, ◌+◌, ◌*◌, ◌/◌, ◌%◌, Bool, true, false, cond, nat_lt, nat_le, Ok, Some, None}
-use Rattle.std.proofs.Common.{codes, List, [], ◌∷◌, ◌++◌, length, take, drop, replicate, refl, ap, ◌∙◌, sym, arith, append_assoc, append-nil}
-use Rattle.std.proofs.Common.{le-leb, eq-eqb, eqb-true}
+use Rattle.std.proofs.Common.{◌≡◌, ◌<◌, ◌≤◌, ◌==◌, ◌&&◌, ℕ, zero, suc, ◌+◌, ◌*◌, ◌/◌, ◌%◌, Bool, true, false, cond, nat_lt, nat_le, Ok}
+use Rattle.std.proofs.Common.{Some, None, codes, List, [], ◌∷◌, ◌++◌, length, take, drop, replicate, refl, ap, ◌∙◌, sym, arith}
+use Rattle.std.proofs.Common.{append_assoc, append-nil, le-leb, eq-eqb, eqb-true}
 use Rattle.std.proofs.Math.Seq.{take-add}
 use Rattle.std.proofs.lemmas.Bool.{and_right, and_parts}
 use Rattle.std.specs.List.{list_all}
@@ -244,7 +244,8 @@ all_zero (b ∷ area) h =
     ap (λ n. n ∷ area) (eqb-true b 0 parts.0) ∙ ap (λ l. 0 ∷ l) (all_zero area parts.1)
 
 pub area_remark_run : (area : List ℕ) (attrs : ℕ) (groups : List Group) (types : List Declared) (files : Files) → AreBytes area
-    → length area ≡ 240 → run (Ok (outside (replicate 240 0) attrs groups types files)) (area_remark area) ≡ Ok (outside area attrs groups types files)
+    → length area ≡ 240
+    → run (Ok (outside (replicate 240 0) attrs groups types files)) (area_remark area) ≡ Ok (outside area attrs groups types files)
 area_remark_run area attrs groups types files small count =
     let c = saying (replicate 240 0) attrs groups types files in
     let text = codes "/* header bytes" ++ area_lines (line_count area) area ++ codes "\n*/\n" in

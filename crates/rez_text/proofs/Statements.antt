@@ -68,8 +68,8 @@ headed r = record { id = r.id; name = r.name; attrs = r.attrs; datum = [] }
 -- what stands between the word of a statement and its closing parenthesis
 pub arguments_run : (lettering : Lettering) (w : List ℕ) (s : State) (kind : ℕ) (r : Ref) (c : Said)
     → run (Ok s) w ≡ Ok (at mode.Between place.Type [] 0 no_ref c) → kind < 2 ^ 32 → IsRef r → HasBytes r
-    → Argues s (w ++ type_literal kind ++ codes " (" ++ signed_decimal r.id ++ name_argument lettering r.name ++ attributes_argument r.attrs)
-    kind (headed r) c
+    → Argues s (w ++ type_literal kind ++ codes " (" ++ signed_decimal r.id ++ name_argument lettering r.name
+    ++ attributes_argument r.attrs) kind (headed r) c
 arguments_run lettering w s kind r c begun small limits bytes =
     let s1 = at mode.Between place.Type [] 0 no_ref c in
     let s2 = at mode.Between place.Parenthesis [] kind no_ref c in
@@ -104,9 +104,8 @@ head_run lettering kind r c small limits bytes =
     let t = at mode.Between place.Brace [] kind (headed r) (in_data c) in
     let head = arguments_run lettering (codes "data ") s kind r (in_data c) (statement_opens c) small limits bytes in
     after s head.0 _
-    (codes "data " ++ type_literal kind ++ codes " (" ++ signed_decimal r.id ++ name_argument lettering r.name ++ attributes_argument r.attrs)
-    (codes ") {\n") head.1
-    (after head.0 t _ (41 ∷ []) (32 ∷ 123 ∷ 10 ∷ []) head.2.close (brace_run kind (headed r) c))
+    (codes "data " ++ type_literal kind ++ codes " (" ++ signed_decimal r.id ++ name_argument lettering r.name ++ attributes_argument
+    r.attrs) (codes ") {\n") head.1 (after head.0 t _ (41 ∷ []) (32 ∷ 123 ∷ 10 ∷ []) head.2.close (brace_run kind (headed r) c))
 
 -- a whole statement
 pub statement_run : (lettering : Lettering) (kind : ℕ) (r : Ref) (area : List ℕ) (attrs : ℕ) (groups : List Group)

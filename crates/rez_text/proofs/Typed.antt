@@ -57,7 +57,8 @@ unfolding step between mark
 resource_closes k d area attrs groups types files = refl
 
 -- a whole statement `resource`, of which the text between the braces states the bytes of the resource
-pub resource_run : (lettering : Lettering) (kind : ℕ) (r : Ref) (text area : List ℕ) (attrs : ℕ) (groups : List Group) (types : List Declared) (files : Files)
+pub resource_run : (lettering : Lettering) (kind : ℕ) (r : Ref) (text area : List ℕ) (attrs : ℕ) (groups : List Group)
+    (types : List Declared) (files : Files)
     → kind < 2 ^ 32 → IsRef r → HasBytes r → keeps 125 1 inside text ≡ true → datum_stated kind text types ≡ Ok r.datum
     → run (Ok (outside area attrs groups types files))
     (codes "resource " ++ type_literal kind ++ codes " (" ++ signed_decimal r.id ++ name_argument lettering r.name

@@ -1,5 +1,6 @@
 -- Worked sources, on the definitions alone.
-use Rattle.std.proofs.Common.{◌≡◌, ℕ, ℤ, true, false, pos, negsuc, Option, Some, None, Ok, Err, List, [], ◌∷◌, ◌++◌, replicate, codes, refl, ap}
+use Rattle.std.proofs.Common.{◌≡◌, ℕ, ℤ, true, false, pos, negsuc, Option, Some, None, Ok, Err, List, [], ◌∷◌, ◌++◌, replicate, codes, refl}
+use Rattle.std.proofs.Common.{ap}
 use Rattle.std.specs.Fmt.{digits}
 use Rattle.mac_roman.specs.declared.charset.Charset.TheVariants.{Ascii, Utf8}
 use Rattle.fork_format.specs.Content.{Ref, Group, Content}
@@ -10,9 +11,10 @@ use Rattle.rez_text.specs.Scopes.{inside, outside, keeps, ends_last, scope_step}
 use Rattle.rez_text.specs.declared.fault.Unread.TheVariants as unread
 use Rattle.rez_text.specs.Tokens.{word, type_token, number, string, datum, type_statement, resource_body, mark}
 use Rattle.rez_text.specs.Remarks.{bytes_after, remarked, comment}
-use Rattle.rez_text.specs.Lexing.{step, between, slash, in_comment, star, line_comment, declaring, body, in_word, after_zero, prefixed, in_number}
-use Rattle.rez_text.specs.Lexing.{dollar, hex_string, hex_half, quoted, escape, escape_zero, escape_number}
-use Rattle.rez_text.specs.Reading.{Wrong, Lacking, finish, read, read_roman, read_declarations, read_roman_declarations, stated, read_from, at_line}
+use Rattle.rez_text.specs.Lexing.{step, between, slash, in_comment, star, line_comment, declaring, body, in_word, after_zero, prefixed}
+use Rattle.rez_text.specs.Lexing.{in_number, dollar, hex_string, hex_half, quoted, escape, escape_zero, escape_number}
+use Rattle.rez_text.specs.Reading.{Wrong, Lacking, finish, read, read_roman, read_declarations, read_roman_declarations, stated, read_from}
+use Rattle.rez_text.specs.Reading.{at_line}
 use Rattle.rez_text.specs.Coding.{as_roman, is_coded}
 use Rattle.rez_text.specs.declared.lettering.Lettering.TheVariants.{Roman}
 use Rattle.rez_text.specs.Printing.{type_literal, statement_head, statement, source_of}
@@ -40,7 +42,8 @@ greeting : source_of Ascii (of_groups (record {
   kind = str;
   refs = a_ref (pos 128) (Some (codes "Greeting")) 32 (codes "Hi there, this is") ∷ [];
 } ∷ []))
-    ≡ codes "data 'STR ' (128, \"Greeting\", purgeable) {\n\t$\"4869 2074 6865 7265 2C20 7468 6973 2069\"            /* Hi there, this i */\n\t$\"73\"                                                 /* s */\n};\n\n"
+    ≡ codes
+    "data 'STR ' (128, \"Greeting\", purgeable) {\n\t$\"4869 2074 6865 7265 2C20 7468 6973 2069\"            /* Hi there, this i */\n\t$\"73\"                                                 /* s */\n};\n\n"
 unfolding source_of statement_head type_literal digits lib.Utf8.encode
 greeting = refl
 
@@ -51,7 +54,8 @@ escapes : source_of Utf8 (of_groups (record {
       a_ref (negsuc 32767) (Some (codes "q\"\\" ++ 13 ∷ [])) 129 [] ∷
       a_ref (pos 0) (Some []) 92 (42 ∷ 47 ∷ []) ∷ [];
 } ∷ []))
-    ≡ codes "data 'A\\'B\\0x80' (-32768, \"q\\\"\\\\\\0x0D\", $81) {\n};\n\ndata 'A\\'B\\0x80' (0, \"\", sysheap, locked, protected, preload) {\n\t$\"2A2F\"                                               /* ./ */\n};\n\n"
+    ≡ codes
+    "data 'A\\'B\\0x80' (-32768, \"q\\\"\\\\\\0x0D\", $81) {\n};\n\ndata 'A\\'B\\0x80' (0, \"\", sysheap, locked, protected, preload) {\n\t$\"2A2F\"                                               /* ./ */\n};\n\n"
 unfolding source_of statement_head type_literal digits lib.Utf8.encode
 escapes = refl
 
@@ -66,12 +70,14 @@ in_utf8 = (refl, refl)
 
 -- the attributes of the map, and a first byte after the header
 remarks : source_of Ascii (record { area = 255 ∷ replicate 239 0; attrs = 128; groups = [] })
-    ≡ codes "/* map attributes $0080 */\n/* header bytes\n\tFF00 0000 0000 0000 0000 0000 0000 0000\n\t0000 0000 0000 0000 0000 0000 0000 0000\n\t0000 0000 0000 0000 0000 0000 0000 0000\n\t0000 0000 0000 0000 0000 0000 0000 0000\n\t0000 0000 0000 0000 0000 0000 0000 0000\n\t0000 0000 0000 0000 0000 0000 0000 0000\n\t0000 0000 0000 0000 0000 0000 0000 0000\n\t0000 0000 0000 0000 0000 0000 0000 0000\n\t0000 0000 0000 0000 0000 0000 0000 0000\n\t0000 0000 0000 0000 0000 0000 0000 0000\n\t0000 0000 0000 0000 0000 0000 0000 0000\n\t0000 0000 0000 0000 0000 0000 0000 0000\n\t0000 0000 0000 0000 0000 0000 0000 0000\n\t0000 0000 0000 0000 0000 0000 0000 0000\n\t0000 0000 0000 0000 0000 0000 0000 0000\n*/\n"
+    ≡ codes
+    "/* map attributes $0080 */\n/* header bytes\n\tFF00 0000 0000 0000 0000 0000 0000 0000\n\t0000 0000 0000 0000 0000 0000 0000 0000\n\t0000 0000 0000 0000 0000 0000 0000 0000\n\t0000 0000 0000 0000 0000 0000 0000 0000\n\t0000 0000 0000 0000 0000 0000 0000 0000\n\t0000 0000 0000 0000 0000 0000 0000 0000\n\t0000 0000 0000 0000 0000 0000 0000 0000\n\t0000 0000 0000 0000 0000 0000 0000 0000\n\t0000 0000 0000 0000 0000 0000 0000 0000\n\t0000 0000 0000 0000 0000 0000 0000 0000\n\t0000 0000 0000 0000 0000 0000 0000 0000\n\t0000 0000 0000 0000 0000 0000 0000 0000\n\t0000 0000 0000 0000 0000 0000 0000 0000\n\t0000 0000 0000 0000 0000 0000 0000 0000\n\t0000 0000 0000 0000 0000 0000 0000 0000\n*/\n"
 unfolding source_of
 remarks = refl
 
 -- a source as a person writes it: comments, ends of lines, words in another order, digits apart, two types by turns
-written : read [] [] (codes "// by hand\r\ndata 'STR ' ($80, \"a\", preload, purgeable) /* here */ {\r$\"01 2\n3\" $\"45\"};\ndata 'TEXT'(16,$C1){};data 'STR '(-1){};")
+written : read [] [] (codes
+    "// by hand\r\ndata 'STR ' ($80, \"a\", preload, purgeable) /* here */ {\r$\"01 2\n3\" $\"45\"};\ndata 'TEXT'(16,$C1){};data 'STR '(-1){};")
     ≡ Ok (of_groups (
     record {
       kind = str;
@@ -80,8 +86,8 @@ written : read [] [] (codes "// by hand\r\ndata 'STR ' ($80, \"a\", preload, pur
     } ∷
     record { kind = 0x54455854; refs = a_ref (pos 16) None 193 [] ∷ [] } ∷ []
     ))
-unfolding read read_roman read_declarations read_roman_declarations as_roman is_coded finish step between slash in_comment star line_comment declaring body in_word
-    after_zero prefixed in_number dollar hex_string hex_half quoted escape escape_zero escape_number word type_token
+unfolding read read_roman read_declarations read_roman_declarations as_roman is_coded finish step between slash in_comment star line_comment
+    declaring body in_word after_zero prefixed in_number dollar hex_string hex_half quoted escape escape_zero escape_number word type_token
     number string datum type_statement resource_body mark comment remarked bytes_after
 written = refl
 
@@ -92,8 +98,8 @@ words : (read [] [] (codes "DATA 'STR ' (1, APPHEAP, Purgeable, nonPreload) {};"
 } ∷ [])))
     × (read [] [] (codes "Data 'STR ' (1, locked, appheap, nonpurgeable, unlocked, unprotected, nonpreload, unchanged) {};")
     ≡ Ok (of_groups (record { kind = str; refs = a_ref (pos 1) None 16 [] ∷ [] } ∷ [])))
-unfolding read read_roman read_declarations read_roman_declarations as_roman is_coded finish step between slash in_comment star line_comment declaring body in_word
-    after_zero prefixed in_number dollar hex_string hex_half quoted escape escape_zero escape_number word type_token
+unfolding read read_roman read_declarations read_roman_declarations as_roman is_coded finish step between slash in_comment star line_comment
+    declaring body in_word after_zero prefixed in_number dollar hex_string hex_half quoted escape escape_zero escape_number word type_token
     number string datum type_statement resource_body mark comment remarked bytes_after
 words = (refl, refl)
 
@@ -109,8 +115,8 @@ numbers : (read [] [] (codes "data 'STR ' (0x7f, 0b100100) {};") ≡ Ok (of_grou
           a_ref (pos 0) None 1 [] ∷
           a_ref (pos 10) None 4 [] ∷ [];
     } ∷ [])))
-unfolding read read_roman read_declarations read_roman_declarations as_roman is_coded finish step between slash in_comment star line_comment declaring body in_word
-    after_zero prefixed in_number dollar hex_string hex_half quoted escape escape_zero escape_number word type_token
+unfolding read read_roman read_declarations read_roman_declarations as_roman is_coded finish step between slash in_comment star line_comment
+    declaring body in_word after_zero prefixed in_number dollar hex_string hex_half quoted escape escape_zero escape_number word type_token
     number string datum type_statement resource_body mark comment remarked bytes_after
 numbers = (refl, refl)
 
@@ -119,21 +125,22 @@ strings : read [] [] (codes "data 'STR ' (128) { \"\\0x05\" \"Hello\"$\"0d\" \"\
   kind = str;
   refs = a_ref (pos 128) None 0 (5 ∷ codes "Hello" ++ 13 ∷ []) ∷ [];
 } ∷ []))
-unfolding read read_roman read_declarations read_roman_declarations as_roman is_coded finish step between slash in_comment star line_comment declaring body in_word
-    after_zero prefixed in_number dollar hex_string hex_half quoted escape escape_zero escape_number word type_token
+unfolding read read_roman read_declarations read_roman_declarations as_roman is_coded finish step between slash in_comment star line_comment
+    declaring body in_word after_zero prefixed in_number dollar hex_string hex_half quoted escape escape_zero escape_number word type_token
     number string datum type_statement resource_body mark comment remarked bytes_after
 strings = refl
 
 -- each escape, in a name, and in a type
-all_escapes : read [] [] (codes "data '\\n\\'\\0x80\\?' (1, \"\\n\\r\\t\\b\\f\\v\\?\\\"\\'\\\\\\0xFE\\0X0b\\$1c\\0b00001101\\0d255\\017\\377\") {};")
+all_escapes : read [] []
+    (codes "data '\\n\\'\\0x80\\?' (1, \"\\n\\r\\t\\b\\f\\v\\?\\\"\\'\\\\\\0xFE\\0X0b\\$1c\\0b00001101\\0d255\\017\\377\") {};")
     ≡ Ok (of_groups (record {
       kind = 0x0D27807F;
       refs =
           a_ref (pos 1)
           (Some (13 ∷ 10 ∷ 9 ∷ 8 ∷ 12 ∷ 11 ∷ 127 ∷ 34 ∷ 39 ∷ 92 ∷ 254 ∷ 11 ∷ 28 ∷ 13 ∷ 255 ∷ 15 ∷ 255 ∷ [])) 0 [] ∷ [];
     } ∷ []))
-unfolding read read_roman read_declarations read_roman_declarations as_roman is_coded finish step between slash in_comment star line_comment declaring body in_word
-    after_zero prefixed in_number dollar hex_string hex_half quoted escape escape_zero escape_number word type_token
+unfolding read read_roman read_declarations read_roman_declarations as_roman is_coded finish step between slash in_comment star line_comment
+    declaring body in_word after_zero prefixed in_number dollar hex_string hex_half quoted escape escape_zero escape_number word type_token
     number string datum type_statement resource_body mark comment remarked bytes_after
 all_escapes = refl
 
@@ -141,8 +148,8 @@ all_escapes = refl
 attributes : (read [] [] (codes "/* map attributes $0080 */") ≡ Ok (record { area = replicate 240 0; attrs = 128; groups = [] }))
     × (read [] [] (codes "/*map attributes $00 80*/") ≡ Ok (record { area = replicate 240 0; attrs = 128; groups = [] }))
     × (read [] [] (codes "/* attributes $0080 */") ≡ Ok (of_groups []))
-unfolding read read_roman read_declarations read_roman_declarations as_roman is_coded finish step between slash in_comment star line_comment declaring body in_word
-    after_zero prefixed in_number dollar hex_string hex_half quoted escape escape_zero escape_number word type_token
+unfolding read read_roman read_declarations read_roman_declarations as_roman is_coded finish step between slash in_comment star line_comment
+    declaring body in_word after_zero prefixed in_number dollar hex_string hex_half quoted escape escape_zero escape_number word type_token
     number string datum type_statement resource_body mark comment remarked bytes_after
 attributes = (refl, refl, refl)
 
@@ -152,8 +159,8 @@ cleared : (read [] [] (codes "data 'STR ' (1, 2) {};") ≡ Ok (of_groups (record
   refs = a_ref (pos 1) None 0 [] ∷ [];
 } ∷ [])))
     × (read [] [] (codes "/* map attributes $00E0 */") ≡ Ok (record { area = replicate 240 0; attrs = 128; groups = [] }))
-unfolding read read_roman read_declarations read_roman_declarations as_roman is_coded finish step between slash in_comment star line_comment declaring body in_word
-    after_zero prefixed in_number dollar hex_string hex_half quoted escape escape_zero escape_number word type_token
+unfolding read read_roman read_declarations read_roman_declarations as_roman is_coded finish step between slash in_comment star line_comment
+    declaring body in_word after_zero prefixed in_number dollar hex_string hex_half quoted escape escape_zero escape_number word type_token
     number string datum type_statement resource_body mark comment remarked bytes_after
 cleared = (refl, refl)
 
@@ -165,8 +172,8 @@ remarks_refused : (read [] [] (codes "\n/* map attributes 0080 */") ≡ Err (Wro
       kind = str;
       refs = a_ref (pos 1) None 0 [] ∷ [];
     } ∷ [])))
-unfolding read read_roman read_declarations read_roman_declarations as_roman is_coded finish step between slash in_comment star line_comment declaring body in_word
-    after_zero prefixed in_number dollar hex_string hex_half quoted escape escape_zero escape_number word type_token
+unfolding read read_roman read_declarations read_roman_declarations as_roman is_coded finish step between slash in_comment star line_comment
+    declaring body in_word after_zero prefixed in_number dollar hex_string hex_half quoted escape escape_zero escape_number word type_token
     number string datum type_statement resource_body mark comment remarked bytes_after
 remarks_refused = (refl, refl, refl, refl)
 
@@ -186,8 +193,8 @@ statements_refused : (read [] [] (codes "data 'STR ' (1) {};\r\nresources") ≡ 
     × (read [] [] (codes "data 'STR ' (1);") ≡ Err (Wrong 1 faults.BraceNeeded))
     × (read [] [] (codes "data 'STR ' (1) {\n1") ≡ Err (Wrong 2 faults.DataNeeded))
     × (read [] [] (codes "data 'STR ' (1) {}\n") ≡ Err (Wrong 1 faults.SemicolonNeeded))
-unfolding read read_roman read_declarations read_roman_declarations as_roman is_coded finish step between slash in_comment star line_comment declaring body in_word
-    after_zero prefixed in_number dollar hex_string hex_half quoted escape escape_zero escape_number word type_token
+unfolding read read_roman read_declarations read_roman_declarations as_roman is_coded finish step between slash in_comment star line_comment
+    declaring body in_word after_zero prefixed in_number dollar hex_string hex_half quoted escape escape_zero escape_number word type_token
     number string datum type_statement resource_body mark comment remarked bytes_after
 statements_refused = (refl, refl, refl, refl, refl, refl, refl, refl, refl, refl, refl, refl, refl, refl, refl)
 
@@ -205,8 +212,8 @@ tokens_refused : (read [] [] (codes "data 'STR ' (4294967296") ≡ Err (Wrong 1 
     × (read [] [] (codes "data 'STR ' (1) {\n\"\\400\"") ≡ Err (Wrong 2 faults.EscapeOutOfRange))
     × (read [] [] (codes "data 'ST\\0d256") ≡ Err (Wrong 1 faults.EscapeOutOfRange))
     × (read [] [] (codes "\n/* a\n\n") ≡ Err (Wrong 2 faults.OpenComment))
-unfolding read read_roman read_declarations read_roman_declarations as_roman is_coded finish step between slash in_comment star line_comment declaring body in_word
-    after_zero prefixed in_number dollar hex_string hex_half quoted escape escape_zero escape_number word type_token
+unfolding read read_roman read_declarations read_roman_declarations as_roman is_coded finish step between slash in_comment star line_comment
+    declaring body in_word after_zero prefixed in_number dollar hex_string hex_half quoted escape escape_zero escape_number word type_token
     number string datum type_statement resource_body mark comment remarked bytes_after
 tokens_refused = (refl, refl, refl, refl, refl, refl, refl, refl, refl, refl, refl, refl, refl, refl)
 
@@ -224,23 +231,23 @@ unread_refused : (read [] [] (codes "change 'STR '") ≡ Err (Wrong 1 (faults.No
     × (read [] [] (codes "\n#include \"Types.r\"") ≡ Err (Wrong 2 (faults.NotRead unread.IncludeText)))
     × (read [] [] (codes "#undef A") ≡ Err (Wrong 1 (faults.NotRead unread.Undefine)))
     × (read [] [] (codes "#pragma") ≡ Err (Wrong 1 faults.NotAStatement))
-unfolding read read_roman read_declarations read_roman_declarations as_roman is_coded finish step between slash in_comment star line_comment declaring body in_word
-    after_zero prefixed in_number dollar hex_string hex_half quoted escape escape_zero escape_number word type_token
+unfolding read read_roman read_declarations read_roman_declarations as_roman is_coded finish step between slash in_comment star line_comment
+    declaring body in_word after_zero prefixed in_number dollar hex_string hex_half quoted escape escape_zero escape_number word type_token
     number string datum type_statement resource_body mark comment remarked bytes_after
 unread_refused = (refl, refl, refl, refl, refl, refl, refl, refl, refl, refl, refl, refl, refl)
 
 -- a name of 256 bytes
 long_name : read [] [] (codes "data 'STR ' (1, \"" ++ replicate 256 97 ++ codes "\")") ≡ Err (Wrong 1 faults.LongName)
-unfolding read read_roman read_declarations read_roman_declarations as_roman is_coded finish step between slash in_comment star line_comment declaring body in_word
-    after_zero prefixed in_number dollar hex_string hex_half quoted escape escape_zero escape_number word type_token
+unfolding read read_roman read_declarations read_roman_declarations as_roman is_coded finish step between slash in_comment star line_comment
+    declaring body in_word after_zero prefixed in_number dollar hex_string hex_half quoted escape escape_zero escape_number word type_token
     number string datum type_statement resource_body mark comment remarked bytes_after
 long_name = refl
 
 -- Statements `read`, and the files whose bytes they take.
 
 -- two statements that take a file each, between them one that takes none; fewer files than are named; more than are named
-files_taken : (read [] ((1 ∷ 2 ∷ []) ∷ (3 ∷ []) ∷ []) (codes "read 'STR ' (1, \"a\", locked) \"one\";\ndata 'STR ' (2) {};\nREAD 'STR ' (3) /* here */ \"t\\'o\" ;")
-    ≡ Ok (of_groups (record {
+files_taken : (read [] ((1 ∷ 2 ∷ []) ∷ (3 ∷ []) ∷ [])
+    (codes "read 'STR ' (1, \"a\", locked) \"one\";\ndata 'STR ' (2) {};\nREAD 'STR ' (3) /* here */ \"t\\'o\" ;") ≡ Ok (of_groups (record {
       kind = str;
       refs =
           a_ref (pos 1) (Some (codes "a")) 16 (1 ∷ 2 ∷ []) ∷
@@ -251,8 +258,8 @@ files_taken : (read [] ((1 ∷ 2 ∷ []) ∷ (3 ∷ []) ∷ []) (codes "read 'ST
     × (read [] ((1 ∷ []) ∷ []) (codes "read 'STR ' (1) \"one\"; read 'STR ' (3) \"two\";") ≡ Err (Lacking (codes "two" ∷ [])))
     × (read [] ((1 ∷ []) ∷ []) (codes "data 'STR ' (1) {};")
     ≡ Ok (of_groups (record { kind = str; refs = a_ref (pos 1) None 0 [] ∷ [] } ∷ [])))
-unfolding read read_roman read_declarations read_roman_declarations as_roman is_coded finish step between slash in_comment star line_comment declaring body in_word
-    after_zero prefixed in_number dollar hex_string hex_half quoted escape escape_zero escape_number word type_token
+unfolding read read_roman read_declarations read_roman_declarations as_roman is_coded finish step between slash in_comment star line_comment
+    declaring body in_word after_zero prefixed in_number dollar hex_string hex_half quoted escape escape_zero escape_number word type_token
     number string datum type_statement resource_body mark comment remarked bytes_after
 files_taken = (refl, refl, refl, refl)
 
@@ -263,8 +270,8 @@ files_refused : (read [] [] (codes "read 'STR ' (1) {};") ≡ Err (Wrong 1 fault
     × (read [] [] (codes "data 'STR ' (1) \"one\"") ≡ Err (Wrong 1 faults.BraceNeeded))
     × (read [] [] (codes "read 'STR ' (1) \"one\" \"two\"") ≡ Err (Wrong 1 faults.SemicolonNeeded))
     × (read [] [] (codes "read 'STR ' (1) \"one\";\nchange") ≡ Err (Wrong 2 (faults.NotRead unread.Change)))
-unfolding read read_roman read_declarations read_roman_declarations as_roman is_coded finish step between slash in_comment star line_comment declaring body in_word
-    after_zero prefixed in_number dollar hex_string hex_half quoted escape escape_zero escape_number word type_token
+unfolding read read_roman read_declarations read_roman_declarations as_roman is_coded finish step between slash in_comment star line_comment
+    declaring body in_word after_zero prefixed in_number dollar hex_string hex_half quoted escape escape_zero escape_number word type_token
     number string datum type_statement resource_body mark comment remarked bytes_after
 files_refused = (refl, refl, refl, refl, refl, refl)
 
@@ -273,14 +280,15 @@ files_refused = (refl, refl, refl, refl, refl, refl)
 -- without a comment of the coding, and without a byte order mark, a name has its bytes as they are
 uncoded : read [] [] (codes "data 'STR ' (1, \"" ++ (0xE2 ∷ 0x80 ∷ 0xA2 ∷ []) ++ codes "\") {};")
     ≡ Ok (of_groups (record { kind = str; refs = a_ref (pos 1) (Some (0xE2 ∷ 0x80 ∷ 0xA2 ∷ [])) 0 [] ∷ [] } ∷ []))
-unfolding read read_roman read_declarations read_roman_declarations as_roman is_coded finish step between slash in_comment star line_comment declaring body in_word
-    after_zero prefixed in_number dollar hex_string hex_half quoted escape escape_zero escape_number word type_token
+unfolding read read_roman read_declarations read_roman_declarations as_roman is_coded finish step between slash in_comment star line_comment
+    declaring body in_word after_zero prefixed in_number dollar hex_string hex_half quoted escape escape_zero escape_number word type_token
     number string datum type_statement resource_body mark comment remarked bytes_after
 uncoded = refl
 
 -- bytes from 0x80 on as they are, in a name and beside data
 in_roman : statement Roman str (a_ref (pos 1) (Some (0xA5 ∷ 127 ∷ [])) 0 (42 ∷ 0xA5 ∷ 127 ∷ []))
-    ≡ codes "data 'STR ' (1, \"" ++ (0xA5 ∷ []) ++ codes "\\0x7F\") {\n\t$\"2AA5 7F\"" ++ replicate 44 32 ++ codes "/* ." ++ (0xA5 ∷ []) ++ codes ". */\n};\n\n"
+    ≡ codes "data 'STR ' (1, \"" ++ (0xA5 ∷ []) ++ codes "\\0x7F\") {\n\t$\"2AA5 7F\"" ++ replicate 44 32 ++ codes "/* ." ++ (0xA5 ∷ [])
+    ++ codes ". */\n};\n\n"
 unfolding statement_head type_literal digits
 in_roman = refl
 
@@ -310,16 +318,16 @@ statements_unended : (read [] [] (codes "\ntype 'STR ' {\n;\n") ≡ Err (Wrong 2
     × (read_declarations [] (codes "#include \"a\"") ≡ Err (1, faults.NotRead unread.IncludeText))
     × (read_declarations [] (codes "types") ≡ Err (1, faults.NotAStatement))
     × (read_declarations [] (codes "/* map attributes */") ≡ Ok [])
-unfolding read read_roman read_declarations read_roman_declarations as_roman is_coded finish step between slash in_comment star line_comment declaring body in_word
-    after_zero prefixed in_number dollar hex_string hex_half quoted escape escape_zero escape_number word type_token
+unfolding read read_roman read_declarations read_roman_declarations as_roman is_coded finish step between slash in_comment star line_comment
+    declaring body in_word after_zero prefixed in_number dollar hex_string hex_half quoted escape escape_zero escape_number word type_token
     number string datum type_statement resource_body mark comment remarked bytes_after scope_step
 statements_unended = (refl, refl, refl, refl, refl, refl, refl, refl, refl, refl)
 
 -- a fault in the text of a statement has its line there
 within_text : (types : List Declared) (fault : StatementFault) → with_type (codes "type 'B'\n;") types ≡ Err (2, fault)
     → read types [] (codes "\ntype 'B'\n;") ≡ Err (Wrong 3 (faults.Within 2 fault))
-unfolding read read_roman read_declarations read_roman_declarations as_roman is_coded finish step between slash in_comment star line_comment declaring body in_word
-    after_zero prefixed in_number dollar hex_string hex_half quoted escape escape_zero escape_number word type_token
+unfolding read read_roman read_declarations read_roman_declarations as_roman is_coded finish step between slash in_comment star line_comment
+    declaring body in_word after_zero prefixed in_number dollar hex_string hex_half quoted escape escape_zero escape_number word type_token
     number string datum type_statement resource_body mark comment remarked bytes_after scope_step
 within_text types fault e =
     let at : Lines = record { line = 3; last = 59; begun = 2 } in

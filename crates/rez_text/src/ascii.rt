@@ -1,9 +1,11 @@
 //! Bytes and digits.
 
 ghost use Rattle.std.specs.Prelude.{◌≡◌};
-ghost use Rattle.rez_text.specs.Remarks.{is_blank as is_blank_of, hex_value as hex_value_of, byte_of as byte_of_digits};
-ghost use Rattle.rez_text.specs.Ascii.{ends_line as ends_line_of, is_digit as is_digit_of, is_letter as is_letter_of};
-ghost use Rattle.rez_text.specs.Ascii.{begins_word as begins_word_of, digit_in};
+ghost use Rattle.rez_text.specs.Remarks.{is_blank as is_blank_of, hex_value as hex_value_of};
+ghost use Rattle.rez_text.specs.Remarks.{byte_of as byte_of_digits};
+ghost use Rattle.rez_text.specs.Ascii.{ends_line as ends_line_of, is_digit as is_digit_of};
+ghost use Rattle.rez_text.specs.Ascii.{is_letter as is_letter_of, begins_word as begins_word_of};
+ghost use Rattle.rez_text.specs.Ascii.{digit_in};
 
 use crate::mode::Radix;
 

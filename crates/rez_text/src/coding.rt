@@ -2,8 +2,8 @@
 
 ghost use Rattle.std.specs.Prelude.{◌≡◌, ◌<◌, ◌≤◌, ◌+◌, ◌-◌, ◌^◌, Err, IfOk};
 ghost use Rattle.std.specs.Str.{chars};
-ghost use Rattle.rez_text.specs.Coding.{is_coded as is_coded_of, after_mark as after_mark_of, last_line, line_with, decoded as decoded_of};
-ghost use Rattle.rez_text.specs.Coding.{with_line};
+ghost use Rattle.rez_text.specs.Coding.{is_coded as is_coded_of, after_mark as after_mark_of};
+ghost use Rattle.rez_text.specs.Coding.{last_line, line_with, decoded as decoded_of, with_line};
 ghost use Rattle.mac_roman.specs.Roman.{to_roman as roman_of};
 ghost use Rattle.rez_text.specs.Ascii.{line_of as line_of_one};
 ghost use Rattle.rez_text.specs.Reading.{FailsAt, GivesAt};
@@ -18,7 +18,8 @@ use std::alloc::{AllocError, Global};
 /// The byte order mark of UTF-8.
 const ORDER_MARK: [u8; 3] = [0xef, 0xbb, 0xbf];
 
-/// Reports whether a text is in UTF-8: whether it begins with a byte order mark, or, after any blanks, with the comment that says so.
+/// Reports whether a text is in UTF-8: whether it begins with a byte order mark, or, after any
+/// blanks, with the comment that says so.
 #[tactic(auto, unfolding(crate::specs::Coding::is_coded))]
 pub(crate) fn is_coded(text: &[u8]) -> bool
     ensures { result ≡ is_coded_of text.now }
@@ -58,7 +59,8 @@ fn characters(alloc: Global, text: &str) -> Result<Vec<char>, AllocError>
     text.chars().collect(alloc)
 }
 
-/// Returns the number of the line on which a character stands, from that of the character before it.
+/// Returns the number of the line on which a character stands, from that of the character before
+/// it.
 fn line_of_character(line: usize, last: char, character: char) -> usize
     requires { line < 2 ^ 64 - 1 }
     ensures line { result ≡ line_of_one line last character }

@@ -8,7 +8,8 @@ use rez_statements::{StatementFault, TypesFault};
 use std::alloc::{AllocError, AllocFailed};
 use thiserror::Error;
 
-/// A statement of Rez, or a directive, that is not read. `Display` says so, and what there is in its place.
+/// A statement of Rez, or a directive, that is not read. `Display` says so, and what there is in
+/// its place.
 #[derive(Clone, Copy, Debug, PartialEq, Eq, Error)]
 pub enum Unread {
     /// Attributes, the name, the type or the ID of resources of the file are changed.
@@ -61,7 +62,8 @@ pub enum FaultKind {
     /// Among declarations of types stands `data`, `resource` or `read`.
     #[error("only declarations of types may stand here")]
     OnlyDeclarations,
-    /// In the text of a statement `type`, or between the braces of a statement `resource`, something is wrong.
+    /// In the text of a statement `type`, or between the braces of a statement `resource`,
+    /// something is wrong.
     #[error("{fault}")]
     Within {
         /// The number of the line in that text, from 1 on.
@@ -126,7 +128,8 @@ pub enum FaultKind {
     /// A hexadecimal string has an odd number of digits.
     #[error("an odd number of hexadecimal digits")]
     OddDigits,
-    /// A string, or a type, has no closing quote on its line; a hexadecimal string has none in the text.
+    /// A string, or a type, has no closing quote on its line; a hexadecimal string has none in the
+    /// text.
     #[error("a string does not end")]
     OpenString,
     /// After a `\` between quotes stands no escape.
@@ -138,10 +141,12 @@ pub enum FaultKind {
     /// A comment has no `*/`.
     #[error("a comment does not end")]
     OpenComment,
-    /// Between statements stands a comment that begins as the one of the map's attributes, and is not it.
+    /// Between statements stands a comment that begins as the one of the map's attributes, and is
+    /// not it.
     #[error("map attributes must be $ and four hexadecimal digits")]
     NotMapAttributes,
-    /// Between statements stands a comment that begins as the one of the bytes after the header, and is not it.
+    /// Between statements stands a comment that begins as the one of the bytes after the header,
+    /// and is not it.
     #[error("header bytes must be 480 hexadecimal digits")]
     NotHeaderBytes,
     /// A text that says that it is in UTF-8 is not.
@@ -156,9 +161,9 @@ pub enum FaultKind {
 #[derive(Clone, Copy, Debug, PartialEq, Eq, Error)]
 #[error("line {line}: {kind}")]
 pub struct TextFault {
-    /// The number of the line, from 1 on: the line of the byte at which the text can't go on, or of its last byte; of a
-    /// string, a comment or a statement that does not end, and of a comment that is wrong, the line on which it begins. CR,
-    /// LF, and CR with LF, each end a line.
+    /// The number of the line, from 1 on: the line of the byte at which the text can't go on, or of
+    /// its last byte; of a string, a comment or a statement that does not end, and of a comment
+    /// that is wrong, the line on which it begins. CR, LF, and CR with LF, each end a line.
     pub line: usize,
     /// What is wrong there.
     pub kind: FaultKind,
@@ -176,8 +181,8 @@ pub struct FileName {
 pub enum SourceFault {
     /// The text can't go on at a place.
     Text(TextFault),
-    /// Nothing is wrong in the text, but files are not given whose bytes its statements `read` take: their names, in the order of the
-    /// statements, each as often as it is named.
+    /// Nothing is wrong in the text, but files are not given whose bytes its statements `read`
+    /// take: their names, in the order of the statements, each as often as it is named.
     Files(Vec<FileName>),
     /// The host is out of memory. This fault says nothing about the text.
     HostMemory,

@@ -16,5 +16,6 @@ pub(crate) struct SourceGroups {
     pub list: Vec<SourceGroup>,
     /// The place of each type's group in the list.
     pub places: BTreeMap<u32, usize>,
-    ghost placed: { (kind : ℕ) → get nat_cmp places kind ≡ position (is_of kind) list.items } by { Prim.hlevel props },
+    ghost placed: { (kind : ℕ)
+        → get nat_cmp places kind ≡ position (is_of kind) list.items } by { Prim.hlevel props },
 }

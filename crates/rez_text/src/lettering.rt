@@ -22,7 +22,8 @@ fn is_printable(byte: u8) -> bool
 }
 
 impl Lettering {
-    /// Reports whether a byte stands as it is between quotes, where it is neither a quote nor a `\`.
+    /// Reports whether a byte stands as it is between quotes, where it is neither a quote nor a
+    /// `\`.
     pub(crate) fn stands(self, byte: u8) -> bool
         ensures { result ≡ stands self byte }
     {

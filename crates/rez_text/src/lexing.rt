@@ -2,7 +2,8 @@
 
 ghost use Rattle.std.specs.Prelude.{◌≡◌};
 ghost use Rattle.rez_text.specs.State.{state_of, Leads};
-ghost use Rattle.rez_text.specs.Lexing.{between, slash, in_comment, star, line_comment, declaring, body, after_word, in_word, step};
+ghost use Rattle.rez_text.specs.Lexing.{between, slash, in_comment, star, line_comment, declaring};
+ghost use Rattle.rez_text.specs.Lexing.{body, after_word, in_word, step};
 
 use crate::ascii::{begins_word, ends_line, is_blank, is_digit, is_letter};
 use crate::fault::StepFault;
@@ -118,7 +119,8 @@ impl Reader {
 
     /// Takes the byte after a word.
     fn after_word(&mut self, byte: u8) -> Result<(), StepFault>
-        ensures { Leads result (state_of self.new) (after_word self.old.mode byte (state_of self.old)) }
+        ensures { Leads result (state_of self.new)
+            (after_word self.old.mode byte (state_of self.old)) }
     {
         match self.mode {
             Mode::Declaring(scope) => self.declaring(scope, byte),

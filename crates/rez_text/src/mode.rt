@@ -88,7 +88,8 @@ pub(crate) enum Mode {
     Escape(Quote),
     /// There, after `\0`.
     EscapeZero(Quote),
-    /// There, in an escape by a number: how many digits are to come, and what those before them write.
+    /// There, in an escape by a number: how many digits are to come, and what those before them
+    /// write.
     EscapeNumber(Quote, Radix, u8, u8),
 }
 
@@ -104,7 +105,8 @@ pub(crate) enum Form {
 }
 
 impl Form {
-    /// Returns what is wrong where after the arguments something else stands than what states the data.
+    /// Returns what is wrong where after the arguments something else stands than what states the
+    /// data.
     fn data_needed(self) -> FaultKind
         ensures { result ≡ data_needed self }
     {

@@ -2,8 +2,8 @@
 
 ghost use Rattle.std.specs.Prelude.{◌≡◌};
 ghost use Rattle.rez_text.specs.State.{state_of, Leads};
-ghost use Rattle.rez_text.specs.Lexing.{number_ended, in_number, prefixed, after_zero, string_opened, dollar};
-ghost use Rattle.rez_text.specs.Lexing.{hex_string, hex_half};
+ghost use Rattle.rez_text.specs.Lexing.{number_ended, in_number, prefixed, after_zero};
+ghost use Rattle.rez_text.specs.Lexing.{string_opened, dollar, hex_string, hex_half};
 
 use crate::ascii::{byte_of, hex_value, is_blank};
 use crate::fault::{FaultKind, StepFault};
@@ -21,7 +21,8 @@ impl Reader {
 
     #[tactic(auto, unfolding(crate::specs::Lexing::in_number))]
     pub fn in_number(&mut self, radix: Radix, number: u32, byte: u8) -> Result<(), StepFault>
-        ensures { Leads result (state_of self.new) (in_number radix number byte (state_of self.old)) }
+        ensures { Leads result (state_of self.new)
+            (in_number radix number byte (state_of self.old)) }
     {
         let Some(digit) = radix.value(byte) else {
             return self.end_number(number, byte);
@@ -64,7 +65,8 @@ impl Reader {
 
     /// Opens a hexadecimal string.
     fn open_string(&mut self) -> Result<(), StepFault>
-        ensures { Leads result (state_of self.new) (string_opened self.old.place (state_of self.old)) }
+        ensures { Leads result (state_of self.new)
+            (string_opened self.old.place (state_of self.old)) }
     {
         match self.place {
             Place::Data => {

@@ -4,7 +4,8 @@ ghost use Rattle.std.specs.Prelude.{◌≡◌, IfOk, drop};
 ghost use Rattle.rez_statements.specs.View.{types_of};
 ghost use Rattle.rez_text.specs.State.{state_of, Leads};
 ghost use Rattle.rez_text.specs.View.{content_stated, files_of, names_of};
-ghost use Rattle.rez_text.specs.Reading.{finish as finished, first_line, read_from, unless_lacking, read_roman, read, GivesAt, Gives, Ends};
+ghost use Rattle.rez_text.specs.Reading.{finish as finished, first_line, read_from, unless_lacking};
+ghost use Rattle.rez_text.specs.Reading.{read_roman, read, GivesAt, Gives, Ends};
 ghost use Rattle.rez_text.specs.Reading.{read_roman_declarations, read_declarations};
 
 use crate::coding::{after_mark, decoded, is_coded};
@@ -122,14 +123,17 @@ fn read_roman_types(alloc: Global, types: Types, text: &[u8]) -> Result<Types, S
     }
 }
 
-/// Reads the source of a resource fork's content: statements `data`, as `write_source` prints them or as a person writes them, and
-/// statements `type`, `resource` and `read`. A statement `resource` states values of its type by the declaration that is in force: the
-/// last one in the source before it, else the last one of `types`. The n-th statement `read` takes the bytes of the n-th of `files`.
+/// Reads the source of a resource fork's content: statements `data`, as `write_source` prints them
+/// or as a person writes them, and statements `type`, `resource` and `read`. A statement `resource`
+/// states values of its type by the declaration that is in force: the last one in the source before
+/// it, else the last one of `types`. The n-th statement `read` takes the bytes of the n-th of
+/// `files`.
 ///
 /// # Errors
 ///
-/// Returns the line of the first place where the text can't go on, and what is wrong there; `Files` with the names of the files that are
-/// not given, where nothing else is wrong; `HostMemory` where the host is out of memory.
+/// Returns the line of the first place where the text can't go on, and what is wrong there; `Files`
+/// with the names of the files that are not given, where nothing else is wrong; `HostMemory` where
+/// the host is out of memory.
 #[tactic(auto, unfolding(crate::specs::Reading::read, crate::specs::Coding::as_roman))]
 pub fn read_source(
     alloc: Global,
@@ -148,12 +152,14 @@ pub fn read_source(
     }
 }
 
-/// Reads declarations of types: statements `type` and comments. Returns `types` with what they declare.
+/// Reads declarations of types: statements `type` and comments. Returns `types` with what they
+/// declare.
 ///
 /// # Errors
 ///
-/// Returns the line of the first place where the text can't go on, and what is wrong there, as `OnlyDeclarations` where a statement
-/// `data`, `resource` or `read` stands; `HostMemory` where the host is out of memory; never `Files`.
+/// Returns the line of the first place where the text can't go on, and what is wrong there, as
+/// `OnlyDeclarations` where a statement `data`, `resource` or `read` stands; `HostMemory` where the
+/// host is out of memory; never `Files`.
 #[tactic(auto, unfolding(crate::specs::Reading::read_declarations, crate::specs::Coding::as_roman))]
 pub fn read_types(alloc: Global, types: Types, text: &[u8]) -> Result<Types, SourceFault>
     ensures { GivesAt types_of result (read_declarations (types_of types) text.now) }

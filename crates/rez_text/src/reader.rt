@@ -1,6 +1,7 @@
 //! Reading a source byte by byte.
 
-ghost use Rattle.std.specs.Prelude.{◌≡◌, ◌==◌, [], length, Some, None, Ok, Err, OnOk, IfOk, map, slice_get, if◌then◌else◌};
+ghost use Rattle.std.specs.Prelude.{◌≡◌, ◌==◌, [], length, Some, None, Ok, Err, OnOk, IfOk, map};
+ghost use Rattle.std.specs.Prelude.{slice_get, if◌then◌else◌};
 ghost use Rattle.std.specs.List.{position};
 ghost use Rattle.byteorder.specs.Endian.{big_number};
 ghost use Rattle.rez_text.specs.declared.mode.Place.TheVariants as places;
@@ -10,9 +11,11 @@ ghost use Rattle.rez_text.specs.View.{ref_said, group_said, files_of, names_of};
 ghost use Rattle.rez_text.specs.Groups.{is_of};
 ghost use Rattle.rez_text.specs.State.{start, state_of, no_ref, Leads, with_ref};
 ghost use Rattle.rez_text.specs.State.{in_mode, gather as gathered, come_to as came_to};
-ghost use Rattle.rez_text.specs.Tokens.{refused, attribute, needed, with_attributes as attributed, statement_begun, word};
-ghost use Rattle.rez_text.specs.Tokens.{type_token, number as number_of, with_id as identified, attributes_in, named, with_data};
-ghost use Rattle.rez_text.specs.Tokens.{string, datum, mark, with_statement, form_begun, declaration_begun, type_statement, resource_body, opened};
+ghost use Rattle.rez_text.specs.Tokens.{refused, attribute, needed, with_attributes as attributed};
+ghost use Rattle.rez_text.specs.Tokens.{statement_begun, word, type_token, number as number_of};
+ghost use Rattle.rez_text.specs.Tokens.{with_id as identified, attributes_in, named, with_data};
+ghost use Rattle.rez_text.specs.Tokens.{string, datum, mark, with_statement, form_begun};
+ghost use Rattle.rez_text.specs.Tokens.{declaration_begun, type_statement, resource_body, opened};
 ghost use Rattle.rez_text.specs.Tokens.{bytes_given, with_file, file_named};
 
 use crate::fault::{FaultKind, FileName, StepFault};
@@ -87,7 +90,8 @@ impl SourceGroups {
     fn open(&mut self, alloc: Global, ty: OsType, resource: SourceRef) -> Result<(), AllocError>
         requires { position (is_of (big_number 4 ty.0)) self.old.list.items ≡ None }
         ensures { OnOk result (map group_said self.new.list.items
-            ≡ with_ref (big_number 4 ty.0) (ref_said resource) (map group_said self.old.list.items)) }
+            ≡ with_ref (big_number 4 ty.0) (ref_said resource)
+            (map group_said self.old.list.items)) }
     {
         let place = self.list.len();
         let mut refs = Vec::new(alloc);
@@ -105,7 +109,8 @@ impl SourceGroups {
     /// Adds a resource as the last one of its type.
     fn add(&mut self, alloc: Global, ty: OsType, resource: SourceRef) -> Result<(), AllocError>
         ensures { OnOk result (map group_said self.new.list.items
-            ≡ with_ref (big_number 4 ty.0) (ref_said resource) (map group_said self.old.list.items)) }
+            ≡ with_ref (big_number 4 ty.0) (ref_said resource)
+            (map group_said self.old.list.items)) }
     {
         match self.place_of(kind_of(ty)) {
             Some(place) => {
@@ -118,7 +123,8 @@ impl SourceGroups {
 }
 
 impl Reader {
-    /// Makes a reader before the first byte of a text, where types are declared and files are given.
+    /// Makes a reader before the first byte of a text, where types are declared and files are
+    /// given.
     pub fn new(alloc: Global, place: Place, types: Types, files: Vec<Vec<u8>>) -> Reader
         ensures { state_of result ≡ start place (types_of types) (files_of files.items) }
     {
@@ -183,7 +189,8 @@ impl Reader {
 
     /// Takes a word as an attribute.
     pub fn take_attribute(&mut self) -> Result<(), StepFault>
-        ensures { Leads result (state_of self.new) (attributed (attribute self.old.gathered.items) (state_of self.old)) }
+        ensures { Leads result (state_of self.new)
+            (attributed (attribute self.old.gathered.items) (state_of self.old)) }
     {
         match attribute_of(self.gathered.as_slice()) {
             Some(bits) => {
@@ -339,10 +346,12 @@ impl Reader {
         Ok(())
     }
 
-    /// Returns a copy of the bytes of the file that the statement names, or none where it is not given.
+    /// Returns a copy of the bytes of the file that the statement names, or none where it is not
+    /// given.
     fn file_bytes(&self) -> Result<Vec<u8>, AllocError>
         ensures { IfOk result (λ bytes. bytes.items
-            ≡ bytes_given (slice_get (files_of self.now.files.items) (length (names_of self.now.named.items)))) }
+            ≡ bytes_given (slice_get (files_of self.now.files.items)
+            (length (names_of self.now.named.items)))) }
     {
         let mut bytes = Vec::new(self.alloc);
         if let Some(file) = self.files.get(self.named.len()) {
@@ -456,8 +465,8 @@ impl Reader {
 
     /// Takes a mark where it is the one that is needed, and comes to a place.
     pub fn take_one(&mut self, is_it: bool, place: Place) -> Result<(), StepFault>
-        ensures { Leads result (state_of self.new)
-            (if is_it then Ok (came_to place (state_of self.old)) else refused (state_of self.old)) }
+        ensures { Leads result (state_of self.new) (if is_it
+            then Ok (came_to place (state_of self.old)) else refused (state_of self.old)) }
     {
         if is_it {
             self.come_to(place);
@@ -469,8 +478,10 @@ impl Reader {
 
     /// Takes a comma, after which comes `place`, or a closing parenthesis.
     pub fn take_end(&mut self, byte: u8, place: Place) -> Result<(), StepFault>
-        ensures { Leads result (state_of self.new) (if byte == 44 then Ok (came_to place (state_of self.old))
-            else if byte == 41 then Ok (came_to places.Brace (state_of self.old)) else refused (state_of self.old)) }
+        ensures { Leads result (state_of self.new) (if byte == 44
+            then Ok (came_to place (state_of self.old))
+            else if byte == 41 then Ok (came_to places.Brace (state_of self.old))
+            else refused (state_of self.old)) }
     {
         if byte == b',' {
             self.come_to(place);

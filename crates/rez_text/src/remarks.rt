@@ -3,8 +3,9 @@
 ghost use Rattle.std.specs.Prelude.{◌≡◌, IfOk, IfSome, None, [], vec_len, codes};
 ghost use Rattle.std.specs.Option.{option_map};
 ghost use Rattle.rez_text.specs.State.{state_of, Leads, LeadsTo};
-ghost use Rattle.rez_text.specs.Remarks.{hex_from, after_blanks, begins, bytes_after as stated_after, remarked, comment};
-ghost use Rattle.rez_text.specs.Remarks.{with_area, with_map_attributes};
+ghost use Rattle.rez_text.specs.Remarks.{hex_from, after_blanks, begins};
+ghost use Rattle.rez_text.specs.Remarks.{bytes_after as stated_after, remarked, comment, with_area};
+ghost use Rattle.rez_text.specs.Remarks.{with_map_attributes};
 ghost use Rattle.rez_text.specs.View.{content_said};
 
 use crate::ascii::{byte_of, hex_value, is_blank};
@@ -60,8 +61,8 @@ pub(crate) fn begins_with(text: &[u8], words: &[u8]) -> bool
     words.len() <= text.len() && &text[..words.len()] == words
 }
 
-/// Returns the bytes that a text states in hexadecimal after the words with which it begins, if they are `count`
-/// bytes.
+/// Returns the bytes that a text states in hexadecimal after the words with which it begins, if
+/// they are `count` bytes.
 #[tactic(auto, unfolding(crate::specs::Remarks::bytes_after))]
 fn bytes_after(
     alloc: Global,
@@ -113,7 +114,8 @@ fn take_area(alloc: Global, source: &mut Source, text: &[u8]) -> Result<(), Step
 /// Takes what a comment between statements states.
 #[tactic(auto, unfolding(crate::specs::Remarks::remarked))]
 fn take_remark(alloc: Global, source: &mut Source, text: &[u8]) -> Result<(), StepFault>
-    ensures { LeadsTo result (content_said source.new) (remarked text.now (content_said source.old)) }
+    ensures { LeadsTo result (content_said source.new)
+        (remarked text.now (content_said source.old)) }
 {
     let words = without_blanks(text);
     if begins_with(words, b"map attributes") {

@@ -191,7 +191,8 @@ impl Scope {
         }
     }
 
-    /// Reports whether the text ends before a byte: before the closing byte, where it counts at this depth.
+    /// Reports whether the text ends before a byte: before the closing byte, where it counts at
+    /// this depth.
     pub fn ends(self, closing: u8, depth: u8, byte: u8) -> bool
         ensures { result ≡ spec.ends closing depth byte self }
     {
@@ -199,7 +200,8 @@ impl Scope {
     }
 }
 
-/// Reports whether a text does not end on the way from a scope, and the byte that ends it counts after it.
+/// Reports whether a text does not end on the way from a scope, and the byte that ends it counts
+/// after it.
 pub fn keeps(closing: u8, depth: u8, scope: Scope, text: &[u8]) -> bool
     ensures { result ≡ spec.keeps closing depth scope text.now }
 {

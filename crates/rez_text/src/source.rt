@@ -74,8 +74,9 @@ fn lend_group(alloc: Global, group: &SourceGroup) -> Result<Group<'_>, AllocErro
 }
 
 impl Source {
-    /// Returns the content that the source states, without the attributes that no stored fork has: `resChanged` of a
-    /// resource, and `mapCompact` and `mapChanged` of the map. Names and stored data are lent.
+    /// Returns the content that the source states, without the attributes that no stored fork has:
+    /// `resChanged` of a resource, and `mapCompact` and `mapChanged` of the map. Names and stored
+    /// data are lent.
     pub fn content(&self, alloc: Global) -> Result<Content<'_>, AllocError>
         ensures { IfOk result (λ content. view content ≡ content_stated self.now) }
     {

@@ -2,7 +2,8 @@
 
 ghost use Rattle.std.specs.Prelude.{◌≡◌};
 ghost use Rattle.rez_text.specs.State.{state_of, Leads};
-ghost use Rattle.rez_text.specs.Lexing.{closed, quoted, escaped_byte as escaped_byte_of, escape, escape_zero, escape_number};
+ghost use Rattle.rez_text.specs.Lexing.{closed, quoted, escaped_byte as escaped_byte_of, escape};
+ghost use Rattle.rez_text.specs.Lexing.{escape_zero, escape_number};
 
 use crate::ascii::ends_line;
 use crate::fault::{FaultKind, StepFault};
@@ -63,7 +64,8 @@ impl Reader {
         number: u8,
         byte: u8,
     ) -> Result<(), StepFault>
-        ensures { Leads result (state_of self.new) (escape_number quote radix left number byte (state_of self.old)) }
+        ensures { Leads result (state_of self.new)
+            (escape_number quote radix left number byte (state_of self.old)) }
     {
         let Some(digit) = radix.value(byte) else {
             return Err(StepFault::Wrong(FaultKind::NotAnEscape));

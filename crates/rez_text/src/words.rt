@@ -1,8 +1,8 @@
 //! The words of statements.
 
 ghost use Rattle.std.specs.Prelude.{◌≡◌};
-ghost use Rattle.rez_text.specs.Tokens.{opposite, attribute, unread_statement, unread_directive, unread_word};
-ghost use Rattle.rez_text.specs.Tokens.{no_statement as no_statement_of};
+ghost use Rattle.rez_text.specs.Tokens.{opposite, attribute, unread_statement, unread_directive};
+ghost use Rattle.rez_text.specs.Tokens.{unread_word, no_statement as no_statement_of};
 
 use crate::fault::{FaultKind, Unread};
 use mac_words::Attrs;

@@ -1,6 +1,7 @@
 //! Printing a content as source.
 
-ghost use Rattle.std.specs.Prelude.{◌≡◌, ◌<◌, ◌≤◌, ◌==◌, ◌++◌, suc, OnOk, IfOk, map, length, take, drop, replicate};
+ghost use Rattle.std.specs.Prelude.{◌≡◌, ◌<◌, ◌≤◌, ◌==◌, ◌++◌, suc, OnOk, IfOk, map, length, take};
+ghost use Rattle.std.specs.Prelude.{drop, replicate};
 ghost use Rattle.std.specs.List.{flat_map, list_all};
 ghost use Rattle.std.specs.Fmt.{signed_decimal};
 ghost use Rattle.fork_format.specs.View.{view_name, view_ref, view_group, view};
@@ -8,11 +9,12 @@ ghost use Rattle.rez_text.specs.declared.lettering.Lettering.TheVariants.{Plain,
 ghost use Rattle.mac_roman.specs.declared.charset.Charset.TheVariants.{Ascii};
 ghost use Rattle.rez_text.specs.Coding.{coding_comment};
 ghost use Rattle.rez_text.specs.Printing.{byte_hex, gap, grouped, shown};
-ghost use Rattle.rez_text.specs.Printing.{margin, hex_column, text_column, data_line, data_lines, line_count, escaped};
-ghost use Rattle.rez_text.specs.Printing.{in_quotes, name_argument, word_for, attribute_words, attributes_argument};
-ghost use Rattle.rez_text.specs.Printing.{type_literal, opening, statement_head, statement, group_statements};
-ghost use Rattle.rez_text.specs.Printing.{attributes_comment, attributes_remark, area_line, area_lines, area_comment};
-ghost use Rattle.rez_text.specs.Printing.{area_remark, source_of};
+ghost use Rattle.rez_text.specs.Printing.{margin, hex_column, text_column, data_line, data_lines};
+ghost use Rattle.rez_text.specs.Printing.{line_count, escaped, in_quotes, name_argument, word_for};
+ghost use Rattle.rez_text.specs.Printing.{attribute_words, attributes_argument, type_literal};
+ghost use Rattle.rez_text.specs.Printing.{opening, statement_head, statement, group_statements};
+ghost use Rattle.rez_text.specs.Printing.{attributes_comment, attributes_remark, area_line};
+ghost use Rattle.rez_text.specs.Printing.{area_lines, area_comment, area_remark, source_of};
 
 use crate::lettering::Lettering;
 use byteorder::{BigEndian, ByteOrder};
@@ -168,7 +170,8 @@ fn first_line(bytes: &[u8]) -> (&[u8], &[u8])
 
 /// Appends the lines of a resource's data.
 fn push_data(out: &mut Vec<u8>, lettering: Lettering, datum: &[u8]) -> Result<(), AllocError>
-    ensures { OnOk result (out.new.items ≡ out.old.items ++ data_lines lettering (line_count datum.now) datum.now) }
+    ensures { OnOk result (out.new.items
+        ≡ out.old.items ++ data_lines lettering (line_count datum.now) datum.now) }
 {
     let mut rest = datum;
     while !rest.is_empty() {
@@ -213,7 +216,8 @@ fn push_all_escaped(
     quote: u8,
     bytes: &[u8],
 ) -> Result<(), AllocError>
-    ensures { OnOk result (out.new.items ≡ out.old.items ++ flat_map (escaped lettering quote) bytes.now) }
+    ensures { OnOk result (out.new.items
+        ≡ out.old.items ++ flat_map (escaped lettering quote) bytes.now) }
 {
     for byte in bytes {
         push_escaped(out, lettering, quote, *byte)?;
@@ -242,7 +246,8 @@ pub fn push_name(
     lettering: Lettering,
     name: &Option<RefName<'_>>,
 ) -> Result<(), AllocError>
-    ensures { OnOk result (out.new.items ≡ out.old.items ++ name_argument lettering (view_name name.now)) }
+    ensures { OnOk result (out.new.items
+        ≡ out.old.items ++ name_argument lettering (view_name name.now)) }
 {
     if let Some(name) = name {
         out.extend_from_slice(b", ")?;
@@ -323,7 +328,8 @@ fn push_head(
     kind: u32,
     r: &Ref<'_>,
 ) -> Result<(), AllocError>
-    ensures { OnOk result (out.new.items ≡ out.old.items ++ statement_head lettering kind (view_ref r.now)) }
+    ensures { OnOk result (out.new.items
+        ≡ out.old.items ++ statement_head lettering kind (view_ref r.now)) }
 {
     push_type_and_id(out, kind, r.id)?;
     push_name(out, lettering, &r.name)?;
@@ -339,7 +345,8 @@ pub fn push_statement(
     kind: u32,
     r: &Ref<'_>,
 ) -> Result<(), AllocError>
-    ensures { OnOk result (out.new.items ≡ out.old.items ++ statement lettering kind (view_ref r.now)) }
+    ensures { OnOk result (out.new.items
+        ≡ out.old.items ++ statement lettering kind (view_ref r.now)) }
 {
     push_head(out, lettering, kind, r)?;
     push_data(out, lettering, r.datum)?;
@@ -349,7 +356,8 @@ pub fn push_statement(
 
 /// Appends the resources of a type.
 fn push_group(out: &mut Vec<u8>, lettering: Lettering, group: &Group<'_>) -> Result<(), AllocError>
-    ensures { OnOk result (out.new.items ≡ out.old.items ++ group_statements lettering (view_group group.now)) }
+    ensures { OnOk result (out.new.items
+        ≡ out.old.items ++ group_statements lettering (view_group group.now)) }
 {
     let kind = kind_of(group.ty);
     for r in &group.refs {
@@ -412,7 +420,8 @@ fn push_area_line(out: &mut Vec<u8>, bytes: &[u8]) -> Result<(), AllocError>
 
 /// Appends lines of bytes within a comment.
 fn push_area_lines(out: &mut Vec<u8>, area: &[u8]) -> Result<(), AllocError>
-    ensures { OnOk result (out.new.items ≡ out.old.items ++ area_lines (line_count area.now) area.now) }
+    ensures { OnOk result (out.new.items
+        ≡ out.old.items ++ area_lines (line_count area.now) area.now) }
 {
     let mut rest = area;
     while !rest.is_empty() {
@@ -469,10 +478,10 @@ fn room_for(groups: &[Group<'_>]) -> usize {
     room
 }
 
-/// Prints a content as source of Rez: a statement `data` for each resource, in order of types and resources. The
-/// attributes of the map and the 240 bytes after the header stand before them as comments, where they aren't 0. Beside data
-/// stands a comment with the characters of its bytes: a period for a byte that isn't printed as a character
-/// (`Charset::prints`), and for an asterisk.
+/// Prints a content as source of Rez: a statement `data` for each resource, in order of types and
+/// resources. The attributes of the map and the 240 bytes after the header stand before them as
+/// comments, where they aren't 0. Beside data stands a comment with the characters of its bytes: a
+/// period for a byte that isn't printed as a character (`Charset::prints`), and for an asterisk.
 #[tactic(auto, unfolding(crate::specs::Printing::source_of))]
 pub fn write_source(
     alloc: Global,

@@ -1,6 +1,7 @@
 -- What a form, and a choice among forms, are known to state.
 use Rattle.std.proofs.Common.{◌≡◌, ℕ, zero, suc, ◌+◌, ◌-◌, ◌<◌, ◌==◌, Bool, true, false, Option, Some, None, Result, Ok, Err}
-use Rattle.std.proofs.Common.{List, [], ◌∷◌, ◌++◌, codes, drop, length, slice_get, refl, ap, ◌∙◌, sym, subst, if◌then◌else◌, eqb-true, arith}
+use Rattle.std.proofs.Common.{List, [], ◌∷◌, ◌++◌, codes, drop, length, slice_get, refl, ap, ◌∙◌, sym, subst, if◌then◌else◌, eqb-true}
+use Rattle.std.proofs.Common.{arith}
 use Rattle.std.proofs.lemmas.Bool.{and_parts}
 use Rattle.std.proofs.lemmas.Slice.Eq.{bytes_eq-Decides}
 use Rattle.std.specs.List.{AllByRecursion, flat_map}

@@ -1,6 +1,6 @@
 -- A typed source begins with a statement, or with one of the comments before the statements.
-use Rattle.std.proofs.Common.{◌≡◌, Bool, true, false, ◌==◌, ℕ, Option, Some, None, List, [], ◌∷◌, ◌++◌, codes, slice_get, refl, ap, ◌∙◌, sym, subst}
-use Rattle.std.proofs.Common.{if◌then◌else◌}
+use Rattle.std.proofs.Common.{◌≡◌, Bool, true, false, ◌==◌, ℕ, Option, Some, None, List, [], ◌∷◌, ◌++◌, codes, slice_get, refl, ap, ◌∙◌}
+use Rattle.std.proofs.Common.{sym, subst, if◌then◌else◌}
 use Rattle.std.specs.List.{AllByRecursion, flat_map}
 use Rattle.fork_format.specs.Content.{Ref, Group, Content}
 use Rattle.rez_statements.specs.Types.{Declared}

@@ -33,7 +33,8 @@ fn values_of(
     declaration: &Declaration,
     datum: &[u8],
 ) -> Result<Option<Vec<Value>>, AllocError>
-    ensures { IfOk result (λ values. option_map values_in values ≡ values_of_datum (declaration_of declaration.now) datum.now) }
+    ensures { IfOk result (λ values. option_map values_in values
+        ≡ values_of_datum (declaration_of declaration.now) datum.now) }
 {
     match decode(alloc, declaration, datum) {
         Ok(values) => Ok(Some(values)),
@@ -44,7 +45,8 @@ fn values_of(
 
 /// Returns the last of some values.
 fn last_of(values: &[Value]) -> Option<&Value>
-    ensures { option_map (λ value. value_of value.now) result ≡ slice_get (values_of_held values.now) (length values.now - 1) }
+    ensures { option_map (λ value. value_of value.now) result
+        ≡ slice_get (values_of_held values.now) (length values.now - 1) }
 {
     let value = values.last()?;
     Some(value)
@@ -72,7 +74,8 @@ fn fits(tail: Tail, values: &[Value]) -> bool
 
 /// Returns the values of a resource's bytes by a form, if they are such bytes.
 fn values_by(alloc: Global, form: &Form, datum: &[u8]) -> Result<Option<Vec<Value>>, AllocError>
-    ensures { IfOk result (λ values. option_map values_in values ≡ spec.values_by (form_in form.now) datum.now) }
+    ensures { IfOk result (λ values. option_map values_in values
+        ≡ spec.values_by (form_in form.now) datum.now) }
 {
     let Some(values) = values_of(alloc, &form.declaration, datum)? else {
         return Ok(None);
@@ -101,7 +104,8 @@ fn shown(
     declaration: &Declaration,
     values: &[Value],
 ) -> Result<Option<Vec<u8>>, AllocError>
-    ensures { IfOk result (λ text. option_map bytes_in text ≡ shown_by style (declaration_of declaration.now) (values_of_held values.now)) }
+    ensures { IfOk result (λ text. option_map bytes_in text
+        ≡ shown_by style (declaration_of declaration.now) (values_of_held values.now)) }
 {
     match show(alloc, style, declaration, values) {
         Ok(text) => Ok(Some(text)),
@@ -117,7 +121,8 @@ fn are_bytes(
     datum: &[u8],
     text: &[u8],
 ) -> Result<bool, AllocError>
-    ensures { IfOk result (λ holds. holds ≡ spec.are_bytes datum.now (stated_by (declaration_of declaration.now) text.now)) }
+    ensures { IfOk result (λ holds. holds
+        ≡ spec.are_bytes datum.now (stated_by (declaration_of declaration.now) text.now)) }
 {
     match datum_by(alloc, declaration, text) {
         Ok(bytes) => Ok(bytes.as_slice() == datum),
@@ -133,7 +138,8 @@ fn states(
     datum: &[u8],
     text: &[u8],
 ) -> Result<bool, AllocError>
-    ensures { IfOk result (λ holds. holds ≡ spec.states (declaration_of declaration.now) datum.now text.now) }
+    ensures { IfOk result (λ holds. holds
+        ≡ spec.states (declaration_of declaration.now) datum.now text.now) }
 {
     if keeps(b'}', 1, Scope::INSIDE, text) {
         are_bytes(alloc, declaration, datum, text)
@@ -167,7 +173,8 @@ fn body(
     form: &Form,
     datum: &[u8],
 ) -> Result<Option<Vec<u8>>, AllocError>
-    ensures { IfOk result (λ text. option_map bytes_in text ≡ spec.body style (form_in form.now) datum.now) }
+    ensures { IfOk result (λ text. option_map bytes_in text
+        ≡ spec.body style (form_in form.now) datum.now) }
 {
     let Some(values) = values_by(alloc, form, datum)? else {
         return Ok(None);
@@ -199,7 +206,8 @@ fn text_by(
     place: usize,
     datum: &[u8],
 ) -> Result<Option<Vec<u8>>, AllocError>
-    ensures { IfOk result (λ text. option_map bytes_in text ≡ spec.text_by style (slice_get (forms_in forms.now) place) datum.now) }
+    ensures { IfOk result (λ text. option_map bytes_in text
+        ≡ spec.text_by style (slice_get (forms_in forms.now) place) datum.now) }
 {
     match form_at(forms, place) {
         Some(form) => body(alloc, style, form, datum),
@@ -235,7 +243,8 @@ pub(crate) fn chosen(
     forms: &[Form],
     r: &Ref<'_>,
 ) -> Result<Option<Choice>, AllocError>
-    ensures { IfOk result (λ choice. option_map choice_in choice ≡ spec.chosen style (forms_in forms.now) (view_ref r.now)) }
+    ensures { IfOk result (λ choice. option_map choice_in choice
+        ≡ spec.chosen style (forms_in forms.now) (view_ref r.now)) }
 {
     if r.attrs.0 & 1 == 0 {
         chosen_by(alloc, style, forms, r.datum)

@@ -84,7 +84,8 @@ fn form_declared(
     text: Vec<u8>,
 ) -> Result<Option<Form>, AllocError>
     ensures { IfOk result (λ form. option_map form_in form
-        ≡ spec.form_declared tail text.items (spec.own_of (big_number 4 ty) (declares text.items))) }
+        ≡ spec.form_declared tail text.items
+        (spec.own_of (big_number 4 ty) (declares text.items))) }
 {
     match declared_by(alloc, ty, text.as_slice())? {
         Some(declaration) => Ok(Some(Form {
@@ -103,7 +104,8 @@ fn form_by(
     ty: [u8; 4],
     text: Vec<u8>,
 ) -> Result<Option<Form>, AllocError>
-    ensures { IfOk result (λ form. option_map form_in form ≡ spec.form_by tail (big_number 4 ty) text.items) }
+    ensures { IfOk result (λ form. option_map form_in form
+        ≡ spec.form_by tail (big_number 4 ty) text.items) }
 {
     if is_statement(text.as_slice()) {
         form_declared(alloc, tail, ty, text)
@@ -119,7 +121,8 @@ fn text_with(
     ty: [u8; 4],
     declaration: &Declaration,
 ) -> Result<Vec<u8>, AllocError>
-    ensures { IfOk result (λ text. text.items ≡ spec.text_with tail (big_number 4 ty) (declaration_of declaration.now)) }
+    ensures { IfOk result (λ text. text.items
+        ≡ spec.text_with tail (big_number 4 ty) (declaration_of declaration.now)) }
 {
     match tail {
         Tail::None => declaration_text(alloc, ty, declaration),
@@ -127,7 +130,8 @@ fn text_with(
     }
 }
 
-/// Returns the form of a declaration with a tail, if its text is one statement that declares the type.
+/// Returns the form of a declaration with a tail, if its text is one statement that declares the
+/// type.
 #[tactic(auto, unfolding(crate::specs::Forms::form_of))]
 fn form_of(
     alloc: Global,
@@ -151,7 +155,8 @@ fn add_form(
     declared: &DeclaredType,
 ) -> Result<(), AllocError>
     ensures { OnOk result (forms_in forms.new.items
-        ≡ forms_in forms.old.items ++ spec.forms_with tail (big_number 4 ty) (declared_of declared.now)) }
+        ≡ forms_in forms.old.items
+        ++ spec.forms_with tail (big_number 4 ty) (declared_of declared.now)) }
 {
     if declared.kind == BigEndian::read_u32(&ty) {
         if let Some(form) = form_of(alloc, tail, ty, &*declared.declaration)? {
@@ -170,7 +175,8 @@ fn add_forms(
     list: &[DeclaredType],
 ) -> Result<(), AllocError>
     ensures { OnOk result (forms_in forms.new.items
-        ≡ forms_in forms.old.items ++ flat_map (spec.forms_with tail (big_number 4 ty)) (map declared_of list.now)) }
+        ≡ forms_in forms.old.items
+        ++ flat_map (spec.forms_with tail (big_number 4 ty)) (map declared_of list.now)) }
 {
     for declared in list {
         add_form(alloc, forms, tail, ty, declared)?;
@@ -178,9 +184,11 @@ fn add_forms(
     Ok(())
 }
 
-/// Returns the forms of a type, of which the last is tried first: those with a tail, and then the others.
+/// Returns the forms of a type, of which the last is tried first: those with a tail, and then the
+/// others.
 pub(crate) fn forms_of(alloc: Global, types: &Types, ty: [u8; 4]) -> Result<Vec<Form>, AllocError>
-    ensures { IfOk result (λ forms. forms_in forms.items ≡ spec.forms_of (big_number 4 ty) (types_of types.now)) }
+    ensures { IfOk result (λ forms. forms_in forms.items
+        ≡ spec.forms_of (big_number 4 ty) (types_of types.now)) }
 {
     let mut forms = Vec::new(alloc);
     add_forms(alloc, &mut forms, Tail::Short, ty, types.list())?;

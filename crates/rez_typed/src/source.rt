@@ -42,7 +42,8 @@ fn push_typed_head(
     kind: u32,
     r: &Ref<'_>,
 ) -> Result<(), AllocError>
-    ensures { OnOk result (out.new.items ≡ out.old.items ++ spec.typed_head lettering kind (view_ref r.now)) }
+    ensures { OnOk result (out.new.items
+        ≡ out.old.items ++ spec.typed_head lettering kind (view_ref r.now)) }
 {
     push_typed_opening(out, kind, r.id)?;
     push_name(out, lettering, &r.name)?;
@@ -60,7 +61,8 @@ fn push_typed(
     r: &Ref<'_>,
     text: &[u8],
 ) -> Result<(), AllocError>
-    ensures { OnOk result (out.new.items ≡ out.old.items ++ spec.typed_statement lettering kind (view_ref r.now) text.now) }
+    ensures { OnOk result (out.new.items
+        ≡ out.old.items ++ spec.typed_statement lettering kind (view_ref r.now) text.now) }
 {
     push_typed_head(out, lettering, kind, r)?;
     out.extend_from_slice(text)?;
@@ -75,7 +77,8 @@ fn push_declaring(
     place: usize,
     forms: &[Form],
 ) -> Result<(), AllocError>
-    ensures { OnOk result (out.new.items ≡ out.old.items ++ spec.declaring force place (forms_in forms.now)) }
+    ensures { OnOk result (out.new.items
+        ≡ out.old.items ++ spec.declaring force place (forms_in forms.now)) }
 {
     if force == Some(place) {
         return Ok(());
@@ -87,7 +90,8 @@ fn push_declaring(
     Ok(())
 }
 
-/// Appends a resource with the statement before it that declares its type; as `data` where no form states it.
+/// Appends a resource with the statement before it that declares its type; as `data` where no form
+/// states it.
 fn push_chosen(
     out: &mut Vec<u8>,
     lettering: Lettering,
@@ -98,7 +102,8 @@ fn push_chosen(
     choice: &Option<Choice>,
 ) -> Result<(), AllocError>
     ensures { OnOk result (out.new.items ≡ out.old.items
-        ++ spec.chosen_statement lettering kind (forms_in forms.now) force (view_ref r.now) (option_map choice_in choice.now)) }
+        ++ spec.chosen_statement lettering kind (forms_in forms.now) force (view_ref r.now)
+        (option_map choice_in choice.now)) }
 {
     match choice {
         Some(choice) => {
@@ -196,7 +201,8 @@ fn typed_bytes(
     types: &Types,
     content: &Content<'_>,
 ) -> Result<Vec<u8>, AllocError>
-    ensures { IfOk result (λ text. text.items ≡ spec.typed_bytes style (types_of types.now) (view content.now)) }
+    ensures { IfOk result (λ text. text.items
+        ≡ spec.typed_bytes style (types_of types.now) (view content.now)) }
 {
     let mut out = Vec::new(alloc);
     push_map_attributes(&mut out, content.attrs)?;
@@ -235,9 +241,9 @@ fn coded(alloc: Global, coding: Coding, text: Vec<u8>) -> Result<Vec<u8>, AllocE
     }
 }
 
-/// Prints a content as source of Rez: a statement `resource` for each resource whose bytes a declaration of its type states, and
-/// `data` for each other one. Each type is declared in the text before it is used. What is printed of a resource has been read again
-/// as its very bytes.
+/// Prints a content as source of Rez: a statement `resource` for each resource whose bytes a
+/// declaration of its type states, and `data` for each other one. Each type is declared in the text
+/// before it is used. What is printed of a resource has been read again as its very bytes.
 #[tactic(auto, unfolding(crate::specs::Source::typed_source))]
 pub fn write_typed_source(
     alloc: Global,
@@ -245,7 +251,8 @@ pub fn write_typed_source(
     types: &Types,
     content: &Content<'_>,
 ) -> Result<Vec<u8>, AllocError>
-    ensures { IfOk result (λ source. source.items ≡ spec.typed_source style (types_of types.now) (view content.now)) }
+    ensures { IfOk result (λ source. source.items
+        ≡ spec.typed_source style (types_of types.now) (view content.now)) }
 {
     let text = typed_bytes(alloc, style, types, content)?;
     coded(alloc, style.coding, text)

@@ -12,7 +12,8 @@ use rez_text::Lettering;
 pub enum Coding {
     /// A byte from 0x80 on is an escape. The comments beside data are in the characters of a set.
     Bytes(Charset),
-    /// In UTF-8, which a comment at the head of the text says. A byte from 0x80 on is its character in Mac Roman.
+    /// In UTF-8, which a comment at the head of the text says. A byte from 0x80 on is its character
+    /// in Mac Roman.
     Utf8,
 }
 

@@ -15,24 +15,26 @@ static OF_SIX: [CallWord; 4] = [
     CallWord::PutPtr,
 ];
 
-static OF_SEVEN: [CallWord; 6] = [
+static OF_SEVEN: [CallWord; 7] = [
     CallWord::HUnlock,
     CallWord::MoveHHi,
     CallWord::HLockHi,
     CallWord::FreeMem,
     CallWord::LoadSeg,
     CallWord::ShowPtr,
+    CallWord::PtrZone,
 ];
 
-static OF_EIGHT: [CallWord; 5] = [
+static OF_EIGHT: [CallWord; 6] = [
     CallWord::HNoPurge,
     CallWord::MaxBlock,
     CallWord::PurgeMem,
     CallWord::MemError,
     CallWord::ResError,
+    CallWord::UniqueID,
 ];
 
-static OF_NINE: [CallWord; 7] = [
+static OF_NINE: [CallWord; 8] = [
     CallWord::NewHandle,
     CallWord::PtrToHand,
     CallWord::HGetState,
@@ -40,9 +42,10 @@ static OF_NINE: [CallWord; 7] = [
     CallWord::UnloadSeg,
     CallWord::CallEntry,
     CallWord::ShowEntry,
+    CallWord::Unique1ID,
 ];
 
-static OF_TEN: [CallWord; 13] = [
+static OF_TEN: [CallWord; 14] = [
     CallWord::DisposePtr,
     CallWord::HandToHand,
     CallWord::PtrAndHand,
@@ -56,6 +59,7 @@ static OF_TEN: [CallWord; 13] = [
     CallWord::GetResInfo,
     CallWord::SetResInfo,
     CallWord::SetResLoad,
+    CallWord::HandleZone,
 ];
 
 static OF_ELEVEN: [CallWord; 16] = [
@@ -94,11 +98,13 @@ static OF_THIRTEEN: [CallWord; 7] = [
     CallWord::WaitNextEvent,
 ];
 
-static OF_FOURTEEN: [CallWord; 4] = [
+static OF_FOURTEEN: [CallWord; 6] = [
     CallWord::NewEmptyHandle,
     CallWord::NewHandleClear,
     CallWord::DetachResource,
     CallWord::RemoveResource,
+    CallWord::CountResources,
+    CallWord::GetIndResource,
 ];
 
 static OF_FIFTEEN: [CallWord; 5] = [
@@ -113,7 +119,7 @@ static OF_SIXTEEN: [CallWord; 2] = [CallWord::ReallocateHandle, CallWord::GetNam
 
 static OF_SEVENTEEN: [CallWord; 1] = [CallWord::Get1NamedResource];
 
-static OF_NINETEEN: [CallWord; 1] = [CallWord::ReadPartialResource];
+static OF_NINETEEN: [CallWord; 2] = [CallWord::ReadPartialResource, CallWord::InlineGetHandleSize];
 
 static OF_TWENTY: [CallWord; 1] = [CallWord::WritePartialResource];
 

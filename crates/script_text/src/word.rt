@@ -28,6 +28,7 @@ pub enum CallWord {
     HNoPurge,
     HGetState,
     HSetState,
+    HandleZone,
     MoveHHi,
     HLockHi,
     HandToHand,
@@ -38,6 +39,7 @@ pub enum CallWord {
     DisposePtr,
     GetPtrSize,
     SetPtrSize,
+    PtrZone,
     FreeMem,
     MaxBlock,
     PurgeSpace,
@@ -61,8 +63,12 @@ pub enum CallWord {
     Get1NamedResource,
     Count1Types,
     Get1IndType,
+    CountResources,
     Count1Resources,
+    GetIndResource,
     Get1IndResource,
+    UniqueID,
+    Unique1ID,
     LoadResource,
     ReleaseResource,
     DetachResource,
@@ -96,6 +102,7 @@ pub enum CallWord {
     NewPtrClear,
     SizeResource,
     MaxSizeRsrc,
+    InlineGetHandleSize,
 }
 
 /// The calls by the part of the toolbox that they belong to: for each its word, the enums that hold the call, what reads its
@@ -131,6 +138,8 @@ macro_rules! calls {
                     "returns locked (128), purgeable (64) and resource (32), summed";
                 HSetState = Heap HeapCall two(h, byte)
                     "sets locked and purgeable from bits 128 and 64 of byte";
+                HandleZone = Heap HeapCall one(h)
+                    "returns where the zone of the handle begins: 0";
                 MoveHHi = Heap HeapCall one(h)
                     "moves the block to the top of its run of movable blocks";
                 HLockHi = Heap HeapCall one(h)
@@ -153,6 +162,8 @@ macro_rules! calls {
                     "returns the logical size of the nonrelocatable block";
                 SetPtrSize = Heap HeapCall two(p, size)
                     "changes the logical size, in place; new bytes are 0";
+                PtrZone = Heap HeapCall one(p)
+                    "returns where the zone of the block begins: 0";
             }
             "The Memory Manager, the heap zone" {
                 FreeMem = Heap HeapCall none()
@@ -203,10 +214,18 @@ macro_rules! calls {
                     "counts the resource types of the current file";
                 Get1IndType = Resource ResourceCall one(n)
                     "returns the n-th type of the current file, from 1";
+                CountResources = Resource ResourceCall one(type)
+                    "counts the resources of a type in all open files together";
                 Count1Resources = Resource ResourceCall one(type)
                     "counts the resources of a type in the current file";
+                GetIndResource = Resource ResourceCall three(h, type, n)
+                    "fetches the n-th resource of a type in all open files together";
                 Get1IndResource = Resource ResourceCall three(h, type, n)
                     "fetches the n-th resource of a type in the current file";
+                UniqueID = Resource ResourceCall one(type)
+                    "returns the lowest ID from 128 on that is free in all open files";
+                Unique1ID = Resource ResourceCall one(type)
+                    "returns the lowest ID from 128 on that is free in the current file";
                 LoadResource = Resource ResourceCall one(h)
                     "reads the stored data into an empty handle of a resource";
                 ReleaseResource = Resource ResourceCall one(h)
@@ -281,6 +300,8 @@ macro_rules! calls {
                     "GetResourceSizeOnDisk";
                 MaxSizeRsrc = GetResourceSizeOnDisk Resource ResourceCall one(h)
                     "GetResourceSizeOnDisk, since stored data has no room to spare";
+                InlineGetHandleSize = GetHandleSize Heap HeapCall one(h)
+                    "GetHandleSize";
             }
             [EmptyHandle DisposeHandle DisposePtr HPurge HNoPurge HUnlock ReleaseResource UnloadSeg]
         }
@@ -436,7 +457,7 @@ macro_rules! is_held {
 pub const CALLS: &str = calls!(listed);
 
 /// The words of all calls, in the order of the tables.
-pub static WORDS: [CallWord; 81] = calls!(words);
+pub static WORDS: [CallWord; 88] = calls!(words);
 
 /// Returns the word that a token spells, if the word is one of the few of the token's length that are tried first.
 fn likely_word(token: &[u8]) -> Option<CallWord>

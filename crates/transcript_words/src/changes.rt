@@ -5,7 +5,9 @@ ghost use Rattle.std.specs.BTreeMap.{get};
 ghost use Rattle.std.specs.Ordering.{nat_cmp};
 ghost use Rattle.std.specs.List.{flat_map};
 ghost use Rattle.heap_view.specs.View.{view_line};
-ghost use Rattle.transcript_words.specs.Changes.{Placed as placed_block, placed_at, placed, place_of, is_handle, name_words, moved_words, purged_words, change_words, change_by, changes};
+ghost use Rattle.transcript_words.specs.Changes.{Placed as placed_block, placed_at, placed};
+ghost use Rattle.transcript_words.specs.Changes.{place_of, is_handle, name_words, moved_words};
+ghost use Rattle.transcript_words.specs.Changes.{purged_words, change_words, change_by, changes};
 ghost use Rattle.transcript_words.specs.View.{view_placed, view_standing};
 
 use heap_view::BlockLine;
@@ -36,7 +38,8 @@ pub struct Standing {
 
 /// Returns the script's name for the handle or pointer of a block, if it has one.
 fn name_at(line: &BlockLine<'_>) -> Result<Option<Label>, AllocError>
-    ensures { IfOk result (λ name. option_map (λ n. n.0.items) name ≡ (view_line line.now).tag.name) }
+    ensures { IfOk result (λ name. option_map (λ n. n.0.items) name
+        ≡ (view_line line.now).tag.name) }
 {
     match line.tag.name {
         Some(name) => Ok(Some(name.clone()?)),
@@ -48,7 +51,8 @@ fn name_at(line: &BlockLine<'_>) -> Result<Option<Label>, AllocError>
 fn push_placed(blocks: &mut Vec<Placed>, line: &BlockLine<'_>) -> Result<(), AllocError>
     ensures { OnOk result ((later : List placed_block)
         → map view_placed blocks.new.items ++ later
-        ≡ map view_placed blocks.old.items ++ placed_at (view_line line.now) (view_line line.now).tag.number later) }
+        ≡ map view_placed blocks.old.items
+        ++ placed_at (view_line line.now) (view_line line.now).tag.number later) }
 {
     let Some(number) = line.tag.number else {
         return Ok(());
@@ -64,7 +68,8 @@ fn push_placed(blocks: &mut Vec<Placed>, line: &BlockLine<'_>) -> Result<(), All
 
 /// Returns the blocks of handles and pointers among those of a zone.
 pub fn placed_in(alloc: Global, lines: &[BlockLine<'_>]) -> Result<Vec<Placed>, AllocError>
-    ensures { IfOk result (λ blocks. map view_placed blocks.items ≡ placed (map view_line lines.now)) }
+    ensures { IfOk result (λ blocks. map view_placed blocks.items
+        ≡ placed (map view_line lines.now)) }
 {
     let mut blocks = Vec::new(alloc);
     for line in lines {
@@ -108,7 +113,8 @@ fn push_name(text: &mut Vec<u8>, name: &Option<Label>) -> Result<(), AllocError>
 
 /// Appends that a block moved.
 fn push_moved(text: &mut Vec<u8>, block: &Placed, place: u32) -> Result<(), AllocError>
-    ensures { OnOk result (text.new.items ≡ text.old.items ++ moved_words (view_placed block.now) place) }
+    ensures { OnOk result (text.new.items
+        ≡ text.old.items ++ moved_words (view_placed block.now) place) }
 {
     text.extend_from_slice(b"; moved ")?;
     push_name(text, &block.name)?;
@@ -120,20 +126,23 @@ fn push_moved(text: &mut Vec<u8>, block: &Placed, place: u32) -> Result<(), Allo
 
 /// Appends that a block was purged.
 fn push_purged(text: &mut Vec<u8>, block: &Placed) -> Result<(), AllocError>
-    ensures { OnOk result (text.new.items ≡ text.old.items ++ purged_words (view_placed block.now)) }
+    ensures { OnOk result (text.new.items
+        ≡ text.old.items ++ purged_words (view_placed block.now)) }
 {
     text.extend_from_slice(b"; purged ")?;
     push_name(text, &block.name)
 }
 
-/// Appends what became of a block, by where it begins now, and by whether its number is that of a handle.
+/// Appends what became of a block, by where it begins now, and by whether its number is that of a
+/// handle.
 fn push_change(
     text: &mut Vec<u8>,
     block: &Placed,
     place: Option<u32>,
     handle: bool,
 ) -> Result<(), AllocError>
-    ensures { OnOk result (text.new.items ≡ text.old.items ++ change_words (view_placed block.now) place handle) }
+    ensures { OnOk result (text.new.items
+        ≡ text.old.items ++ change_words (view_placed block.now) place handle) }
 {
     match place {
         Some(place) if place == block.place => Ok(()),
@@ -143,7 +152,8 @@ fn push_change(
     }
 }
 
-/// Appends what became of blocks, by where blocks begin now, and by which numbers are those of handles.
+/// Appends what became of blocks, by where blocks begin now, and by which numbers are those of
+/// handles.
 fn push_changes(
     text: &mut Vec<u8>,
     blocks: &[Placed],
@@ -164,8 +174,8 @@ fn push_changes(
     Ok(())
 }
 
-/// Appends what became of the blocks of handles and pointers from one moment to the next: each that begins at another
-/// place, and each that was purged, the lowest first.
+/// Appends what became of the blocks of handles and pointers from one moment to the next: each that
+/// begins at another place, and each that was purged, the lowest first.
 #[tactic(auto, using(crate::proofs::Moving::same_changes))]
 pub fn write_changes(
     alloc: Global,

@@ -1,8 +1,8 @@
 //! Result codes by Apple's names.
 
 ghost use Rattle.std.specs.Prelude.{◌≡◌, ◌++◌, OnOk, bytes_eq, if◌then◌else◌};
-ghost use Rattle.transcript_words.specs.Code.{memory_code, file_code, part_code, search_code, change_code};
-ghost use Rattle.transcript_words.specs.Code.{name_or, code_name, code_words};
+ghost use Rattle.transcript_words.specs.Code.{memory_code, file_code, part_code, search_code};
+ghost use Rattle.transcript_words.specs.Code.{change_code, name_or, code_name, code_words};
 
 use std::alloc::AllocError;
 
@@ -18,7 +18,8 @@ fn named(
     if code == written { name } else { before }
 }
 
-/// Returns Apple's name of a code of the Memory Manager or the System Error Handler; no bytes for any other.
+/// Returns Apple's name of a code of the Memory Manager or the System Error Handler; no bytes for
+/// any other.
 fn memory_code(code: &[u8]) -> &'static [u8]
     ensures { result.now ≡ memory_code code.now }
 {
@@ -54,7 +55,8 @@ fn part_code(code: &[u8]) -> &'static [u8]
     named(code, b"-188", b"resourceInMemory", name)
 }
 
-/// Returns Apple's name of a code by which the Resource Manager refuses a search; no bytes for any other.
+/// Returns Apple's name of a code by which the Resource Manager refuses a search; no bytes for any
+/// other.
 fn search_code(code: &[u8]) -> &'static [u8]
     ensures { result.now ≡ search_code code.now }
 {
@@ -63,7 +65,8 @@ fn search_code(code: &[u8]) -> &'static [u8]
     named(code, b"-192", b"resNotFound", name)
 }
 
-/// Returns Apple's name of a code by which the Resource Manager refuses a change or a file; no bytes for any other.
+/// Returns Apple's name of a code by which the Resource Manager refuses a change or a file; no
+/// bytes for any other.
 fn change_code(code: &[u8]) -> &'static [u8]
     ensures { result.now ≡ change_code code.now }
 {
@@ -84,8 +87,8 @@ fn name_or(name: &'static [u8], other: &'static [u8]) -> &'static [u8]
     }
 }
 
-/// Returns Apple's name of a result code, which is given as a transcript writes it; no bytes for a code that no call
-/// returns.
+/// Returns Apple's name of a result code, which is given as a transcript writes it; no bytes for a
+/// code that no call returns.
 ///
 /// *Inside Macintosh: Memory*, "Result Codes"; *More Macintosh Toolbox*, chapter 1, "Result Codes".
 pub fn code_name(code: &[u8]) -> &'static [u8]

@@ -1,5 +1,5 @@
-//! A transcript in words: of each line the call as it was written, its result code by Apple's name, and what the call moved
-//! and purged.
+//! A transcript in words: of each line the call as it was written, its result code by Apple's name,
+//! and what the call moved and purged.
 #![tactic(auto)]
 
 mod changes;

@@ -1,7 +1,8 @@
 //! The text of a script, in which a line is found that a transcript names.
 
 ghost use Rattle.std.specs.Prelude.{◌≡◌, IfOk};
-ghost use Rattle.transcript_words.specs.Source.{source, first_word, after_word, digits_in, line_of, written};
+ghost use Rattle.transcript_words.specs.Source.{source, first_word, after_word, digits_in, line_of};
+ghost use Rattle.transcript_words.specs.Source.{written};
 ghost use Rattle.transcript_words.specs.View.{view_lines};
 
 use script_text::{first_blank, next_line, number_in, trim};

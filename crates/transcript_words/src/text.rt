@@ -3,8 +3,8 @@
 ghost use Rattle.std.specs.Prelude.{◌≡◌, ◌++◌, [], OnOk, drop};
 ghost use Rattle.std.specs.Str.Lines.{lines};
 ghost use Rattle.transcript_words.specs.View.{view_lines};
-ghost use Rattle.transcript_words.specs.Words.{later_words, result_words, line_words, step_words, last_line, call_words, launch_words};
-ghost use Rattle.transcript_words.specs.Words.{end_words};
+ghost use Rattle.transcript_words.specs.Words.{later_words, result_words, line_words, step_words};
+ghost use Rattle.transcript_words.specs.Words.{last_line, call_words, launch_words, end_words};
 
 use crate::code::push_code;
 use crate::source::{Source, after_word, first_word};
@@ -34,7 +34,8 @@ fn push_result(text: &mut Vec<u8>, answer: &[u8]) -> Result<(), AllocError>
 
 /// Appends a line of a transcript in words, without its end.
 fn push_line(text: &mut Vec<u8>, source: &Source<'_>, line: &[u8]) -> Result<(), AllocError>
-    ensures { OnOk result (text.new.items ≡ text.old.items ++ line_words (view_lines source.now) line.now) }
+    ensures { OnOk result (text.new.items
+        ≡ text.old.items ++ line_words (view_lines source.now) line.now) }
 {
     let front = first_word(line);
     text.extend_from_slice(front)?;
@@ -43,8 +44,8 @@ fn push_line(text: &mut Vec<u8>, source: &Source<'_>, line: &[u8]) -> Result<(),
     push_result(text, later_words(later_words(line)))
 }
 
-/// Appends a step in words: the lines of its transcript, each with the call as it was written, and in the last what the
-/// step changed.
+/// Appends a step in words: the lines of its transcript, each with the call as it was written, and
+/// in the last what the step changed.
 pub fn write_step(
     text: &mut Vec<u8>,
     source: &Source<'_>,
@@ -67,9 +68,11 @@ pub fn write_step(
     text.extend_from_slice(b"\n")
 }
 
-/// Appends the call of a step in words, of whose transcript it is the last line: as it was written, with its result.
+/// Appends the call of a step in words, of whose transcript it is the last line: as it was written,
+/// with its result.
 pub fn write_call(text: &mut Vec<u8>, source: &Source<'_>, told: &[u8]) -> Result<(), AllocError>
-    ensures { OnOk result (text.new.items ≡ text.old.items ++ call_words (view_lines source.now) told.now) }
+    ensures { OnOk result (text.new.items
+        ≡ text.old.items ++ call_words (view_lines source.now) told.now) }
 {
     push_line(text, source, last_line(told))
 }

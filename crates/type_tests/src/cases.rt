@@ -6,7 +6,8 @@ use rez_declarations::{TypeStated, read_type};
 use rez_types::{CodingFault, Declaration, decode, encode};
 use std::alloc::Global;
 
-/// A declaration, the bytes of a resource in hexadecimal, and its values; no values where the bytes are no such resource.
+/// A declaration, the bytes of a resource in hexadecimal, and its values; no values where the bytes
+/// are no such resource.
 struct Row {
     declared: &'static str,
     bytes: &'static str,

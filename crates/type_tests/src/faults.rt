@@ -186,7 +186,8 @@ fn many_fields(alloc: Global, fields: usize) -> Result<String> {
     Ok(text)
 }
 
-/// Asserts that declarations are refused, each for its reason; an empty reason is that of one that is read.
+/// Asserts that declarations are refused, each for its reason; an empty reason is that of one that
+/// is read.
 fn assert_reasons(rt: &impl Abort, alloc: Global, rows: &[(&str, &str)]) -> Result<()> {
     for (text, reason) in rows {
         assert_eq!(rt; reason_of(alloc, text)?.as_str(), *reason, "of {text}");

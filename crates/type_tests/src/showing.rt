@@ -8,7 +8,8 @@ use rez_statements::{DeclaringStatement, datum_by, read_declaring};
 use rez_types::{Declaration, decode};
 use std::alloc::Global;
 
-/// A declaration, the bytes of a resource in hexadecimal, its text, and the text of the declaration.
+/// A declaration, the bytes of a resource in hexadecimal, its text, and the text of the
+/// declaration.
 struct Row {
     declared: &'static str,
     bytes: &'static str,

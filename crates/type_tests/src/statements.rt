@@ -4,7 +4,8 @@ use anyhow::{Context, Result, bail};
 use rez_statements::{Types, TypesFault};
 use std::alloc::Global;
 
-/// A declaration, a type, what stands between braces, and the bytes of the resource in hexadecimal, or why there are none.
+/// A declaration, a type, what stands between braces, and the bytes of the resource in hexadecimal,
+/// or why there are none.
 struct Row {
     declared: &'static str,
     ty: [u8; 4],

@@ -5,7 +5,8 @@ use rez_tokens::{Lexeme, Token};
 use rez_types::Value;
 use std::alloc::Global;
 
-/// Returns the token that a word spells: `_` stands for a blank in the characters between single quotes.
+/// Returns the token that a word spells: `_` stands for a blank in the characters between single
+/// quotes.
 fn lexeme_of(alloc: Global, word: &str) -> Result<Lexeme> {
     if let Some(name) = word.strip_prefix("$$") {
         return Ok(Lexeme::Function(Vec::from_slice(alloc, name.as_bytes())?));
@@ -48,8 +49,8 @@ pub fn tokens_of(alloc: Global, text: &str) -> Result<Vec<Token>> {
     Ok(tokens)
 }
 
-/// Returns a value as a word: a number, `#` and a count, a string after `=`, bytes of a fill after `$`, `+` before an element, `.`
-/// after the last one, and `@` and the place of a case.
+/// Returns a value as a word: a number, `#` and a count, a string after `=`, bytes of a fill after
+/// `$`, `+` before an element, `.` after the last one, and `@` and the place of a case.
 fn word_of(alloc: Global, value: &Value) -> Result<String> {
     Ok(match value {
         Value::Number(number) => format!(in alloc; "{number}")?,

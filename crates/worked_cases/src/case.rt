@@ -60,8 +60,8 @@ pub enum Kind {
     Launch(u32),
 }
 
-/// A worked case: a script, the files of its application, and the expected rows; or texts of scripts that are only
-/// read; or sizes with which the application is launched.
+/// A worked case: a script, the files of its application, and the expected rows; or texts of
+/// scripts that are only read; or sizes with which the application is launched.
 #[derive(Drop)]
 pub struct Case {
     pub title: String,
@@ -85,7 +85,8 @@ pub struct Case {
     pub zone: Vec<Piece>,
     /// What the rows are.
     pub kind: Kind,
-    /// The scripts that are only read, with ` / ` between two lines of a script; or the sizes of the launches.
+    /// The scripts that are only read, with ` / ` between two lines of a script; or the sizes of
+    /// the launches.
     pub texts: Vec<String>,
 }
 

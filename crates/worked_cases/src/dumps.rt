@@ -43,7 +43,8 @@ fn print_in(word: &str) -> Result<Print> {
     }
 }
 
-/// Reads the line of a dump: `list`, `draw` or `script`, the form and the addresses, and the bytes in hexadecimal.
+/// Reads the line of a dump: `list`, `draw` or `script`, the form and the addresses, and the bytes
+/// in hexadecimal.
 fn dump_in(alloc: Global, line: &str) -> Result<Dump> {
     let mut words = line.split_whitespace();
     let print = print_in(words.next().context("list, draw or script")?)?;
@@ -85,7 +86,8 @@ fn text_of(alloc: Global, dump: &Dump, found: FoundZone) -> Result<String> {
     Ok(String::from_utf8(answer.text)?)
 }
 
-/// Returns the lists, the pictures or the scripts of the zones in a dump, or of the damaged one that it has.
+/// Returns the lists, the pictures or the scripts of the zones in a dump, or of the damaged one
+/// that it has.
 fn described(alloc: Global, line: &str) -> Result<String> {
     let dump = dump_in(alloc, line)?;
     let len = dump.bytes.len();

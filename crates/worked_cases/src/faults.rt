@@ -6,7 +6,8 @@
 //! | `\| FAULT` | the next fault that is expected of that text |
 //! | `-- ..` | a comment |
 //!
-//! In a text `{N*TEXT}` stands for N repetitions of TEXT, and `{HH}` for the byte of two hexadecimal digits.
+//! In a text `{N*TEXT}` stands for N repetitions of TEXT, and `{HH}` for the byte of two
+//! hexadecimal digits.
 
 use anyhow::{Context, Result};
 use std::alloc::Global;

@@ -10,7 +10,8 @@ use mac_words::{Attrs, FileName, OsType};
 use res_calls::{File, Resources};
 use std::alloc::{AllocError, Global};
 
-/// Returns the bytes of a word: hexadecimal digits after a `$`, a text in quotes, or a number, which has two bytes.
+/// Returns the bytes of a word: hexadecimal digits after a `$`, a text in quotes, or a number,
+/// which has two bytes.
 pub fn bytes_of(alloc: Global, word: &str) -> Result<Vec<u8>> {
     if let Some(digits) = word.strip_prefix('$') {
         return Ok(hex::decode(alloc, digits)?);
@@ -21,7 +22,8 @@ pub fn bytes_of(alloc: Global, word: &str) -> Result<Vec<u8>> {
     Ok(Vec::from_slice(alloc, &word.parse::<u16>()?.to_be_bytes())?)
 }
 
-/// Returns the resource that a line spells as `'TYPE' ID ATTRIBUTES BYTES`, with or without a name after the bytes.
+/// Returns the resource that a line spells as `'TYPE' ID ATTRIBUTES BYTES`, with or without a name
+/// after the bytes.
 pub fn resource_of(alloc: Global, text: &str) -> Result<Resource> {
     let text = text.strip_prefix('\'').context("no type")?;
     let (ty, rest) = text.split_once("' ").context("no type")?;
@@ -115,7 +117,8 @@ fn file_of(alloc: Global, fork: &Fork) -> Result<File> {
     })
 }
 
-/// Returns the resources of an application that is launched with these files and with the fork of a System file.
+/// Returns the resources of an application that is launched with these files and with the fork of a
+/// System file.
 fn launched(alloc: Global, files: Vec<File>, system: &[u8]) -> Result<Resources>
     requires { 0 < length files.items }
 {
@@ -138,7 +141,8 @@ fn files_of(alloc: Global, own: &Fork, others: &[Fork]) -> Result<Vec<File>> {
     Ok(files)
 }
 
-/// Returns the resources of an application, given its own file, its other files and the System file.
+/// Returns the resources of an application, given its own file, its other files and the System
+/// file.
 pub fn resources_of(
     alloc: Global,
     own: &Fork,
@@ -172,7 +176,8 @@ fn row_of(
     Ok(row)
 }
 
-/// Appends the rows of a file that was written: one row with the length of the fork, and one row for each resource.
+/// Appends the rows of a file that was written: one row with the length of the fork, and one row
+/// for each resource.
 fn push_rows(alloc: Global, rows: &mut Vec<String>, file: &File) -> Result<()> {
     let name = String::from_utf8_lossy(alloc, file.name.0.as_slice())?;
     let Ok(content) = read_fork(alloc, &file.fork) else {

@@ -15,7 +15,8 @@ fn expected_lines(alloc: Global, case: &Faulty) -> Result<String> {
     Ok(lines)
 }
 
-/// Reports whether the faults are those that are expected, and writes what was found where they are not.
+/// Reports whether the faults are those that are expected, and writes what was found where they are
+/// not.
 fn are_expected(
     alloc: Global,
     case: &Faulty,
@@ -56,7 +57,8 @@ impl Kind {
     }
 }
 
-/// Tries the texts of a file, which are jobs in `jobs.faults`, and appends the differences to `differences`.
+/// Tries the texts of a file, which are jobs in `jobs.faults`, and appends the differences to
+/// `differences`.
 pub fn try_faults(
     alloc: Global,
     name: &str,

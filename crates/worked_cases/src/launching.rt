@@ -96,8 +96,8 @@ fn answer_of(alloc: Global, outcome: Result<Outcome, RunFault>) -> Result<String
     Ok(String::from_str(alloc, line.trim_end())?)
 }
 
-/// Launches the application of a case, with the size that a row gives for it, in a memory of `memory` bytes, over each
-/// maker of zones.
+/// Launches the application of a case, with the size that a row gives for it, in a memory of
+/// `memory` bytes, over each maker of zones.
 pub fn launch_case(alloc: Global, case: &Case, memory: u32, size: &str) -> Result<Answers> {
     ensure!(
         memory % 16 == 0 && LEAST_ZONE <= memory && memory <= GREATEST_ZONE,

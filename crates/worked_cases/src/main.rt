@@ -1,6 +1,6 @@
-//! Worked cases, kept as data: each script is run over lists and in the bytes of a region, and its transcript is
-//! compared, row by row, with the expected rows. So are launches, whose answers the desk's log has, what is said of faulty
-//! scripts and jobs, and what is printed of dumps.
+//! Worked cases, kept as data: each script is run over lists and in the bytes of a region, and its
+//! transcript is compared, row by row, with the expected rows. So are launches, whose answers the
+//! desk's log has, what is said of faulty scripts and jobs, and what is printed of dumps.
 #![tactic(auto)]
 
 mod case;

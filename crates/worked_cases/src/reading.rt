@@ -17,10 +17,11 @@
 //! | `reads` | each row below is a script, with ` / ` between two lines, that is only read: the answer is `read`, or the line and kind of the fault |
 //! | `launches SIZE` | each row below is a size that is given for the application, or `none`: the answer is that of its launch in a memory of SIZE bytes |
 //!
-//! Other lines are lines of the script without an expected answer, such as those of a grow-zone script. BYTES are `$`
-//! and hexadecimal digits, a text in quotes without blanks, or a number, which has two bytes. `N times LINE` stands for
-//! N lines, in which `#` is the number of the line, counted from 0; `{N*TEXT}` stands for N repetitions of the text,
-//! `{TAB}` for a tab, and `{CR}` for a carriage return.
+//! Other lines are lines of the script without an expected answer, such as those of a grow-zone
+//! script. BYTES are `$` and hexadecimal digits, a text in quotes without blanks, or a number,
+//! which has two bytes. `N times LINE` stands for N lines, in which `#` is the number of the line,
+//! counted from 0; `{N*TEXT}` stands for N repetitions of the text, `{TAB}` for a tab, and `{CR}`
+//! for a carriage return.
 
 use crate::case::{Case, Fork, Kind, Piece, Row};
 use crate::forks::{bytes_of, resource_of};
@@ -36,8 +37,8 @@ fn row_of(alloc: Global, line: usize, call: &str, answer: &str) -> Result<Row, A
     })
 }
 
-/// Takes a row with its answer: a call of the script, a call of the grow-zone script, a script that is only read, or
-/// the size of a launch.
+/// Takes a row with its answer: a call of the script, a call of the grow-zone script, a script that
+/// is only read, or the size of a launch.
 fn take_row(
     alloc: Global,
     case: &mut Case,
@@ -81,8 +82,8 @@ fn piece_of(alloc: Global, line: usize, text: &str) -> Result<Piece> {
     Ok(Piece { line, at, bytes })
 }
 
-/// Takes a line of a case whose first word is one of the words of a case, and reports whether the first word is one of
-/// them.
+/// Takes a line of a case whose first word is one of the words of a case, and reports whether the
+/// first word is one of them.
 fn take_word(alloc: Global, case: &mut Case, line: usize, word: &str, rest: &str) -> Result<bool> {
     match word {
         "script" => case.size = rest.parse::<u32>()?,
@@ -111,8 +112,8 @@ fn take_word(alloc: Global, case: &mut Case, line: usize, word: &str, rest: &str
     Ok(true)
 }
 
-/// Takes a line of a case: a call with its answer, a line whose first word is one of the words of a case, or a line of
-/// the script.
+/// Takes a line of a case: a call with its answer, a line whose first word is one of the words of a
+/// case, or a line of the script.
 fn take_one(alloc: Global, case: &mut Case, line: usize, text: &str) -> Result<()> {
     if let Some((call, answer)) = text.rsplit_once('|') {
         let call = call.trim_end_matches(' ');

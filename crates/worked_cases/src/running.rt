@@ -1,4 +1,5 @@
-//! Cases over both stores of blocks: the store that keeps lists, and the store in the bytes of a region.
+//! Cases over both stores of blocks: the store that keeps lists, and the store in the bytes of a
+//! region.
 
 ghost use Rattle.std.specs.Prelude.{◌≡◌, ◌%◌, ◌≤◌, [], IfOk, length};
 ghost use Rattle.block_store.specs.declared.measures.TheConstants.{GREATEST_ZONE, LEAST_ZONE};
@@ -14,7 +15,8 @@ use res_calls::Resources;
 use script_text::Script;
 use std::alloc::{AllocError, Global};
 
-/// The transcripts and files of an application over each store, and the bytes of its zone in the region.
+/// The transcripts and files of an application over each store, and the bytes of its zone in the
+/// region.
 #[derive(Drop)]
 pub struct Runs {
     pub in_lists: Given,

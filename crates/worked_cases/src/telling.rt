@@ -11,7 +11,8 @@ fn names(first: &str, word: &str) -> bool {
     }
 }
 
-/// Returns the line of a script that has the given number, where the line begins with a name of the call `word`.
+/// Returns the line of a script that has the given number, where the line begins with a name of the
+/// call `word`.
 fn call_at<'s>(script: &'s [&'s str], number: &str, word: &str) -> Option<&'s str> {
     let index = number.parse::<usize>().ok()?.checked_sub(1)?;
     let call = script.get(index)?;
@@ -21,7 +22,8 @@ fn call_at<'s>(script: &'s [&'s str], number: &str, word: &str) -> Option<&'s st
     }
 }
 
-/// Returns a line of a transcript as a row. A line that belongs to no line of the script stays as it is.
+/// Returns a line of a transcript as a row. A line that belongs to no line of the script stays as
+/// it is.
 fn row_of(alloc: Global, script: &[&str], came: &str) -> Result<String, AllocError> {
     let (mark, rest) = match came.strip_prefix('+') {
         Some(rest) => ("+ ", rest),

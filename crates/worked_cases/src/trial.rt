@@ -75,8 +75,8 @@ fn expected(alloc: Global, case: &Case) -> Result<Vec<(usize, String)>, AllocErr
     }
 }
 
-/// Returns the first row that differs: the number of its line in the file of cases, the expected row, and the row that
-/// came.
+/// Returns the first row that differs: the number of its line in the file of cases, the expected
+/// row, and the row that came.
 fn first_difference<'r>(
     expected: &'r [(usize, String)],
     came: &'r [String],
@@ -92,8 +92,8 @@ fn first_difference<'r>(
     Some((*line, "nothing more", more.as_str()))
 }
 
-/// Returns the rows of an application: those of its launch, its calls and its end, and those of the files that it
-/// wrote.
+/// Returns the rows of an application: those of its launch, its calls and its end, and those of the
+/// files that it wrote.
 fn rows_by(alloc: Global, case: &Case, given: Given) -> Result<Vec<String>> {
     let written = written_rows(alloc, given.files())?;
     let transcript = String::from_utf8_lossy(alloc, &given.into_transcript())?;
@@ -131,7 +131,8 @@ fn lies(zone: &[u8], piece: &Piece) -> bool {
     zone.get(piece.at..end) == Some(piece.bytes.as_slice())
 }
 
-/// Appends the first bytes that do not stand in the zone to `text`, and reports whether all bytes stand there.
+/// Appends the first bytes that do not stand in the zone to `text`, and reports whether all bytes
+/// stand there.
 fn is_laid(
     alloc: Global,
     name: &str,
@@ -189,8 +190,8 @@ fn try_texts(alloc: Global, name: &str, case: &Case, text: &mut String) -> Resul
     Ok(is_as_expected(alloc, name, case, "as it is read", &came, text)?)
 }
 
-/// Launches the application of a case with each of its sizes, over each maker of zones, and reports whether all answers
-/// are as expected.
+/// Launches the application of a case with each of its sizes, over each maker of zones, and reports
+/// whether all answers are as expected.
 fn try_launches(
     alloc: Global,
     name: &str,

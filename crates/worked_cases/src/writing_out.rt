@@ -1,4 +1,5 @@
-//! Writing out the lines of a file of cases: a line that stands for several lines, and a text in braces.
+//! Writing out the lines of a file of cases: a line that stands for several lines, and a text in
+//! braces.
 
 use anyhow::{Context, Result};
 use std::alloc::Global;
@@ -15,7 +16,8 @@ pub fn numbered(alloc: Global, line: &str, number: u16) -> Result<String> {
     Ok(line.replace(alloc, '#', &number)?)
 }
 
-/// Returns the text that a text in braces stands for: `N*TEXT`, a `TAB`, or a carriage return, `CR`.
+/// Returns the text that a text in braces stands for: `N*TEXT`, a `TAB`, or a carriage return,
+/// `CR`.
 fn piece(alloc: Global, braced: &str) -> Result<String> {
     match braced {
         "TAB" => Ok(String::from_str(alloc, "\t")?),

@@ -1,13 +1,15 @@
-//! Reading an archive. A line `$ WORDS` begins a command, and a line `-- NAME --` begins a part. The lines below a
-//! part's line are the text of the part; the lines below no part are for the reader of the archive. A part whose name
-//! is one of `EXPECTED`, or `> PATH`, says what the command above it is to print or write. A part of any other name is a
-//! file of that name, which each command of the archive can read.
+//! Reading an archive. A line `$ WORDS` begins a command, and a line `-- NAME --` begins a part.
+//! The lines below a part's line are the text of the part; the lines below no part are for the
+//! reader of the archive. A part whose name is one of `EXPECTED`, or `> PATH`, says what the
+//! command above it is to print or write. A part of any other name is a file of that name, which
+//! each command of the archive can read.
 
 use crate::parts::{Part, part_of, spelled};
 use anyhow::Result;
 use std::alloc::{AllocError, Global};
 
-/// The names of the parts that say what a command is to print or do, besides `> PATH` for a file that is written.
+/// The names of the parts that say what a command is to print or do, besides `> PATH` for a file
+/// that is written.
 const EXPECTED: &[&str] = &[
     "stdout",
     "stdout has",

@@ -1,4 +1,5 @@
-//! Comparing what a command did with what it is to do. Each difference is written in one line, or in three.
+//! Comparing what a command did with what it is to do. Each difference is written in one line, or
+//! in three.
 
 use crate::archive::Command;
 use crate::parts::Part;
@@ -63,8 +64,8 @@ pub fn compare(
     }
 }
 
-/// Appends the first expected line that does not stand in a text after the expected line before it. An expected line may be a
-/// part of a line.
+/// Appends the first expected line that does not stand in a text after the expected line before it.
+/// An expected line may be a part of a line.
 pub fn compare_some(
     text: &mut String,
     name: &str,

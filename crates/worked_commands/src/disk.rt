@@ -8,8 +8,8 @@ use applications::Watch;
 use commands::{Host, ReadError, WriteError};
 use std::alloc::{AllocError, Global};
 
-/// A host with the files of an archive. The host notes each request in a line, and keeps the bytes that are printed and
-/// the files that are written.
+/// A host with the files of an archive. The host notes each request in a line, and keeps the bytes
+/// that are printed and the files that are written.
 #[derive(Drop)]
 pub struct Disk<'a> {
     alloc: Global,

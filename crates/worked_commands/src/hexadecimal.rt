@@ -1,7 +1,8 @@
-//! Bytes that are spelled in lines of words; a line that begins with `#` is a comment. A word is hexadecimal digits, a
-//! text in quotes without blanks, or `N*` and one of these two, which stands for N repetitions. `N times LINE` stands
-//! for N lines, in each of which a word `%` is the two bytes of the line's number, counted from 0; with `N times by K
-//! LINE` the numbers are 0, K, 2 K and so on.
+//! Bytes that are spelled in lines of words; a line that begins with `#` is a comment. A word is
+//! hexadecimal digits, a text in quotes without blanks, or `N*` and one of these two, which stands
+//! for N repetitions. `N times LINE` stands for N lines, in each of which a word `%` is the two
+//! bytes of the line's number, counted from 0; with `N times by K LINE` the numbers are 0, K, 2 K
+//! and so on.
 
 use crate::lines::step_of;
 use anyhow::{Context, Result};

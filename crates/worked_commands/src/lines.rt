@@ -1,6 +1,6 @@
-//! Lines that are abbreviated. `N times LINE` stands for N lines, in each of which `%` is the line's number, counted
-//! from 1; with `N times by K LINE` the numbers are K, 2 K and so on; and `LINE and N zeros` stands for a line with N
-//! digits 0 at its end.
+//! Lines that are abbreviated. `N times LINE` stands for N lines, in each of which `%` is the
+//! line's number, counted from 1; with `N times by K LINE` the numbers are K, 2 K and so on; and
+//! `LINE and N zeros` stands for a line with N digits 0 at its end.
 
 use anyhow::Result;
 use std::alloc::{AllocError, Global};

@@ -1,5 +1,5 @@
-//! Worked commands, kept as data: each archive holds command lines, the files that the commands read, and what each
-//! command is to print and write. The commands are run with a host in memory.
+//! Worked commands, kept as data: each archive holds command lines, the files that the commands
+//! read, and what each command is to print and write. The commands are run with a host in memory.
 #![tactic(auto)]
 
 mod archive;
@@ -25,8 +25,8 @@ fn archive_at<R: Files + AllocGlobal>(rt: &R, folder: &str, name: &str) -> Resul
     Ok(read_archive(rt.alloc(), &text).context(format_args!("{name}"))?)
 }
 
-/// Tries the commands of an archive, and returns the number of commands that do what they are to do, and the
-/// differences of the others.
+/// Tries the commands of an archive, and returns the number of commands that do what they are to
+/// do, and the differences of the others.
 fn try_all(alloc: Global, archive: &Archive) -> Result<(usize, String)> {
     let mut well: usize = 0;
     let mut text = String::new(alloc);
@@ -41,7 +41,8 @@ fn try_all(alloc: Global, archive: &Archive) -> Result<(usize, String)> {
     Ok((well, text))
 }
 
-/// Tries an archive, prints a line for the archive and the differences, and reports whether there is no difference.
+/// Tries an archive, prints a line for the archive and the differences, and reports whether there
+/// is no difference.
 fn try_file<R: Files + Print + AllocGlobal>(rt: &R, folder: &str, name: &str) -> Result<bool> {
     let archive = archive_at(rt, folder, name)?;
     let (well, text) = try_all(rt.alloc(), &archive)?;

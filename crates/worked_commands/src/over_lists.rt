@@ -1,5 +1,5 @@
-//! A job is run once more with its zones kept in lists, and once with its zones in the bytes of a region. Both runs are to
-//! leave the same outcome, and the files that the command is to write.
+//! A job is run once more with its zones kept in lists, and once with its zones in the bytes of a
+//! region. Both runs are to leave the same outcome, and the files that the command is to write.
 
 ghost use Rattle.std.specs.Prelude.{◌≡◌, ◌%◌, ◌≤◌, [], IfOk, length};
 ghost use Rattle.block_store.specs.declared.measures.TheConstants.{GREATEST_ZONE, LEAST_ZONE};
@@ -16,7 +16,8 @@ use raw_region::Region;
 use script_text::read_job;
 use std::alloc::{AllocError, Global};
 
-/// Returns the job of this path with all files that its lines name, or `None` where a file cannot be read or is faulty.
+/// Returns the job of this path with all files that its lines name, or `None` where a file cannot
+/// be read or is faulty.
 fn job_at(alloc: Global, archive: &Archive, path: &str) -> Option<GatheredJob> {
     let bytes = archive.file(path)?;
     let mut disk = Disk::new(alloc, archive, 0);
@@ -48,7 +49,8 @@ struct Ends {
     in_region: Result<Outcome, RunFault>,
 }
 
-/// Runs a job over both makers of zones. Returns `None` where no job has its memory, or the host is out of memory.
+/// Runs a job over both makers of zones. Returns `None` where no job has its memory, or the host is
+/// out of memory.
 fn ends_of(alloc: Global, job: &Job) -> Option<Ends> {
     let memory = job.memory;
     if memory % 16 != 0 || memory < LEAST_ZONE || GREATEST_ZONE < memory || 64 < job.apps.len() {
@@ -78,7 +80,8 @@ fn text_of(alloc: Global, end: &Result<Outcome, RunFault>) -> Result<String, All
     }
 }
 
-/// Appends the differences between the files that an outcome leaves and the files that the command is to write.
+/// Appends the differences between the files that an outcome leaves and the files that the command
+/// is to write.
 fn compare_written(
     alloc: Global,
     text: &mut String,
@@ -96,8 +99,8 @@ fn compare_written(
     }
 }
 
-/// Appends the differences between the outcomes of a job over both makers of zones, and between the files of the first
-/// and those that the command is to write, where it is done.
+/// Appends the differences between the outcomes of a job over both makers of zones, and between the
+/// files of the first and those that the command is to write, where it is done.
 fn compare_job(
     alloc: Global,
     text: &mut String,
@@ -132,9 +135,10 @@ fn changes_run(word: &str) -> bool {
     word.starts_with("--size") || word == "--text"
 }
 
-/// Runs the job of a command line once more over each maker of zones, and appends the differences between the outcomes,
-/// and between the files that they leave and those that the command is to write, where it is done; but not where words ask for
-/// other sizes or for words. The paths of the job and of the folder are the last two words that are no options.
+/// Runs the job of a command line once more over each maker of zones, and appends the differences
+/// between the outcomes, and between the files that they leave and those that the command is to
+/// write, where it is done; but not where words ask for other sizes or for words. The paths of the
+/// job and of the folder are the last two words that are no options.
 pub fn compare_in_lists(
     alloc: Global,
     text: &mut String,

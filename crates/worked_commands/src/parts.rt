@@ -1,5 +1,5 @@
-//! The parts of an archive. The text of a part whose name ends in `.hex` or `.lines` spells its bytes as the modules of
-//! these names say; the text of any other part is its bytes.
+//! The parts of an archive. The text of a part whose name ends in `.hex` or `.lines` spells its
+//! bytes as the modules of these names say; the text of any other part is its bytes.
 
 use crate::hexadecimal::bytes_of;
 use crate::lines::lines_of;

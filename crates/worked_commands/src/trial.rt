@@ -51,8 +51,8 @@ fn outcome_of<'a>(
     })
 }
 
-/// Compares bytes with a part, or with the lines of a part that are to stand in the bytes. Where the command has
-/// neither part, no bytes are expected.
+/// Compares bytes with a part, or with the lines of a part that are to stand in the bytes. Where
+/// the command has neither part, no bytes are expected.
 fn compare_part(
     text: &mut String,
     command: &Command,
@@ -65,8 +65,8 @@ fn compare_part(
     }
 }
 
-/// Returns the expected status: that of the part `status`, or else 1 where the command has a part `stderr`, and 0
-/// otherwise.
+/// Returns the expected status: that of the part `status`, or else 1 where the command has a part
+/// `stderr`, and 0 otherwise.
 fn expected_status(command: &Command) -> &[u8] {
     match (command.expects("status"), command.expects("stderr")) {
         (Some(status), _) => status,
@@ -100,8 +100,9 @@ fn compare_outcome(
     compare_files(text, command, &disk.written)
 }
 
-/// Appends the differences of a command whose last request to the host fails. The command is to print exactly that
-/// fault, to make no further request, and to have written nothing where it could not read.
+/// Appends the differences of a command whose last request to the host fails. The command is to
+/// print exactly that fault, to make no further request, and to have written nothing where it could
+/// not read.
 fn compare_failed(
     alloc: Global,
     text: &mut String,
@@ -122,7 +123,8 @@ fn compare_failed(
     Ok(())
 }
 
-/// Runs a command again for each of its requests to the host, of which that request fails, and appends the differences.
+/// Runs a command again for each of its requests to the host, of which that request fails, and
+/// appends the differences.
 fn compare_failures(
     alloc: Global,
     text: &mut String,

@@ -86,7 +86,8 @@ module _ (bs : List Block) (g : ℕ) (s : State) (stay : Stay bs) (is : s.zone �
           heap = ap (λ (t : Sought). heap_after (rows.given Pointer nothing t s) s) found
               ∙ ap (λ z. let h : State = record { zone = z; names = s.names ++ Pointer ∷ [] } in h)
               (did-first (Base (new_pointer_block n)) s.zone _ at)
-              ∙ ap (λ k. let h : State = record { zone = bs ++ new_pointer_block n ∷ free (g - k); names = s.names ++ Pointer ∷ [] } in h) same;
+              ∙ ap
+              (λ k. let h : State = record { zone = bs ++ new_pointer_block n ∷ free (g - k); names = s.names ++ Pointer ∷ [] } in h) same;
         }
       where
         new_pointer_block : ℕ → Block
@@ -98,7 +99,10 @@ module _ (bs : List Block) (g : ℕ) (s : State) (stay : Stay bs) (is : s.zone �
     -- a new relocatable block, where a master pointer is unused
     pub new_handle-done : (n : ℕ) → nat_lt (used_slots s) (all_slots s) ≡ true → n ≤ 2147483616 → padded n ≤ g
         → Leaves (rows.new_handle n) s (length s.names)
-        (record { zone = bs ++ Relocatable (length s.names) no_flags (replicate n 0) ∷ free (g - padded n); names = s.names ++ Handle Plain ∷ [] })
+        (record {
+          zone = bs ++ Relocatable (length s.names) no_flags (replicate n 0) ∷ free (g - padded n);
+          names = s.names ++ Handle Plain ∷ [];
+        })
     new_handle-done n unused small fits =
         let same = ap padded (length-replicate {A = ℕ} n 0) in
         let at = placed (new_block n) refl (omega arith) (omega (arith, same)) in
@@ -109,7 +113,8 @@ module _ (bs : List Block) (g : ℕ) (s : State) (stay : Stay bs) (is : s.zone �
           heap = ap (λ (t : Sought). heap_after (rows.given (Handle Plain) nothing t s) s) found
               ∙ ap (λ z. let h : State = record { zone = z; names = s.names ++ Handle Plain ∷ [] } in h)
               (did-first (Put (new_block n)) s.zone _ at)
-              ∙ ap (λ k. let h : State = record { zone = bs ++ new_block n ∷ free (g - k); names = s.names ++ Handle Plain ∷ [] } in h) same;
+              ∙ ap
+              (λ k. let h : State = record { zone = bs ++ new_block n ∷ free (g - k); names = s.names ++ Handle Plain ∷ [] } in h) same;
         }
       where
         new_block : ℕ → Block

@@ -61,8 +61,8 @@ end-one (Relocated master flags size) lines m b holds below n names above s low 
         → Stands (tidy (below ++ Relocatable n (record { locked = t; purgeable = flags.purgeable }) (replicate size 0) ∷ above)) names m'
         → Runs lines m' b holds
     go t e m' s' = next m' names (subst (λ z. Stands z names m')
-        (ap (λ u. tidy (below ++ Relocatable n (record { locked = u; purgeable = flags.purgeable }) (replicate size 0) ∷ above)) (sym e)) s')
-        (λ left k less all. all)
+        (ap (λ u. tidy (below ++ Relocatable n (record { locked = u; purgeable = flags.purgeable }) (replicate size 0) ∷ above)) (sym e))
+        s') (λ left k less all. all)
 
     unlocked : (t : Bool) → flags.locked ≡ t
         → Runs (cond t [] (HUnlock (name_of (Relocated master flags size)) ∷ []) ++ lines) m b holds
@@ -72,16 +72,16 @@ end-one (Relocated master flags size) lines m b holds below n names above s low 
         (tidy above) names bound known s
         (spot-relocatable n (record flags { locked = true }) (replicate size 0) below above (same-number n) ((low n (omega arith)).handle))
         (λ m' s'. go false e m' (subst (λ z. Stands z names m')
-        (sym (tidy-parted below (Relocatable n (record { locked = false; purgeable = flags.purgeable }) (replicate size 0)) above refl)) s'))
+        (sym (tidy-parted below (Relocatable n (record { locked = false; purgeable = flags.purgeable }) (replicate size 0)) above refl))
+        s'))
 end-one (Fixed address size) lines m b holds below n names above s low none known bound next =
     next m names s (λ left k less all. all)
 end-one (Gap address size) lines m b holds below n names above s low none known bound next =
-    step (DisposePtr (name_of (Gap address size))) lines m b holds Done _ (tidy (below ++ Free (padded size) ∷ above)) (slice_set names n Disposed)
-    (subst (λ o. Serves (asks.DisposePtr o) m Done
+    step (DisposePtr (name_of (Gap address size))) lines m b holds Done _ (tidy (below ++ Free (padded size) ∷ above))
+    (slice_set names n Disposed) (subst (λ o. Serves (asks.DisposePtr o) m Done
     (record { zone = tidy (freed (is_nonrelocatable n) m.heap.zone); names = slice_set m.heap.names n Disposed })) (sym bound)
     (serves-dispose n m (record { below = tidy below; here = Nonrelocatable n (replicate size 0); above = tidy above }) s.calm
-    (ap (λ (h : State). slice_get h.names n) s.heap ∙ known)
-    (ap (λ (h : State). spot (is_nonrelocatable n) h.zone) s.heap
+    (ap (λ (h : State). slice_get h.names n) s.heap ∙ known) (ap (λ (h : State). spot (is_nonrelocatable n) h.zone) s.heap
     ∙ spot-nonrelocatable n (replicate size 0) below above (same-number n) ((low n (omega arith)).pointer))))
     (ap (λ (h : State). let k : State = record {
       zone = tidy (freed (is_nonrelocatable n) h.zone);

@@ -48,7 +48,9 @@ pub stay-run : (p n : ℕ) (bs : List Block) → Stay bs → 0 < p → p ≤ n
 stay-run p n [] s some fits = cond-true (has_free p (Free n ∷ [])) _ _ (grind (arith, nat_tests))
 stay-run p n (b ∷ bs) s some fits =
     ap (λ (g : Segments). lowest_run (has_free p) g.first g.rest)
-    (cond-false {A = Segments} (in_run b) _ (record { first = []; rest = record { barrier = b; run = (segments (bs ++ Free n ∷ [])).first } ∷ (segments (bs ++ Free n ∷ [])).rest }) s.0)
+    (cond-false {A = Segments} (in_run b) _
+    (record { first = []; rest = record { barrier = b; run = (segments (bs ++ Free n ∷ [])).first } ∷ (segments (bs ++ Free n ∷ [])).rest })
+    s.0)
     ∙ cond-false (has_free p []) _ _ (grind (arith, nat_tests))
     ∙ ap (option_map (run_raised (b ∷ []))) (stay-run p n bs s.1 some fits)
 

@@ -1,5 +1,5 @@
-use Rattle.std.proofs.Common.{◌≡◌, ℕ, ◌+◌, ◌-◌, ◌*◌, ◌≤◌, zero, suc, Bool, true, false, List, [], ◌∷◌, ◌++◌, refl, sym, ◌∙◌, ap, cond, subst, map}
-use Rattle.std.proofs.Common.{Some, None, arith, length, replicate, nat_lt, slice_get, append_assoc, append-nil, count_by}
+use Rattle.std.proofs.Common.{◌≡◌, ℕ, ◌+◌, ◌-◌, ◌*◌, ◌≤◌, zero, suc, Bool, true, false, List, [], ◌∷◌, ◌++◌, refl, sym, ◌∙◌, ap, cond}
+use Rattle.std.proofs.Common.{subst, map, Some, None, arith, length, replicate, nat_lt, slice_get, append_assoc, append-nil, count_by}
 use Rattle.std.specs.Prelude.{flat_map}
 use Rattle.std.proofs.lemmas.Bool.Decides.{nat_tests}
 use Rattle.std.proofs.lemmas.List.{length-append}
@@ -18,7 +18,8 @@ use Rattle.zone_script_laws.specs.Runs.{Runs}
 use Rattle.zone_script_laws.proofs.Fixed.{Stay, stay-append}
 use Rattle.zone_script_laws.proofs.Parted.{spot-first}
 use Rattle.zone_script_laws.proofs.Calls.{more_masters-done, new_pointer-done, new_handle-done}
-use Rattle.zone_script_laws.proofs.Serving.{Serves, serves-more_masters, serves-new_pointer, serves-new_handle, serves-lock, serves-unlock, serves-purge}
+use Rattle.zone_script_laws.proofs.Serving.{Serves, serves-more_masters, serves-new_pointer, serves-new_handle, serves-lock, serves-unlock}
+use Rattle.zone_script_laws.proofs.Serving.{serves-purge}
 use Rattle.zone_script_laws.proofs.Steps.{Stands, step, bind-new, bound-new, bindings, NoneBound, none-bound-more, get-new}
 use Rattle.zone_script_laws.proofs.Numbers.{held, Below, below-held, held-stays, masters-held, masters-free, same-number}
 
@@ -160,7 +161,8 @@ handle-one name flags size rest m b holds bs g names s stay low slots fits small
         → Stands (block (record { locked = true; purgeable = t })) (names ++ Handle Plain ∷ []) m' → Runs rest m' names-bound holds
     finish t e m' s' = next m' (subst (λ z. Stands z (names ++ Handle Plain ∷ []) m')
         (ap (λ u. block (record { locked = true; purgeable = u })) (sym e)
-        ∙ sym (append_assoc bs (Relocatable (length names) (record flags { locked = true }) (replicate size 0) ∷ []) (free (g - padded size)))) s')
+        ∙ sym (append_assoc bs (Relocatable (length names) (record flags { locked = true }) (replicate size 0) ∷ [])
+        (free (g - padded size)))) s')
 
     purged : (t : Bool) → flags.purgeable ≡ t → (m' : Memory)
         → Stands (block (record { locked = true; purgeable = false })) (names ++ Handle Plain ∷ []) m'
@@ -232,5 +234,6 @@ making-all (p ∷ left) rest m b holds bs g names s stay low slots fits small no
     (subst (λ k. Below k (bs ++ held n p ∷ [])) (sym len) (below-held n p bs low))
     (slots-more n p left names bs slots) (omega arith) (omega arith) (none-bound-more (name_of p) n b left none.1 differ.0) differ.1
     (λ m'' s''. subst (λ c. Runs rest m'' c holds) (sym bound) (next m''
-    (subst (λ l. Stands ((bs ++ numbered held n (p ∷ left)) ++ free (g - (physical p + bytes_of left))) l m'') (append_assoc names (meaning p ∷ []) (map meaning left))
+    (subst (λ l. Stands ((bs ++ numbered held n (p ∷ left)) ++ free (g - (physical p + bytes_of left))) l m'')
+    (append_assoc names (meaning p ∷ []) (map meaning left))
     (subst (λ z. Stands z ((names ++ meaning p ∷ []) ++ map meaning left) m'') (λ i. blocks i ++ free (e i)) s''))))))

@@ -1,5 +1,5 @@
-use Rattle.std.proofs.Common.{◌≡◌, ℕ, ◌+◌, ◌-◌, ◌/◌, ◌%◌, ◌≤◌, ◌<◌, zero, suc, Bool, true, false, ◌==◌, ◌&&◌, not, nat_le, nat_lt, List, [], ◌∷◌, ◌++◌}
-use Rattle.std.proofs.Common.{refl, sym, ◌∙◌, ap, cond, subst, map, arith, length, get_or, bytes_eq, Option, Some, None}
+use Rattle.std.proofs.Common.{◌≡◌, ℕ, ◌+◌, ◌-◌, ◌/◌, ◌%◌, ◌≤◌, ◌<◌, zero, suc, Bool, true, false, ◌==◌, ◌&&◌, not, nat_le, nat_lt, List, []}
+use Rattle.std.proofs.Common.{◌∷◌, ◌++◌, refl, sym, ◌∙◌, ap, cond, subst, map, arith, length, get_or, bytes_eq, Option, Some, None}
 use Rattle.std.specs.List.{list_all}
 use Rattle.std.specs.Option.{option_to_list}
 use Rattle.std.proofs.lemmas.Bool.{cond-true, cond-false, and_parts, leb-true, eqb-true, eqb-false, false_from_ne_true}
@@ -35,13 +35,16 @@ unhex-digit : (d : ℕ) → d < 16 → unhex (hex_digit d) ≡ d
 unfolding unhex
 unhex-digit d small = cases (nat_lt d 10) refl
   where
-    cases : (t : Bool) → nat_lt d 10 ≡ t → cond {A = ℕ} (nat_lt (cond t (48 + d) (55 + d)) 58) (cond t (48 + d) (55 + d) - 48) (cond t (48 + d) (55 + d) - 55) ≡ d
+    cases : (t : Bool) → nat_lt d 10 ≡ t
+        → cond {A = ℕ} (nat_lt (cond t (48 + d) (55 + d)) 58) (cond t (48 + d) (55 + d) - 48) (cond t (48 + d) (55 + d) - 55) ≡ d
     cases true e =
         let l : d < 10 = grind (arith, nat_tests) in
-        cond-true {A = ℕ} (nat_lt (48 + d) 58) (48 + d - 48) (48 + d - 55) (grind (arith, nat_tests)) ∙ (let z : 48 + d - 48 ≡ d = omega arith in z)
+        cond-true {A = ℕ} (nat_lt (48 + d) 58) (48 + d - 48) (48 + d - 55) (grind (arith, nat_tests))
+        ∙ (let z : 48 + d - 48 ≡ d = omega arith in z)
     cases false e =
         let l : 10 ≤ d = grind (arith, nat_tests) in
-        cond-false {A = ℕ} (nat_lt (55 + d) 58) (55 + d - 48) (55 + d - 55) (grind (arith, nat_tests)) ∙ (let z : 55 + d - 55 ≡ d = omega arith in z)
+        cond-false {A = ℕ} (nat_lt (55 + d) 58) (55 + d - 48) (55 + d - 55) (grind (arith, nat_tests))
+        ∙ (let z : 55 + d - 55 ≡ d = omega arith in z)
 
 same-hex : (x y : ℕ) → hex_digit (x % 16) ≡ hex_digit (y % 16) → x % 16 ≡ y % 16
 same-hex x y e = sym (unhex-digit (x % 16) (omega arith)) ∙ ap unhex e ∙ unhex-digit (y % 16) (omega arith)
@@ -81,11 +84,16 @@ pub same-address : (a b : ℕ) → a < 4294967296 → b < 4294967296 → hex_tex
 unfolding hex_text digit_at
 same-address a b sa sb e =
     let q7 = first-digit a b sa sb (same-hex (a / 0x10000000) (b / 0x10000000) (ap (λ l. get_or l 0 0) e)) in
-    let q6 = one-digit (a / 0x1000000) (b / 0x1000000) (next-6 a ∙ q7 ∙ sym (next-6 b)) (same-hex (a / 0x1000000) (b / 0x1000000) (ap (λ l. get_or l 1 0) e)) in
-    let q5 = one-digit (a / 0x100000) (b / 0x100000) (next-5 a ∙ q6 ∙ sym (next-5 b)) (same-hex (a / 0x100000) (b / 0x100000) (ap (λ l. get_or l 2 0) e)) in
-    let q4 = one-digit (a / 0x10000) (b / 0x10000) (next-4 a ∙ q5 ∙ sym (next-4 b)) (same-hex (a / 0x10000) (b / 0x10000) (ap (λ l. get_or l 3 0) e)) in
-    let q3 = one-digit (a / 0x1000) (b / 0x1000) (next-3 a ∙ q4 ∙ sym (next-3 b)) (same-hex (a / 0x1000) (b / 0x1000) (ap (λ l. get_or l 4 0) e)) in
-    let q2 = one-digit (a / 0x100) (b / 0x100) (next-2 a ∙ q3 ∙ sym (next-2 b)) (same-hex (a / 0x100) (b / 0x100) (ap (λ l. get_or l 5 0) e)) in
+    let q6 = one-digit (a / 0x1000000) (b / 0x1000000) (next-6 a ∙ q7 ∙ sym (next-6 b))
+    (same-hex (a / 0x1000000) (b / 0x1000000) (ap (λ l. get_or l 1 0) e)) in
+    let q5 = one-digit (a / 0x100000) (b / 0x100000) (next-5 a ∙ q6 ∙ sym (next-5 b))
+    (same-hex (a / 0x100000) (b / 0x100000) (ap (λ l. get_or l 2 0) e)) in
+    let q4 = one-digit (a / 0x10000) (b / 0x10000) (next-4 a ∙ q5 ∙ sym (next-4 b))
+    (same-hex (a / 0x10000) (b / 0x10000) (ap (λ l. get_or l 3 0) e)) in
+    let q3 =
+    one-digit (a / 0x1000) (b / 0x1000) (next-3 a ∙ q4 ∙ sym (next-3 b)) (same-hex (a / 0x1000) (b / 0x1000) (ap (λ l. get_or l 4 0) e)) in
+    let q2 =
+    one-digit (a / 0x100) (b / 0x100) (next-2 a ∙ q3 ∙ sym (next-2 b)) (same-hex (a / 0x100) (b / 0x100) (ap (λ l. get_or l 5 0) e)) in
     let q1 = one-digit (a / 0x10) (b / 0x10) (next-1 a ∙ q2 ∙ sym (next-1 b)) (same-hex (a / 0x10) (b / 0x10) (ap (λ l. get_or l 6 0) e)) in
     let q0 = one-digit (a / 1) (b / 1) (next-0 a ∙ q1 ∙ sym (next-0 b)) (same-hex (a / 1) (b / 1) (ap (λ l. get_or l 7 0) e)) in
     sym (alone-0 a) ∙ q0 ∙ alone-0 b
@@ -116,7 +124,8 @@ unfolding keeps_rules block_rules
 owner-none f zone bytes at keeps = cases (has_room bytes at) keeps
   where
     cases : (t : Bool) → is_empty (cond (not t) (rule.HeapLength ∷ []) ((option_to_list (length_rule f bytes at)
-        ++ option_to_list (kind_rule (tag_at bytes at) f bytes at)) ++ option_to_list (owner_rule (tag_at bytes at) f zone bytes at))) ≡ true
+        ++ option_to_list (kind_rule (tag_at bytes at) f bytes at)) ++ option_to_list (owner_rule (tag_at bytes at) f zone bytes at)))
+        ≡ true
         → owner_rule (tag_at bytes at) f zone bytes at ≡ None
     cases true e = last-none (option_to_list (length_rule f bytes at) ++ option_to_list (kind_rule (tag_at bytes at) f bytes at))
         (owner_rule (tag_at bytes at) f zone bytes at) e
@@ -142,7 +151,8 @@ led f zone bytes at keeps is =
     (master_at f bytes (owner_at f bytes at) == zone + at + header_size f) none in
     let parts = and_parts (nat_le 52 (owner_at f bytes at) && nat_le (owner_at f bytes at + 4) (length bytes)) _ two.0 in
     record {
-      inside = leb-true (owner_at f bytes at + 4) (length bytes) (and_parts (nat_le 52 (owner_at f bytes at)) (nat_le (owner_at f bytes at + 4) (length bytes)) parts.0).1;
+      inside = leb-true (owner_at f bytes at + 4) (length bytes)
+          (and_parts (nat_le 52 (owner_at f bytes at)) (nat_le (owner_at f bytes at + 4) (length bytes)) parts.0).1;
       leads = eqb-true (master_at f bytes (owner_at f bytes at)) (zone + at + header_size f) two.1;
     }
 
@@ -178,8 +188,8 @@ module _ (f : Form) (zone : ℕ) (bytes : List ℕ) (small : zone + length bytes
     same-master a b less la lb e =
         let la-in = la.inside in
         let lb-in = lb.inside in
-        let m = same-address ((zone + owner_at f bytes b) % 0x100000000) ((zone + owner_at f bytes a) % 0x100000000) (omega arith) (omega arith)
-        (same-rest 104 104 _ _ e) in
+        let m = same-address ((zone + owner_at f bytes b) % 0x100000000) ((zone + owner_at f bytes a) % 0x100000000) (omega arith)
+        (omega arith) (same-rest 104 104 _ _ e) in
         let o : owner_at f bytes b ≡ owner_at f bytes a = omega arith in
         let z : zone + b + header_size f ≡ zone + a + header_size f = sym lb.leads ∙ ap (master_at f bytes) o ∙ la.leads in
         absurd (omega arith)
@@ -265,7 +275,8 @@ module _ (f : Form) (zone : ℕ) (bytes : List ℕ) (small : zone + length bytes
         cases true u p all near more = tt
         cases false false p all near more = (tt, tt)
         cases false true p all near more =
-            let parts = and_parts (keeps_rules f zone bytes at) (list_all (keeps_rules f zone bytes) (places f bytes n (next f bytes at))) all in
+            let parts =
+            and_parts (keeps_rules f zone bytes at) (list_all (keeps_rules f zone bytes) (places f bytes n (next f bytes at))) all in
             let l = (passes f bytes at p).least in
             (others at (next f bytes at) (places f bytes n (next f bytes at)) (omega arith) (near p) parts.0 parts.1, more p parts.1)
 

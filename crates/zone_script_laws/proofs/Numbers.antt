@@ -2,7 +2,8 @@ use Rattle.std.proofs.Common.{◌≡◌, ℕ, ◌+◌, ◌≤◌, ◌<◌, zero,
 use Rattle.std.proofs.Common.{arith, replicate}
 use Rattle.std.proofs.lemmas.Bool.{ne_eqb, or_parts}
 use Rattle.std.proofs.lemmas.Bool.Decides.{Decides-eqb}
-use Rattle.block_store.specs.Block.{Block, Nonrelocatable, Masters, Relocatable, size, count, free, is_relocatable, is_nonrelocatable, is_masters}
+use Rattle.block_store.specs.Block.{Block, Nonrelocatable, Masters, Relocatable, size, count, free, is_relocatable, is_nonrelocatable}
+use Rattle.block_store.specs.Block.{is_masters}
 use Rattle.block_store.specs.Run.{has}
 use Rattle.block_store.proofs.Zone.Totals.{total-append}
 use Rattle.zone_scripts.specs.Parts.{Part, Relocated, Fixed, Gap, numbered, block_of}

@@ -84,6 +84,8 @@ freed-nonrelocatable n content below above is none none' =
     let b = has-tidy (is_nonrelocatable n) (λ k. refl) above ∙ none' in
     ap (λ z. tidy (freed (is_nonrelocatable n) z)) (tidy-parted below (Nonrelocatable n content) above refl)
     ∙ ap tidy (map-append (λ c. cond (is_nonrelocatable n c) (Free (size c)) c) (tidy below) (Nonrelocatable n content ∷ tidy above)
-    ∙ ap (λ c. freed (is_nonrelocatable n) (tidy below) ++ c ∷ freed (is_nonrelocatable n) (tidy above)) (cond-true (is_nonrelocatable n (Nonrelocatable n content)) (Free (size (Nonrelocatable n content))) (Nonrelocatable n content) is)
-    ∙ (λ i. freed-none (is_nonrelocatable n) (tidy below) a i ++ Free (size (Nonrelocatable n content)) ∷ freed-none (is_nonrelocatable n) (tidy above) b i))
+    ∙ ap (λ c. freed (is_nonrelocatable n) (tidy below) ++ c ∷ freed (is_nonrelocatable n) (tidy above))
+    (cond-true (is_nonrelocatable n (Nonrelocatable n content)) (Free (size (Nonrelocatable n content))) (Nonrelocatable n content) is)
+    ∙ (λ i. freed-none (is_nonrelocatable n) (tidy below) a i ++ Free (size (Nonrelocatable n content))
+    ∷ freed-none (is_nonrelocatable n) (tidy above) b i))
     ∙ tidied-both below (Free (size (Nonrelocatable n content))) above

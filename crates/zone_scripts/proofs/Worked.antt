@@ -4,7 +4,8 @@ use Rattle.zone_scripts.specs.Hex.{hex_text, digit_at}
 use Rattle.zone_scripts.specs.Parts.{Part, Relocated, Fixed, Gap, partition_of, zone_of}
 use Rattle.zone_scripts.specs.Lines.{NewHandle, NewPtr, HLock, HPurge, HUnlock, DisposePtr, named, lines_of}
 
--- A worked zone: a nonrelocatable block of 16 bytes, a locked block of 6, a free block of 16 bytes with its header, and a purgeable block of 4.
+-- A worked zone: a nonrelocatable block of 16 bytes, a locked block of 6, a free block of 16 bytes with its header, and a purgeable block
+-- of 4.
 
 parts : List Part
 parts =

@@ -61,7 +61,8 @@ needed parts = MASTERS_SIZE * suc (more_masters parts) + bytes_of parts
 abbrev pub partition_of : List Part → ℕ
 partition_of parts = max LEAST_ZONE (needed parts)
 
--- The zone: the master pointer blocks, the blocks of the parts in their order, and the bytes that are left, of which free neighbours are one block.
+-- The zone: the master pointer blocks, the blocks of the parts in their order, and the bytes that are left, of which free neighbours are
+-- one block.
 abbrev pub zone_of : List Part → List Block
 zone_of parts = tidy (replicate (suc (more_masters parts)) Masters ++ numbered block_of 0 parts
     ++ free (partition_of parts - needed parts))

@@ -43,7 +43,8 @@ head_text form zone size = zone_phrase form zone ++ size_phrase size
 
 -- What is as in the dump, what names stand for, and what can't be the same.
 unfoldable pub notes_text : List ℕ
-notes_text = codes "# The blocks stand in the order of the dump, with their logical sizes, locked and purgeable\n# as there. hADDRESS is the handle of the master pointer at ADDRESS of the dump, pADDRESS a\n# pointer to the nonrelocatable block there; fADDRESS holds the place of the free block there,\n# until it is disposed of.\n# Not the same are: headers, of 16 bytes, and physical sizes, which are multiples of 16 (those of\n# free blocks are rounded up, and free neighbours are one block); the master pointers, of which\n# 64 stand in each block at the bottom (those that hold them in the dump are blocks as others);\n# addresses; what the blocks hold, which is 0; and which handles are those of resources.\n"
+notes_text = codes
+    "# The blocks stand in the order of the dump, with their logical sizes, locked and purgeable\n# as there. hADDRESS is the handle of the master pointer at ADDRESS of the dump, pADDRESS a\n# pointer to the nonrelocatable block there; fADDRESS holds the place of the free block there,\n# until it is disposed of.\n# Not the same are: headers, of 16 bytes, and physical sizes, which are multiples of 16 (those of\n# free blocks are rounded up, and free neighbours are one block); the master pointers, of which\n# 64 stand in each block at the bottom (those that hold them in the dump are blocks as others);\n# addresses; what the blocks hold, which is 0; and which handles are those of resources.\n"
 
 -- The script of a zone.
 abbrev pub script_text : Form → ℕ → List Part → List ℕ

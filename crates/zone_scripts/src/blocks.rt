@@ -35,7 +35,8 @@ fn block_name(letter: u8, block: &Block) -> Name
 
 /// Appends the call that makes a block purgeable, if it is purgeable.
 fn push_purging(text: &mut Vec<u8>, master: Master) -> Result<(), AllocError>
-    ensures { OnOk result (text.new.items ≡ text.old.items ++ lines_text (spec.purging (named 104 master.address)
+    ensures { OnOk result (text.new.items
+        ≡ text.old.items ++ lines_text (spec.purging (named 104 master.address)
         (record { locked = master.is_locked; purgeable = master.is_purgeable }))) }
 {
     if master.is_purgeable {
@@ -47,7 +48,8 @@ fn push_purging(text: &mut Vec<u8>, master: Master) -> Result<(), AllocError>
 
 /// Appends the call that unlocks a block, if it is not locked.
 fn push_unlocking(text: &mut Vec<u8>, master: Master) -> Result<(), AllocError>
-    ensures { OnOk result (text.new.items ≡ text.old.items ++ lines_text (spec.unlocking (named 104 master.address)
+    ensures { OnOk result (text.new.items
+        ≡ text.old.items ++ lines_text (spec.unlocking (named 104 master.address)
         (record { locked = master.is_locked; purgeable = master.is_purgeable }))) }
 {
     if master.is_locked {
@@ -59,7 +61,8 @@ fn push_unlocking(text: &mut Vec<u8>, master: Master) -> Result<(), AllocError>
 
 /// Appends the calls that make the block of a handle.
 fn push_handle(text: &mut Vec<u8>, master: Master, size: u32) -> Result<(), AllocError>
-    ensures { OnOk result (text.new.items ≡ text.old.items ++ lines_text (spec.making (Relocated master.address
+    ensures { OnOk result (text.new.items
+        ≡ text.old.items ++ lines_text (spec.making (Relocated master.address
         (record { locked = master.is_locked; purgeable = master.is_purgeable }) size))) }
 {
     push_sized(text, b"NewHandle", handle_name(master), size)?;
@@ -69,7 +72,8 @@ fn push_handle(text: &mut Vec<u8>, master: Master, size: u32) -> Result<(), Allo
 
 /// Appends the calls that make a block.
 fn push_making(text: &mut Vec<u8>, block: &Block) -> Result<(), AllocError>
-    ensures { OnOk result (text.new.items ≡ text.old.items ++ lines_text (spec.making (part_of block.now))) }
+    ensures { OnOk result (text.new.items
+        ≡ text.old.items ++ lines_text (spec.making (part_of block.now))) }
 {
     match block.kind {
         Kind::Relocatable(master) => push_handle(text, master, block.logical_size),
@@ -83,7 +87,8 @@ fn push_making(text: &mut Vec<u8>, block: &Block) -> Result<(), AllocError>
 
 /// Appends the calls that end the making of a block.
 fn push_ending(text: &mut Vec<u8>, block: &Block) -> Result<(), AllocError>
-    ensures { OnOk result (text.new.items ≡ text.old.items ++ lines_text (spec.ending (part_of block.now))) }
+    ensures { OnOk result (text.new.items
+        ≡ text.old.items ++ lines_text (spec.ending (part_of block.now))) }
 {
     match block.kind {
         Kind::Relocatable(master) => push_unlocking(text, master),
@@ -95,7 +100,8 @@ fn push_ending(text: &mut Vec<u8>, block: &Block) -> Result<(), AllocError>
 
 /// Appends the calls that make master pointer blocks.
 pub fn push_masters(text: &mut Vec<u8>, count: usize) -> Result<(), AllocError>
-    ensures { OnOk result (text.new.items ≡ text.old.items ++ lines_text (replicate count MoreMasters)) }
+    ensures { OnOk result (text.new.items
+        ≡ text.old.items ++ lines_text (replicate count MoreMasters)) }
 {
     for _masters in 0..count {
         put(text, b"MoreMasters\n")?;

@@ -91,16 +91,18 @@ fn text_of(
 
 /// Returns the blocks of a zone.
 fn gathered(alloc: Global, zone: &RealZone<'_>) -> Result<Vec<Block>, AllocError>
-    ensures { IfOk result (λ blocks. blocks.items ≡ blocks_of zone.now.form zone.now.address zone.now.bytes.now) }
+    ensures { IfOk result (λ blocks. blocks.items
+        ≡ blocks_of zone.now.form zone.now.address zone.now.bytes.now) }
 {
     zone.blocks().collect(alloc)
 }
 
-/// Returns a script that makes, in a fresh partition whose size it says, a zone of the same blocks in the same order, with the same
-/// logical sizes, locks and purgeability, as far as the layout of this program allows; what it does not allow stands in a comment.
+/// Returns a script that makes, in a fresh partition whose size it says, a zone of the same blocks
+/// in the same order, with the same logical sizes, locks and purgeability, as far as the layout of
+/// this program allows; what it does not allow stands in a comment.
 ///
-/// A handle is named by the address of its master pointer in the dump, any other block by its own. *Inside Macintosh: Memory*,
-/// chapter 2.
+/// A handle is named by the address of its master pointer in the dump, any other block by its own.
+/// *Inside Macintosh: Memory*, chapter 2.
 ///
 /// # Errors
 ///
@@ -108,8 +110,10 @@ fn gathered(alloc: Global, zone: &RealZone<'_>) -> Result<Vec<Block>, AllocError
 pub fn script_of(alloc: Global, zone: &RealZone<'_>) -> Result<Vec<u8>, ScriptFault>
     ensures text { IfOk result (λ text. text.items ≡ spec.script_text zone.now.form zone.now.address
         (parts_in zone.now.form zone.now.address zone.now.bytes.now)) }
-    ensures fits { IfOk result (λ text. IsTrue (fits (parts_in zone.now.form zone.now.address zone.now.bytes.now))) }
-    ensures fault { IfErr result (λ fault. Refuses fault (fits (parts_in zone.now.form zone.now.address zone.now.bytes.now))) }
+    ensures fits { IfOk result (λ text.
+        IsTrue (fits (parts_in zone.now.form zone.now.address zone.now.bytes.now))) }
+    ensures fault { IfErr result (λ fault.
+        Refuses fault (fits (parts_in zone.now.form zone.now.address zone.now.bytes.now))) }
 {
     let blocks = gathered(alloc, zone)?;
     let size = partition_size(blocks.as_slice());

@@ -1,4 +1,4 @@
-use Rattle.std.proofs.Common.{◌≡◌, ◌∙◌, ◌++◌, ℕ, List, Vec, Result, sym, ap, subst, map, take, IfOk}
+use Rattle.std.proofs.Common.{◌≡◌, ◌∙◌, ◌++◌, ℕ, Option, List, Vec, Result, sym, ap, subst, map, take, IfOk}
 use Rattle.std.specs.Global.{Global}
 use Rattle.std.specs.declared.alloc.AllocError.{AllocError}
 use Rattle.block_store.specs.Rest.{Site}
@@ -9,37 +9,45 @@ use Rattle.res_calls.specs.Files.{Resources}
 use Rattle.applications.specs.Alone.{first_steps}
 use Rattle.applications.specs.Application.{lines_told}
 use Rattle.applications.specs.Elsewhere.{course_elsewhere}
+use Rattle.applications.specs.Names.{Bindings}
 use Rattle.applications.specs.Step.{Course, course_of}
 use Rattle.applications.specs.Trying.{Running, launched_with}
 use Rattle.applications.proofs.Elsewhere.{launched_course}
 use Rattle.heap_view.specs.Text.{widest}
-use Rattle.heap_view.specs.Totals.{zone_text}
+use Rattle.heap_view.specs.Listing.{zone_text}
 use Rattle.heap_view.specs.View.{view_line}
 use Rattle.heap_view.specs.declared.line.BlockLine.{BlockLine}
+use Rattle.heap_view.specs.declared.listing.Listing.{Listing}
 use Rattle.heap_view.specs.declared.style.Style.TheVariants as style
 use Rattle.heap_view.specs.declared.totals.Largest.{Largest}
 use Rattle.zone_view.specs.Behind.{step_told, zone_behind}
-use Rattle.zone_view.specs.Shown.{lines_shown, zone_shown}
+use Rattle.zone_view.specs.Shown.{lines_shown, listing_of, zone_shown}
+use Rattle.zone_view.specs.declared.form.Details.{Details}
 use Rattle.zone_view.specs.declared.form.Form.{Form}
 use Rattle.zone_view.specs.declared.form.Form.TheVariants as form
 
 -- A zone in a form, and the zone of an application alone.
 
-pub columns-shown : (f : Form) (ls items : List BlockLine) (w : ℕ) (largest : Largest) (behind old new : List ℕ)
-    → f ≡ form.Columns → ls ≡ items → w ≡ widest (map view_line ls)
-    → new ≡ old ++ zone_text (style.Columns w) (map view_line ls) largest behind
-    → new ≡ old ++ lines_shown f (map view_line items) largest behind
-columns-shown f ls items w largest behind old new is same wide written =
-    written ∙ ap (λ n. old ++ zone_text (style.Columns n) (map view_line ls) largest behind) wide
-    ∙ ap (λ l. old ++ lines_shown form.Columns (map view_line l) largest behind) same
-    ∙ ap (λ g. old ++ lines_shown g (map view_line items) largest behind) (sym is)
+pub columns-shown : (f : Form) (d : Details) (names : Bindings) (contents : ℕ → Option (List ℕ)) (ls items : List BlockLine) (w : ℕ)
+    (x : Listing) (largest : Largest) (behind old new : List ℕ)
+    → f ≡ form.Columns d → ls ≡ items → w ≡ widest (map view_line ls) → x ≡ listing_of names d (style.Columns w)
+    → new ≡ old ++ zone_text x (map view_line ls) largest behind
+    → new ≡ old ++ lines_shown f names contents (map view_line items) largest behind
+columns-shown f d names contents ls items w x largest behind old new is same wide listed written =
+    written ∙ ap (λ y. old ++ zone_text y (map view_line ls) largest behind)
+    (listed ∙ ap (λ n. listing_of names d (style.Columns n)) wide)
+    ∙ ap (λ l. old ++ lines_shown (form.Columns d) names contents (map view_line l) largest behind) same
+    ∙ ap (λ g. old ++ lines_shown g names contents (map view_line items) largest behind) (sym is)
 
-pub tabs-shown : (f : Form) (ls items : List BlockLine) (largest : Largest) (behind old new : List ℕ)
-    → f ≡ form.Tabs → ls ≡ items → new ≡ old ++ zone_text style.Tabs (map view_line ls) largest behind
-    → new ≡ old ++ lines_shown f (map view_line items) largest behind
-tabs-shown f ls items largest behind old new is same written =
-    written ∙ ap (λ l. old ++ lines_shown form.Tabs (map view_line l) largest behind) same
-    ∙ ap (λ g. old ++ lines_shown g (map view_line items) largest behind) (sym is)
+pub tabs-shown : (f : Form) (d : Details) (names : Bindings) (contents : ℕ → Option (List ℕ)) (ls items : List BlockLine) (x : Listing)
+    (largest : Largest) (behind old new : List ℕ)
+    → f ≡ form.Tabs d → ls ≡ items → x ≡ listing_of names d style.Tabs
+    → new ≡ old ++ zone_text x (map view_line ls) largest behind
+    → new ≡ old ++ lines_shown f names contents (map view_line items) largest behind
+tabs-shown f d names contents ls items x largest behind old new is same listed written =
+    written ∙ ap (λ y. old ++ zone_text y (map view_line ls) largest behind) listed
+    ∙ ap (λ l. old ++ lines_shown (form.Tabs d) names contents (map view_line l) largest behind) same
+    ∙ ap (λ g. old ++ lines_shown g names contents (map view_line items) largest behind) (sym is)
 
 -- where the partition lies is no matter
 pub shown-alone : (f : Form) (resources : Resources) (n : ℕ) (parts : ScriptParts) (steps : ℕ) (r : Running) (site : Site)

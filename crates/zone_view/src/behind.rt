@@ -5,7 +5,8 @@ ghost use Rattle.block_store.specs.Block.{fresh, sizes};
 ghost use Rattle.applications.specs.Application.{lines_told};
 ghost use Rattle.applications.specs.Step.{course_of};
 ghost use Rattle.zone_view.specs.Shown.{zone_shown};
-ghost use Rattle.zone_view.specs.Behind.{left_behind, with_byte, last_words, step_told, steps_to, steps_at, zone_behind};
+ghost use Rattle.zone_view.specs.Behind.{left_behind, with_byte, last_words, step_told, steps_to};
+ghost use Rattle.zone_view.specs.Behind.{steps_at, zone_behind};
 
 use crate::form::Form;
 use crate::shown::show_zone;
@@ -54,7 +55,8 @@ fn last_words(alloc: Global, text: &[u8]) -> Result<Vec<u8>, AllocError>
     Ok(words)
 }
 
-/// Returns the step that a transcript ends with: the number of its line, its call and its result code.
+/// Returns the step that a transcript ends with: the number of its line, its call and its result
+/// code.
 pub fn step_told(alloc: Global, transcript: &[u8]) -> Result<Vec<u8>, AllocError>
     ensures { IfOk result (λ words. words.items ≡ step_told transcript.now) }
 {
@@ -75,8 +77,8 @@ fn steps_to(n: usize, lines: &[Line]) -> usize
     steps
 }
 
-/// Returns how many steps of a script are taken up to a line, counted from 1; up to line 0 none is, and where no line is
-/// given all are.
+/// Returns how many steps of a script are taken up to a line, counted from 1; up to line 0 none is,
+/// and where no line is given all are.
 pub fn steps_at(line: Option<usize>, script: &Script) -> usize
     ensures { result ≡ steps_at line script.now.steps }
 {
@@ -96,8 +98,8 @@ pub fn first(lines: &[Line], n: usize) -> &[Line]
     }
 }
 
-/// Takes the lines of a script in order, and returns the application's zone as it then lies. `transcript` is the
-/// transcript so far.
+/// Takes the lines of a script in order, and returns the application's zone as it then lies.
+/// `transcript` is the transcript so far.
 fn run_and_show<'s, S: BlockStore>(
     alloc: Global,
     application: &mut Application<'s, S>,
@@ -108,7 +110,8 @@ fn run_and_show<'s, S: BlockStore>(
 ) -> Result<Vec<u8>, AllocError>
     ensures shown { IfOk result (λ text. text.items
         ≡ zone_shown form (course_of script.now.blocks lines.now application.old).after
-        (step_told (transcript.old.items ++ lines_told (course_of script.now.blocks lines.now application.old).lines))) }
+        (step_told (transcript.old.items
+        ++ lines_told (course_of script.now.blocks lines.now application.old).lines))) }
     ensures lies { application.new.memory.window ≡ application.old.memory.window }
 {
     application.run(script, lines, transcript, &mut Unwatched)?;
@@ -116,9 +119,10 @@ fn run_and_show<'s, S: BlockStore>(
     show_zone(alloc, application, form, step.as_slice())
 }
 
-/// Runs the first `n` steps of a script, as an application with these resources in the store of a fresh zone, which is
-/// its partition, and returns its zone as it then lies, in a form. If the application ends before, its zone is shown as
-/// it lies after its last step. The store is returned in its place, with that zone.
+/// Runs the first `n` steps of a script, as an application with these resources in the store of a
+/// fresh zone, which is its partition, and returns its zone as it then lies, in a form. If the
+/// application ends before, its zone is shown as it lies after its last step. The store is returned
+/// in its place, with that zone.
 ///
 /// # Errors
 ///

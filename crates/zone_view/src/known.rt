@@ -9,8 +9,8 @@ ghost use Rattle.heap_view.specs.View.{view_tag};
 ghost use Rattle.res_map.specs.View.{view_lent};
 ghost use Rattle.res_calls.specs.View.{view_open};
 ghost use Rattle.applications.specs.Names.{lent_binding};
-ghost use Rattle.zone_view.specs.Known.{is_before as is_before_found, name_of, owner_in, owner_of, entered, owned};
-ghost use Rattle.zone_view.specs.Known.{named_by, tag_by};
+ghost use Rattle.zone_view.specs.Known.{is_before as is_before_found, name_of, owner_in, owner_of};
+ghost use Rattle.zone_view.specs.Known.{entered, owned, named_by, tag_by};
 
 use applications::Bound;
 use fork_format::kind_of;
@@ -32,7 +32,8 @@ fn enter<V: Copy>(
         ≡ option_or (get nat_cmp values.old n) (entered number value n)) }
 
     // No handle or pointer has a number that is larger than any that is given.
-    ensures given { OnOk result (get nat_cmp values.old no_number ≡ None → get nat_cmp values.new no_number ≡ None) }
+    ensures given { OnOk result (get nat_cmp values.old no_number ≡ None
+        → get nat_cmp values.new no_number ≡ None) }
 {
     if !values.contains_key(&number) {
         values.insert(number, value)?;
@@ -40,7 +41,8 @@ fn enter<V: Copy>(
     Ok(())
 }
 
-/// Reports whether a name is before the one that was entered at a number, if any was, as their bytes are ordered.
+/// Reports whether a name is before the one that was entered at a number, if any was, as their
+/// bytes are ordered.
 fn is_before(names: &BTreeMap<usize, &Label>, number: usize, name: &Label) -> bool
     ensures { result ≡ is_before_found name.now.0.items (named_by (get nat_cmp names.now number)) }
 {
@@ -59,7 +61,8 @@ fn enter_name<'a>(
     ensures entered { OnOk result ((n : ℕ) → named_by (get nat_cmp names.new n)
         ≡ (if number == n && is_before_found name.now.0.items (named_by (get nat_cmp names.old n))
         then Some name.now.0.items else named_by (get nat_cmp names.old n))) }
-    ensures given { OnOk result (get nat_cmp names.old no_number ≡ None → get nat_cmp names.new no_number ≡ None) }
+    ensures given { OnOk result (get nat_cmp names.old no_number ≡ None
+        → get nat_cmp names.new no_number ≡ None) }
 {
     if is_before(names, number, name) {
         names.insert(number, name)?;
@@ -67,7 +70,8 @@ fn enter_name<'a>(
     Ok(())
 }
 
-/// Returns the names of numbers: of each number the first, as their bytes are ordered, that is bound to it.
+/// Returns the names of numbers: of each number the first, as their bytes are ordered, that is
+/// bound to it.
 pub fn names_of<'a>(
     alloc: Global,
     bound: &[Bound<'a>],
@@ -91,7 +95,8 @@ fn enter_reference(
 ) -> Result<(), AllocError>
     ensures entered { OnOk result ((n : ℕ) → get nat_cmp owners.new n
         ≡ option_or (get nat_cmp owners.old n) (owned n file (view_lent reference.entry))) }
-    ensures given { OnOk result (get nat_cmp owners.old no_number ≡ None → get nat_cmp owners.new no_number ≡ None) }
+    ensures given { OnOk result (get nat_cmp owners.old no_number ≡ None
+        → get nat_cmp owners.new no_number ≡ None) }
 {
     match reference.handle {
         Some(number) => enter(
@@ -110,8 +115,10 @@ fn enter_reference(
 /// Enters the resources of an open file at their handles.
 fn enter_file(owners: &mut BTreeMap<usize, Owner>, file: &OpenFile) -> Result<(), AllocError>
     ensures entered { OnOk result ((n : ℕ) → get nat_cmp owners.new n
-        ≡ option_or (get nat_cmp owners.old n) (owner_in n (view_open file.now).number (view_open file.now).map.references)) }
-    ensures given { OnOk result (get nat_cmp owners.old no_number ≡ None → get nat_cmp owners.new no_number ≡ None) }
+        ≡ option_or (get nat_cmp owners.old n)
+        (owner_in n (view_open file.now).number (view_open file.now).map.references)) }
+    ensures given { OnOk result (get nat_cmp owners.old no_number ≡ None
+        → get nat_cmp owners.new no_number ≡ None) }
 {
     for index in 0..file.map.len() {
         enter_reference(owners, file.number(), file.map.reference(index))?;
@@ -121,7 +128,8 @@ fn enter_file(owners: &mut BTreeMap<usize, Owner>, file: &OpenFile) -> Result<()
 
 /// Returns the resources to which handles belong, by the handles' numbers.
 pub fn owners_of(alloc: Global, files: &[OpenFile]) -> Result<BTreeMap<usize, Owner>, AllocError>
-    ensures owners { IfOk result (λ owners. (n : ℕ) → get nat_cmp owners n ≡ owner_of n (map view_open files.now)) }
+    ensures owners { IfOk result (λ owners. (n : ℕ)
+        → get nat_cmp owners n ≡ owner_of n (map view_open files.now)) }
     ensures given { IfOk result (λ owners. get nat_cmp owners no_number ≡ None) }
 {
     let mut owners = BTreeMap::new(alloc);

@@ -10,7 +10,8 @@ ghost use Rattle.heap_view.specs.View.{view_kept, view_moment};
 ghost use Rattle.transcript_words.specs.View.{view_lines};
 ghost use Rattle.transcript_words.specs.Words.{call_words};
 ghost use Rattle.zone_view.specs.Known.{tag};
-ghost use Rattle.zone_view.specs.Moments.{moment, moments_of, moments_behind, moments_svg, words_after};
+ghost use Rattle.zone_view.specs.Moments.{moment, moments_of, moments_behind, moments_svg};
+ghost use Rattle.zone_view.specs.Moments.{words_after};
 ghost use Rattle.zone_view.specs.Shown.{zone_lines};
 
 use crate::behind::first;
@@ -76,7 +77,8 @@ fn call_of(alloc: Global, source: &Source<'_>, told: &[u8]) -> Result<Vec<u8>, A
     Ok(words)
 }
 
-/// Takes the lines of a script in order, to the last or to the end of the application, and adds the moment after each.
+/// Takes the lines of a script in order, to the last or to the end of the application, and adds the
+/// moment after each.
 fn take_moments<'s, S: BlockStore>(
     alloc: Global,
     application: &mut Application<'s, S>,
@@ -86,7 +88,8 @@ fn take_moments<'s, S: BlockStore>(
     all: bool,
     moments: &mut Vec<Moment>,
 ) -> Result<(), AllocError>
-    ensures taken { OnOk result (map view_moment moments.new.items ≡ gathered all (map view_moment moments.old.items)
+    ensures taken { OnOk result (map view_moment moments.new.items
+        ≡ gathered all (map view_moment moments.old.items)
         (moments_of (view_lines source.now) script.now.blocks lines.now application.old)) }
     ensures lies { application.new.memory.window ≡ application.old.memory.window }
 {
@@ -110,7 +113,8 @@ fn words_after(
     n: usize,
     transcript: &[u8],
 ) -> Result<Vec<u8>, AllocError>
-    ensures { IfOk result (λ words. words.items ≡ words_after (view_lines source.now) n transcript.now) }
+    ensures { IfOk result (λ words. words.items
+        ≡ words_after (view_lines source.now) n transcript.now) }
 {
     if n == 0 {
         let mut words = Vec::new(alloc);
@@ -139,8 +143,9 @@ fn first_moment<S: BlockStore>(
     Ok(moments)
 }
 
-/// Takes the first lines of a script in order, which are those of the first `n` steps, and returns the moment after them, and
-/// those after each of the lines that follow. `transcript` is the transcript so far.
+/// Takes the first lines of a script in order, which are those of the first `n` steps, and returns
+/// the moment after them, and those after each of the lines that follow. `transcript` is the
+/// transcript so far.
 fn run_to_moments<'s, S: BlockStore>(
     alloc: Global,
     application: &mut Application<'s, S>,
@@ -154,8 +159,8 @@ fn run_to_moments<'s, S: BlockStore>(
 ) -> Result<Vec<Moment>, AllocError>
     ensures taken { IfOk result (λ moments. map view_moment moments.items
         ≡ gathered all [] (moments_behind (view_lines source.now) script.now.blocks n later.now
-        (transcript.old.items ++ lines_told (course_of script.now.blocks lines.now application.old).lines)
-        (course_of script.now.blocks lines.now application.old))) }
+        (transcript.old.items ++ lines_told (course_of script.now.blocks lines.now
+        application.old).lines) (course_of script.now.blocks lines.now application.old))) }
     ensures lies { application.new.memory.window ≡ application.old.memory.window }
 {
     let exit = application.run(script, lines, transcript, &mut Unwatched)?;
@@ -179,8 +184,9 @@ fn run_and_draw<'s, S: BlockStore>(
     transcript: &mut Vec<u8>,
 ) -> Result<Vec<u8>, AllocError>
     ensures shown { IfOk result (λ text. text.items
-        ≡ steps_svg strips.part (gathered strips.all [] (moments_behind (view_lines source.now) script.now.blocks n later.now
-        (transcript.old.items ++ lines_told (course_of script.now.blocks lines.now application.old).lines)
+        ≡ steps_svg strips.part (gathered strips.all []
+        (moments_behind (view_lines source.now) script.now.blocks n later.now (transcript.old.items
+        ++ lines_told (course_of script.now.blocks lines.now application.old).lines)
         (course_of script.now.blocks lines.now application.old)))) }
     ensures lies { application.new.memory.window ≡ application.old.memory.window }
 {
@@ -217,10 +223,11 @@ pub(crate) fn between(script: &Script, from: usize, to: usize) -> &[Line]
     first(after(script.steps(), from), to.saturating_sub(from))
 }
 
-/// Runs the first `to` steps of a script, as an application with these resources in the store of a fresh zone, which is
-/// its partition, and returns a picture of the zone: a strip for how it lies after the first `from` steps, and one for
-/// each further step at which it changes, up to the one at which the application ends. `text` is the text that `script` was
-/// read from. The store is returned in its place.
+/// Runs the first `to` steps of a script, as an application with these resources in the store of a
+/// fresh zone, which is its partition, and returns a picture of the zone: a strip for how it lies
+/// after the first `from` steps, and one for each further step at which it changes, up to the one
+/// at which the application ends. `text` is the text that `script` was read from. The store is
+/// returned in its place.
 ///
 /// # Errors
 ///

@@ -1,4 +1,5 @@
-//! What is known of the handles and pointers of a zone, by the slots of their master pointers and by their places.
+//! What is known of the handles and pointers of a zone, by the slots of their master pointers and
+//! by their places.
 
 ghost use Rattle.std.specs.Prelude.{◌≡◌, ℕ, None, IfOk, OnOk};
 ghost use Rattle.std.specs.BTreeMap.{get};

@@ -4,20 +4,25 @@ ghost use Rattle.std.specs.Prelude.{◌≡◌, ◌++◌, None, map, IfOk, OnOk};
 ghost use Rattle.std.specs.BTreeMap.{get};
 ghost use Rattle.std.specs.Ordering.{nat_cmp};
 ghost use Rattle.heap_calls.specs.Inner.Numbered.{no_number};
+ghost use Rattle.heap_view.specs.Bytes.{block_text};
 ghost use Rattle.heap_view.specs.Totals.{largest_of};
 ghost use Rattle.heap_view.specs.View.{view_line};
 ghost use Rattle.zone_view.specs.Known.{tag_by};
-ghost use Rattle.zone_view.specs.Shown.{zone_lines, lines_shown, zone_shown};
+ghost use Rattle.applications.specs.Names.{bound_to};
+ghost use Rattle.zone_view.specs.Shown.{zone_lines, content_in, content_of, lines_shown};
+ghost use Rattle.zone_view.specs.Shown.{zone_shown};
 
 use crate::form::Form;
 use crate::known::{names_of, owners_of};
+use crate::named::{content_of, listing_of, number_of};
 use crate::places::{handles_of, pointers_of};
-use applications::Application;
+use applications::{Application, Names};
+use arrayvec::ArrayString;
 use block_store::BlockStore;
 use heap_calls::Heap;
 use heap_view::{
-    BlockLine, Largest, Owner, Style, blocks_of, largest_of, lines_of, widest, write_svg,
-    write_zone,
+    BlockLine, Largest, Owner, Style, blocks_of, largest_of, lines_of, widest, write_bytes,
+    write_svg, write_zone,
 };
 use mac_words::Label;
 use std::alloc::{AllocError, Global};
@@ -52,30 +57,57 @@ pub fn seen_in<'a, S: BlockStore>(
     Ok(Seen { lines, largest })
 }
 
+/// Appends the bytes of the block of what a name stands for, after a step.
+fn write_block<S: BlockStore>(
+    alloc: Global,
+    text: &mut Vec<u8>,
+    name: ArrayString<63>,
+    names: &Names,
+    heap: &Heap<S>,
+    behind: &[u8],
+) -> Result<(), AllocError>
+    ensures { OnOk result (text.new.items ≡ text.old.items
+        ++ block_text name.bytes (content_of (λ n. content_in heap.now.memory n)
+        (bound_to name.bytes names.now)) behind.now) }
+{
+    let number = number_of(alloc, names, name)?;
+    let bytes = content_of(heap, number);
+    write_bytes(alloc, text, name.as_str().as_bytes(), bytes, behind)
+}
+
 /// Appends a zone in a form.
-fn write_in(
+fn write_in<S: BlockStore>(
     alloc: Global,
     text: &mut Vec<u8>,
     form: Form,
+    names: &Names,
+    heap: &Heap<S>,
     seen: &Seen<'_>,
     behind: &[u8],
 ) -> Result<(), AllocError>
     ensures { OnOk result (text.new.items ≡ text.old.items
-        ++ lines_shown form (map view_line seen.now.lines.items) seen.now.largest behind.now) }
+        ++ lines_shown form names.now (λ n. content_in heap.now.memory n)
+        (map view_line seen.now.lines.items) seen.now.largest behind.now) }
 {
     let lines = seen.lines.as_slice();
     match form {
-        Form::Columns => {
+        Form::Columns(details) => {
             let style = Style::Columns(widest(lines));
-            write_zone(alloc, text, style, lines, seen.largest, behind)?;
+            let listing = listing_of(alloc, names, details, style)?;
+            write_zone(alloc, text, listing, lines, seen.largest, behind)?;
             Ok(())
         }
-        Form::Tabs => {
-            write_zone(alloc, text, Style::Tabs, lines, seen.largest, behind)?;
+        Form::Tabs(details) => {
+            let listing = listing_of(alloc, names, details, Style::Tabs)?;
+            write_zone(alloc, text, listing, lines, seen.largest, behind)?;
             Ok(())
         }
         Form::Picture(part) => {
             write_svg(alloc, text, part, lines, behind)?;
+            Ok(())
+        }
+        Form::Bytes(name) => {
+            write_block(alloc, text, name, names, heap, behind)?;
             Ok(())
         }
     }
@@ -99,6 +131,14 @@ pub fn show_zone<S: BlockStore>(
     let owners = owners_of(alloc, application.resources().open_files())?;
     let seen = seen_in(alloc, application.heap(), &names, &owners)?;
     let mut text = Vec::new(alloc);
-    write_in(alloc, &mut text, form, &seen, behind)?;
+    write_in(
+        alloc,
+        &mut text,
+        form,
+        application.names(),
+        application.heap(),
+        &seen,
+        behind,
+    )?;
     Ok(text)
 }

@@ -17,12 +17,14 @@ use std::alloc::{AllocError, Global};
 pub enum Sight {
     /// Its zone after so many steps, in a form.
     Zone(usize, Form),
-    /// A picture of its zone at moments: after so many steps, and after each further step up to the second number.
+    /// A picture of its zone at moments: after so many steps, and after each further step up to the
+    /// second number.
     Moments(usize, usize, Strips),
 }
 
-/// Runs a script as an application with these resources in the store of a fresh zone, which is its partition, as far as
-/// is to be shown, and returns that. `text` is the text that `script` was read from. The store is returned in its place.
+/// Runs a script as an application with these resources in the store of a fresh zone, which is its
+/// partition, as far as is to be shown, and returns that. `text` is the text that `script` was read
+/// from. The store is returned in its place.
 ///
 /// # Errors
 ///

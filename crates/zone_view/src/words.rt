@@ -10,8 +10,9 @@ ghost use Rattle.transcript_words.specs.Changes.{placed};
 ghost use Rattle.transcript_words.specs.View.{view_lines, view_placed, view_standing};
 ghost use Rattle.zone_view.specs.Known.{tag};
 ghost use Rattle.zone_view.specs.Shown.{zone_lines};
-ghost use Rattle.zone_view.specs.Words.{stands_for_handle, standing, step_told_in, steps_told, then_told, end_told_in, told_alone};
-ghost use Rattle.zone_view.specs.Words.{told_between, telling_text};
+ghost use Rattle.zone_view.specs.Words.{stands_for_handle, standing, step_told_in, steps_told};
+ghost use Rattle.zone_view.specs.Words.{then_told, end_told_in, told_alone, told_between};
+ghost use Rattle.zone_view.specs.Words.{telling_text};
 
 use crate::behind::first;
 use crate::known::{names_of, owners_of};
@@ -31,7 +32,8 @@ use transcript_words::{
 /// How much of an application's transcript is put into words.
 #[derive(Clone, Copy, Debug)]
 pub enum Telling {
-    /// All of it: the launch, so many steps, and the end, where the application ends or the flag asks for a quit.
+    /// All of it: the launch, so many steps, and the end, where the application ends or the flag
+    /// asks for a quit.
     Whole(usize, bool),
     /// The steps after the first so many, up to the second number.
     Steps(usize, usize),
@@ -76,7 +78,8 @@ fn blocks_in<S: BlockStore>(
     Ok(blocks)
 }
 
-/// Returns the zone of an application as it lies: the blocks of its handles and pointers, with their names.
+/// Returns the zone of an application as it lies: the blocks of its handles and pointers, with
+/// their names.
 fn standing_in<S: BlockStore>(
     alloc: Global,
     application: &Application<'_, S>,
@@ -89,8 +92,8 @@ fn standing_in<S: BlockStore>(
     Ok(Standing { blocks, handles })
 }
 
-/// Takes a step of a script, and appends it in words. Returns how the application ends with the step, or `None` where it
-/// goes on.
+/// Takes a step of a script, and appends it in words. Returns how the application ends with the
+/// step, or `None` where it goes on.
 fn tell_step<'s, S: BlockStore>(
     alloc: Global,
     application: &mut Application<'s, S>,
@@ -99,10 +102,13 @@ fn tell_step<'s, S: BlockStore>(
     line: &Line,
     text: &mut Vec<u8>,
 ) -> Result<Option<Exit>, AllocError>
-    ensures ends { IfOk result (λ exit. exit ≡ exit_of (step script.now.blocks line.now application.old)) }
+    ensures ends { IfOk result (λ exit. exit
+        ≡ exit_of (step script.now.blocks line.now application.old)) }
     ensures told { OnOk result (text.new.items ≡ text.old.items
-        ++ step_told_in (view_lines source.now) (step script.now.blocks line.now application.old) application.old) }
-    ensures after { OnOk result (application.new ≡ (step script.now.blocks line.now application.old).after) }
+        ++ step_told_in (view_lines source.now)
+        (step script.now.blocks line.now application.old) application.old) }
+    ensures after { OnOk result (application.new
+        ≡ (step script.now.blocks line.now application.old).after) }
     ensures lies { application.new.memory.window ≡ application.old.memory.window }
 {
     let before = standing_in(alloc, application)?;
@@ -115,8 +121,8 @@ fn tell_step<'s, S: BlockStore>(
     Ok(exit)
 }
 
-/// Takes the lines of a script in order, to the last or to the end of the application, and appends each step in words.
-/// Returns how the application ends, or `None` where it goes on.
+/// Takes the lines of a script in order, to the last or to the end of the application, and appends
+/// each step in words. Returns how the application ends, or `None` where it goes on.
 fn tell_steps<'s, S: BlockStore>(
     alloc: Global,
     application: &mut Application<'s, S>,
@@ -125,10 +131,12 @@ fn tell_steps<'s, S: BlockStore>(
     lines: &[Line],
     text: &mut Vec<u8>,
 ) -> Result<Option<Exit>, AllocError>
-    ensures ends { IfOk result (λ exit. exit ≡ exit_of (course_of script.now.blocks lines.now application.old)) }
+    ensures ends { IfOk result (λ exit. exit
+        ≡ exit_of (course_of script.now.blocks lines.now application.old)) }
     ensures told { OnOk result (text.new.items ≡ text.old.items
         ++ steps_told (view_lines source.now) script.now.blocks lines.now application.old) }
-    ensures after { OnOk result (application.new ≡ (course_of script.now.blocks lines.now application.old).after) }
+    ensures after { OnOk result (application.new
+        ≡ (course_of script.now.blocks lines.now application.old).after) }
     ensures lies { application.new.memory.window ≡ application.old.memory.window }
 {
     for line in lines {
@@ -147,7 +155,8 @@ fn tell_end<S: BlockStore>(
     asked: bool,
     text: &mut Vec<u8>,
 ) -> Result<(), AllocError>
-    ensures told { OnOk result (text.new.items ≡ text.old.items ++ end_told_in (end_if exit asked application.old)) }
+    ensures told { OnOk result (text.new.items
+        ≡ text.old.items ++ end_told_in (end_if exit asked application.old)) }
     ensures lies { application.new.memory.window ≡ application.old.memory.window }
 {
     if exit.is_none() && !asked {
@@ -157,8 +166,8 @@ fn tell_end<S: BlockStore>(
     write_end(text, code)
 }
 
-/// Takes the lines of a script in order, ends the application where a call ends it or a quit is asked for, and appends all
-/// that in words.
+/// Takes the lines of a script in order, ends the application where a call ends it or a quit is
+/// asked for, and appends all that in words.
 fn tell_to_end<'s, S: BlockStore>(
     alloc: Global,
     application: &mut Application<'s, S>,
@@ -170,24 +179,26 @@ fn tell_to_end<'s, S: BlockStore>(
 ) -> Result<(), AllocError>
     ensures told { OnOk result (text.new.items ≡ text.old.items
         ++ steps_told (view_lines source.now) script.now.blocks lines.now application.old
-        ++ end_told_in (end_if (exit_of (course_of script.now.blocks lines.now application.old)) asked
-        (course_of script.now.blocks lines.now application.old).after)) }
+        ++ end_told_in (end_if (exit_of (course_of script.now.blocks lines.now application.old))
+        asked (course_of script.now.blocks lines.now application.old).after)) }
     ensures lies { application.new.memory.window ≡ application.old.memory.window }
 {
     let exit = tell_steps(alloc, application, script, source, lines, text)?;
     tell_end(application, exit, asked, text)
 }
 
-/// Reports whether an application is to quit: because `quit` says so, or because the number of steps passes the last line.
+/// Reports whether an application is to quit: because `quit` says so, or because the number of
+/// steps passes the last line.
 fn is_asked(lines: &[Line], steps: usize, quit: bool) -> bool
     ensures { result ≡ (nat_lt (length lines.now) steps || quit) }
 {
     lines.len() < steps || quit
 }
 
-/// Runs an application with these resources alone in the store of a fresh zone, which is its partition, and returns its
-/// transcript in words. `text` is the text that `script` was read from. The application takes `steps` steps, and quits
-/// where that is more than its script has, and where `quit` asks for a quit. The store is returned in its place.
+/// Runs an application with these resources alone in the store of a fresh zone, which is its
+/// partition, and returns its transcript in words. `text` is the text that `script` was read from.
+/// The application takes `steps` steps, and quits where that is more than its script has, and where
+/// `quit` asks for a quit. The store is returned in its place.
 ///
 /// # Errors
 ///
@@ -239,7 +250,8 @@ fn tell_alone<S: BlockStore>(
     }
 }
 
-/// Takes the first lines of a script in order, and then the lines that follow, which are appended in words.
+/// Takes the first lines of a script in order, and then the lines that follow, which are appended
+/// in words.
 fn run_and_tell<'s, S: BlockStore>(
     alloc: Global,
     application: &mut Application<'s, S>,
@@ -248,7 +260,8 @@ fn run_and_tell<'s, S: BlockStore>(
     lines: &[Line],
     later: &[Line],
 ) -> Result<Vec<u8>, AllocError>
-    ensures told { IfOk result (λ out. out.items ≡ then_told (course_of script.now.blocks lines.now application.old)
+    ensures told { IfOk result (λ out. out.items
+        ≡ then_told (course_of script.now.blocks lines.now application.old)
         (steps_told (view_lines source.now) script.now.blocks later.now)) }
     ensures lies { application.new.memory.window ≡ application.old.memory.window }
 {
@@ -261,8 +274,9 @@ fn run_and_tell<'s, S: BlockStore>(
     Ok(out)
 }
 
-/// Runs an application as `tell_alone` does, and returns the steps after the first `from`, up to the number `to`, in words.
-/// None follows the step at which the application ends. The store is returned in its place.
+/// Runs an application as `tell_alone` does, and returns the steps after the first `from`, up to
+/// the number `to`, in words. None follows the step at which the application ends. The store is
+/// returned in its place.
 ///
 /// # Errors
 ///
@@ -299,8 +313,9 @@ fn tell_between<S: BlockStore>(
     (told, store)
 }
 
-/// Runs an application with these resources alone in the store of a fresh zone, which is its partition, and returns so much
-/// of its transcript in words. `text` is the text that `script` was read from. The store is returned in its place.
+/// Runs an application with these resources alone in the store of a fresh zone, which is its
+/// partition, and returns so much of its transcript in words. `text` is the text that `script` was
+/// read from. The store is returned in its place.
 ///
 /// # Errors
 ///

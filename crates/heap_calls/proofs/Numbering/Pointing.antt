@@ -26,7 +26,8 @@ use Rattle.block_store.proofs.Nonrelocatable.Counts.{not_nonrelocatable-other}
 use Rattle.heap_calls.specs.State.{State, Memory, uses_slot}
 use Rattle.heap_calls.specs.State as names
 use Rattle.heap_calls.specs.Answer.{Held, look_up, for_found, silent}
-use Rattle.heap_calls.specs.Pointers.{pointed, pointed_at, named_block, block_named, dispose_pointer}
+use Rattle.heap_calls.specs.Pointers.{pointed, pointed_at, named_block, block_named, dispose_pointer, get_pointer_size}
+use Rattle.heap_calls.specs.Pointers.{pointer_zone}
 use Rattle.heap_calls.specs.Inner.Pointing.{target, target_at, target_of, FindsHeld}
 use Rattle.heap_calls.specs.declared.log.Log.{Log}
 use Rattle.heap_calls.specs.declared.anchor.Target.{Target}
@@ -382,3 +383,27 @@ module _ (zone : List Block) (rest rest' : Rest) (es : List Anchor) (h place : �
             ∙ rename_pointer-unless (handle_number es) (pointer_number es) (pointer_number left) place
             (λ k e. number_from-set 0 (points_to k) es h (Pointer place) Disposed at (flipped place k e) refl) zone'
             none)
+
+-- the zone of a pointer is told where its size is
+pub zone_told : (pointer : Option ℕ) (m : Memory) (n : ℕ) → silent (get_pointer_size pointer) m ≡ (Ok n, m)
+    → silent (pointer_zone pointer) m ≡ (Ok 0, m)
+zone_told pointer m n is = cases (pointed_at pointer m.heap) is
+  where
+    cases : (r : Result Held OsErr)
+        → silent {T = ℕ} (λ s. for_found r s (λ held. (Ok (length (content_of held.at.here)), s))) m ≡ (Ok n, m)
+        → silent {T = ℕ} (λ s. for_found r s (λ held. (Ok 0, s))) m ≡ (Ok 0, m)
+    cases (Err code) e =
+        let never : (let r : Result ℕ OsErr = Err code in r) ≡ Ok n = ap (λ (x : Result ℕ OsErr × Memory). x.0) e in cc
+    cases (Ok there) e = refl
+
+pub zone_refused : (pointer : Option ℕ) (m : Memory) (code : OsErr)
+    → silent (get_pointer_size pointer) m ≡ (Err code, m) → silent (pointer_zone pointer) m ≡ (Err code, m)
+zone_refused pointer m code is = cases (pointed_at pointer m.heap) is
+  where
+    cases : (r : Result Held OsErr)
+        → silent {T = ℕ} (λ s. for_found r s (λ held. (Ok (length (content_of held.at.here)), s))) m ≡ (Err code, m)
+        → silent {T = ℕ} (λ s. for_found r s (λ held. (Ok 0, s))) m ≡ (Err code, m)
+    cases (Err why) e = e
+    cases (Ok there) e =
+        let never : (let r : Result ℕ OsErr = Ok (length (content_of there.at.here)) in r) ≡ Err code =
+        ap (λ (x : Result ℕ OsErr × Memory). x.0) e in cc

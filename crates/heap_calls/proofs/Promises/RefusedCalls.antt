@@ -22,7 +22,7 @@ use Rattle.heap_calls.specs.Answer.{change_flags, hoisted, look_up, held_at, han
 use Rattle.heap_calls.specs.Answer.{on_block, code_of, without}
 use Rattle.heap_calls.specs.Answer as calls
 use Rattle.heap_calls.specs.Pointers.{pointed_at, block_named, dispose_pointer}
-use Rattle.heap_calls.specs.Pointers.{get_pointer_size, put_pointer, show_pointer, place_of}
+use Rattle.heap_calls.specs.Pointers.{get_pointer_size, pointer_zone, put_pointer, show_pointer, place_of}
 use Rattle.heap_calls.specs.Purging.{is_resource, block_bits, bit, emptied_at, is_loose, h_purge}
 use Rattle.heap_calls.specs.Purging.{h_no_purge, h_get_state, h_set_state, empty_handle, purge_mem}
 use Rattle.mac_words.specs.Told.{Told, Done, Given, Number, Bytes, Refused}
@@ -384,6 +384,9 @@ refused_leaves (asked.HSetState handle byte) m =
     m.heap.zone
     (flags-leave (λ f. record { locked = byte / 128 % 2 == 1; purgeable = byte / 64 % 2 == 1 }) handle m.heap)
     refl refl refl
+refused_leaves (asked.HandleZone handle) m =
+    noted Number number-tells (calls.handle_zone handle m.heap) m (answered (asked.HandleZone handle) m).1 m.heap.zone
+    (found-leaves (handle_at handle m.heap) m.heap (λ k. (Ok 0, m.heap)) (λ k code e. refl)) refl refl refl
 refused_leaves (asked.MoveHHi handle) m =
     noted (λ _. Done) done-tells (calls.move_h_hi handle m.heap) m (answered (asked.MoveHHi handle) m).1 m.heap.zone
     (moved-leaves handle m.heap) refl refl refl
@@ -442,6 +445,9 @@ refused_leaves (asked.SetPtrSize pointer n) m =
     (done-found (pointed_at pointer m.heap) m.heap _ (λ held. changed-leaves nothing (seek_size n nothing m.heap.zone
     held.at) m.heap
     (size-refused nothing n m.heap.zone held.at))) refl refl refl
+refused_leaves (asked.PtrZone pointer) m =
+    noted Number number-tells (pointer_zone pointer m.heap) m (answered (asked.PtrZone pointer) m).1 m.heap.zone
+    (found-leaves (pointed_at pointer m.heap) m.heap (λ held. (Ok 0, m.heap)) (λ held code e. refl)) refl refl refl
 refused_leaves asked.FreeMem m = λ code e. cc
 refused_leaves asked.MaxBlock m = λ code e. cc
 refused_leaves asked.PurgeSpace m = λ code e. cc

@@ -15,6 +15,8 @@ abbrev pub reads : Asked → Bool
 reads (asked.GetHandleSize handle) = true
 reads (asked.HGetState handle) = true
 reads (asked.GetPtrSize pointer) = true
+reads (asked.HandleZone handle) = true
+reads (asked.PtrZone pointer) = true
 reads asked.FreeMem = true
 reads asked.MaxBlock = true
 reads asked.PurgeSpace = true
@@ -40,6 +42,8 @@ reads-same (asked.HGetState handle) e m =
     (λ held. (Ok (block_bits held.at.here + cond (is_resource k.role) 32 0), m.heap)) (λ held. refl))
 reads-same (asked.GetPtrSize pointer) e m = found-same (pointed_at pointer m.heap) m.heap
     (λ held. (Ok (length (content_of held.at.here)), m.heap)) (λ held. refl)
+reads-same (asked.HandleZone handle) e m = found-same (handle_at handle m.heap) m.heap (λ k. (Ok 0, m.heap)) (λ k. refl)
+reads-same (asked.PtrZone pointer) e m = found-same (pointed_at pointer m.heap) m.heap (λ held. (Ok 0, m.heap)) (λ held. refl)
 reads-same asked.FreeMem e m = refl
 reads-same asked.MaxBlock e m = refl
 reads-same asked.PurgeSpace e m = refl

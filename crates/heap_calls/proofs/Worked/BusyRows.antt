@@ -61,6 +61,17 @@ a_busy_pointer : (window : Site) → told (Ask (asks.NewPtr 20) ∷ Busy 0 ∷ A
     ∷ Number 20 ∷ Done ∷ []
 a_busy_pointer window = refl
 
+-- the zone of a handle, empty or not, and of a pointer
+zones : (window : Site) → told (Ask (asks.NewHandle (asks.Zeros 10)) ∷ Ask (asks.NewPtr 10) ∷ Ask (asks.HandleZone (Some 0))
+    ∷ Ask (asks.PtrZone (Some 1)) ∷ Ask (asks.HandleZone (Some 1)) ∷ Ask (asks.PtrZone (Some 0)) ∷ Ask (asks.HandleZone None)
+    ∷ Ask (asks.PtrZone None) ∷ Ask (asks.EmptyHandle (Some 0)) ∷ Ask (asks.HandleZone (Some 0)) ∷ Busy 0 ∷ Busy 1
+    ∷ Ask (asks.HandleZone (Some 0)) ∷ Ask (asks.PtrZone (Some 1)) ∷ Idle 0 ∷ Idle 1 ∷ Ask (asks.DisposeHandle (Some 0))
+    ∷ Ask (asks.HandleZone (Some 0)) ∷ Ask asks.MemError ∷ []) (fresh_memory 1024 window)
+    ≡ Given 0 ∷ Given 1 ∷ Number 0 ∷ Number 0 ∷ Refused WRONG_ZONE ∷ Refused WRONG_ZONE ∷ Refused NIL_HANDLE
+    ∷ Refused NIL_HANDLE ∷ Done ∷ Number 0 ∷ Refused LOCKED ∷ Refused LOCKED ∷ Done ∷ Refused WRONG_ZONE ∷ Code WRONG_ZONE
+    ∷ []
+zones window = refl
+
 -- a number that became busy twice is idle at once, and a fourth isn't kept
 twice_busy : is_busy 7 (eased 7 (busied 7 (busied 7 idle))) ≡ false
 twice_busy = refl

@@ -23,7 +23,7 @@ use Rattle.res_calls.specs.Fetch.{is_system, Managers, Answer, done, refused, fl
 use Rattle.res_calls.specs.Fetch.{now_refilled, fetch_as}
 use Rattle.res_calls.specs.Rows.{with_resources, closed_file, map_in, open_map, resource_of, open_as, open_fork}
 use Rattle.res_calls.specs.Rows.{open_unless, greatest_number, closed, bars, released_at, detached_at, open_named}
-use Rattle.res_calls.specs.Rows.{told_type, fetched, nth_in, noting, preloaded}
+use Rattle.res_calls.specs.Rows.{told_or, fetched, nth_among, noting, preloaded}
 use Rattle.res_calls.specs.Update.{update, updated_reference, bytes_held}
 use Rattle.res_calls.specs.Changing as changing
 use Rattle.res_calls.specs.Changing.{create_named, most_files, marked, stored_if}
@@ -46,7 +46,7 @@ use Rattle.res_calls.specs.Asked.{ResourceAsked, served}
 use Rattle.res_calls.specs.Asked as asks
 use Rattle.res_calls.specs.Owning.{role_in}
 use Rattle.res_calls.proofs.Owning.Owners.{owners, OneOwner}
-use Rattle.res_calls.proofs.Owning.Places.{Stands, find-finds, nth-stands}
+use Rattle.res_calls.proofs.Owning.Places.{Stands, find-finds, among-stands}
 use Rattle.res_calls.proofs.Owning.Changes.{one-owner-same, one-held, one-gone}
 use Rattle.res_calls.proofs.Owning.Openings.{Bare, bare-groups, bare-owners, loaded-owned}
 use Rattle.res_calls.proofs.Owning.Closings.{closed-owned}
@@ -354,9 +354,9 @@ read_part-owns handle from n s owns =
     (λ past. owns) (λ inside. either-keeps OneOwner (is_in_memory handle s.memory.heap) (refused IN_MEMORY s)
     (done (piece from n at.reference.here.stored.datum) s) (λ held. owns) (λ empty. owns)))
 
-told-owns : (kind : Option ℕ) (s : Managers) → OneOwner s → OneOwner (told_type kind s).after
-told-owns None s owns = owns
-told-owns (Some kind) s owns = owns
+told-owns : (code : OsErr) (o : Option ℕ) (s : Managers) → OneOwner s → OneOwner (told_or code o s).after
+told-owns code None s owns = owns
+told-owns code (Some n) s owns = owns
 
 -- the code that ResError tells is no matter
 noted : {T : Type 0} (call : Managers → Answer T) (s : Managers) → OneOwner (call s).after
@@ -391,12 +391,14 @@ one-owner-served (asks.Get1NamedResource kind name) s owns =
     (searched-owns (λ f. f.number == s.resources.current) (is_named kind name) s owns)
 one-owner-served asks.Count1Types s owns = noted rows.count1_types s owns
 one-owner-served (asks.Get1IndType index) s owns =
-    noted (rows.get1_ind_type index) s (told-owns (nth index (types (current_references s.resources))) s owns)
-one-owner-served (asks.Count1Resources kind) s owns = noted (rows.count1_resources kind) s owns
-one-owner-served (asks.Get1IndResource kind index) s owns =
-    noted (rows.get1_ind_resource kind index) s
-    (fetched-owns (nth_in kind index (file_of s.resources.current s.resources)) s owns
-    (λ at e. nth-stands kind index (λ f. f.number == s.resources.current) s.resources.chain at e))
+    noted (rows.get1_ind_type index) s (told-owns _ (nth index (types (current_references s.resources))) s owns)
+one-owner-served (asks.CountResources among kind) s owns = noted (rows.count_resources among kind) s owns
+one-owner-served (asks.GetIndResource among kind index) s owns =
+    noted (rows.get_ind_resource among kind index) s
+    (fetched-owns (nth_among among kind index s.resources) s owns
+    (λ at e. among-stands among kind index s.resources at e))
+one-owner-served (asks.UniqueID among kind) s owns =
+    noted (rows.unique_id among kind) s (told-owns _ _ s owns)
 one-owner-served (asks.LoadResource handle) s owns =
     noted (rows.load_resource handle) s
     (found-keeps OneOwner (resource_of handle s.resources) s _ owns

@@ -1,14 +1,14 @@
-use Rattle.std.proofs.Common.{◌≡◌, ℕ, Bool, true, false, List, [], ◌∷◌, ◌++◌, refl, sym, ◌∙◌, ap, cond, Option, subst}
+use Rattle.std.proofs.Common.{◌≡◌, ℕ, ◌-◌, ◌==◌, length, Bool, true, false, List, [], ◌∷◌, ◌++◌, refl, sym, ◌∙◌, ap, cond, Option, subst}
 use Rattle.std.proofs.Common.{Some, None}
 use Rattle.std.proofs.lemmas.List.Concat.{flat_map-append}
 use Rattle.std.specs.List.{flat_map}
 use Rattle.std.specs.Option.{option_map, option_or}
 use Rattle.heap_calls.specs.State.{Role}
 use Rattle.res_map.specs.Split.{Split, split, replaced}
-use Rattle.res_map.specs.Map.{Reference, split_nth, is_of}
+use Rattle.res_map.specs.Map.{Reference, split_nth, is_of, of_type}
 use Rattle.res_map.proofs.Splitting.{split-whole, split-passes, split_nth-whole}
-use Rattle.res_calls.specs.Files.{OpenFile, Found, find, found_in, found_behind, with_reference}
-use Rattle.res_calls.specs.Rows.{nth_in}
+use Rattle.res_calls.specs.Files.{OpenFile, Resources, Found, find, found_in, found_behind, with_reference}
+use Rattle.res_calls.specs.Rows.{Among, Current, EachFile, nth_in, nth_each, nth_among}
 use Rattle.res_calls.specs.Owning.{role_in}
 use Rattle.res_calls.proofs.Owning.Owners.{owner, owners_in, owners}
 use Rattle.res_calls.proofs.Owning.Lists.{inner}
@@ -78,6 +78,23 @@ nth-stands kind n test chain at e = by_file (split test chain) (split-whole test
           file = whole f refl;
           reference = split_nth-whole n (is_of kind) f.here.map.references x is;
         }) at e
+
+each-stands : (kind n : ℕ) (chain : List OpenFile) (at : Found) → nth_each kind n chain ≡ Some at → Stands chain at
+each-stands kind n [] at e = cc
+each-stands kind n (f ∷ older) at e =
+    let left : ℕ = n - length (of_type kind f.map.references) in
+    found-by (Stands (f ∷ older)) (option_map (found_in f older) (split_nth n (is_of kind) f.map.references))
+    (option_map (found_behind f) (nth_each kind left older))
+    (mapped-by (Stands (f ∷ older)) (found_in f older) (split_nth n (is_of kind) f.map.references)
+    (λ x is. record { file = refl; reference = split_nth-whole n (is_of kind) f.map.references x is }))
+    (mapped-by (Stands (f ∷ older)) (found_behind f) (nth_each kind left older)
+    (λ x is. let inner = each-stands kind left older x is in
+    record { file = ap (λ l. f ∷ l) inner.file; reference = inner.reference })) at e
+
+pub among-stands : (among : Among) (kind n : ℕ) (r : Resources) (at : Found) → nth_among among kind n r ≡ Some at
+    → Stands r.chain at
+among-stands Current kind n r at e = nth-stands kind n (λ f. f.number == r.current) r.chain at e
+among-stands EachFile kind n r at e = each-stands kind n r.chain at e
 
 -- the owners of a handle before the place, and behind it
 abbrev pub front : ℕ → Found → List Role

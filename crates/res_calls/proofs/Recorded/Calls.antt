@@ -1,4 +1,5 @@
 use Rattle.std.proofs.Common.{◌≡◌, ℕ, List, map, refl, ap, Option, Some, None, ◌==◌, nat_le, length, nat_lt, ◌+◌}
+use Rattle.mac_words.specs.declared.code.OsErr.{OsErr}
 use Rattle.mac_words.specs.declared.code.TheConstants.OsErr.{LOCKED, RES_ATTR, DISK_FULL, DUPLICATE_FILE, IN_MEMORY}
 use Rattle.mac_words.specs.declared.code.TheConstants.OsErr.{OFFSET}
 use Rattle.windows.specs.Writes.{piece}
@@ -8,7 +9,7 @@ use Rattle.res_map.specs.Map.{is_changed}
 use Rattle.res_calls.specs.Files.{File, Found, file_of, file_named}
 use Rattle.res_calls.specs.Fetch.{Managers, Answer, done, refused}
 use Rattle.res_calls.specs.Rows as rows
-use Rattle.res_calls.specs.Rows.{on_found, on_resource, resource_of, bars, released_at, detached_at, told_type}
+use Rattle.res_calls.specs.Rows.{on_found, on_resource, resource_of, bars, released_at, detached_at, told_or}
 use Rattle.res_calls.specs.Changing.{most_files, create_named, create_res_file}
 use Rattle.res_calls.specs.Fetching.{without_handles}
 use Rattle.res_calls.proofs.Keeping.{either-keeps, found-keeps, open-keeps}
@@ -38,9 +39,9 @@ read_part-records handle from n s =
     (λ past. refl) (λ inside. either-keeps (Records s) (is_in_memory handle s.memory.heap) (refused IN_MEMORY s)
     (done (piece from n at.reference.here.stored.datum) s) (λ held. refl) (λ empty. refl)))
 
-pub type-records : (kind : Option ℕ) (s : Managers) → Records s (told_type kind s).after
-type-records None s = refl
-type-records (Some kind) s = refl
+pub told-records : (code : OsErr) (o : Option ℕ) (s : Managers) → Records s (told_or code o s).after
+told-records code None s = refl
+told-records code (Some n) s = refl
 
 -- UseResFile
 pub use_file-records : (n : ℕ) (s : Managers) → Records s (rows.use_res_file n s).after

@@ -145,7 +145,7 @@ steps-quiet (asks.GetResource kind id) s reads opens = cc
 steps-quiet (asks.Get1Resource kind id) s reads opens = cc
 steps-quiet (asks.GetNamedResource kind name) s reads opens = cc
 steps-quiet (asks.Get1NamedResource kind name) s reads opens = cc
-steps-quiet (asks.Get1IndResource kind index) s reads opens = cc
+steps-quiet (asks.GetIndResource among kind index) s reads opens = cc
 steps-quiet (asks.LoadResource handle) s reads opens = cc
 steps-quiet (asks.CloseResFile n) s reads opens =
     open-quiet (file_of n s.resources) (close_steps n s) (close-quiet n s)

@@ -22,7 +22,7 @@ use Rattle.res_calls.specs.Fetch.{is_system}
 use Rattle.res_calls.specs.Update.{bytes_held, written}
 use Rattle.res_calls.specs.Rows as rows
 use Rattle.res_calls.specs.Rows.{map_in, open_map, open_unless, open_named, greatest_number, resource_of, released_at}
-use Rattle.res_calls.specs.Rows.{detached_at, bars, nth_in, closed_file, with_resources, loaded}
+use Rattle.res_calls.specs.Rows.{Among, detached_at, bars, nth_among, closed_file, with_resources, loaded}
 use Rattle.res_calls.specs.Changing as changing
 use Rattle.res_calls.specs.Changing.{create_named, most_files, marked, stored_if, touched, with_changed}
 use Rattle.res_calls.specs.Partial as partial
@@ -34,7 +34,7 @@ use Rattle.res_calls.specs.Rows.{release_found, detach_found}
 use Rattle.res_calls.specs.Changing.{change_found, write_found, rename_found, set_found, remove_found, add_found}
 use Rattle.res_calls.proofs.Keeping.{either-keeps, found-keeps, open-keeps, known-keeps, removable-keeps, free-keeps}
 use Rattle.res_calls.proofs.Keeping.{own-first, updated-keeps, update-comes}
-use Rattle.res_calls.proofs.Owning.Places.{Stands, find-finds, nth-stands}
+use Rattle.res_calls.proofs.Owning.Places.{Stands, find-finds, among-stands}
 use Rattle.res_calls.proofs.Owning.Calls.{resource-holds, own-file}
 use Rattle.res_calls.proofs.Soundness.Lists.{all-replaced, all-removed}
 use Rattle.res_calls.proofs.Soundness.References.{held-keeps, plain-keeps, anew-keeps, added-keep, loaded-keeps}
@@ -97,7 +97,7 @@ searched_sound within test loading s sound =
     fetched_sound (find within test s.resources.chain) loading s
     (λ at e. (find-finds within test s.resources.chain at e).0) sound
 
--- GetResource, Get1Resource, GetNamedResource, Get1NamedResource, Get1IndResource
+-- GetResource, Get1Resource, GetNamedResource, Get1NamedResource, GetIndResource, Get1IndResource
 pub get_resource_sound : (kind : ℕ) (id : ℤ) (s : Managers) → Sound s.resources
     → Sound (rows.get_resource kind id s).after.resources
 get_resource_sound kind id s sound =
@@ -118,11 +118,11 @@ pub get1_named_resource_sound : (kind : ℕ) (name : List ℕ) (s : Managers) �
 get1_named_resource_sound kind name s sound =
     searched_sound (λ f. f.number == s.resources.current) (is_named kind name) s.resources.loading s sound
 
-pub get1_ind_resource_sound : (kind n : ℕ) (s : Managers) → Sound s.resources
-    → Sound (rows.get1_ind_resource kind n s).after.resources
-get1_ind_resource_sound kind n s sound =
-    fetched_sound (nth_in kind n (file_of s.resources.current s.resources)) s.resources.loading s
-    (λ at e. nth-stands kind n (λ f. f.number == s.resources.current) s.resources.chain at e) sound
+pub get_ind_resource_sound : (among : Among) (kind n : ℕ) (s : Managers) → Sound s.resources
+    → Sound (rows.get_ind_resource among kind n s).after.resources
+get_ind_resource_sound among kind n s sound =
+    fetched_sound (nth_among among kind n s.resources) s.resources.loading s
+    (λ at e. among-stands among kind n s.resources at e) sound
 
 -- LoadResource
 pub load_resource_sound : (handle : Option ℕ) (s : Managers) → Sound s.resources

@@ -13,7 +13,7 @@ use Rattle.res_calls.specs.Files.{File, OpenFile, Resources, Found, fresh_resour
 use Rattle.res_calls.specs.Fetch.{Managers, Answer}
 use Rattle.res_calls.specs.Given.{IsAnswered, managers}
 use Rattle.res_calls.specs.Rows as rows
-use Rattle.res_calls.specs.Rows.{map_in, own_opened, launched_resources, preloaded, preloaded_in, loaded, told_type}
+use Rattle.res_calls.specs.Rows.{map_in, own_opened, launched_resources, preloaded, preloaded_in, loaded, told_or}
 use Rattle.res_calls.specs.Rows.{noting, resource_of}
 use Rattle.res_calls.specs.Changing as changing
 use Rattle.res_calls.specs.Partial as partial
@@ -41,9 +41,9 @@ asked-sound handle s answer sound same =
     found-keeps Sound_in (resource_of handle s.resources) s answer sound
     (λ at e. subst Sound_in (sym (same at)) sound)
 
-told-sound : (kind : Option ℕ) (s : Managers) → Sound s.resources → Sound (told_type kind s).after.resources
-told-sound None s sound = sound
-told-sound (Some kind) s sound = sound
+told-sound : (code : OsErr) (o : Option ℕ) (s : Managers) → Sound s.resources → Sound (told_or code o s).after.resources
+told-sound code None s sound = sound
+told-sound code (Some n) s sound = sound
 
 -- each call
 pub sound-served : (a : ResourceAsked) (s : Managers) → Sound s.resources → Sound (served a s).after.resources
@@ -70,10 +70,11 @@ sound-served (asks.Get1NamedResource kind name) s sound =
     noted_sound (rows.get1_named_resource kind name) s (calls.get1_named_resource_sound kind name s sound)
 sound-served asks.Count1Types s sound = noted_sound rows.count1_types s sound
 sound-served (asks.Get1IndType n) s sound =
-    noted_sound (rows.get1_ind_type n) s (told-sound _ s sound)
-sound-served (asks.Count1Resources kind) s sound = noted_sound (rows.count1_resources kind) s sound
-sound-served (asks.Get1IndResource kind n) s sound =
-    noted_sound (rows.get1_ind_resource kind n) s (calls.get1_ind_resource_sound kind n s sound)
+    noted_sound (rows.get1_ind_type n) s (told-sound _ _ s sound)
+sound-served (asks.CountResources among kind) s sound = noted_sound (rows.count_resources among kind) s sound
+sound-served (asks.GetIndResource among kind n) s sound =
+    noted_sound (rows.get_ind_resource among kind n) s (calls.get_ind_resource_sound among kind n s sound)
+sound-served (asks.UniqueID among kind) s sound = noted_sound (rows.unique_id among kind) s (told-sound _ _ s sound)
 sound-served (asks.LoadResource handle) s sound =
     noted_sound (rows.load_resource handle) s (calls.load_resource_sound handle s sound)
 sound-served (asks.ReleaseResource handle) s sound =

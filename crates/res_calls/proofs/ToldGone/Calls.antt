@@ -21,11 +21,11 @@ use Rattle.res_calls.specs.Asked as asks
 use Rattle.res_calls.specs.Disposing.{disposes_of}
 use Rattle.res_calls.specs.Fetch.{Managers, Reads, flags_of, given}
 use Rattle.res_calls.specs.Fetching.{fetches}
-use Rattle.res_calls.specs.Files.{File, OpenFile, Found, file_named, file_of, find_from_current, find_in_current, open_at}
+use Rattle.res_calls.specs.Files.{File, OpenFile, Found, file_named, find_from_current, find_in_current, open_at}
 use Rattle.res_calls.specs.Gone.{fetch_gone_as, fetch_gone, preload_gone, load_gone, map_gone, fork_gone}
 use Rattle.res_calls.specs.Gone.{unless_open_gone, open_gone, gone_for, own_gone}
 use Rattle.res_calls.specs.Own.{find_own, fetch_own}
-use Rattle.res_calls.specs.Rows.{greatest_number, map_in, nth_in, resource_of}
+use Rattle.res_calls.specs.Rows.{greatest_number, map_in, nth_among, resource_of}
 use Rattle.res_calls.specs.ToldGone.{TellsWhatGoes, TellsOfPurgeable, TellsWhatPreloadsLose, TellsOnce, IsWhole}
 use Rattle.res_calls.proofs.ToldGone.Filled.{many-length, held-bytes, none-bytes}
 use Rattle.res_calls.proofs.ToldGone.Paths.{Fills, Single, OnceEach, gone_along, had, path-tells, single-tells, single-beyond}
@@ -69,8 +69,8 @@ fetched-along (asks.GetNamedResource kind name) s is =
     found-along s.resources.loading (find_from_current (is_named kind name) s.resources) s
 fetched-along (asks.Get1NamedResource kind name) s is =
     found-along s.resources.loading (find_in_current (is_named kind name) s.resources) s
-fetched-along (asks.Get1IndResource kind index) s is =
-    found-along s.resources.loading (nth_in kind index (file_of s.resources.current s.resources)) s
+fetched-along (asks.GetIndResource among kind index) s is =
+    found-along s.resources.loading (nth_among among kind index s.resources) s
 fetched-along (asks.LoadResource handle) s is = found-along true (resource_of handle s.resources) s
 fetched-along a s is = let no : false ≡ true = is in cc
 
@@ -142,7 +142,7 @@ fetched-keeps (asks.GetResource kind id) s h is = refl
 fetched-keeps (asks.Get1Resource kind id) s h is = refl
 fetched-keeps (asks.GetNamedResource kind name) s h is = refl
 fetched-keeps (asks.Get1NamedResource kind name) s h is = refl
-fetched-keeps (asks.Get1IndResource kind index) s h is = refl
+fetched-keeps (asks.GetIndResource among kind index) s h is = refl
 fetched-keeps (asks.LoadResource handle) s h is = refl
 fetched-keeps a s h is = let no : false ≡ true = is in cc
 

@@ -25,7 +25,7 @@ use Rattle.res_calls.specs.Files.{File, OpenFile, Resources, Found, find_from_cu
 use Rattle.res_calls.specs.Files.{file_named, open_at}
 use Rattle.res_calls.specs.Fetch.{Managers, flags_of, is_system}
 use Rattle.res_calls.specs.Update.{update}
-use Rattle.res_calls.specs.Rows.{resource_of, handles_of, greatest_number, nth_in, bars}
+use Rattle.res_calls.specs.Rows.{resource_of, handles_of, greatest_number, nth_among, bars}
 use Rattle.res_calls.specs.Asked.{ResourceAsked}
 use Rattle.res_calls.specs.Asked as asks
 use Rattle.res_calls.specs.Disposing.{holds, is_unchanged, disposes_of, opens_file}
@@ -199,8 +199,8 @@ lets-walk h (asks.GetNamedResource kind name) s e =
     fetched-lets (find_from_current (is_named kind name) s.resources) s h
 lets-walk h (asks.Get1NamedResource kind name) s e =
     fetched-lets (find_in_current (is_named kind name) s.resources) s h
-lets-walk h (asks.Get1IndResource kind index) s e =
-    fetched-lets (nth_in kind index (file_of s.resources.current s.resources)) s h
+lets-walk h (asks.GetIndResource among kind index) s e =
+    fetched-lets (nth_among among kind index s.resources) s h
 lets-walk h (asks.LoadResource handle) s e =
     found-lets (resource_of handle s.resources) (fetch_steps true) h
     (λ at. fetch-lets true at at.reference.here.handle h)
@@ -322,8 +322,8 @@ searches-walk (asks.GetResource kind id) s e = fetched-few (find_from_current (i
 searches-walk (asks.Get1Resource kind id) s e = fetched-few (find_in_current (is_resource kind id) s.resources) s
 searches-walk (asks.GetNamedResource kind name) s e = fetched-few (find_from_current (is_named kind name) s.resources) s
 searches-walk (asks.Get1NamedResource kind name) s e = fetched-few (find_in_current (is_named kind name) s.resources) s
-searches-walk (asks.Get1IndResource kind index) s e =
-    fetched-few (nth_in kind index (file_of s.resources.current s.resources)) s
+searches-walk (asks.GetIndResource among kind index) s e =
+    fetched-few (nth_among among kind index s.resources) s
 searches-walk (asks.LoadResource handle) s e = found-few (resource_of handle s.resources) (fetch_steps true) s.memory
     (λ at. fetch-few true at at.reference.here.handle s.memory)
 searches-walk (asks.ReleaseResource handle) s e =

@@ -33,7 +33,7 @@ use Rattle.res_calls.specs.Partial as partial
 use Rattle.res_calls.specs.Partial.{is_in_memory, read_part_found, restored, restored_unless, size_refusal, write_refusal}
 use Rattle.windows.specs.Writes.{written as written_over}
 use Rattle.res_calls.specs.Rows.{detached_at, fetched}
-use Rattle.res_calls.specs.Rows.{resource_of, told_type, nth_in, keep_error, noting}
+use Rattle.res_calls.specs.Rows.{resource_of, told_or, nth_among, keep_error, noting}
 use Rattle.res_calls.specs.Asked.{ResourceAsked, Served, telling, tell_fetched, tell_info, served}
 use Rattle.res_calls.specs.Asked as asks
 use Rattle.res_calls.proofs.Walks.Going.{all_done}
@@ -338,10 +338,10 @@ detach-place window handle at s true = refl
 detach-place window None at s false = refl
 detach-place window (Some h) at s false = refl
 
-told_type-place : (window : Site) (kind : Option ℕ) (s : Managers)
-    → told_type kind (moved window s) ≡ answer_moved window (told_type kind s)
-told_type-place window None s = refl
-told_type-place window (Some kind) s = refl
+told_or-place : (window : Site) (code : OsErr) (o : Option ℕ) (s : Managers)
+    → told_or code o (moved window s) ≡ answer_moved window (told_or code o s)
+told_or-place window code None s = refl
+told_or-place window code (Some n) s = refl
 
 -- one of two answers
 either-place : {T : Type 0} (window : Site) (t : Bool) (one other one' other' : Answer T) → one ≡ answer_moved window one'
@@ -398,11 +398,13 @@ served-elsewhere window (asks.Get1NamedResource kind name) s =
     (fetched-place window (find_in_current (is_named kind name) s.resources) s)
 served-elsewhere window asks.Count1Types s = refl
 served-elsewhere window (asks.Get1IndType index) s = telling-place window Kind (rows.get1_ind_type index) s
-    (told_type-place window (nth index (types (current_references s.resources))) s)
-served-elsewhere window (asks.Count1Resources kind) s = refl
-served-elsewhere window (asks.Get1IndResource kind index) s =
-    telling-place window tell_fetched (rows.get1_ind_resource kind index) s
-    (fetched-place window (nth_in kind index (file_of s.resources.current s.resources)) s)
+    (told_or-place window _ (nth index (types (current_references s.resources))) s)
+served-elsewhere window (asks.CountResources among kind) s = refl
+served-elsewhere window (asks.GetIndResource among kind index) s =
+    telling-place window tell_fetched (rows.get_ind_resource among kind index) s
+    (fetched-place window (nth_among among kind index s.resources) s)
+served-elsewhere window (asks.UniqueID among kind) s = telling-place window Number (rows.unique_id among kind) s
+    (told_or-place window _ _ s)
 served-elsewhere window (asks.LoadResource handle) s = telling-place window tell_fetched (rows.load_resource handle) s
     (found-place window (resource_of handle s.resources) s _ _
     (λ at. fetch-place window true at at.reference.here.handle s))

@@ -20,7 +20,7 @@ use Rattle.res_calls.specs.Partial.{is_in_memory, most_bytes, read_part_found, r
 use Rattle.res_calls.specs.Partial.{size_refusal, write_refusal}
 use Rattle.res_calls.specs.Refused.{is_held_code, left_refused, restored_if}
 use Rattle.res_calls.specs.Writing.{writes}
-use Rattle.res_calls.specs.Rows.{noting, resource_of, told_type, nth_in}
+use Rattle.res_calls.specs.Rows.{noting, resource_of, told_or, nth_among}
 use Rattle.heap_calls.specs.Asked.{told_as}
 use Rattle.res_calls.specs.Asked.{ResourceAsked, Served, telling, tell_fetched, tell_info, served}
 use Rattle.res_calls.specs.Asked as asks
@@ -77,9 +77,9 @@ telling-serves {T} tell call s steps quiet goes = record {
           left.2,
         )
 
-told_type-goes : (kind : Option ℕ) (s : Managers) → Goes false [] s (told_type kind s)
-told_type-goes None s = refused-goes _ s
-told_type-goes (Some kind) s = same-goes kind s
+told_or-goes : (code : OsErr) (o : Option ℕ) (s : Managers) → Goes false [] s (told_or code o s)
+told_or-goes code None s = refused-goes code s
+told_or-goes code (Some n) s = same-goes n s
 
 -- an answer that takes no step leaves these resources where it is refused
 record Restores (left : OsErr → Resources) (s : Managers) (a : Answer (Unit {0})) : Type 0 where
@@ -212,13 +212,15 @@ served-serves (asks.Get1NamedResource kind name) s =
     (fetched-goes (find_in_current (is_named kind name) s.resources) s)
 served-serves asks.Count1Types s = telling-serves Number rows.count1_types s [] (λ n. refl) (same-goes _ s)
 served-serves (asks.Get1IndType index) s = telling-serves Kind (rows.get1_ind_type index) s [] (λ k. refl)
-    (told_type-goes (nth index (types (current_references s.resources))) s)
-served-serves (asks.Count1Resources kind) s = telling-serves Number (rows.count1_resources kind) s [] (λ n. refl)
+    (told_or-goes _ (nth index (types (current_references s.resources))) s)
+served-serves (asks.CountResources among kind) s = telling-serves Number (rows.count_resources among kind) s [] (λ n. refl)
     (same-goes _ s)
-served-serves (asks.Get1IndResource kind index) s =
-    telling-serves tell_fetched (rows.get1_ind_resource kind index) s
-    (steps_of (asks.Get1IndResource kind index) s) (λ f. refl)
-    (fetched-goes (nth_in kind index (file_of s.resources.current s.resources)) s)
+served-serves (asks.GetIndResource among kind index) s =
+    telling-serves tell_fetched (rows.get_ind_resource among kind index) s
+    (steps_of (asks.GetIndResource among kind index) s) (λ f. refl)
+    (fetched-goes (nth_among among kind index s.resources) s)
+served-serves (asks.UniqueID among kind) s = telling-serves Number (rows.unique_id among kind) s [] (λ n. refl)
+    (told_or-goes _ _ s)
 served-serves (asks.LoadResource handle) s = telling-serves tell_fetched (rows.load_resource handle) s
     (steps_of (asks.LoadResource handle) s) (λ f. refl)
     (found-goes (resource_of handle s.resources) s _ (fetch_steps true)

@@ -13,9 +13,9 @@ use Rattle.heap_calls.proofs.Steps.Letting.{releases}
 use Rattle.res_calls.specs.Files.{File, OpenFile, Resources, Found, find_from_current, find_in_current, file_of}
 use Rattle.res_calls.specs.Files.{file_named, open_at}
 use Rattle.res_calls.specs.Fetch.{Managers, flags_of, is_system}
-use Rattle.res_calls.specs.Rows.{resource_of, handles_of, greatest_number, map_in, nth_in, bars}
+use Rattle.res_calls.specs.Rows.{resource_of, handles_of, greatest_number, map_in, nth_among, bars}
 use Rattle.res_calls.specs.Asked.{ResourceAsked, OpenResFile, CloseResFile, GetResource, Get1Resource}
-use Rattle.res_calls.specs.Asked.{GetNamedResource, Get1NamedResource, Get1IndResource, LoadResource}
+use Rattle.res_calls.specs.Asked.{GetNamedResource, Get1NamedResource, GetIndResource, LoadResource}
 use Rattle.res_calls.specs.Asked.{ReleaseResource, DetachResource, AddResource, RemoveResource}
 use Rattle.res_calls.specs.Update.{update}
 
@@ -127,8 +127,8 @@ steps_of (GetResource kind id) s = fetched_steps (find_from_current (is_resource
 steps_of (Get1Resource kind id) s = fetched_steps (find_in_current (is_resource kind id) s.resources) s
 steps_of (GetNamedResource kind name) s = fetched_steps (find_from_current (is_named kind name) s.resources) s
 steps_of (Get1NamedResource kind name) s = fetched_steps (find_in_current (is_named kind name) s.resources) s
-steps_of (Get1IndResource kind index) s =
-    fetched_steps (nth_in kind index (file_of s.resources.current s.resources)) s
+steps_of (GetIndResource among kind index) s =
+    fetched_steps (nth_among among kind index s.resources) s
 steps_of (LoadResource handle) s = for_found (resource_of handle s.resources) (fetch_steps true)
 steps_of (ReleaseResource handle) s = for_found (resource_of handle s.resources) (release_steps handle s)
 steps_of (DetachResource handle) s = for_found (resource_of handle s.resources) (detach_steps handle)

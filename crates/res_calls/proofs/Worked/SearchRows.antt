@@ -8,7 +8,8 @@ use Rattle.res_calls.specs.Files.{Resources, opened}
 use Rattle.res_calls.specs.Fetch.{Managers}
 use Rattle.res_calls.specs.Asked.{UseResFile, CurResFile, HomeResFile, GetResource, Get1Resource}
 use Rattle.res_calls.specs.Asked.{GetNamedResource, Get1NamedResource, Count1Types, Get1IndType}
-use Rattle.res_calls.specs.Asked.{Count1Resources, Get1IndResource}
+use Rattle.res_calls.specs.Asked.{CountResources, GetIndResource, UniqueID}
+use Rattle.res_calls.specs.Rows.{Current, EachFile, first_free}
 use Rattle.res_calls.proofs.Worked.Lines.{line, heap_line, tells, stored, opened_map, group}
 
 -- A search through the open files.
@@ -53,10 +54,34 @@ by-name window = refl
 
 -- what the current file has
 counted : (window : Site) → tells (line (UseResFile 3) ∷ line Count1Types ∷ line (Get1IndType 1)
-    ∷ line (Count1Resources text) ∷ line (Get1IndResource text 2) ∷ heap_line (asks.Show (Some 0)) ∷ [])
+    ∷ line (CountResources Current text) ∷ line (GetIndResource Current text 2) ∷ heap_line (asks.Show (Some 0)) ∷ [])
     (start window)
     ≡ Done ∷ Number 1 ∷ Kind text ∷ Number 2 ∷ Fetched 0 1 ∷ Bytes (109 ∷ 50 ∷ []) ∷ []
 counted window = refl
+
+-- what all open files have, whichever is current
+counted-in-all : (window : Site) → tells (line (UseResFile 3) ∷ line (CountResources EachFile text)
+    ∷ line (GetIndResource EachFile text 3) ∷ heap_line (asks.Show (Some 0)) ∷ line (GetIndResource EachFile text 4)
+    ∷ heap_line (asks.Show (Some 1)) ∷ line (GetIndResource EachFile text 5) ∷ line (GetIndResource EachFile text 0)
+    ∷ line (GetIndResource Current text 3) ∷ line (CountResources EachFile 0) ∷ []) (start window)
+    ≡ Done ∷ Number 4 ∷ Fetched 0 1 ∷ Bytes (109 ∷ 50 ∷ []) ∷ Fetched 1 1 ∷ Bytes (115 ∷ []) ∷ Refused RES_NOT_FOUND
+    ∷ Refused RES_NOT_FOUND ∷ Refused RES_NOT_FOUND ∷ Number 0 ∷ []
+counted-in-all window = refl
+
+-- an ID that no resource of the type has: file 6 has 'STR ' 128 and 130, the System's 129
+free : (window : Site) → tells (line (UniqueID Current text) ∷ line (UniqueID EachFile text) ∷ line (UniqueID EachFile 0) ∷ [])
+    (record {
+      memory = fresh_memory 1024 window;
+      resources = record resources {
+        chain = opened 6 (Some 0) (opened_map (group text (stored (pos 128) None 0 [] ∷ stored (pos 130) None 0 [] ∷ []) ∷ []))
+            ∷ opened 0 None (opened_map (group text (stored (pos 129) None 0 [] ∷ []) ∷ []))
+            ∷ [];
+        current = 6;
+      };
+    })
+    ≡ Number 129 ∷ Number 131 ∷ Number 128 ∷ []
+unfolding first_free
+free window = refl
 
 -- a resource of the System's is found behind a file without it
 behind-own : (window : Site) → tells (line (UseResFile 2) ∷ line (Get1Resource text (pos 5))

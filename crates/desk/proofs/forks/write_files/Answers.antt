@@ -16,4 +16,5 @@ returns-in_err-write_file-clause-forks c =
     on_any_err c.from_residual.result _
     (still-lines c.loop-place.text.items c.args.text.now.items _ _ _
     (sym (files_next c.loop-place.text.items c.args.name.now.0.items files i f less) ∙ c.loop-place.invariant.0)
-    c.loop-place.invariant.1 (subst (λ (x : StoredFile). fork_told c.args.name.now.0.items i (view_file x) ≢ []) is c.in_err-write_file.ensures.forks))
+    c.loop-place.invariant.1
+    (subst (λ (x : StoredFile). fork_told c.args.name.now.0.items i (view_file x) ≢ []) is c.in_err-write_file.ensures.forks))

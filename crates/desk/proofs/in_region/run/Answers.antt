@@ -10,8 +10,8 @@ use Rattle.desk.proofs.in_region.run.Goals as goal
 
 pub returns-clause-lies : goal.returns-clause-lies
 returns-clause-lies g c =
-    subst (λ (r : Whole). IfOk c.run_with-outcome.result.0 (λ o. o.stopped ≡ false → LieAtEnd (λ w blocks slots. LiesThere r.bytes w blocks slots) c.args.job.now))
-    (sym c.into_region.ensures) c.run_with-outcome.ensures.lies
+    subst (λ (r : Whole). IfOk c.run_with-outcome.result.0 (λ o. o.stopped ≡ false → LieAtEnd
+    (λ w blocks slots. LiesThere r.bytes w blocks slots) c.args.job.now)) (sym c.into_region.ensures) c.run_with-outcome.ensures.lies
 
 pub returns-clause-untouched : goal.returns-clause-untouched
 returns-clause-untouched g c =

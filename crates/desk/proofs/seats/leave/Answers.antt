@@ -7,12 +7,16 @@ use Rattle.desk.specs.View.{place_seen}
 use Rattle.desk.proofs.seats.leave.Goals as goal
 
 pub returns-clause-told : goal.returns-clause-told
-returns-clause-told g c = rw (← c.seat.view_is, c.own_name-name.ensures, c.part-launched.ensures.told (start_of (view c.seat.inside.system.now) c.seat.inside.app.now)) refl
+returns-clause-told g c = rw (
+  ← c.seat.view_is,
+  c.own_name-name.ensures,
+  c.part-launched.ensures.told (start_of (view c.seat.inside.system.now) c.seat.inside.app.now),
+) refl
 
 pub returns-clause-window : goal.returns-clause-window
 returns-clause-window g c = rw (← c.seat.view_is) (c.part-launched.ensures.window _)
 
 pub returns-clause-zone : goal.returns-clause-zone
 returns-clause-zone g c =
-    subst (λ (s : Placed _). IfSome c.part-launched.result.1 (λ f. IsHeapOf (place_seen s).phase (g.S.BlockStore.zone f.1) (g.S.BlockStore.rest f.1).slots))
-    c.seat.view_is (c.part-launched.ensures.zone _)
+    subst (λ (s : Placed _). IfSome c.part-launched.result.1 (λ f. IsHeapOf (place_seen s).phase (g.S.BlockStore.zone f.1)
+    (g.S.BlockStore.rest f.1).slots)) c.seat.view_is (c.part-launched.ensures.zone _)

@@ -24,8 +24,8 @@ returns-in-Ok-outcome-clause-laws g c =
 
 pub returns-in-Ok-outcome-clause-lies : goal.returns-in-Ok-outcome-clause-lies
 returns-in-Ok-outcome-clause-lies g c =
-    lie-at-end (g.Z.ZoneMaker.left c.run_by-outcome.result.1) (λ o. o.stopped ≡ false) c.args.job.now (view c.in-Ok.system) c.run_by-outcome.result.0
-    c.in-Ok-outcome.outcome c.in-Ok.ensures.system c.run_by-outcome.ensures.lies c.in-Ok-outcome.is
+    lie-at-end (g.Z.ZoneMaker.left c.run_by-outcome.result.1) (λ o. o.stopped ≡ false) c.args.job.now (view c.in-Ok.system)
+    c.run_by-outcome.result.0 c.in-Ok-outcome.outcome c.in-Ok.ensures.system c.run_by-outcome.ensures.lies c.in-Ok-outcome.is
 
 pub returns-in-Ok-outcome-clause-outside : goal.returns-in-Ok-outcome-clause-outside
 returns-in-Ok-outcome-clause-outside g c =

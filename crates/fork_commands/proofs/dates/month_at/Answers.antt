@@ -11,6 +11,7 @@ returns-then-left-len-clause-month c =
 pub loop-preserved : goal.loop-preserved
 loop-preserved c = record {
   place = let p = c.loop.invariant.place in omega (arith, p);
-  rest = later (days_in_month c.args.date.period) c.loop.counter 12 c.loop.month c.loop.left _ _ c.loop-test.true (search rules) (search rules) c.loop.invariant.rest;
+  rest = later (days_in_month c.args.date.period) c.loop.counter 12 c.loop.month c.loop.left _ _ c.loop-test.true (search rules)
+      (search rules) c.loop.invariant.rest;
   less = let l = c.loop.invariant.less in omega (arith, l);
 }

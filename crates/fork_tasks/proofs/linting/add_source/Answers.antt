@@ -28,10 +28,12 @@ returns-in-Err-Files-clause-clean c =
 
 pub returns-in-Err-Text-clause-text : goal.returns-in-Err-Text-clause-text
 returns-in-Err-Text-clause-text c =
-    let is : read (types_of c.args.types.now) [] c.args.text.now ≡ Err (Wrong c.in-Err-Text.fault.line c.in-Err-Text.fault.kind) = search rules in
+    let is : read (types_of c.args.types.now) [] c.args.text.now ≡ Err (Wrong c.in-Err-Text.fault.line c.in-Err-Text.fault.kind) =
+    search rules in
     some_lines c.add_unstated.result c.args.path.now _ _ _ _ (ap stopped_at is) c.add_unstated.ensures.text
 
 pub returns-in-Err-Text-clause-clean : goal.returns-in-Err-Text-clause-clean
 returns-in-Err-Text-clause-clean c =
-    let is : read (types_of c.args.types.now) [] c.args.text.now ≡ Err (Wrong c.in-Err-Text.fault.line c.in-Err-Text.fault.kind) = search rules in
+    let is : read (types_of c.args.types.now) [] c.args.text.now ≡ Err (Wrong c.in-Err-Text.fault.line c.in-Err-Text.fault.kind) =
+    search rules in
     some_clean c.add_unstated.result _ _ _ _ (ap stopped_at is) c.add_unstated.ensures.clean

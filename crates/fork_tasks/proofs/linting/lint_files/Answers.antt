@@ -29,6 +29,6 @@ returns-in_err-lint_file-clause-stopped g c =
 pub returns-clause-seen : goal.returns-clause-seen
 returns-clause-seen g c =
     let none : map (λ path. path.now) (drop c.loop-path.path-index c.args.paths.now) ≡ [] = grind (arith, common_steps) in
-    all_linted _ _ _ _ _ _ _ _ (subst (λ l. Come (lines_by c.args.asked (types_of c.args.types.now)) (map (λ path. path.now) c.args.paths.now) l
-    (g.H.Host.accesses c.args.host.now) (g.H.Host.accesses c.loop-path.host) [] c.loop-path.lines.text.items
-    true c.loop-path.lines.clean) none c.loop-path.invariant.come)
+    all_linted _ _ _ _ _ _ _ _ (subst (λ l.
+    Come (lines_by c.args.asked (types_of c.args.types.now)) (map (λ path. path.now) c.args.paths.now) l (g.H.Host.accesses c.args.host.now)
+    (g.H.Host.accesses c.loop-path.host) [] c.loop-path.lines.text.items true c.loop-path.lines.clean) none c.loop-path.invariant.come)

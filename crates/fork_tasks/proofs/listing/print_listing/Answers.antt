@@ -13,6 +13,6 @@ returns-in_err-push_first-clause-front g c = nothing _ _
 
 pub returns-clause-front : goal.returns-clause-front
 returns-clause-front g c =
-    let before : PrintsBut (listing c.args.listing.now.spelling c.args.listing.now.info.items (view c.args.listing.now.content)) c.print_groups.new.lines.items
-    (g.H.Host.printed c.args.host.now) (g.H.Host.printed c.print_groups.new.host) = search rules in
+    let before : PrintsBut (listing c.args.listing.now.spelling c.args.listing.now.info.items (view c.args.listing.now.content))
+    c.print_groups.new.lines.items (g.H.Host.printed c.args.host.now) (g.H.Host.printed c.print_groups.new.host) = search rules in
     front-further _ _ _ _ _ _ before c.as_slice.ensures.value c.print.ensures.front

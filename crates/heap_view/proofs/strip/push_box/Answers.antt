@@ -13,4 +13,5 @@ returns c =
     (c.box_class.ensures ∙ ap (λ (b : Bool). box_class b (map view_line c.args.bin.now)) c.is_narrow-narrow.ensures) in
     let all = c.in_ok-push_all_parts.ensures
     ∙ ap (λ (e : Extent). c.put.new.text.items ++ all_parts c.args.extent.size e (map view_line c.args.bin.now)) c.in_units.ensures in
-    also c.args.text.now.items _ _ (also c.args.text.now.items _ _ (also c.args.text.now.items _ _ (also c.args.text.now.items _ _ (opened) c.in_ok-push_title.ensures) c.in_ok-put.ensures) all) c.in_ok-put-2.ensures
+    also c.args.text.now.items _ _ (also c.args.text.now.items _ _ (also c.args.text.now.items _ _
+    (also c.args.text.now.items _ _ (opened) c.in_ok-push_title.ensures) c.in_ok-put.ensures) all) c.in_ok-put-2.ensures

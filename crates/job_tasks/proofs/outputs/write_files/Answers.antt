@@ -20,7 +20,8 @@ returns-in_err-write-clause-stopped g c =
     ++ all_forks_left c.args.folder.now (sources_unless o.stopped sources) 0 o.apps in
     let all : Write path o.log ∷ map write_of files ≡ map write_of (left_by c.args.folder.now sources o) = search rules in
     let same : c.from_residual.result ≡ Err c.in_err-write.field-0.0 = search rules in
-    told_err _ _ _ same (subst (λ l. StopsAt l (g.H.Host.accesses c.args.host.now) (g.H.Host.accesses c.write.new.self) path c.in_err-write.field-0.0) all
+    told_err _ _ _ same
+    (subst (λ l. StopsAt l (g.H.Host.accesses c.args.host.now) (g.H.Host.accesses c.write.new.self) path c.in_err-write.field-0.0) all
     (front_at path o.log _ _ (map write_of files) _ _ _ c.in_err-write.ensures.front (search rules) (search rules)))
 
 pub returns-in_err-write_logs-clause-stopped : goal.returns-in_err-write_logs-clause-stopped

@@ -17,18 +17,17 @@ loop-block-preserved c =
     elim c.if-is_full.branch [
       | then-is_full+in_ok-push_bin w ↦ record {
         rest = rw (w.text-is) (bin_ends c.args.zone (get nat_cmp c.args.resources.now) c.args.least c.loop-block.size c.loop-block.bin.items
-            (drop (c.loop-block.block-index + 1) c.args.blocks.now) (drop c.loop-block.block-index c.args.blocks.now) c.push.new.self.items b
-            c.loop-block.text.items w.push_bin.new.text.items _ (search rules) c.loop-block.invariant.size (search (rules, drop_more))
-            c.loop-block.invariant.rest (search rules)
-            (search rules));
+            (drop (c.loop-block.block-index + 1) c.args.blocks.now) (drop c.loop-block.block-index c.args.blocks.now) c.push.new.self.items
+            b c.loop-block.text.items w.push_bin.new.text.items _ (search rules) c.loop-block.invariant.size (search (rules, drop_more))
+            c.loop-block.invariant.rest (search rules) (search rules));
         size = rw (w.size-is) (search (rules, sized_more));
         few = rw (w.size-is) (search rules);
       }
       | else-is_full w ↦ record {
-        rest = rw (w.text-is) (bin_grows c.args.zone (get nat_cmp c.args.resources.now) c.args.least c.loop-block.size c.loop-block.bin.items
-            (drop (c.loop-block.block-index + 1) c.args.blocks.now) (drop c.loop-block.block-index c.args.blocks.now) c.push.new.self.items b
-            c.loop-block.text.items _ (search rules) c.loop-block.invariant.size (search (rules, drop_more)) c.loop-block.invariant.rest
-            (search rules));
+        rest = rw (w.text-is) (bin_grows c.args.zone (get nat_cmp c.args.resources.now) c.args.least
+            c.loop-block.size c.loop-block.bin.items (drop (c.loop-block.block-index + 1) c.args.blocks.now)
+            (drop c.loop-block.block-index c.args.blocks.now) c.push.new.self.items b c.loop-block.text.items _
+            (search rules) c.loop-block.invariant.size (search (rules, drop_more)) c.loop-block.invariant.rest (search rules));
         size = rw (w.size-is) (search (rules, sized_more));
         few = rw (w.size-is) (search rules);
       }

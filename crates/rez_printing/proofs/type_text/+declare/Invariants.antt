@@ -36,5 +36,6 @@ invariant-push_cases-loop-case l =
 -- the fields so far, with those to come, are all
 abbrev pub invariant-push_fields-loop-field : goal.invariant-push_fields-loop-field
 invariant-push_fields-loop-field l =
-    l.out.items ++ fields_from (block_text l.depth (blocks_of l.blocks)) (fields_of l.fields) l.counts (fields_of (drop l.field-index l.fields))
+    l.out.items
+    ++ fields_from (block_text l.depth (blocks_of l.blocks)) (fields_of l.fields) l.counts (fields_of (drop l.field-index l.fields))
     ≡ l.fn.out.items ++ fields_from (block_text l.depth (blocks_of l.blocks)) (fields_of l.fields) 0 (fields_of l.fields)

@@ -37,8 +37,9 @@ returns-clause-after g c =
     (c.new-purges.ensures ∙ ap (λ on. record { on = on; told = []; offered = [] })
     (c.purging.ensures ∙ ap (λ (r : Running). r.resources.purging) c.self.view_is))
     c.answer_resource-tried.ensures.hears.rests.same c.answer_resource-tried.ensures.hears.tells c.into_told.ensures
-    (subst (λ (x : Running). OnOk c.answer_resource-tried.result (x ≡ (resource_tried (finds.served (resource_asked c.args.call.now c.args.self.now.names) (managers_of c.args.self.now))
-    c.args.self.now).after)) (sym c.self-2.view_is) c.answer_resource-tried.ensures.after))
+    (subst (λ (x : Running). OnOk c.answer_resource-tried.result (x ≡ (resource_tried
+    (finds.served (resource_asked c.args.call.now c.args.self.now.names) (managers_of c.args.self.now)) c.args.self.now).after))
+    (sym c.self-2.view_is) c.answer_resource-tried.ensures.after))
 
 pub returns-clause-files : goal.returns-clause-files
 returns-clause-files g c = on_err-ap c.answer_resource-tried.result (λ same.

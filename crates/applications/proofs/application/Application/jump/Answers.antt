@@ -29,7 +29,8 @@ returns-clause-after g c =
     (c.new-purges.ensures ∙ ap (λ on. record { on = on; told = []; offered = [] })
     (c.purging.ensures ∙ ap (λ (r : Running). r.resources.purging) c.self.view_is))
     c.answer_segment-tried.ensures.hears.rests.same c.answer_segment-tried.ensures.hears.tells c.into_told.ensures
-    (subst (λ (x : Running). OnOk c.answer_segment-tried.result (x ≡ (segment_tried (served c.args.call.now (program_of c.args.self.now)) c.args.self.now).after)) (sym c.self-2.view_is) c.answer_segment-tried.ensures.after))
+    (subst (λ (x : Running). OnOk c.answer_segment-tried.result (x ≡ (segment_tried (served c.args.call.now (program_of c.args.self.now))
+    c.args.self.now).after)) (sym c.self-2.view_is) c.answer_segment-tried.ensures.after))
 
 pub returns-clause-files : goal.returns-clause-files
 returns-clause-files g c = on_err-ap c.answer_segment-tried.result (λ same.

@@ -14,10 +14,12 @@ loop-line-preserved g c =
     let i = c.loop-line.line-index in
     let l = c.line-item.result in
     let t : Tried = once blocks l.call c.loop-line.self in
-    let shown = c.shown-shown.ensures ∙ ap (λ (r : Running). bytes_told (once [] l.call r).told) c.in_ok-tried.ensures.after ∙ shown-again blocks l.call c.loop-line.self in
-    let both = one_more blocks (drop i c.args.lines.now) (drop (i + 1) c.args.lines.now) l c.loop-line.self c.once.new.self _ c.loop-line.text.items c.write_grow_reply.new.text.items _
-    (rest-next c.args.lines.now i l (omega arith) c.line-item.is) c.in_ok-tried.ensures.after
-    (c.in_ok-write_grow_reply.ensures.line ∙ ap (λ (x : List ℕ). c.loop-line.text.items ++ x) (grown-said l c.of.result c.in_ok-tried.tried.reply _ t.told c.of.ensures c.in_ok-tried.ensures.tried.reply shown))
+    let shown = c.shown-shown.ensures ∙ ap (λ (r : Running). bytes_told (once [] l.call r).told) c.in_ok-tried.ensures.after
+    ∙ shown-again blocks l.call c.loop-line.self in
+    let both = one_more blocks (drop i c.args.lines.now) (drop (i + 1) c.args.lines.now) l c.loop-line.self c.once.new.self _
+    c.loop-line.text.items c.write_grow_reply.new.text.items _ (rest-next c.args.lines.now i l (omega arith) c.line-item.is)
+    c.in_ok-tried.ensures.after (c.in_ok-write_grow_reply.ensures.line ∙ ap (λ (x : List ℕ). c.loop-line.text.items ++ x)
+    (grown-said l c.of.result c.in_ok-tried.tried.reply _ t.told c.of.ensures c.in_ok-tried.ensures.tried.reply shown))
     c.loop-line.invariant.0 c.loop-line.invariant.1 in (
       both.0,
       both.1,

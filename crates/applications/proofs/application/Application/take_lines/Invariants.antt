@@ -7,7 +7,8 @@ use Rattle.applications.proofs.application.Application.take_lines.Given as goal
 -- the text so far, with the lines of the calls that are left, is the text with the lines of all
 abbrev pub invariant-loop-line : goal.invariant-loop-line
 invariant-loop-line g l =
-    (l.text.items ++ lines_told (grown l.script.blocks (drop l.line-index l.lines) l.self).lines ≡ l.fn.text.items ++ lines_told (grown l.script.blocks l.lines l.fn.self).lines)
+    (l.text.items ++ lines_told (grown l.script.blocks (drop l.line-index l.lines) l.self).lines
+    ≡ l.fn.text.items ++ lines_told (grown l.script.blocks l.lines l.fn.self).lines)
     × ((grown l.script.blocks (drop l.line-index l.lines) l.self).after ≡ (grown l.script.blocks l.lines l.fn.self).after)
     × Extends l.fn.text.items l.text.items
     × (l.self.resources.files ≡ l.fn.self.resources.files)

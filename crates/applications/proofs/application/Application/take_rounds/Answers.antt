@@ -26,9 +26,12 @@ done g c =
     let n : ℕ = most - c.loop-round._round in
     let k : ℕ = most - (c.loop-round._round + 1) in
     let more : n ≡ suc k = omega (arith, c.loop-round-test.true) in
-    let same : most ≡ sizes r.memory.heap.zone + 1 = ap (λ (x : ℕ). x + 1) (c.from-most.ensures ∙ c.len.ensures ∙ ap (λ (x : Running). sizes x.memory.heap.zone) c.self.view_is) in
-    let came = subst (λ (x : Next). CameRound (round blocks l c.loop-round.self) x c.loop-round.text.items c.round.new.text.items c.round.new.self) c.in-Ended.is c.in_ok-round.ensures.came in
-    let ends = step_ends blocks l n k c.loop-round.self c.round.new.self c.in-Ended.exit c.loop-round.text.items c.round.new.text.items c.args.text.now.items (step_in most blocks l r) more came inv.0 inv.1 inv.2 in (
+    let same : most ≡ sizes r.memory.heap.zone + 1 =
+    ap (λ (x : ℕ). x + 1) (c.from-most.ensures ∙ c.len.ensures ∙ ap (λ (x : Running). sizes x.memory.heap.zone) c.self.view_is) in
+    let came = subst (λ (x : Next). CameRound (round blocks l c.loop-round.self) x c.loop-round.text.items c.round.new.text.items
+    c.round.new.self) c.in-Ended.is c.in_ok-round.ensures.came in
+    let ends = step_ends blocks l n k c.loop-round.self c.round.new.self c.in-Ended.exit c.loop-round.text.items c.round.new.text.items
+    c.args.text.now.items (step_in most blocks l r) more came inv.0 inv.1 inv.2 in (
       ends.0 ∙ ap (λ (x : ℕ). exit_of (step_in x blocks l r)) same,
       (
         ends.1.0 ∙ ap (λ (x : ℕ). c.args.text.now.items ++ lines_told (step_in x blocks l r).lines) same,
@@ -48,8 +51,11 @@ loop-round-preserved g c =
     let n : ℕ = most - c.loop-round._round in
     let k : ℕ = most - (c.loop-round._round + 1) in
     let more : n ≡ suc k = omega (arith, c.loop-round-test.true) in
-    let came = subst (λ (x : Next). CameRound (round c.args.script.now.blocks c.args.line.now c.loop-round.self) x c.loop-round.text.items c.round.new.text.items c.round.new.self) c.in-Again.is c.in_ok-round.ensures.came in
-    let both = step_goes_on c.args.script.now.blocks c.args.line.now n k c.loop-round.self c.round.new.self c.loop-round.text.items c.round.new.text.items _ (step_in most c.args.script.now.blocks c.args.line.now c.args.self.now) more came c.loop-round.invariant.0 c.loop-round.invariant.1 c.loop-round.invariant.2 in (
+    let came = subst (λ (x : Next). CameRound (round c.args.script.now.blocks c.args.line.now c.loop-round.self) x c.loop-round.text.items
+    c.round.new.text.items c.round.new.self) c.in-Again.is c.in_ok-round.ensures.came in
+    let both = step_goes_on c.args.script.now.blocks c.args.line.now n k c.loop-round.self c.round.new.self c.loop-round.text.items
+    c.round.new.text.items _ (step_in most c.args.script.now.blocks c.args.line.now c.args.self.now) more came c.loop-round.invariant.0
+    c.loop-round.invariant.1 c.loop-round.invariant.2 in (
       both.0,
       both.1,
       both.2,

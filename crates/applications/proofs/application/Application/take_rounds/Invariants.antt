@@ -7,7 +7,8 @@ use Rattle.applications.proofs.application.Application.take_rounds.Given as goal
 -- the text so far, with the lines of the rounds that are left, is the text with the lines of the step
 abbrev pub invariant-loop-round : goal.invariant-loop-round
 invariant-loop-round g l =
-    (l.text.items ++ lines_told (step_in (l.most - l._round) l.script.blocks l.line l.self).lines ≡ l.fn.text.items ++ lines_told (step_in l.most l.script.blocks l.line l.fn.self).lines)
+    (l.text.items ++ lines_told (step_in (l.most - l._round) l.script.blocks l.line l.self).lines
+    ≡ l.fn.text.items ++ lines_told (step_in l.most l.script.blocks l.line l.fn.self).lines)
     × ((step_in (l.most - l._round) l.script.blocks l.line l.self).after ≡ (step_in l.most l.script.blocks l.line l.fn.self).after)
     × (exit_of (step_in (l.most - l._round) l.script.blocks l.line l.self) ≡ exit_of (step_in l.most l.script.blocks l.line l.fn.self))
     × Extends l.fn.text.items l.text.items

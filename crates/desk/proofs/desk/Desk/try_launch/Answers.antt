@@ -99,17 +99,15 @@ returns-in_default-begun-clause-ok g c =
     c.deref.result.now c.args.i c.in-Some.seat.now c.deref.ensures.value c.in-Some.ensures.lookup.3.0
     c.in-Some.ensures.lookup.1 in
     let name = ap (λ (x : Placed g.row.Z-Store.Denot). x.app.now.name.0.items) c.seat.view_is in
-    through c.once_written-in_default-begun.result c.write_app_refusal-in_default-begun.result _ c.once_written-in_default-begun.ensures.written (on_ok_weaker c.write_app_refusal-in_default-begun.result
-    (λ h. launched-full c.args.i s p here c.in-Ok.ready.resources (sizes_seen c.in-Ok.ready.sizes)
-    c.begin.new.grants.memory c.begin.new.grants.windows s.places
-    c.write_app_refusal-in_default-begun.new.text.items c.in-Ok.ensures.answer c.in-Ok.ensures.sizes
-    (sym (ap (option_map (λ l. l.partition.window)) c.in_default-begun.is) ∙ c.in_ok-begun.ensures.answer)
-    c.begin.ensures.size
+    through c.once_written-in_default-begun.result c.write_app_refusal-in_default-begun.result _
+    c.once_written-in_default-begun.ensures.written (on_ok_weaker c.write_app_refusal-in_default-begun.result
+    (λ h. launched-full c.args.i s p here c.in-Ok.ready.resources (sizes_seen c.in-Ok.ready.sizes) c.begin.new.grants.memory
+    c.begin.new.grants.windows s.places c.write_app_refusal-in_default-begun.new.text.items c.in-Ok.ensures.answer c.in-Ok.ensures.sizes
+    (sym (ap (option_map (λ l. l.partition.window)) c.in_default-begun.is) ∙ c.in_ok-begun.ensures.answer) c.begin.ensures.size
     (not-opened (λ l. l.partition.window) c.in_ok-begun.begun c.self.inside.grants.windows c.begin.new.grants.windows
-    c.in_default-begun.is c.in_ok-begun.ensures.windows)
-    refl MEM_FULL refl (h ∙ ap (λ (t : List ℕ). t ++ refusal_of c.seat.inside.app.now.name.0.items MEM_FULL.0) c.reserve.ensures.items
-    ∙ ap (λ (n : List ℕ). s.log ++ refusal_of n MEM_FULL.0) name)
-    ∙ ap (λ (d : DeskSeen _). launched_at c.args.i d.state) c.self.view_is)
+    c.in_default-begun.is c.in_ok-begun.ensures.windows) refl MEM_FULL refl (h
+    ∙ ap (λ (t : List ℕ). t ++ refusal_of c.seat.inside.app.now.name.0.items MEM_FULL.0) c.reserve.ensures.items
+    ∙ ap (λ (n : List ℕ). s.log ++ refusal_of n MEM_FULL.0) name) ∙ ap (λ (d : DeskSeen _). launched_at c.args.i d.state) c.self.view_is)
     c.write_app_refusal-in_default-begun.ensures.line)
 
 pub start_at-requires-clause-waits : goal.start_at-requires-clause-waits

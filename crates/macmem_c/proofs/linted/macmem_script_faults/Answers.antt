@@ -1,0 +1,10 @@
+use Rattle.std.proofs.Common.{rules, w32, SFits}
+use Rattle.macmem_c.specs.Described.{AreFaulty}
+use Rattle.macmem_c.proofs.Writing.{written}
+use Rattle.macmem_c.proofs.linted.macmem_script_faults.Goals as goal
+
+pub returns : goal.returns
+returns c =
+    let fits : SFits w32 c.give.result = search rules in
+    written (λ v. v.items) (AreFaulty c.args.script.now) c.script_lines.result _ _ _ _ _ fits
+    c.script_lines.ensures c.give.ensures.given c.give.ensures.unchanged

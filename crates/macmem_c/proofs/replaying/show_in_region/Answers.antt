@@ -1,0 +1,47 @@
+use Rattle.std.proofs.Common.{◌≡◌, ◌∙◌, ℕ, ap, sym, subst, length, arith, IfOk}
+use Rattle.raw_zone.specs.Parted.{zone_of}
+use Rattle.block_store.specs.Block.{fresh, sizes}
+use Rattle.block_store.specs.Rest.{Site}
+use Rattle.applications.proofs.Elsewhere.{sizes-fresh}
+use Rattle.desk.proofs.WholeRegion.{whole_home, whole_there}
+use Rattle.zone_view.specs.Sight.{sight_text}
+use Rattle.macmem_c.proofs.replaying.show_in_region.Goals as goal
+
+-- the zone is fresh, and fills the region
+pub show-shown-requires-clause-zone : goal.show-shown-requires-clause-zone
+show-shown-requires-clause-zone c =
+    let low = c.requires.low in
+    let long : length c.cut.result.bytes ≡ length c.args.region.bytes = c.cut.ensures.part_length ∙ c.len-len.ensures in
+    let whole : sizes (zone_of c.new-zone.result) ≡ length c.cut.result.bytes =
+    ap sizes c.new-zone.ensures.zone ∙ sizes-fresh (length c.cut.result.bytes) (omega (arith, low, long)) in
+    c.new-zone.ensures.zone ∙ ap fresh (sym whole)
+
+-- the window of the zone's part is out
+pub join-requires-clause-out : goal.join-requires-clause-out
+join-requires-clause-out c =
+    let site = c.show-shown.ensures.window ∙ c.new-zone.ensures.window in
+    whole_there c.into_part.result.at (length c.into_part.result.bytes) c.args.region.out c.cut.new.self.out _ _
+    c.requires.home c.cut.ensures.out
+    (ap (λ p. p.at) c.into_part.ensures.part ∙ ap (λ (s : Site). s.window.at) site ∙ c.cut.ensures.part_place)
+    (ap (λ p. length p.bytes) c.into_part.ensures.part ∙ ap (λ (s : Site). s.window.len) site
+    ∙ c.cut.ensures.part_length)
+
+pub returns-clause-shown : goal.returns-clause-shown
+returns-clause-shown c =
+    let low = c.requires.low in
+    let long : length c.cut.result.bytes ≡ length c.args.region.bytes = c.cut.ensures.part_length ∙ c.len-len.ensures in
+    let whole : sizes (zone_of c.new-zone.result) ≡ length c.args.region.bytes =
+    ap sizes c.new-zone.ensures.zone ∙ sizes-fresh (length c.cut.result.bytes) (omega (arith, low, long)) ∙ long in
+    subst (λ (n : ℕ). IfOk c.show-shown.result.0
+    (λ out. out.items ≡ sight_text c.args.sight c.args.resources n c.args.script.now c.args.text.now)) whole
+    c.show-shown.ensures.shown
+
+pub returns-clause-home : goal.returns-clause-home
+returns-clause-home c =
+    let site = c.show-shown.ensures.window ∙ c.new-zone.ensures.window in
+    whole_home c.into_part.result.at (length c.into_part.result.bytes) c.args.region.out c.cut.new.self.out
+    c.join.new.self.out _ _ c.requires.home c.cut.ensures.out
+    (ap (λ p. p.at) c.into_part.ensures.part ∙ ap (λ (s : Site). s.window.at) site ∙ c.cut.ensures.part_place)
+    (ap (λ p. length p.bytes) c.into_part.ensures.part ∙ ap (λ (s : Site). s.window.len) site
+    ∙ c.cut.ensures.part_length)
+    c.join.ensures.out

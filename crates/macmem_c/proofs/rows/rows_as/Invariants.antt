@@ -1,0 +1,8 @@
+use Rattle.std.proofs.Common.{◌≡◌, ◌++◌, map, drop}
+use Rattle.fork_edits.specs.View.{view_row}
+use Rattle.macmem_c.specs.Listed.{row_as}
+use Rattle.macmem_c.proofs.rows.rows_as.Given as goal
+
+abbrev pub invariant-loop-row : goal.invariant-loop-row
+invariant-loop-row l =
+    l.rows.items ++ map row_as (map view_row (drop l.row-index l.all)) ≡ map row_as (map view_row l.all)

@@ -1,0 +1,57 @@
+use Rattle.std.specs.Prelude.{◌≡◌, ℕ, ℤ, Option, Some, None, List, length}
+use Rattle.mac_words.specs.Told.{Told, Given, Number, Numbers, Bytes}
+use Rattle.heap_calls.specs.Asked.{Asked}
+use Rattle.heap_calls.specs.State.{CountedMemory}
+use Rattle.heap_calls.specs.Table.{served}
+use Rattle.applications.specs.Trying.{code_told}
+use Rattle.desk.specs.Lying.{LieAs}
+use Rattle.macmem_c.specs.Delivered.{laid_over}
+
+-- What C gets of a call of the Memory Manager's table. Inside Macintosh: Memory, chapter 2, "Memory Manager Routines".
+
+-- The code and the heap after the call are those of the table.
+pub record IsServed (asked : Asked) (before after : CountedMemory) (code : ℤ) : Type 0 where
+  pub code_is : code ≡ (code_told (served asked before.memory).0).0
+  pub heap_is : after.memory ≡ (served asked before.memory).1
+
+-- The same of what C keeps: there is a zone after the call, as there was before.
+abbrev pub Serves : Asked → Option CountedMemory → Option CountedMemory → ℤ → Type 0
+Serves asked (Some before) (Some after) code = IsServed asked before after code
+Serves asked (Some before) None code = ⊥
+Serves asked None after code = Unit {0}
+
+-- The number that a reply has, or the one before.
+abbrev pub number_or : ℕ → Told → ℕ
+number_or before (Given number) = number
+number_or before (Number number) = number
+number_or before told = before
+
+-- The number that C has after the call.
+abbrev pub number_after : Asked → Option CountedMemory → ℕ → ℕ
+number_after asked None before = before
+number_after asked (Some heap) before = number_or before (served asked heap.memory).0
+
+-- The two numbers that C has are those of a reply that has two.
+abbrev pub are_told : Told → ℕ → ℕ → Type 0
+are_told (Numbers one other) first second = (first ≡ one) × (second ≡ other)
+are_told told first second = ⊥
+
+abbrev pub AreNumbers : Asked → Option CountedMemory → ℕ → ℕ → Type 0
+AreNumbers asked None first second = Unit {0}
+AreNumbers asked (Some heap) first second = are_told (served asked heap.memory).0 first second
+
+-- The bytes that C has, and their count, are those in which a heap lies.
+pub record IsImage (heap : CountedMemory) (before after : List ℕ) (count : ℕ) : Type 0 where
+  pub bytes : List ℕ
+  pub lies : LieAs heap.memory.heap bytes
+  pub front_is : after ≡ laid_over bytes before
+  pub count_is : count ≡ length bytes
+
+-- The bytes that C has, and their count, are those of a reply that has bytes; they are as they were where it has none.
+abbrev pub is_shown : Told → List ℕ → ℕ → List ℕ → ℕ → Type 0
+is_shown (Bytes bytes) before count after new_count = (after ≡ laid_over bytes before) × (new_count ≡ length bytes)
+is_shown told before count after new_count = (after ≡ before) × (new_count ≡ count)
+
+abbrev pub IsShown : Asked → Option CountedMemory → List ℕ → ℕ → List ℕ → ℕ → Type 0
+IsShown asked None before count after new_count = Unit {0}
+IsShown asked (Some heap) before count after new_count = is_shown (served asked heap.memory).0 before count after new_count

@@ -1,0 +1,13 @@
+pub mod Codes
+pub mod Keeping
+pub mod Delivered
+pub mod Faults
+pub mod Called
+pub mod Made
+pub mod Handed
+pub mod Keys
+pub mod Listed
+pub mod Paired
+pub mod Replayed
+pub mod Sources
+pub mod Described

@@ -1,0 +1,102 @@
+//! Calls on pointers and their blocks. A pointer is a number, as a handle is.
+
+ghost use Rattle.std.specs.Prelude.{◌≡◌, ◌≢◌, IsSome, Some};
+ghost use Rattle.heap_calls.specs.Asked.{NewPtr, DisposePtr, GetPtrSize, SetPtrSize, PtrZone};
+ghost use Rattle.macmem_c.specs.Codes.{host_memory};
+ghost use Rattle.macmem_c.specs.Called.{Serves, number_after};
+
+use crate::codes::{code_in, code_of, number_in, number_of};
+use crate::kept::Kept;
+use heap_calls::NoSink;
+use std::alloc::Global;
+
+/// `NewPtr`: allocates a nonrelocatable block of `size` bytes, all 0, and gives a pointer to it.
+#[unsafe(no_mangle)]
+pub extern "C" fn macmem_new_ptr(
+    alloc: Global,
+    zone: &mut Kept,
+    size: u32,
+    pointer: &mut usize,
+) -> i32
+    requires { IsSome zone.old.heap }
+    ensures served { result ≢ host_memory
+        → Serves (NewPtr size) zone.old.heap zone.new.heap result }
+    ensures number { result ≢ host_memory
+        → pointer.new ≡ number_after (NewPtr size) zone.old.heap pointer.old }
+    ensures host { result ≡ host_memory
+        → (zone.new.heap ≡ zone.old.heap) × (pointer.new ≡ pointer.old) }
+{
+    let mut boxed = zone.take(alloc);
+    let made = boxed.heap.new_pointer(size, &mut NoSink);
+    *zone = Kept::of(boxed);
+    number_in(made, pointer)
+}
+
+/// `DisposePtr`: disposes of a pointer and its block.
+#[unsafe(no_mangle)]
+pub extern "C" fn macmem_dispose_ptr(alloc: Global, zone: &mut Kept, pointer: usize) -> i32
+    requires { IsSome zone.old.heap }
+    ensures { Serves (DisposePtr (Some pointer)) zone.old.heap zone.new.heap result }
+{
+    let mut boxed = zone.take(alloc);
+    let done = boxed.heap.dispose_pointer(Some(pointer));
+    *zone = Kept::of(boxed);
+    code_of(done)
+}
+
+/// `GetPtrSize`: gives the logical size in bytes of a pointer's block.
+#[unsafe(no_mangle)]
+pub extern "C" fn macmem_get_ptr_size(
+    alloc: Global,
+    zone: &mut Kept,
+    pointer: usize,
+    size: &mut u32,
+) -> i32
+    requires { IsSome zone.old.heap }
+    ensures served { Serves (GetPtrSize (Some pointer)) zone.old.heap zone.new.heap result }
+    ensures number { size.new ≡ number_after (GetPtrSize (Some pointer)) zone.old.heap size.old }
+{
+    let mut boxed = zone.take(alloc);
+    let told = boxed.heap.get_pointer_size(Some(pointer));
+    *zone = Kept::of(boxed);
+    number_of(told, size)
+}
+
+/// `PtrZone`: gives the place of the zone of a pointer's block, its offset from its own start: 0.
+#[unsafe(no_mangle)]
+pub extern "C" fn macmem_ptr_zone(
+    alloc: Global,
+    zone: &mut Kept,
+    pointer: usize,
+    place: &mut u32,
+) -> i32
+    requires { IsSome zone.old.heap }
+    ensures served { Serves (PtrZone (Some pointer)) zone.old.heap zone.new.heap result }
+    ensures number { place.new ≡ number_after (PtrZone (Some pointer)) zone.old.heap place.old }
+{
+    let mut boxed = zone.take(alloc);
+    let told = boxed.heap.pointer_zone(Some(pointer));
+    *zone = Kept::of(boxed);
+    number_of(told, place)
+}
+
+/// `SetPtrSize`: changes the logical size of a pointer's block; new bytes are 0.
+#[unsafe(no_mangle)]
+pub extern "C" fn macmem_set_ptr_size(
+    alloc: Global,
+    zone: &mut Kept,
+    pointer: usize,
+    size: u32,
+) -> i32
+    requires { IsSome zone.old.heap }
+    ensures served { result ≢ host_memory
+        → Serves (SetPtrSize (Some pointer) size) zone.old.heap zone.new.heap result }
+    ensures host { result ≡ host_memory → zone.new.heap ≡ zone.old.heap }
+{
+    let mut boxed = zone.take(alloc);
+    let done = boxed
+        .heap
+        .set_pointer_size(Some(pointer), size, &mut NoSink);
+    *zone = Kept::of(boxed);
+    code_in(done)
+}

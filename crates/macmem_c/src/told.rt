@@ -1,0 +1,146 @@
+//! The calls of a script in words.
+
+ghost use Rattle.std.specs.Prelude.{◌≡◌, ◌≤◌, ◌%◌, [], length, IfOk, IfErr};
+ghost use Rattle.block_store.specs.declared.measures.TheConstants.{LEAST_ZONE, GREATEST_ZONE};
+ghost use Rattle.applications.specs.Trying.{own_resources as own};
+ghost use Rattle.zone_view.specs.Words.{telling_text};
+ghost use Rattle.macmem_c.specs.Codes.{paramErr};
+ghost use Rattle.macmem_c.specs.Handed.{Hands};
+ghost use Rattle.macmem_c.specs.Made.{IsZoneSize, NoZoneSize};
+ghost use Rattle.macmem_c.specs.Replayed.{IsUnread, IsScriptFault};
+ghost use Rattle.macmem_c.specs.Described.{IsTold, telling_of};
+
+use crate::codes::BAD_SIZE;
+use crate::faults::Fault;
+use crate::replaying::NO_MEMORY;
+use crate::scripts::hand_over_script;
+use crate::sizes::is_zone_size;
+use applications::own_resources;
+use raw_region::Region;
+use raw_zone::RawZone;
+use res_calls::Resources;
+use script_text::{Script, ScriptFault, read_script};
+use std::alloc::{AllocError, Global};
+use zone_view::{Telling, steps_at, tell};
+
+/// Returns how much of the transcript is told: the calls from a line to another.
+fn telling_of(from: usize, to: usize, script: &Script) -> Telling
+    ensures { result ≡ telling_of from to script.now }
+{
+    let before = from.saturating_sub(1);
+    Telling::Steps(steps_at(Some(before), script), steps_at(Some(to), script))
+}
+
+/// Runs a script in a partition that fills a region, whatever the region's bytes were. Returns so
+/// much of its transcript in words, and the region. `text` is the text of the script.
+///
+/// # Errors
+///
+/// The host is out of memory.
+fn tell_in_region(
+    alloc: Global,
+    region: Region,
+    resources: Resources,
+    script: &Script,
+    text: &[u8],
+    telling: Telling,
+) -> (Result<Vec<u8>, AllocError>, Region)
+    requires home { region.out ≡ [] }
+    requires even { length region.bytes % 16 ≡ 0 }
+    requires low { LEAST_ZONE ≤ length region.bytes }
+    requires high { length region.bytes ≤ GREATEST_ZONE }
+    ensures told { IfOk result.0 (λ out. out.items
+        ≡ telling_text telling resources (length region.bytes) script.now text.now) }
+    ensures home { result.1.out ≡ [] }
+{
+    let mut region = region;
+    let len = region.len();
+    let zone = RawZone::new(alloc, region.cut(0, len));
+    let (told, zone) = tell(alloc, zone, resources, script, text, telling);
+    region.join(zone.into_part());
+    (told, region)
+}
+
+/// The same of an application without resources.
+fn tell_script(
+    alloc: Global,
+    region: Region,
+    script: &Script,
+    text: &[u8],
+    telling: Telling,
+) -> (Result<Vec<u8>, AllocError>, Region)
+    requires home { region.out ≡ [] }
+    requires even { length region.bytes % 16 ≡ 0 }
+    requires low { LEAST_ZONE ≤ length region.bytes }
+    requires high { length region.bytes ≤ GREATEST_ZONE }
+    ensures told { IfOk result.0 (λ out. out.items
+        ≡ telling_text telling own (length region.bytes) script.now text.now) }
+    ensures home { result.1.out ≡ [] }
+{
+    let resources = match own_resources(alloc) {
+        Ok(resources) => resources,
+        Err(fault) => return (Err(fault), region),
+    };
+    let (told, region) = tell_in_region(alloc, region, resources, script, text, telling);
+    match told {
+        Ok(out) => (Ok(out), region),
+        Err(fault) => (Err(fault), region),
+    }
+}
+
+/// Runs a script in a fresh partition, and returns its calls from a line to another in words.
+///
+/// # Errors
+///
+/// The first faulty line, or the host is out of memory.
+fn words_of(
+    alloc: Global,
+    size: u32,
+    from: usize,
+    to: usize,
+    text: &[u8],
+) -> Result<Vec<u8>, ScriptFault>
+    requires even { size % 16 ≡ 0 }
+    requires low { LEAST_ZONE ≤ size }
+    requires high { size ≤ GREATEST_ZONE }
+    ensures told { IfOk result (λ out. IsTold size from to text.now out.items) }
+    ensures fault { IfErr result (IsUnread text.now) }
+{
+    let script = read_script(alloc, text)?;
+    let Ok(region) = Region::new(alloc, size as usize) else {
+        return Err(NO_MEMORY);
+    };
+    let telling = telling_of(from, to, &script);
+    let (told, region) = tell_script(alloc, region, &script, text, telling);
+    region.close();
+    match told {
+        Ok(told) => Ok(told),
+        Err(_) => Err(NO_MEMORY),
+    }
+}
+
+/// Gives the calls of a script from a line to another in words, each with what it returned, moved
+/// and purged.
+#[unsafe(no_mangle)]
+pub extern "C" fn macmem_script_words(
+    alloc: Global,
+    size: u32,
+    from: usize,
+    to: usize,
+    script: &[u8],
+    out: &mut [u8],
+    len: &mut usize,
+    fault: &mut Fault,
+) -> i32
+    ensures run { IsZoneSize size
+        → Hands (IsTold size from to script.now) (IsScriptFault script.now)
+        out.old len.old fault.old out.new len.new fault.new result }
+    ensures size { NoZoneSize size
+        → (result ≡ paramErr) × (out.new ≡ out.old) × (len.new ≡ len.old)
+        × (fault.new ≡ fault.old) }
+{
+    if !is_zone_size(size) {
+        return BAD_SIZE;
+    }
+    hand_over_script(words_of(alloc, size, from, to, script), out, len, fault)
+}

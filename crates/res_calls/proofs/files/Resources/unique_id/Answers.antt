@@ -1,0 +1,10 @@
+use Rattle.std.specs.Prelude.{ℕ}
+use Rattle.byteorder.specs.Endian.{big_number}
+use Rattle.res_calls.specs.Rows as rows
+use Rattle.res_calls.specs.Given.{managers}
+use Rattle.res_calls.proofs.Noting.{is_noted}
+use Rattle.res_calls.proofs.files.Resources.unique_id.Goals as goal
+
+pub returns-clause-answer : goal.returns-clause-answer
+returns-clause-answer c = λ m. is_noted (λ (n : ℕ). n) (rows.unique_id rows.EachFile (big_number 4 c.args.ty.0))
+    (managers c.args.self.now m) _ _ _ _ m (c.free_id-answer.ensures.answer m) c.note.ensures.answer c.note.ensures.noted

@@ -1,0 +1,13 @@
+use Rattle.std.proofs.Common.{◌≡◌, map, drop}
+use Rattle.std.specs.Prelude.{option_map}
+use Rattle.byteorder.specs.Endian.{big_number}
+use Rattle.res_calls.specs.Rows.{nth_each}
+use Rattle.res_calls.specs.Places.{spot_of}
+use Rattle.res_calls.specs.View.{view_open}
+use Rattle.res_calls.proofs.Finding.{spot_from}
+use Rattle.res_calls.proofs.listing.nth_each.Given as goal
+
+-- what is found in the files that are left is found in all
+abbrev pub invariant-loop-i : goal.invariant-loop-i
+invariant-loop-i l = spot_from l.i (nth_each (big_number 4 l.ty.0) l.left (map view_open (drop l.i l.files)))
+    ≡ option_map spot_of (nth_each (big_number 4 l.ty.0) l.n (map view_open l.files))
