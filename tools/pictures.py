@@ -21,6 +21,7 @@ PICTURES = {
     "purging.svg": "heap --svg --steps 4..5 1024 examples/purging.script",
     "document.svg": "heap --svg 16384 examples/document.script",
     "grow_zone.svg": "heap --svg 1024 examples/grow_zone.script",
+    "inside.svg": "heap --svg --steps 12..14 --inside 1024 examples/grow_zone.script",
     "zone.svg": "zone --svg examples/memory.dump 0x600",
 }
 

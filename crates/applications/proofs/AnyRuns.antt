@@ -1,4 +1,5 @@
-use Rattle.std.proofs.Common.{◌≡◌, ℕ, Bool, false, ◌&&◌, List, refl}
+use Rattle.std.proofs.Common.{ℕ, List}
+use Rattle.std.proofs.lemmas.Bool.{and_left}
 use Rattle.script_text.specs.declared.script.Line.{Line}
 use Rattle.res_calls.specs.Files.{Resources}
 use Rattle.res_calls.specs.Fetch.{Managers}
@@ -104,17 +105,13 @@ pub any_table_stays : (resources : Resources) (n : ℕ) (blocks : Blocks) (lines
 any_table_stays resources n blocks lines = (run-goes KeepsTable once-keeps-table blocks lines
     (launched_with resources n nowhere) (put_at_launch resources n) (sound-launched resources n)).each
 
--- where a call was not answered nothing was taken away
-unanswered : (told by : Bool) → told ≡ false → (told && by) ≡ false
-unanswered told by e = rw e refl
-
 -- from line to line locked blocks and pointers' blocks stay where they are
 pub any_locked_lines : (resources : Resources) (n : ℕ) (blocks : Blocks) (lines : List Line)
     → LockedStay (launched_with resources n nowhere).memory.heap
     (course_of blocks lines (launched_with resources n nowhere)).lines
     (course_of blocks lines (launched_with resources n nowhere)).line_ends
 any_locked_lines resources n blocks lines = run-lines locked_place freed_by once-locked
-    (λ h e refused. unanswered (is_answered e.told) (frees h e.deed e.before) refused) blocks lines
+    (λ h e refused. and_left (is_answered e.told) (frees h e.deed e.before) refused) blocks lines
     (launched_with resources n nowhere) (put_at_launch resources n) (sound-launched resources n)
 
 pub any_nonrelocatable_lines : (resources : Resources) (n : ℕ) (blocks : Blocks) (lines : List Line)
@@ -122,7 +119,7 @@ pub any_nonrelocatable_lines : (resources : Resources) (n : ℕ) (blocks : Block
     (course_of blocks lines (launched_with resources n nowhere)).lines
     (course_of blocks lines (launched_with resources n nowhere)).line_ends
 any_nonrelocatable_lines resources n blocks lines = run-lines pointer_place dropped_by once-nonrelocatable
-    (λ p e refused. unanswered (is_answered e.told) (drops p e.deed) refused) blocks lines
+    (λ p e refused. and_left (is_answered e.told) (drops p e.deed) refused) blocks lines
     (launched_with resources n nowhere) (put_at_launch resources n) (sound-launched resources n)
 
 pub any_goes_by_rule : (resources : Resources) (n : ℕ) (blocks : Blocks) (lines : List Line)

@@ -36,6 +36,7 @@ use Rattle.segments.proofs.Laws.{served-elsewhere as jumped-elsewhere, served_mo
 use Rattle.applications.specs.Step.{Event, LineEnd, Course, joined, event_of, marked, marked_for, grown_line, grown}
 use Rattle.applications.specs.Step.{grown_for, asked_for, kept_anew, ended, stands, Round, Ends, Again, made_room, after_asking}
 use Rattle.applications.specs.Step.{after_try, round, continued, step_in, step, most_rounds, unless_over, course_of}
+use Rattle.applications.specs.Inside.{Glance, glance_of, glances, glances_after, glances_for, glances_grown, glances_in, glances_try}
 use Rattle.applications.specs.Elsewhere.{moved, event_elsewhere, line_end_elsewhere, course_elsewhere}
 
 -- What a run comes to doesn't hang on where its partition lies.
@@ -228,6 +229,58 @@ over-elsewhere site c next same = by_over c.over
 pub step-elsewhere : (site : Site) (blocks : Blocks) (l : Line) (r : Running)
     → step blocks l (moved site r) ≡ course_elsewhere site (step blocks l r)
 step-elsewhere site blocks l r = step_in-elsewhere site (most_rounds r) blocks l r
+
+-- and so is what is seen inside a step
+abbrev pub glance_elsewhere : Site → Glance → Glance
+glance_elsewhere site g = record g { after = moved site g.after }
+
+glances_grown-elsewhere : (site : Site) (blocks : Blocks) (script : List Line) (r : Running)
+    → glances_grown blocks script (moved site r) ≡ map (glance_elsewhere site) (glances_grown blocks script r)
+glances_grown-elsewhere site blocks [] r = refl
+glances_grown-elsewhere site blocks (l ∷ script) r =
+    ap (λ (t : Tried). glance_of true l t ∷ glances_grown blocks script t.after) (once-elsewhere site blocks l.call r)
+    ∙ ap (λ (gs : List Glance). glance_elsewhere site (glance_of true l (once blocks l.call r)) ∷ gs)
+    (glances_grown-elsewhere site blocks script (once blocks l.call r).after)
+
+glances_try-elsewhere : (site : Site) (blocks : Blocks) (l : Line) (t : Tried)
+    → glances_try blocks l (record t { after = moved site t.after }) ≡ map (glance_elsewhere site) (glances_try blocks l t)
+glances_try-elsewhere site blocks l t = by_wants t.wants
+  where
+    asked : List Glance
+    asked = glance_of false l t ∷ glances_for blocks l t.reading t.after
+
+    by_wants : (wants : Bool)
+        → cond wants (glance_elsewhere site (glance_of false l t) ∷ glances_for blocks l t.reading (moved site t.after)) []
+        ≡ map (glance_elsewhere site) (cond wants asked [])
+    by_wants false = refl
+    by_wants true = ap (λ (gs : List Glance). glance_elsewhere site (glance_of false l t) ∷ gs)
+        (ap (glances_grown blocks t.after.grow) (marked_for-elsewhere site true l.call t.reading t.after)
+        ∙ glances_grown-elsewhere site blocks t.after.grow (marked_for true l.call t.reading t.after))
+
+glances_after-elsewhere : (site : Site) (x : Round) (next : Running → List Glance)
+    → ((r : Running) → next (moved site r) ≡ map (glance_elsewhere site) (next r))
+    → glances_after (round_elsewhere site x) next ≡ map (glance_elsewhere site) (glances_after x next)
+glances_after-elsewhere site (Ends c) next same = refl
+glances_after-elsewhere site (Again c) next same = same c.after
+
+glances_in-elsewhere : (site : Site) (most : ℕ) (blocks : Blocks) (l : Line) (r : Running)
+    → glances_in most blocks l (moved site r) ≡ map (glance_elsewhere site) (glances_in most blocks l r)
+glances_in-elsewhere site zero blocks l r = refl
+glances_in-elsewhere site (suc more) blocks l r =
+    let later : Running → List Glance = glances_in more blocks l in
+    ap (λ (t : Tried). glances_try blocks l t ++ glances_after (round blocks l (moved site r)) later)
+    (once-elsewhere site blocks l.call r)
+    ∙ ap (λ (gs : List Glance). gs ++ glances_after (round blocks l (moved site r)) later)
+    (glances_try-elsewhere site blocks l (once blocks l.call r))
+    ∙ ap (λ (x : Round). map (glance_elsewhere site) (glances_try blocks l (once blocks l.call r)) ++ glances_after x later)
+    (round-elsewhere site blocks l r)
+    ∙ ap (λ (gs : List Glance). map (glance_elsewhere site) (glances_try blocks l (once blocks l.call r)) ++ gs)
+    (glances_after-elsewhere site (round blocks l r) later (glances_in-elsewhere site more blocks l))
+    ∙ sym (map-append (glance_elsewhere site) (glances_try blocks l (once blocks l.call r)) (glances_after (round blocks l r) later))
+
+pub glances-elsewhere : (site : Site) (blocks : Blocks) (l : Line) (r : Running)
+    → glances blocks l (moved site r) ≡ map (glance_elsewhere site) (glances blocks l r)
+glances-elsewhere site blocks l r = glances_in-elsewhere site (most_rounds r) blocks l r
 
 -- and so is a run
 pub whole-elsewhere : (site : Site) (blocks : Blocks) (lines : List Line) (r : Running)

@@ -59,7 +59,7 @@ once-stays blocks (call.Control control.WaitNextEvent) r wants = cc
 once-stays blocks (call.Control control.ExitToShell) r wants = cc
 
 -- no try changes how many bytes a zone has, or lets a block of master pointers go
-abbrev Frame : List Block → List Block → Type 0
+abbrev Frame : (before after : List Block) → Type 0
 Frame before after = (sizes after ≡ sizes before) × (count is_masters before ≤ count is_masters after)
 
 frame-same : (zone : List Block) → Frame zone zone
@@ -126,10 +126,10 @@ abbrev SomeSound : Memory → Type 0
 SomeSound m = (bytes : ℕ → List ℕ) × Sound m bytes
 
 -- of each try nothing is said
-abbrev Any : (ℕ → List ℕ) → Event → Type 0
+abbrev pub Any : (ℕ → List ℕ) → Event → Type 0
 Any bytes e = Unit {0}
 
-any : (blocks : Blocks) (l : Line) (r : Running) (bytes : ℕ → List ℕ) → Sound r.memory bytes
+pub any : (blocks : Blocks) (l : Line) (r : Running) (bytes : ℕ → List ℕ) → Sound r.memory bytes
     → Any bytes (event_of l r (once blocks l.call r))
 any blocks l r bytes sound = tt
 

@@ -12,7 +12,7 @@ use Rattle.mac_words.specs.declared.call.Call.TheVariants as call
 use Rattle.mac_words.specs.declared.call.ControlCall.TheVariants as control
 use Rattle.mac_words.specs.declared.resource_call.ResourceCall.TheVariants as resource
 use Rattle.mac_words.specs.declared.reply.Reply.{Reply}
-use Rattle.mac_words.specs.Told.{Told, Done, Given, Fetched, Number, Numbers, Code, Bytes, Kind, Info, Entry, Refused}
+use Rattle.mac_words.specs.Told.{Told, Done, Code, Refused}
 use Rattle.heap_calls.specs.Asked.{told_as}
 use Rattle.heap_calls.specs.declared.refusal.Refusal.{Refusal}
 use Rattle.heap_calls.specs.declared.refusal.Refusal.TheVariants.{HostMemory}
@@ -36,7 +36,7 @@ use Rattle.script_text.specs.Script.{are_allowed}
 use Rattle.script_text.specs.declared.script.Line.{Line}
 use Rattle.script_text.specs.Transcript.{Shown, Number as Count, values_of, type_shown, name_shown, bytes_shown}
 use Rattle.applications.specs.Names.{Bindings}
-use Rattle.applications.specs.Trying.{Running, Blocks, once, asked, resource_asked, managers_of, program_of, code_told, is_full}
+use Rattle.applications.specs.Trying.{Running, Blocks, once, asked, resource_asked, managers_of, program_of}
 use Rattle.applications.specs.Step.{deed_of, kept_anew, number_given}
 use Rattle.applications.specs.Laws.{writes_files}
 use Rattle.applications.specs.Application.{bytes_told}
@@ -44,6 +44,7 @@ use Rattle.applications.specs.Replies.{Extends, Says, goes_on}
 use Rattle.applications.specs.declared.quitting.Exit.{Exit}
 use Rattle.applications.specs.declared.stepping.Next.TheVariants as next
 use Rattle.applications.proofs.TryLaws.{of-try}
+use Rattle.applications.proofs.Ending.{full-refused}
 
 -- What a try leaves of the files, and what the calls that write them tell.
 
@@ -78,24 +79,6 @@ answered_keeps seen a (Err (Refusal.Code code)) after files is never keeps =
     ap (λ (s : Managers). s.resources.files) (sym is.1) ∙ keeps
 answered_keeps seen a (Err HostMemory) after files is never keeps = absurd (never refl)
 
-pub on_any_err : {T E : Type 0} (result : Result T E) (P : Type 0) → P → OnErr result P
-on_any_err (Ok x) P so = tt
-on_any_err (Err e) P so = so
-
--- what is for want of room is a refusal
-full-refused : (told : Told) → is_full (code_told told) ≡ true → (code : OsErr) × (told ≡ Refused code)
-full-refused (Refused code) full = (code, refl)
-full-refused Done full = let no : false ≡ true = full in cc
-full-refused (Given n) full = let no : false ≡ true = full in cc
-full-refused (Fetched handle read) full = let no : false ≡ true = full in cc
-full-refused (Number n) full = let no : false ≡ true = full in cc
-full-refused (Numbers one other) full = let no : false ≡ true = full in cc
-full-refused (Code code) full = let no : false ≡ true = full in cc
-full-refused (Bytes bytes) full = let no : false ≡ true = full in cc
-full-refused (Kind kind) full = let no : false ≡ true = full in cc
-full-refused (Info id kind name) full = let no : false ≡ true = full in cc
-full-refused (Entry segment flag) full = let no : false ≡ true = full in cc
-
 -- a try that finds no room leaves the files
 pub full_keeps : (blocks : Blocks) (c : Call) (r : Running) → (once blocks c r).wants ≡ true
     → (once blocks c r).after.resources.files ≡ r.resources.files
@@ -110,17 +93,6 @@ full_keeps blocks (call.Segment c) r full = jump-files c r
 full_keeps blocks (call.Control (control.SetGrowZone name)) r full = refl
 full_keeps blocks (call.Control control.WaitNextEvent) r full = refl
 full_keeps blocks (call.Control control.ExitToShell) r full = refl
-
--- a try with which the application ends leaves the files
-pub over_keeps : (blocks : Blocks) (c : Call) (r : Running) → (once blocks c r).over ≡ true
-    → (once blocks c r).after.resources.files ≡ r.resources.files
-over_keeps blocks (call.Heap c) r over =
-    gone-files (heard r.resources.purging (gone_in (asked c r.names) r.memory)) r.resources
-over_keeps blocks (call.Resource c) r over = let no : false ≡ true = over in cc
-over_keeps blocks (call.Segment c) r over = jump-files c r
-over_keeps blocks (call.Control (control.SetGrowZone name)) r over = refl
-over_keeps blocks (call.Control control.WaitNextEvent) r over = refl
-over_keeps blocks (call.Control control.ExitToShell) r over = refl
 
 -- a code that is set again leaves the files
 pub anew-keeps : (c : Call) (code : OsErr) (r : Running) → (kept_anew c code r).resources.files ≡ r.resources.files
@@ -170,11 +142,6 @@ extends_same text new is = ([], is ∙ sym (append-nil text))
 
 pub extends_on : (first text new : List ℕ) → Extends first text → Extends text new → Extends first new
 extends_on first text new begins goes = extended first text new goes.0 begins goes.1
-
--- and is the other where it is cut to that length
-pub cut_back : (first text new : List ℕ) → Extends first text → new ≡ take (length first) text → new ≡ first
-cut_back first text new begins is =
-    is ∙ ap (take (length first)) begins.1 ∙ take-append_seam first begins.0
 
 -- A call that writes a file tells no value and gives no number.
 

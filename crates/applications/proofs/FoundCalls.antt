@@ -7,7 +7,7 @@ use Rattle.mac_words.specs.declared.code.OsErr.{OsErr}
 use Rattle.mac_words.specs.Told.{Told, Bytes, Done, Number, Kind}
 use Rattle.mac_words.specs.declared.code.TheConstants.OsErr.{IN_MEMORY, OFFSET, PROFILE}
 use Rattle.res_map.specs.Map.{resized_datum}
-use Rattle.windows.specs.Writes.{piece, written}
+use Rattle.memory_windows.specs.Writes.{piece, written}
 use Rattle.heap_calls.specs.Answer.{code_of}
 use Rattle.heap_calls.specs.Gone.{Gone}
 use Rattle.res_map.specs.Split.{Split, place}
@@ -17,7 +17,7 @@ use Rattle.res_calls.specs.Fetch.{Managers, Answer, Fetched, done, refused, is_s
 use Rattle.res_calls.specs.Rows.{on_found, on_open, on_resource, resource_of, bars, told_or, open_fork, open_unless}
 use Rattle.res_calls.specs.Rows.{keep_error, with_resources}
 use Rattle.res_calls.specs.Rows.{open_named, greatest_number, map_in, open_map, if_updated, Info}
-use Rattle.res_calls.specs.Changing.{most_files, create_named, on_known, on_removable, if_changeable}
+use Rattle.res_calls.specs.Changing.{most_files, create_named, on_known, on_removable, if_changeable, set_file}
 use Rattle.res_calls.specs.Update.{update}
 use Rattle.res_calls.specs.Gone.{gone_for}
 use Rattle.res_calls.specs.Partial.{is_in_memory, read_part_found, read_partial_resource, restored_unless}
@@ -62,8 +62,10 @@ found-shows-none (asks.GetResource kind id) s quiet = told-none {T = Fetched} te
 found-shows-none (asks.Get1Resource kind id) s quiet = told-none {T = Fetched} tell_fetched (λ x. refl) _
 found-shows-none (asks.GetNamedResource kind name) s quiet = told-none {T = Fetched} tell_fetched (λ x. refl) _
 found-shows-none (asks.Get1NamedResource kind name) s quiet = told-none {T = Fetched} tell_fetched (λ x. refl) _
-found-shows-none asks.Count1Types s quiet = refl
-found-shows-none (asks.Get1IndType index) s quiet = told-none {T = ℕ} Kind (λ x. refl) _
+found-shows-none (asks.GetResFileAttrs number) s quiet = told-none {T = ℕ} Number (λ x. refl) _
+found-shows-none (asks.SetResFileAttrs number attrs) s quiet = told-none {T = Unit {0}} (λ x. Done) (λ x. refl) _
+found-shows-none (asks.CountTypes among) s quiet = refl
+found-shows-none (asks.GetIndType among index) s quiet = told-none {T = ℕ} Kind (λ x. refl) _
 found-shows-none (asks.CountResources among kind) s quiet = refl
 found-shows-none (asks.GetIndResource among kind index) s quiet = told-none {T = Fetched} tell_fetched (λ x. refl) _
 found-shows-none (asks.UniqueID among kind) s quiet = told-none {T = ℕ} Number (λ x. refl) _
@@ -236,6 +238,11 @@ made-none : (name : List ℕ) (file : Option (Split File)) (s : Managers) → (c
 made-none name None s = either-none (nat_le most_files (length s.resources.files)) _ _ refl refl
 made-none name (Some at) s = either-none (length at.here.fork == 0) _ _ refl refl
 
+-- nor the setting of a file's attributes
+set_file-none : (n attrs : ℕ) (o : Option (Split OpenFile)) (s : Managers) → (set_file n attrs o s).reading ≡ None
+set_file-none n attrs None s = refl
+set_file-none n attrs (Some at) s = either-none {T = Unit {0}} (n == 0) _ _ refl refl
+
 told-one-none : (code : OsErr) (o : Option ℕ) (s : Managers) → (told_or code o s).reading ≡ None
 told-one-none code None s = refl
 told-one-none code (Some n) s = refl
@@ -253,7 +260,9 @@ reads-again (asks.UpdateResFile number) s = sym (on_open-none (file_of number s.
     (updated-none (update s.memory.heap at s.resources) s _ (λ r. refl))))
 reads-again (asks.UseResFile number) s = sym (on_open-none (file_of number s.resources) s _ (λ at. refl))
 reads-again (asks.HomeResFile handle) s = sym (on_found-none (resource_of handle s.resources) s _ (λ at. refl))
-reads-again (asks.Get1IndType index) s = sym (told-one-none _ _ s)
+reads-again (asks.GetResFileAttrs number) s = sym (on_open-none (file_of number s.resources) s _ (λ at. refl))
+reads-again (asks.SetResFileAttrs number attrs) s = sym (set_file-none number attrs (file_of number s.resources) s)
+reads-again (asks.GetIndType among index) s = sym (told-one-none _ _ s)
 reads-again (asks.UniqueID among kind) s = sym (told-one-none _ _ s)
 reads-again (asks.ReleaseResource handle) s = sym (on_found-none (resource_of handle s.resources) s _
     (λ at. either-none (bars handle s.memory) _ _ refl (either-none (is_changed at.reference.here) _ _ refl refl)))

@@ -1,6 +1,7 @@
 mod Binding
-mod Rounds
+pub mod Rounds
 mod Saying
+mod Seeing
 mod Arms
 mod GivenCalls
 mod FoundCalls

@@ -17,7 +17,7 @@ use Rattle.applications.specs.Step.{continued, step_in, step, most_rounds, cours
 use Rattle.applications.specs.Laws.{put_event, put_events, is_answered, StayPut, taken_in, LinesStayPut}
 use Rattle.applications.proofs.TryLaws.{Sound, once-sound}
 use Rattle.applications.proofs.Carrying.{marked_for-heap, marked_for-sound, kept-heap, asked-goes, step-goes}
-use Rattle.applications.proofs.Ending.{full-refused}
+use Rattle.applications.proofs.Ending.{full-refused, Any, any}
 
 -- What stays put from one line of a transcript to the next.
 
@@ -49,14 +49,6 @@ last_heap s (e ∷ ends) = last_heap e.heap ends
 last-append : (s : State) (es fs : List LineEnd) → last_heap s (es ++ fs) ≡ last_heap (last_heap s es) fs
 last-append s [] fs = refl
 last-append s (e ∷ es) fs = last-append e.heap es fs
-
--- of each try nothing more is said
-abbrev Any : (ℕ → List ℕ) → Event → Type 0
-Any bytes e = Unit {0}
-
-any-holds : (blocks : Blocks) (l : Line) (r : Running) (bytes : ℕ → List ℕ) → Sound r.memory bytes
-    → Any bytes (event_of l r (once blocks l.call r))
-any-holds blocks l r bytes sound = tt
 
 module _ (place_of : ℕ → List Block → Option ℕ) (taken : ℕ → Event → Bool)
     (keeps : (blocks : Blocks) (l : Line) (r : Running) (bytes : ℕ → List ℕ) → Sound r.memory bytes
@@ -241,7 +233,7 @@ module _ (place_of : ℕ → List Block → Option ℕ) (taken : ℕ → Event �
         → (c : Course) → round blocks l r ≡ Again c → Sound c.after.memory (put_events c.events bytes)
     again-sound blocks l r bytes sound c is =
         subst (λ (x : Course). Sound x.after.memory (put_events x.events bytes)) (same (once blocks l.call r).wants is)
-        (asked-goes Any any-holds blocks l r bytes sound).sound
+        (asked-goes Any any blocks l r bytes sound).sound
       where
         t : Tried
         t = once blocks l.call r
@@ -273,7 +265,7 @@ module _ (place_of : ℕ → List Block → Option ℕ) (taken : ℕ → Event �
         no-lines r.memory.heap r.memory.heap (same-put none_taken r.memory.heap)
     run-lasts blocks (l ∷ lines) r bytes sound =
         by_over c.over (run-lasts blocks lines c.after (put_events c.events bytes)
-        (step-goes Any any-holds blocks l r bytes sound).sound)
+        (step-goes Any any blocks l r bytes sound).sound)
       where
         c : Course
         c = step blocks l r

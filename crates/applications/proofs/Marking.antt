@@ -29,10 +29,6 @@ abbrev cleared : Option ℕ → Option ℕ → Option ℕ
 cleared None place = place
 cleared (Some n) place = cond (holds n place) None place
 
-cleared-empty : (o : Option ℕ) → cleared o None ≡ None
-cleared-empty None = refl
-cleared-empty (Some n) = refl
-
 -- a place that a number was put into holds it or nothing
 abbrev AtMost : ℕ → Option ℕ → Type 0
 AtMost n place = (place ≡ Some n) ⊎ (place ≡ None)

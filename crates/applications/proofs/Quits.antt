@@ -6,19 +6,17 @@ use Rattle.mac_words.specs.declared.code.OsErr.{OsErr}
 use Rattle.mac_words.specs.declared.code.TheConstants.OsErr.{NO_ERR}
 use Rattle.block_store.specs.Rest.{Site}
 use Rattle.heap_calls.specs.State.{Memory}
-use Rattle.heap_calls.specs.Inside.{inside, released}
-use Rattle.heap_calls.proofs.Tries.Elsewhere.{elsewhere}
 use Rattle.script_text.specs.Script.{ScriptParts}
 use Rattle.script_text.specs.declared.script.Line.{Line}
 use Rattle.script_text.specs.Transcript.{launch_line}
 use Rattle.res_map.specs.Split.{Split}
 use Rattle.res_calls.specs.Files.{OpenFile, Resources}
 use Rattle.res_calls.specs.Fetch.{Managers, is_system}
-use Rattle.res_calls.specs.Rows.{all_released, handles_of, closed}
+use Rattle.res_calls.specs.Rows.{handles_of, closed}
 use Rattle.res_calls.specs.Update.{update}
 use Rattle.res_calls.specs.Leaving.{FilesClosed, updated_or, update_code, left_file, first_code, last_opened}
 use Rattle.res_calls.specs.Leaving.{leave_files}
-use Rattle.res_calls.proofs.Walks.Place.{moved as managers_moved}
+use Rattle.res_calls.proofs.Walks.Place.{moved as managers_moved, releases-place}
 use Rattle.applications.specs.Trying.{Running, launched_with, launched, own_resources, nowhere, managers_of, last_code}
 use Rattle.applications.specs.Trying.{is_fatal}
 use Rattle.applications.specs.Step.{Course, course_of}
@@ -33,18 +31,13 @@ use Rattle.applications.proofs.Elsewhere.{launched-elsewhere, launched_course}
 
 -- How an application ends, which doesn't hang on where its partition lies, and what it gives alone.
 
-releases-elsewhere : (site : Site) (handles : List ℕ) (m : Memory)
-    → all_released handles (elsewhere site m) ≡ elsewhere site (all_released handles m)
-releases-elsewhere site [] m = refl
-releases-elsewhere site (h ∷ handles) m = releases-elsewhere site handles (inside (released h) m)
-
 -- a file is left elsewhere
 left-elsewhere : (site : Site) (at : Split OpenFile) (s : Managers)
     → left_file at (managers_moved site s) ≡ managers_moved site (left_file at s)
 left-elsewhere site at s = ap (λ (m : Memory). let left : Managers = record {
   memory = m;
   resources = closed at (updated_or (update s.memory.heap at s.resources) s.resources);
-} in left) (releases-elsewhere site (handles_of at.here.map.references) s.memory)
+} in left) (releases-place site (handles_of at.here.map.references) s.memory)
 
 abbrev left_moved : Site → FilesClosed → FilesClosed
 left_moved site l = record { code = l.code; after = managers_moved site l.after }
@@ -106,10 +99,6 @@ end_if-elsewhere site None true r = ap Some (quits-elsewhere site r)
 end_if-elsewhere site None false r = refl
 end_if-elsewhere site (Some Quits) asked r = ap Some (quits-elsewhere site r)
 end_if-elsewhere site (Some Stops) asked r = refl
-
-files-elsewhere : (site : Site) (e : Option Ending) (r : Running) → files_after e (moved site r) ≡ files_after e r
-files-elsewhere site None r = refl
-files-elsewhere site (Some e) r = refl
 
 -- the end that a course comes to is the one that it tells
 pub ending-told : (asked : Bool) (c : Course) → end_if (exit_of c) asked c.after ≡ ending_of asked c

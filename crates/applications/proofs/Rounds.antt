@@ -164,7 +164,7 @@ over-of c = by_over c.over
     by_over true = refl
     by_over false = refl
 
-abbrev rest_of : Blocks → List Line → Course → Bool → Course
+abbrev pub rest_of : Blocks → List Line → Course → Bool → Course
 rest_of blocks rest c over = cond over c (joined c (course_of blocks rest c.after))
 
 whole-of : (blocks : Blocks) (ls rest : List Line) (l : Line) (r : Running) (over : Bool) → ls ≡ l ∷ rest

@@ -2,6 +2,7 @@ use Rattle.std.proofs.Common.{◌≡◌, ◌∙◌, ◌+◌, ◌<◌, ◌++◌, 
 use Rattle.std.proofs.Common.{◌≤◌, refl, sym, ap, subst, arith, cond, is_some, take, length, get_or, append_assoc, append-nil}
 use Rattle.std.proofs.lemmas.List.{take_more}
 use Rattle.std.specs.Io.KnownBytes.{append_known}
+use Rattle.mac_words.proofs.Appending.{known-append}
 use Rattle.block_store.specs.Rest.{Site}
 use Rattle.script_text.specs.Script.{ScriptParts}
 use Rattle.script_text.specs.declared.script.Line.{Line}
@@ -20,12 +21,6 @@ use Rattle.applications.proofs.Elsewhere.{step-elsewhere, launched-elsewhere}
 
 -- A run counted step by step: what its first steps leave, how many it takes, and what its watch hears.
 
--- reports in a row
-heard-then : (known : Option (List ℕ)) (first next : List ℕ)
-    → append_known (append_known known first) next ≡ append_known known (first ++ next)
-heard-then None first next = refl
-heard-then (Some xs) first next = ap Some (append_assoc xs first next)
-
 pub heard-nothing : (known : Option (List ℕ)) → append_known known [] ≡ known
 heard-nothing None = refl
 heard-nothing (Some xs) = ap Some (append-nil xs)
@@ -39,7 +34,7 @@ pub heard-more : (old now new : Option (List ℕ)) (done i of : ℕ) → done �
 heard-more old now new done i of same before after =
     after ∙ ap (λ (n : ℕ). append_known now (report (n + 1) of)) same
     ∙ ap (λ (x : Option (List ℕ)). append_known x (report (i + 1) of)) before
-    ∙ heard-then old (reports i of) (report (i + 1) of)
+    ∙ known-append old (reports i of) (report (i + 1) of)
     ∙ ap (append_known old) (sym (reports-more i of))
 
 -- before the first step all are left
@@ -141,7 +136,3 @@ module _ (resources : Resources) (size : ℕ) (script : ScriptParts) (n : ℕ) (
       subst (λ (most : ℕ). s.0 ≤ most) (steps-alone resources size script n lines r site is first) s.1,
       s.2 ∙ ap (λ (ls : List Line). append_known old (reports s.0 (length ls))) first,
     )
-
--- nothing is told of a run that takes no step
-pub told-nothing : (old : Option (List ℕ)) (most of : ℕ) → (k : ℕ) × (k ≤ most) × (old ≡ append_known old (reports k of))
-told-nothing old most of = (zero, (let z : 0 ≤ most = omega arith in z), sym (heard-nothing old))

@@ -1,6 +1,7 @@
 pub mod Names
 pub mod Trying
 pub mod Step
+pub mod Inside
 pub mod Reports
 pub mod Stopping
 pub mod Application

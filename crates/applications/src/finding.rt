@@ -147,7 +147,13 @@ fn answered<S: BlockStore, K: PurgeSink>(
             text.0.as_slice(),
             sink,
         )),
+        ResourceCall::GetResFileAttrs(number) => counted(resources.get_res_file_attrs(*number)),
+        ResourceCall::SetResFileAttrs(number, attrs) => done_on_resource(
+            resources.set_res_file_attrs(*number, *attrs),
+        ),
+        ResourceCall::CountTypes => sized(Ok(resources.count_types())),
         ResourceCall::Count1Types => sized(Ok(resources.count1_types())),
+        ResourceCall::GetIndType(index) => kind(resources.get_ind_type(*index)),
         ResourceCall::Get1IndType(index) => kind(resources.get1_ind_type(*index)),
         ResourceCall::CountResources(ty) => sized(Ok(resources.count_resources(*ty))),
         ResourceCall::Count1Resources(ty) => sized(Ok(resources.count1_resources(*ty))),

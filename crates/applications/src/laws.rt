@@ -1,6 +1,6 @@
 //! Laws of the definitions.
 
-ghost use Rattle.std.specs.Prelude.{◌≡◌, ◌+◌, ◌≤◌, ℕ, Bool, true, Option, Some, length, slice_get};
+ghost use Rattle.std.specs.Prelude.{◌≡◌, ◌+◌, ◌≤◌, ℕ, Bool, true, Option, Some, length, map, slice_get};
 ghost use Rattle.block_store.specs.Rest.{Site};
 ghost use Rattle.script_text.specs.Script.{ScriptParts};
 ghost use Rattle.script_text.specs.declared.script.Line.{Line};
@@ -9,6 +9,7 @@ ghost use Rattle.applications.specs.Trying.{Running, Blocks, launched_with, nowh
 ghost use Rattle.applications.specs.Step.{Course, AlikeCourses, step, unless_over, nothing_yet};
 ghost use Rattle.applications.specs.Alone.{first_steps, ending_of};
 ghost use Rattle.applications.specs.Elsewhere.{moved, course_elsewhere};
+ghost use Rattle.applications.specs.Inside.{AreSeen, glances, sight_after, sight_of};
 ghost use Rattle.applications.specs.Replies.{end_by, has_ended};
 ghost use Rattle.applications.specs.declared.quitting.Exit.{Exit};
 ghost use Rattle.applications.specs.Promises.{KeepsPromises};
@@ -54,4 +55,11 @@ pub fn steps_follow_one_another()
         → has_ended exit (moved site r) ≡ moved site (has_ended exit r) }
     ensures elsewhere_launch { (resources : Resources) (n : ℕ) (site : Site)
         → launched_with resources n site ≡ moved site (launched_with resources n nowhere) }
+{}
+
+/// States that what an onlooker sees inside a step is how the step's tries leave the application,
+/// in order and each with the code of its reply: all of them, or all but the last.
+pub fn an_onlooker_sees_the_tries()
+    ensures seen { (blocks : Blocks) (l : Line) (r : Running)
+        → AreSeen (map sight_after (step blocks l r).events) (map sight_of (glances blocks l r)) }
 {}

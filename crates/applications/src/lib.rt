@@ -10,6 +10,7 @@ mod keyed;
 mod laws;
 mod names;
 mod naming;
+mod onlooker;
 mod own;
 mod quitting;
 mod stepping;
@@ -20,8 +21,12 @@ mod watch;
 
 pub use application::Application;
 pub use giving::{Given, give_alone, give_in};
-pub use laws::{an_application_with_any_resources_keeps_the_laws, steps_follow_one_another};
+pub use laws::{
+    an_application_with_any_resources_keeps_the_laws, an_onlooker_sees_the_tries,
+    steps_follow_one_another,
+};
 pub use names::{Bound, Names};
+pub use onlooker::{Onlooker, Unseen};
 pub use own::{empty_content, own_resources};
 pub use quitting::Exit;
 pub use turns::{ends_turn, up_to_wait};

@@ -32,6 +32,7 @@ pub fn named(call: &HeapCall, names: &Names) -> (Option<usize>, Option<usize>)
         HeapCall::HLockHi(name) => (names.number(name), None),
         HeapCall::HandToHand(_, from) => (names.number(from), None),
         HeapCall::PtrAndHand(name, _) => (names.number(name), None),
+        HeapCall::PtrToXHand(name, _) => (names.number(name), None),
         HeapCall::DisposePtr(name) => (names.number(name), None),
         HeapCall::GetPtrSize(name) => (names.number(name), None),
         HeapCall::PtrZone(name) => (names.number(name), None),
@@ -89,7 +90,11 @@ pub fn named_resource(call: &ResourceCall, names: &Names) -> Option<usize>
         | ResourceCall::Get1Resource(..)
         | ResourceCall::GetNamedResource(..)
         | ResourceCall::Get1NamedResource(..)
+        | ResourceCall::GetResFileAttrs(_)
+        | ResourceCall::SetResFileAttrs(..)
+        | ResourceCall::CountTypes
         | ResourceCall::Count1Types
+        | ResourceCall::GetIndType(_)
         | ResourceCall::Get1IndType(_)
         | ResourceCall::CountResources(_)
         | ResourceCall::Count1Resources(_)

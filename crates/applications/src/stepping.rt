@@ -1,6 +1,7 @@
 //! A step of an application: a call is tried, and tried again as long as the grow-zone script makes
 //! room.
 
+ghost use Rattle.std.specs.Prelude.{List};
 ghost use Rattle.std.specs.Prelude.{◌≡◌, ◌++◌, ◌+◌, ◌≤◌, ℕ, [], length, false, true, None, IfOk};
 ghost use Rattle.std.specs.Prelude.{IsOk, OnOk, OnErr, is_some, nat_lt, vec_len};
 ghost use Rattle.std.specs.Io.KnownBytes.{append_known};
@@ -14,6 +15,8 @@ ghost use Rattle.applications.specs.Trying.{once};
 ghost use Rattle.applications.specs.Step.{marked, marked_for, grown, grown_for, kept_anew};
 ghost use Rattle.applications.specs.Step.{names_given, round, step, course_of, turn};
 ghost use Rattle.applications.specs.Step as steps;
+ghost use Rattle.applications.specs.Inside.{Glance, glances, glances_for, glances_grown};
+ghost use Rattle.applications.specs.Inside.{glances_try};
 ghost use Rattle.applications.specs.Application.{bytes_told, lines_told};
 ghost use Rattle.applications.specs.Replies.{Came, CameRound, exit_of, Extends, goes_on};
 ghost use Rattle.applications.specs.Reports.{reports};
@@ -21,6 +24,7 @@ ghost use Rattle.applications.specs.Stopping.{steps_taken, StopsAfter};
 
 use crate::application::Application;
 use crate::naming::{named, named_resource};
+use crate::onlooker::{Onlooker, Unseen};
 use crate::quitting::Exit;
 use crate::tried::Tried;
 use crate::turns::up_to_wait;
@@ -74,21 +78,25 @@ impl<'s, S: BlockStore> Application<'s, S> {
 
     /// Runs the lines of a grow-zone script in order, and appends the lines of their transcript to
     /// `text`.
-    fn take_lines(
+    fn take_lines<O: Onlooker>(
         &mut self,
         script: &'s Script,
         lines: &[Line],
         text: &mut Vec<u8>,
+        onlooker: &mut O,
     ) -> Result<(), AllocError>
         requires allowed { are_allowed lines.now ≡ true }
         ensures came { OnOk result (Came (grown script.now.blocks lines.now self.old) text.old.items
             text.new.items self.new) }
+        ensures saw { OnOk result ((before : List Glance) → O.saw onlooker.old before
+            → O.saw onlooker.new (before ++ glances_grown script.now.blocks lines.now self.old)) }
         ensures front { Extends text.old.items text.new.items }
         ensures files { self.new.resources.files ≡ self.old.resources.files }
         ensures lies { self.new.memory.window ≡ self.old.memory.window }
     {
         for line in lines {
             let tried = self.once(script, &line.call)?;
+            onlooker.look(self, true, line, tried.reply.code)?;
             let shown = self.shown(&line.call);
             write_grow_reply(
                 text,
@@ -103,22 +111,26 @@ impl<'s, S: BlockStore> Application<'s, S> {
 
     /// Runs the grow-zone script for a call that found no room, while the handles and pointers that
     /// the call names are busy.
-    fn ask_script(
+    fn ask_script<O: Onlooker>(
         &mut self,
         script: &'s Script,
         line: &Line,
         reading: Option<usize>,
         text: &mut Vec<u8>,
+        onlooker: &mut O,
     ) -> Result<(), AllocError>
         ensures came { OnOk result (Came (grown_for script.now.blocks line.now reading self.old)
             text.old.items text.new.items self.new) }
+        ensures saw { OnOk result ((before : List Glance) → O.saw onlooker.old before
+            → O.saw onlooker.new (before
+            ++ glances_for script.now.blocks line.now reading self.old)) }
         ensures front { Extends text.old.items text.new.items }
         ensures files { self.new.resources.files ≡ self.old.resources.files }
         ensures lies { self.new.memory.window ≡ self.old.memory.window }
     {
         let lines = self.grow;
         self.mark(true, &line.call, reading);
-        self.take_lines(script, lines, text)?;
+        self.take_lines(script, lines, text, onlooker)?;
         self.mark(false, &line.call, reading);
         Ok(())
     }
@@ -126,15 +138,19 @@ impl<'s, S: BlockStore> Application<'s, S> {
     /// Runs the grow-zone script for a call that found no room, and reports whether more bytes can
     /// be had after the script than before it. Without a grow-zone script nothing can have changed,
     /// and no block is examined.
-    fn ask_for_room(
+    fn ask_for_room<O: Onlooker>(
         &mut self,
         script: &'s Script,
         line: &Line,
         reading: Option<usize>,
         text: &mut Vec<u8>,
+        onlooker: &mut O,
     ) -> Result<bool, AllocError>
         ensures came { OnOk result (Came (grown_for script.now.blocks line.now reading self.old)
             text.old.items text.new.items self.new) }
+        ensures saw { OnOk result ((before : List Glance) → O.saw onlooker.old before
+            → O.saw onlooker.new (before
+            ++ glances_for script.now.blocks line.now reading self.old)) }
         ensures room { IfOk result (λ made.
             made ≡ nat_lt (ease self.old.memory.heap.zone) (ease self.new.memory.heap.zone)) }
         ensures front { Extends text.old.items text.new.items }
@@ -142,11 +158,11 @@ impl<'s, S: BlockStore> Application<'s, S> {
         ensures lies { self.new.memory.window ≡ self.old.memory.window }
     {
         if self.grow.is_empty() {
-            self.ask_script(script, line, reading, text)?;
+            self.ask_script(script, line, reading, text, onlooker)?;
             return Ok(false);
         }
         let before = self.heap.free_or_purgeable();
-        self.ask_script(script, line, reading, text)?;
+        self.ask_script(script, line, reading, text, onlooker)?;
         Ok(before < self.heap.free_or_purgeable())
     }
 
@@ -227,17 +243,21 @@ impl<'s, S: BlockStore> Application<'s, S> {
     /// Tries a call, and runs the grow-zone script where the call found no room. `text` has room
     /// for the line of a call whose reply has no values, so that no host memory is needed after a
     /// file was written.
-    fn try_call(
+    fn try_call<O: Onlooker>(
         &mut self,
         script: &'s Script,
         line: &Line,
         text: &mut Vec<u8>,
+        onlooker: &mut O,
     ) -> Result<Next, AllocError>
         requires room { vec_len text.old
             + length (call_at line.now.number (word_of line.now.call)) + CODE_ROOM
             ≤ vec_capacity text.old }
         ensures came { IfOk result (λ next. CameRound (round script.now.blocks line.now self.old)
             next text.old.items text.new.items self.new) }
+        ensures saw { OnOk result ((before : List Glance) → O.saw onlooker.old before
+            → O.saw onlooker.new (before ++ glances_try script.now.blocks line.now
+            (once script.now.blocks line.now.call self.old))) }
         ensures front { Extends text.old.items text.new.items }
         ensures files { OnErr result (self.new.resources.files ≡ self.old.resources.files) }
         ensures stays { IfOk result (λ next. goes_on next ≡ false
@@ -247,7 +267,8 @@ impl<'s, S: BlockStore> Application<'s, S> {
         let tried = self.once(script, &line.call)?;
         let exit = tried.exit();
         if tried.wants {
-            let made_room = self.ask_for_room(script, line, tried.reading, text)?;
+            onlooker.look(self, false, line, tried.reply.code)?;
+            let made_room = self.ask_for_room(script, line, tried.reading, text, onlooker)?;
             if made_room {
                 return Ok(Next::Again);
             }
@@ -267,14 +288,18 @@ impl<'s, S: BlockStore> Application<'s, S> {
 
     /// Takes a round of a step: the room of the call's line is taken, and the call is tried. Where
     /// the host is out of memory, the files stay as they were.
-    fn round(
+    fn round<O: Onlooker>(
         &mut self,
         script: &'s Script,
         line: &Line,
         text: &mut Vec<u8>,
+        onlooker: &mut O,
     ) -> Result<Next, AllocError>
         ensures came { IfOk result (λ next. CameRound (round script.now.blocks line.now self.old)
             next text.old.items text.new.items self.new) }
+        ensures saw { OnOk result ((before : List Glance) → O.saw onlooker.old before
+            → O.saw onlooker.new (before ++ glances_try script.now.blocks line.now
+            (once script.now.blocks line.now.call self.old))) }
         ensures front { Extends text.old.items text.new.items }
         ensures files { OnErr result (self.new.resources.files ≡ self.old.resources.files) }
         ensures stays { IfOk result (λ next. goes_on next ≡ false
@@ -282,21 +307,24 @@ impl<'s, S: BlockStore> Application<'s, S> {
         ensures lies { self.new.memory.window ≡ self.old.memory.window }
     {
         text.reserve(line_room(line.number, CallWord::of(&line.call)))?;
-        self.try_call(script, line, text)
+        self.try_call(script, line, text, onlooker)
     }
 
     /// Takes the rounds of a step, until the call ends. Where the host is out of memory, the text
     /// may have lines of the step's grow-zone script, and the files stay as they were.
-    fn take_rounds(
+    fn take_rounds<O: Onlooker>(
         &mut self,
         script: &'s Script,
         line: &Line,
         text: &mut Vec<u8>,
+        onlooker: &mut O,
     ) -> Result<Option<Exit>, AllocError>
         ensures ends { IfOk result (λ exit. exit
             ≡ exit_of (step script.now.blocks line.now self.old)) }
         ensures came { OnOk result (Came (step script.now.blocks line.now self.old) text.old.items
             text.new.items self.new) }
+        ensures saw { OnOk result ((before : List Glance) → O.saw onlooker.old before
+            → O.saw onlooker.new (before ++ glances script.now.blocks line.now self.old)) }
         ensures front { Extends text.old.items text.new.items }
         ensures files { OnErr result (self.new.resources.files ≡ self.old.resources.files) }
         ensures over { IfOk result (λ exit. is_some exit ≡ true
@@ -305,7 +333,7 @@ impl<'s, S: BlockStore> Application<'s, S> {
     {
         let most = u64::from(self.heap.len()) + 1;
         for _round in 0..most {
-            match self.round(script, line, text)? {
+            match self.round(script, line, text, onlooker)? {
                 Next::Again => {}
                 Next::Ended(exit) => return Ok(exit),
             }
@@ -318,6 +346,39 @@ impl<'s, S: BlockStore> Application<'s, S> {
         ensures { self.new ≡ self.old }
     {
         self.names.hash_by(script.digest());
+    }
+
+    /// Takes a step as `step` does, and has an onlooker see the application inside it: after each
+    /// try of the call that found no room, and after each line of the grow-zone script that is run
+    /// for it. Where the host is out of memory, the onlooker may have seen some of that.
+    pub fn step_seen<O: Onlooker>(
+        &mut self,
+        script: &'s Script,
+        line: &Line,
+        text: &mut Vec<u8>,
+        onlooker: &mut O,
+    ) -> Result<Option<Exit>, AllocError>
+        ensures ends { IfOk result (λ exit. exit
+            ≡ exit_of (step script.now.blocks line.now self.old)) }
+        ensures came { OnOk result (Came (step script.now.blocks line.now self.old) text.old.items
+            text.new.items self.new) }
+        ensures saw { OnOk result ((before : List Glance) → O.saw onlooker.old before
+            → O.saw onlooker.new (before ++ glances script.now.blocks line.now self.old)) }
+        ensures text { OnErr result (text.new.items ≡ text.old.items) }
+        ensures files { OnErr result (self.new.resources.files ≡ self.old.resources.files) }
+
+        // A step that ends the application changes no file.
+        ensures over { IfOk result (λ exit. is_some exit ≡ true
+            → self.new.resources.files ≡ self.old.resources.files) }
+        ensures lies { self.new.memory.window ≡ self.old.memory.window }
+    {
+        self.hash_names(script);
+        let length = text.len();
+        let exit = self.take_rounds(script, line, text, onlooker);
+        if exit.is_err() {
+            text.truncate(length);
+        }
+        exit
     }
 
     /// Takes a step, which is the call of a line. The call is tried; where the call finds no room,
@@ -345,13 +406,7 @@ impl<'s, S: BlockStore> Application<'s, S> {
             → self.new.resources.files ≡ self.old.resources.files) }
         ensures lies { self.new.memory.window ≡ self.old.memory.window }
     {
-        self.hash_names(script);
-        let length = text.len();
-        let exit = self.take_rounds(script, line, text);
-        if exit.is_err() {
-            text.truncate(length);
-        }
-        exit
+        self.step_seen(script, line, text, &mut Unseen)
     }
 
     /// Takes steps in order, to the last line or to the end of the application, and reports the

@@ -1,8 +1,8 @@
 //! The outcome of one try of a call.
 
 ghost use Rattle.std.specs.Prelude.{◌≡◌, ◌≢◌, ◌<◌, ◌^◌, ℕ, true, false, None, Err, List, IfOk};
-ghost use Rattle.std.specs.Prelude.{OnOk, OnErr};
-ghost use Rattle.mac_words.specs.Told.{Told, Done, Given, Number, Numbers, Bytes, Kind};
+ghost use Rattle.std.specs.Prelude.{OnOk, OnErr, IsOk};
+ghost use Rattle.mac_words.specs.Told.{Told, Done, Given, Number, Numbers, Code, Bytes, Kind};
 ghost use Rattle.applications.specs.Trying.{is_full};
 ghost use Rattle.byteorder.specs.Endian.{big_number};
 ghost use Rattle.mac_words.specs.declared.name.OsType.{OsType as Type4};
@@ -91,22 +91,25 @@ pub fn given(answer: Result<usize, Refusal>) -> Result<Tried, AllocError>
 }
 
 /// Returns the try of a call that shows bytes, without the bytes.
-pub fn shown(answer: Result<&[u8], OsErr>) -> Tried
-    ensures { TellsTold result (told_as (λ bytes. Bytes bytes.now) answer.entry) }
+pub fn shown(answer: Result<&[u8], OsErr>) -> Result<Tried, AllocError>
+    ensures tried { IfOk result (λ tried.
+        TellsTold tried (told_as (λ bytes. Bytes bytes.now) answer.entry)) }
+    ensures is { IsOk result }
 {
     match answer {
-        Ok(_) => Tried::told(Reply::of(OsErr::NO_ERR)),
-        Err(code) => Tried::told(Reply::of(code)),
+        Ok(_) => Ok(Tried::told(Reply::of(OsErr::NO_ERR))),
+        Err(code) => Ok(Tried::told(Reply::of(code))),
     }
 }
 
 /// Returns the try of a call that returns no value.
-pub fn done(answer: Result<(), OsErr>) -> Tried
-    ensures { TellsTold result (told_as (λ _. Done) answer) }
+pub fn done(answer: Result<(), OsErr>) -> Result<Tried, AllocError>
+    ensures tried { IfOk result (λ tried. TellsTold tried (told_as (λ _. Done) answer)) }
+    ensures is { IsOk result }
 {
     match answer {
-        Ok(()) => Tried::told(Reply::of(OsErr::NO_ERR)),
-        Err(code) => Tried::told(Reply::of(code)),
+        Ok(()) => Ok(Tried::told(Reply::of(OsErr::NO_ERR))),
+        Err(code) => Ok(Tried::told(Reply::of(code))),
     }
 }
 
@@ -124,12 +127,13 @@ pub fn completed(answer: Result<(), Refusal>) -> Result<Tried, AllocError>
 }
 
 /// Returns the try of a call that returns a number.
-pub fn number(answer: Result<u32, OsErr>) -> Tried
-    ensures { TellsTold result (told_as Number answer) }
+pub fn number(answer: Result<u32, OsErr>) -> Result<Tried, AllocError>
+    ensures tried { IfOk result (λ tried. TellsTold tried (told_as Number answer)) }
+    ensures is { IsOk result }
 {
     match answer {
-        Ok(number) => Tried::told(Reply::number(number)),
-        Err(code) => Tried::told(Reply::of(code)),
+        Ok(number) => Ok(Tried::told(Reply::number(number))),
+        Err(code) => Ok(Tried::told(Reply::of(code))),
     }
 }
 
@@ -147,20 +151,30 @@ pub fn measured(answer: Result<u32, Refusal>) -> Result<Tried, AllocError>
 }
 
 /// Returns the try of a call that returns the flags of a handle.
-pub fn state(answer: Result<u8, OsErr>) -> Tried
-    ensures { TellsTold result (told_as Number answer) }
+pub fn state(answer: Result<u8, OsErr>) -> Result<Tried, AllocError>
+    ensures tried { IfOk result (λ tried. TellsTold tried (told_as Number answer)) }
+    ensures is { IsOk result }
 {
     match answer {
-        Ok(state) => Tried::told(Reply::number(state as u32)),
-        Err(code) => Tried::told(Reply::of(code)),
+        Ok(state) => Ok(Tried::told(Reply::number(state as u32))),
+        Err(code) => Ok(Tried::told(Reply::of(code))),
     }
 }
 
 /// Returns the try of `PurgeSpace`.
-pub fn space(space: Space) -> Tried
-    ensures { TellsTold result (Numbers space.total space.contiguous) }
+pub fn space(space: Space) -> Result<Tried, AllocError>
+    ensures tried { IfOk result (λ tried. TellsTold tried (Numbers space.total space.contiguous)) }
+    ensures is { IsOk result }
 {
-    Tried::told(Reply::pair(space.total, space.contiguous))
+    Ok(Tried::told(Reply::pair(space.total, space.contiguous)))
+}
+
+/// Returns the try of `MemError`, which returns the code of another call.
+pub fn code_of_another(code: OsErr) -> Result<Tried, AllocError>
+    ensures tried { IfOk result (λ tried. TellsTold tried (Code code)) }
+    ensures is { IsOk result }
+{
+    Ok(Tried::told(Reply::telling(code)))
 }
 
 /// Returns the try of a call that returns a resource's handle and whether the stored data was read

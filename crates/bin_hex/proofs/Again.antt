@@ -1,8 +1,8 @@
 use Rattle.std.proofs.Common.{◌≡◌, ℕ, ◌-◌, false, cond, List, [], ◌∷◌, ◌++◌, map, length, refl, ◌∙◌, ap, arith, append_assoc}
 use Rattle.std.specs.Prelude.{None, Ok, Err, is_some, codes, filter}
+use Rattle.checksums.specs.Checksum.{checksum}
 use Rattle.byteorder.specs.Endian.{big_bytes}
 use Rattle.bin_hex.specs.Alphabet.{character, is_dark}
-use Rattle.bin_hex.specs.Checksum.{checksum}
 use Rattle.bin_hex.specs.BinHex.{decoded, encoded, groups, unpacked, encoded_in, marked_in}
 use Rattle.bin_hex.specs.Contents.{file_in, bytes_of, header, fields, with_checksum}
 use Rattle.bin_hex.specs.Faults.{◌>>=◌}

@@ -1,13 +1,12 @@
-use Rattle.std.proofs.Common.{◌≡◌, ℕ, zero, suc, ◌+◌, ◌*◌, ◌-◌, ◌^◌, ◌<◌, ◌≤◌, Bool, true, false, not, ◌||◌, cond, List, [], ◌∷◌, ◌++◌}
-use Rattle.std.proofs.Common.{length, take, drop, refl, sym, ◌∙◌, ap, subst, arith, rules, append_assoc, length-append, lit<, inl, inr}
-use Rattle.std.specs.Prelude.{◌==◌, nat_le, nat_lt, bit_xor, Result, Ok, Err, Some, None}
+use Rattle.std.proofs.Common.{◌≡◌, ℕ, ◌+◌, ◌-◌, ◌^◌, ◌<◌, ◌≤◌, Bool, true, false, not, ◌||◌, cond, List, [], ◌∷◌, ◌++◌}
+use Rattle.std.proofs.Common.{length, take, drop, refl, sym, ◌∙◌, ap, arith, rules, append_assoc, length-append, lit<}
+use Rattle.std.specs.Prelude.{◌==◌, nat_le, nat_lt, Result, Ok, Err, Some, None}
 use Rattle.std.proofs.Math.Seq.{drop-append-add, drop-append_seam, take-append_seam}
-use Rattle.std.proofs.lemmas.Bool.{and_parts, le-ltb, le-leb, lt-leb, eq-eqb, ltb-false, leb-true, cases_lt}
+use Rattle.std.proofs.lemmas.Bool.{and_parts, le-ltb, eq-eqb, ltb-false, leb-true}
 use Rattle.std.proofs.lemmas.List.{append-nil}
-use Rattle.std.proofs.lemmas.Nat.{xor_lt}
+use Rattle.plain_laws.proofs.Bytes.{bytes-append}
 use Rattle.byteorder.specs.Endian.{big_bytes, big_number}
 use Rattle.byteorder.specs.Numbers.{big_number-reads_back}
-use Rattle.bin_hex.specs.Checksum.{with_bit, with_bits, with_byte, with_bytes, checksum}
 use Rattle.bin_hex.specs.Contents.{piece, checked, after_length, header_in, fork_in, file_in, file_of, field, name_length}
 use Rattle.bin_hex.specs.Contents.{named, fields, header, with_checksum, bytes_of, data_length, resource_length}
 use Rattle.bin_hex.specs.Faults.{◌>>=◌}
@@ -17,33 +16,10 @@ use Rattle.bin_hex.specs.declared.fault.Damage.TheVariants as damage
 use Rattle.bin_hex.specs.declared.fault.Part.{Part}
 use Rattle.bin_hex.specs.declared.fault.Part.TheVariants as part
 use Rattle.bin_hex.specs.declared.fault.WriteFault.TheVariants as fault
-use Rattle.bin_hex.proofs.RunsAgain.{bytes_append}
+use Rattle.checksums.specs.Checksum.{checksum}
+use Rattle.checksums.proofs.Sums.{checksum-small}
 
 -- The bytes that stand for a file are read as that file.
-
--- a checksum has 16 bits
-
-bit_fits : (sum : ℕ) → sum < 2 ^ 16 → with_bit sum < 2 ^ 16
-bit_fits sum h = elim (cases_lt sum 0x8000) [
-  | inl low ↦ subst (λ t. cond t (bit_xor (2 * (sum - 0x8000)) 0x1021) (2 * sum) < 2 ^ 16) (sym (lt-leb 0x8000 sum low)) (omega arith)
-  | inr high ↦ subst (λ t. cond t (bit_xor (2 * (sum - 0x8000)) 0x1021) (2 * sum) < 2 ^ 16) (sym (le-leb 0x8000 sum high))
-      (xor_lt 16 (2 * (sum - 0x8000)) 0x1021 (omega arith) (lit< tt))
-]
-
-bits_fit : (n sum : ℕ) → sum < 2 ^ 16 → with_bits n sum < 2 ^ 16
-unfolding with_bits
-bits_fit zero sum h = h
-bits_fit (suc n) sum h = bits_fit n (with_bit sum) (bit_fits sum h)
-
-bytes_fit : (bytes : List ℕ) (sum : ℕ) → sum < 2 ^ 16 → AreBytes bytes → with_bytes sum bytes < 2 ^ 16
-bytes_fit [] sum h all = h
-bytes_fit (byte ∷ bytes) sum h all =
-    let low = all.0 in
-    bytes_fit bytes (with_byte sum byte) (bits_fit 8 (bit_xor sum (256 * byte)) (xor_lt 16 sum (256 * byte) h (omega arith)))
-    all.1
-
-checksum_fits : (bytes : List ℕ) → AreBytes bytes → checksum bytes < 2 ^ 16
-checksum_fits bytes all = bytes_fit bytes 0 (lit< tt) all
 
 -- a piece that is there
 pub piece_again : (xs rest : List ℕ) (count : ℕ) → length xs ≡ count → piece count (xs ++ rest) ≡ Ok (xs, rest)
@@ -64,7 +40,7 @@ checked_again what xs rest all =
     ∙ ap (λ t. cond t (Ok (xs, rest)) (Err (damage.WrongChecksum what)))
     (eq-eqb (big_number 2 (big_bytes 2 (checksum xs))) (checksum xs)
     (ap (big_number 2) (sym (append-nil (big_bytes 2 (checksum xs))))
-    ∙ big_number-reads_back 2 (checksum xs) [] (checksum_fits xs all)))
+    ∙ big_number-reads_back 2 (checksum xs) [] (checksum-small xs all)))
 
 fork_again : (what : Part) (xs rest : List ℕ) (count : ℕ) → length xs ≡ count → AreBytes xs
     → fork_in what count (with_checksum xs ++ rest) ≡ Ok (xs, rest)
@@ -189,12 +165,12 @@ fields_bytes file =
     let flags = half_bytes file.flags in
     let data_size = number_bytes (length file.data_fork) in
     let resource_size = number_bytes (length file.resource_fork) in
-    bytes_append (((big_bytes 4 file.kind ++ big_bytes 4 file.creator) ++ big_bytes 2 file.flags)
+    bytes-append (((big_bytes 4 file.kind ++ big_bytes 4 file.creator) ++ big_bytes 2 file.flags)
     ++ big_bytes 4 (length file.data_fork)) (big_bytes 4 (length file.resource_fork))
-    (bytes_append ((big_bytes 4 file.kind ++ big_bytes 4 file.creator) ++ big_bytes 2 file.flags)
+    (bytes-append ((big_bytes 4 file.kind ++ big_bytes 4 file.creator) ++ big_bytes 2 file.flags)
     (big_bytes 4 (length file.data_fork))
-    (bytes_append (big_bytes 4 file.kind ++ big_bytes 4 file.creator) (big_bytes 2 file.flags)
-    (bytes_append (big_bytes 4 file.kind) (big_bytes 4 file.creator) kind creator) flags) data_size) resource_size
+    (bytes-append (big_bytes 4 file.kind ++ big_bytes 4 file.creator) (big_bytes 2 file.flags)
+    (bytes-append (big_bytes 4 file.kind) (big_bytes 4 file.creator) kind creator) flags) data_size) resource_size
 
 name_low : (file : File) → is_name_length (length file.name) ≡ true → (1 ≤ length file.name) × (length file.name ≤ 63)
 name_low file right =
@@ -205,18 +181,18 @@ header_bytes : (file : File) → is_name_length (length file.name) ≡ true → 
 header_bytes file right all =
     let low = (name_low file right).1 in (
       omega arith,
-      bytes_append (file.name ++ 0 ∷ []) (fields file)
-          (bytes_append file.name (0 ∷ []) all (lit< tt, tt)) (fields_bytes file),
+      bytes-append (file.name ++ 0 ∷ []) (fields file)
+          (bytes-append file.name (0 ∷ []) all (lit< tt, tt)) (fields_bytes file),
     )
 
 part_bytes : (bytes : List ℕ) → AreBytes bytes → AreBytes (with_checksum bytes)
-part_bytes bytes all = bytes_append bytes (big_bytes 2 (checksum bytes)) all (half_bytes (checksum bytes))
+part_bytes bytes all = bytes-append bytes (big_bytes 2 (checksum bytes)) all (half_bytes (checksum bytes))
 
 pub file_bytes : (file : File) → refusal file ≡ None → IsOfBytes file → AreBytes (bytes_of file)
 file_bytes file none all =
     let fits = writable file none in
-    bytes_append (with_checksum (header file) ++ with_checksum file.data_fork) (with_checksum file.resource_fork)
-    (bytes_append (with_checksum (header file)) (with_checksum file.data_fork)
+    bytes-append (with_checksum (header file) ++ with_checksum file.data_fork) (with_checksum file.resource_fork)
+    (bytes-append (with_checksum (header file)) (with_checksum file.data_fork)
     (part_bytes (header file) (header_bytes file fits.name all.name)) (part_bytes file.data_fork all.data_fork))
     (part_bytes file.resource_fork all.resource_fork)
 

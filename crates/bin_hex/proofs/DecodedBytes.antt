@@ -1,15 +1,17 @@
 use Rattle.std.proofs.Common.{◌≡◌, ℕ, zero, suc, ◌+◌, ◌%◌, ◌-◌, ◌^◌, ◌<◌, ◌≤◌, Bool, true, false, cond}
-use Rattle.std.proofs.Common.{List, [], ◌∷◌, ◌++◌, length, take, drop, replicate, refl, sym, ◌∙◌, ap, subst, arith, lit<, Option, Some, None}
-use Rattle.std.specs.Prelude.{◌==◌, nat_lt, position, slice_index, Result, Ok, Err}
+use Rattle.std.proofs.Common.{List, [], ◌∷◌, ◌++◌, length, take, drop, replicate, refl, sym, ◌∙◌, ap, subst, arith, lit<, Option, Some}
+use Rattle.std.proofs.Common.{None}
+use Rattle.std.specs.Prelude.{◌==◌, nat_lt, position, Result, Ok, Err}
 use Rattle.std.specs.List.{AllByRecursion}
 use Rattle.std.proofs.lemmas.Bool.{ltb-false}
 use Rattle.std.proofs.lemmas.List.{length-drop, length-take-le}
 use Rattle.std.proofs.lemmas.List.Quantifiers.{position-Some}
+use Rattle.checksums.specs.Checksum.{checksum}
+use Rattle.plain_laws.proofs.Bytes.{bytes-take, bytes-drop, bytes-append, byte-at}
 use Rattle.byteorder.specs.Endian.{big_number}
 use Rattle.byteorder.specs.Numbers.{big_from-lt}
 use Rattle.bin_hex.specs.Alphabet.{alphabet, is_blank, role_at, role_of, IsRole}
 use Rattle.bin_hex.specs.BinHex.{decoded, unpacked, packed_in, encoded_in, marked_in}
-use Rattle.bin_hex.specs.Checksum.{checksum}
 use Rattle.bin_hex.specs.Contents.{piece, checked, after_length, header_in, fork_in, file_in, file_of, name_length}
 use Rattle.bin_hex.specs.Contents.{data_length, resource_length}
 use Rattle.bin_hex.specs.Faults.{◌>>=◌}
@@ -27,7 +29,6 @@ use Rattle.bin_hex.specs.declared.packing.Held.{Held}
 use Rattle.bin_hex.specs.declared.packing.Held.TheVariants as held
 use Rattle.bin_hex.proofs.ContentsAgain.{piece_again}
 use Rattle.bin_hex.proofs.Fitting.{can_be_written}
-use Rattle.bin_hex.proofs.RunsAgain.{bytes_append}
 
 -- A file that was read is made of bytes, and can be written.
 
@@ -97,31 +98,15 @@ expanded_bytes (byte ∷ bytes) false last h all =
 expanded_bytes (count ∷ bytes) true last h all =
     either_bytes (count == 0) (0x90 ∷ expanded false 0x90 bytes) (replicate (count - 1) last ++ expanded false last bytes)
     (lit< tt, expanded_bytes bytes false 0x90 (lit< tt) all.1)
-    (bytes_append (replicate (count - 1) last) (expanded false last bytes) (repeated_bytes (count - 1) last h)
+    (bytes-append (replicate (count - 1) last) (expanded false last bytes) (repeated_bytes (count - 1) last h)
     (expanded_bytes bytes false last h all.1))
 
--- parts of bytes are bytes
-front_bytes : (count : ℕ) (bytes : List ℕ) → AreBytes bytes → AreBytes (take count bytes)
-front_bytes zero bytes all = tt
-front_bytes (suc count) [] all = tt
-front_bytes (suc count) (byte ∷ bytes) all = (all.0, front_bytes count bytes all.1)
-
-back_bytes : (count : ℕ) (bytes : List ℕ) → AreBytes bytes → AreBytes (drop count bytes)
-back_bytes zero bytes all = all
-back_bytes (suc count) [] all = tt
-back_bytes (suc count) (byte ∷ bytes) all = back_bytes count bytes all.1
-
 -- a number of four bytes has 32 bits, one of two has 16
-low_byte : (bytes : List ℕ) (at : ℕ) → AreBytes bytes → slice_index bytes at < 256
-low_byte [] at all = lit< tt
-low_byte (byte ∷ bytes) zero all = all.0
-low_byte (byte ∷ bytes) (suc at) all = low_byte bytes at all.1
-
 low_word : (bytes : List ℕ) → AreBytes bytes → big_number 4 bytes < 2 ^ 32
-low_word bytes all = big_from-lt 0 4 bytes (λ at. low_byte bytes at all)
+low_word bytes all = big_from-lt 0 4 bytes (λ at. byte-at bytes at all)
 
 low_half : (bytes : List ℕ) → AreBytes bytes → big_number 2 bytes < 2 ^ 16
-low_half bytes all = big_from-lt 0 2 bytes (λ at. low_byte bytes at all)
+low_half bytes all = big_from-lt 0 2 bytes (λ at. byte-at bytes at all)
 
 -- what was read, and what was read after it
 first_read : {A B : Type 0} (read : Result A Damage) (next : A → Result B Damage) (made : B) → (read >>= next) ≡ Ok made
@@ -163,7 +148,7 @@ part_read what bytes after got all is =
     let sum = first_read (piece 2 after) (λ (sum : List ℕ × List ℕ).
     cond (big_number 2 sum.0 == checksum bytes) (Ok (bytes, sum.1)) (Err (damage.WrongChecksum what))) got is in
     let at = piece_read 2 after sum.0 sum.1 in
-    judged sum.0 (big_number 2 sum.0.0 == checksum bytes) (subst AreBytes (sym at.back) (back_bytes 2 after all)) sum.2
+    judged sum.0 (big_number 2 sum.0.0 == checksum bytes) (subst AreBytes (sym at.back) (bytes-drop 2 after all)) sum.2
   where
     judged : (sum : List ℕ × List ℕ) (t : Bool) → AreBytes sum.1
         → cond t (Ok (bytes, sum.1)) (Err (damage.WrongChecksum what)) ≡ Ok got → IsPart bytes after got
@@ -188,12 +173,12 @@ named_read first bytes got rest all is right = judged (is_name_length first) ref
         let at = piece_read (first + 19) bytes rest
         (sym (ap (λ t. cond t (piece (first + 19) bytes) (Err damage.NameLength)) named) ∙ is) in
         let sum = part_read part.Header (first ∷ rest.0) rest.1 got
-        (subst AreBytes (sym at.back) (back_bytes (first + 19) bytes all.1)) right in
+        (subst AreBytes (sym at.back) (bytes-drop (first + 19) bytes all.1)) right in
         let size = ap length at.front ∙ length-take-le (first + 19) bytes at.there in
         subst (λ header. IsHeader (header, got.1)) (sym sum.same) (record {
           named = named;
           size = omega (arith, size);
-          bytes = (all.0, subst AreBytes (sym at.front) (front_bytes (first + 19) bytes all.1));
+          bytes = (all.0, subst AreBytes (sym at.front) (bytes-take (first + 19) bytes all.1));
           rest = sum.rest;
         })
     judged false other =
@@ -223,10 +208,10 @@ unfolding fork_in
 fork_read what count bytes got all is =
     let fork = first_read (piece count bytes) (λ (fork : List ℕ × List ℕ). checked what fork.0 fork.1) got is in
     let at = piece_read count bytes fork.0 fork.1 in
-    let sum = part_read what fork.0.0 fork.0.1 got (subst AreBytes (sym at.back) (back_bytes count bytes all)) fork.2 in
+    let sum = part_read what fork.0.0 fork.0.1 got (subst AreBytes (sym at.back) (bytes-drop count bytes all)) fork.2 in
     record {
       size = ap length (sum.same ∙ at.front) ∙ length-take-le count bytes at.there;
-      bytes = subst AreBytes (sym (sum.same ∙ at.front)) (front_bytes count bytes all);
+      bytes = subst AreBytes (sym (sum.same ∙ at.front)) (bytes-take count bytes all);
       rest = sum.rest;
     }
 
@@ -245,18 +230,18 @@ made_read header data_fork resource_fork head first second =
     let named = length-take-le count (drop 1 header.0) (omega (arith, size, dropped)) in
     record {
       of_bytes = record {
-        name = front_bytes count (drop 1 header.0) (back_bytes 1 header.0 head.bytes);
-        kind = low_word (drop (count + 2) header.0) (back_bytes (count + 2) header.0 head.bytes);
-        creator = low_word (drop (count + 6) header.0) (back_bytes (count + 6) header.0 head.bytes);
-        flags = low_half (drop (count + 10) header.0) (back_bytes (count + 10) header.0 head.bytes);
+        name = bytes-take count (drop 1 header.0) (bytes-drop 1 header.0 head.bytes);
+        kind = low_word (drop (count + 2) header.0) (bytes-drop (count + 2) header.0 head.bytes);
+        creator = low_word (drop (count + 6) header.0) (bytes-drop (count + 6) header.0 head.bytes);
+        flags = low_half (drop (count + 10) header.0) (bytes-drop (count + 10) header.0 head.bytes);
         data_fork = first.bytes;
         resource_fork = second.bytes;
       };
       fits = can_be_written (file_of header.0 data_fork.0 resource_fork.0) (ap is_name_length named ∙ head.named)
           (subst (λ n. n < 2 ^ 32) (sym first.size)
-          (low_word (drop (count + 12) header.0) (back_bytes (count + 12) header.0 head.bytes)))
+          (low_word (drop (count + 12) header.0) (bytes-drop (count + 12) header.0 head.bytes)))
           (subst (λ n. n < 2 ^ 32) (sym second.size)
-          (low_word (drop (count + 16) header.0) (back_bytes (count + 16) header.0 head.bytes)));
+          (low_word (drop (count + 16) header.0) (bytes-drop (count + 16) header.0 head.bytes)));
     }
 
 no_damage : {A : Type 0} (t : Bool) (why : Damage) (read : Result A Damage) (made : A) → cond t (Err why) read ≡ Ok made

@@ -10,7 +10,6 @@ pub mod Pieces
 pub mod Places
 pub mod PutAgain
 pub mod RunsAgain
-pub mod Sums
 pub mod Taking
 pub mod TextAgain
 pub mod Worked

@@ -1,5 +1,6 @@
 use Rattle.std.proofs.Common.{◌≡◌, ℕ, ◌-◌, ◌%◌, ◌^◌, ◌<◌, Bool, true, false, cond, List, [], ◌∷◌, ◌++◌, map}
-use Rattle.std.proofs.Common.{length, take, drop, refl, sym, ◌∙◌, ap, subst, arith, rules, append_assoc, length-append, inl, inr, Option, Some, None}
+use Rattle.std.proofs.Common.{length, take, drop, refl, sym, ◌∙◌, ap, subst, arith, append_assoc, length-append, inl, inr, Option, Some}
+use Rattle.std.proofs.Common.{None}
 use Rattle.std.specs.Prelude.{◌==◌, nat_lt, bytes_eq, get_or, is_some, Result, Ok, Err}
 use Rattle.std.proofs.Math.Seq.{take-append_seam}
 use Rattle.std.proofs.lemmas.Slice.Eq.{bytes_eq-Decides}
@@ -190,9 +191,6 @@ made_of bytes file parts =
     ∙ ap (λ xs. front ++ xs) (append_assoc lines (58 ∷ []) (closing bytes))
     ∙ behind parts.before parts.between (lines ++ 58 ∷ closing bytes)
 
-same_bytes : (xs ys : List ℕ) → bytes_eq xs ys ≡ true → xs ≡ ys
-same_bytes xs ys h = search (rules, bytes_eq-Decides)
-
 -- what is kept and what is read where a fork was put into a file
 pub record IsPut (bytes fork new : List ℕ) (file : File) : Type 0 where
   pub opening : opening new ≡ opening bytes
@@ -204,7 +202,7 @@ kept : (bytes fork : List ℕ) (file : File) → decoded bytes ≡ Ok file → b
 kept bytes fork file is same = record {
   opening = refl;
   closing = refl;
-  decoded = λ all. is ∙ ap (λ f. Ok (with_fork f file)) (same_bytes file.resource_fork fork same);
+  decoded = λ all. is ∙ ap (λ f. Ok (with_fork f file)) ((bytes_eq-Decides file.resource_fork fork).0 same);
 }
 
 remade : (bytes fork : List ℕ) (file : File) → decoded bytes ≡ Ok file → length fork < 2 ^ 32
@@ -271,9 +269,6 @@ put_read bytes fork new is =
     let found = was_read bytes fork new (decoded bytes) is in
     (found.0, found.1, put_there bytes fork new found.0 found.1 found.2)
 
-themselves : (xs : List ℕ) → bytes_eq xs xs ≡ true
-themselves xs = search (rules, bytes_eq-Decides)
-
 -- the laws
 
 pub file_is_read : (bytes fork new : List ℕ) (file : File) → AreBytes fork → decoded bytes ≡ Ok file
@@ -295,4 +290,4 @@ unfolding with_resource_fork
 own_fork bytes file is =
     ap (put_or_damage bytes file.resource_fork) is
     ∙ ap (λ t. cond t (Ok bytes) (cond (nat_lt 0xFFFFFFFF (length file.resource_fork)) (Err fault.TooLong)
-    (Ok (with_file bytes (with_fork file.resource_fork file))))) (themselves file.resource_fork)
+    (Ok (with_file bytes (with_fork file.resource_fork file))))) ((bytes_eq-Decides file.resource_fork file.resource_fork).1 refl)

@@ -3,6 +3,7 @@ use Rattle.std.proofs.Common.{replicate, refl, sym, ◌∙◌, ap, arith, append
 use Rattle.std.specs.Prelude.{◌==◌, nat_le, nat_lt, flat_map}
 use Rattle.std.proofs.lemmas.Bool.{and_parts, cases_Bool, eqb-true, ltb-true, leb-true, ne_eqb}
 use Rattle.std.proofs.lemmas.List.{append-nil}
+use Rattle.plain_laws.proofs.Bytes.{bytes-append}
 use Rattle.bin_hex.specs.File.{AreBytes}
 use Rattle.bin_hex.specs.Runs.{expanded, begins_with_run, literal, run, runs_after, compressed}
 
@@ -81,10 +82,6 @@ pub expanded_again : (bytes : List ℕ) → expanded false 0 (compressed bytes) 
 expanded_again bytes = runs_again bytes 0 0 0 (λ _. refl)
 
 -- the text is bytes
-pub bytes_append : (xs ys : List ℕ) → AreBytes xs → AreBytes ys → AreBytes (xs ++ ys)
-bytes_append [] ys all more = more
-bytes_append (x ∷ xs) ys all more = (all.0, bytes_append xs ys all.1 more)
-
 literal_bytes : (byte : ℕ) → byte < 256 → AreBytes (literal byte)
 literal_bytes byte h = cases (byte == 0x90)
   where
@@ -95,7 +92,7 @@ literal_bytes byte h = cases (byte == 0x90)
 literals_bytes : (count byte : ℕ) → byte < 256 → AreBytes (flat_map literal (replicate count byte))
 literals_bytes zero byte h = tt
 literals_bytes (suc count) byte h =
-    bytes_append (literal byte) (flat_map literal (replicate count byte)) (literal_bytes byte h) (literals_bytes count byte h)
+    bytes-append (literal byte) (flat_map literal (replicate count byte)) (literal_bytes byte h) (literals_bytes count byte h)
 
 run_bytes : (byte count : ℕ) → byte < 256 → count < 256 → AreBytes (run byte count)
 run_bytes byte count h few = cases (nat_le 4 count && not (byte == 0x90))
@@ -114,7 +111,7 @@ runs_bytes (next ∷ bytes) byte count h few all = elim (cases_Bool (next == byt
       (let low = ltb-true count 255 (and_parts (next == byte) (nat_lt count 255) e).1 in omega arith) all.1)
   | inr e ↦ subst (λ t. AreBytes (cond t (runs_after byte (count + 1) bytes) (run byte count ++ runs_after next 1 bytes)))
       (sym e)
-      (bytes_append (run byte count) (runs_after next 1 bytes) (run_bytes byte count h few)
+      (bytes-append (run byte count) (runs_after next 1 bytes) (run_bytes byte count h few)
       (runs_bytes bytes next 1 all.0 (lit< tt) all.1))
 ]
 

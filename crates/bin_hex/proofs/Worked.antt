@@ -1,8 +1,8 @@
 use Rattle.std.proofs.Common.{◌≡◌, ℕ, List, [], ◌∷◌, ◌++◌, map, replicate, take, set, false, true, refl}
 use Rattle.std.specs.Prelude.{Ok, Err, codes}
+use Rattle.checksums.specs.Checksum.{with_bits}
 use Rattle.bin_hex.specs.Alphabet.{alphabet, role_of}
 use Rattle.bin_hex.specs.BinHex.{decoded, encoded}
-use Rattle.bin_hex.specs.Checksum.{with_bits, checksum}
 use Rattle.bin_hex.specs.Contents.{header_in, fork_in, file_in}
 use Rattle.bin_hex.specs.File.{File}
 use Rattle.bin_hex.specs.Putting.{with_resource_fork}
@@ -15,14 +15,10 @@ use Rattle.bin_hex.specs.declared.fault.PutFault.TheVariants as fault
 
 -- The files are as the program binhex of macutils 2.0 wrote them, whose line goes on with words of its own.
 
--- the check value of CRC-16/XMODEM, of the text 123456789, and checksums as Python's binascii.crc_hqx reckons them: of the
--- text A, and of the bytes 00 80 FF
-sums : (checksum (codes "123456789") ≡ 0x31C3) × (checksum (65 ∷ []) ≡ 22757) × (checksum (0 ∷ 128 ∷ 255 ∷ []) ≡ 1384)
-unfolding with_bits
-sums = (refl, refl, refl)
-
 -- each character of the alphabet stands for its place in it
-roles : map role_of alphabet ≡ map role.Sextet (0 ∷ 1 ∷ 2 ∷ 3 ∷ 4 ∷ 5 ∷ 6 ∷ 7 ∷ 8 ∷ 9 ∷ 10 ∷ 11 ∷ 12 ∷ 13 ∷ 14 ∷ 15 ∷ 16 ∷ 17 ∷ 18 ∷ 19 ∷ 20 ∷ 21 ∷ 22 ∷ 23 ∷ 24 ∷ 25 ∷ 26 ∷ 27 ∷ 28 ∷ 29 ∷ 30 ∷ 31 ∷ 32 ∷ 33 ∷ 34 ∷ 35 ∷ 36 ∷ 37 ∷ 38 ∷ 39 ∷ 40 ∷ 41 ∷ 42 ∷ 43 ∷ 44 ∷ 45 ∷ 46 ∷ 47 ∷ 48 ∷ 49 ∷ 50 ∷ 51 ∷ 52 ∷ 53 ∷ 54 ∷ 55 ∷ 56 ∷ 57 ∷ 58 ∷ 59 ∷ 60 ∷ 61 ∷ 62 ∷ 63 ∷ [])
+roles : map role_of alphabet ≡ map role.Sextet (0 ∷ 1 ∷ 2 ∷ 3 ∷ 4 ∷ 5 ∷ 6 ∷ 7 ∷ 8 ∷ 9 ∷ 10 ∷ 11 ∷ 12 ∷ 13 ∷ 14 ∷ 15 ∷ 16 ∷ 17 ∷ 18 ∷ 19 ∷ 20
+    ∷ 21 ∷ 22 ∷ 23 ∷ 24 ∷ 25 ∷ 26 ∷ 27 ∷ 28 ∷ 29 ∷ 30 ∷ 31 ∷ 32 ∷ 33 ∷ 34 ∷ 35 ∷ 36 ∷ 37 ∷ 38 ∷ 39 ∷ 40 ∷ 41 ∷ 42 ∷ 43 ∷ 44 ∷ 45 ∷ 46 ∷ 47
+    ∷ 48 ∷ 49 ∷ 50 ∷ 51 ∷ 52 ∷ 53 ∷ 54 ∷ 55 ∷ 56 ∷ 57 ∷ 58 ∷ 59 ∷ 60 ∷ 61 ∷ 62 ∷ 63 ∷ [])
 roles = refl
 
 -- runs, as RFC 1741, appendix A, shows them: 11 22 22 22 22 22 22 33, and 11 22 90 33 44

@@ -1,7 +1,7 @@
 use Rattle.std.specs.Prelude.{ℕ, ◌+◌, ◌==◌, nat_lt, List, [], ◌∷◌, ◌++◌, length, take, drop, slice_index}
 use Rattle.std.specs.Prelude.{Result, Ok, Err, if◌then◌else◌}
+use Rattle.checksums.specs.Checksum.{checksum}
 use Rattle.byteorder.specs.Endian.{big_number, big_bytes}
-use Rattle.bin_hex.specs.Checksum.{checksum}
 use Rattle.bin_hex.specs.Faults.{◌>>=◌}
 use Rattle.bin_hex.specs.File.{File, is_name_length}
 use Rattle.bin_hex.specs.declared.fault.Damage.{Damage}

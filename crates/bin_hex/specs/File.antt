@@ -1,6 +1,6 @@
 use Rattle.std.specs.Prelude.{◌≡◌, ℕ, ◌<◌, ◌^◌, Bool, ◌&&◌, ◌||◌, not, nat_le, nat_lt, List, length, Option, Some, None}
 use Rattle.std.specs.Prelude.{if◌then◌else◌, ⊤}
-use Rattle.std.specs.List.{AllByRecursion}
+pub use Rattle.plain_laws.specs.Bytes.{AreBytes}
 use Rattle.bin_hex.specs.declared.fault.WriteFault.{WriteFault}
 use Rattle.bin_hex.specs.declared.fault.WriteFault.TheVariants as fault
 use Rattle.bin_hex.specs.declared.file.BinHexFile.{BinHexFile}
@@ -28,10 +28,6 @@ view file = record {
   data_fork = file.data_fork.items;
   resource_fork = file.resource_fork.items;
 }
-
--- Bytes are numbers below 256.
-abbrev pub AreBytes : List ℕ → Type 0
-AreBytes bytes = AllByRecursion (λ (byte : ℕ). byte < 256) bytes
 
 -- Why a file can't be written: its name has no bytes or more than 63, or a fork has 2^32 bytes or more.
 abbrev pub refusal : File → Option WriteFault

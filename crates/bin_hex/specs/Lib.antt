@@ -1,6 +1,5 @@
 pub mod Alphabet
 pub mod BinHex
-pub mod Checksum
 pub mod Contents
 pub mod Faults
 pub mod File

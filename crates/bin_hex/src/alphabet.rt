@@ -1,7 +1,8 @@
 //! The characters of the encoded text.
 
 ghost use Rattle.std.specs.Prelude.{◌≡◌, ◌==◌, position};
-ghost use Rattle.bin_hex.specs.Alphabet.{alphabet, character, is_blank as blank_is, role_at, role_of, IsRole};
+ghost use Rattle.bin_hex.specs.Alphabet.{alphabet, character, is_blank as blank_is, role_at};
+ghost use Rattle.bin_hex.specs.Alphabet.{role_of, IsRole};
 
 /// The 64 characters that stand for six bits each, in the order of their values.
 const ALPHABET: &[u8; 64] = b"!\"#$%&'()*+,-012345689@ABCDEFGHIJKLMNPQRSTUVXYZ[`abcdefhijklmpqr";

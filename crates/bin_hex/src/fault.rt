@@ -41,8 +41,8 @@ pub enum Damage {
     /// After the first colon stands no second one.
     #[error("no colon ends the encoded text")]
     NoEnd,
-    /// Between the colons stands a byte, at this offset in the file, that is neither of the alphabet nor a blank, a tab or
-    /// the end of a line.
+    /// Between the colons stands a byte, at this offset in the file, that is neither of the
+    /// alphabet nor a blank, a tab or the end of a line.
     #[error("the byte at {0} is no character of the encoding")]
     Foreign(usize),
     /// The encoded file begins with a run.

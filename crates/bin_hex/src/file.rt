@@ -2,7 +2,8 @@
 
 /// A file of the Macintosh: its name, what the Finder knows of it, and its two forks.
 ///
-/// *Inside Macintosh: Files*, chapter 1; *Macintosh Toolbox Essentials*, chapter 7, "The Finder Information Record".
+/// *Inside Macintosh: Files*, chapter 1; *Macintosh Toolbox Essentials*, chapter 7, "The Finder
+/// Information Record".
 #[derive(Debug, PartialEq, Drop)]
 pub struct BinHexFile {
     /// The name, of 1 to 63 bytes.

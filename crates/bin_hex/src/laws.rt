@@ -7,17 +7,20 @@ ghost use Rattle.bin_hex.specs.File.{File, AreBytes, IsOfBytes, refusal};
 ghost use Rattle.bin_hex.specs.Putting.{opening, closing, with_fork, with_resource_fork};
 ghost use Rattle.bin_hex.specs.Text.{mark, is_bin_hex, after_colon};
 
-/// States that each file that can be written is read again from the text that is written for it, whatever text stands
-/// before it, if the line is not in that, and after it.
+/// States that each file that can be written is read again from the text that is written for it,
+/// whatever text stands before it, if the line is not in that, and after it.
 pub fn a_file_is_read_again()
-    ensures { (file : File) (before after : List ℕ) → refusal file ≡ None → IsOfBytes file → is_bin_hex before ≡ false
+    ensures { (file : File) (before after : List ℕ) → refusal file ≡ None → IsOfBytes file
+        → is_bin_hex before ≡ false
         → decoded (before ++ (encoded file ++ after)) ≡ Ok file }
 {}
 
-/// States that a file is read from its characters between two colons however blanks, tabs and ends of lines, be they CR, LF
-/// or CR with LF, stand among them, and whatever text without a colon stands between the line and the first colon.
+/// States that a file is read from its characters between two colons however blanks, tabs and ends
+/// of lines, be they CR, LF or CR with LF, stand among them, and whatever text without a colon
+/// stands between the line and the first colon.
 pub fn a_file_is_read_from_any_lines()
-    ensures { (file : File) (before between text after : List ℕ) → refusal file ≡ None → IsOfBytes file
+    ensures { (file : File) (before between text after : List ℕ) → refusal file ≡ None
+        → IsOfBytes file
         → is_bin_hex before ≡ false → is_some (after_colon between) ≡ false
         → filter is_dark text ≡ map character (groups file)
         → decoded (before ++ (mark ++ (between ++ 58 ∷ (text ++ 58 ∷ after)))) ≡ Ok file }
@@ -25,13 +28,17 @@ pub fn a_file_is_read_from_any_lines()
 
 /// States what is read from a BinHex file into which a resource fork was put, and what stays in it.
 pub fn a_fork_that_was_put_is_read_again()
-    // The file that is read is the old one with this fork: its name, type, creator, flags and data fork stay.
+    // The file that is read is the old one with this fork: its name, type, creator, flags and data
+    // fork stay.
     ensures file { (bytes fork new : List ℕ) (file : File) → AreBytes fork → decoded bytes ≡ Ok file
         → with_resource_fork bytes fork ≡ Ok new → decoded new ≡ Ok (with_fork fork file) }
 
-    // The text up to the first colon after the mark stays, and so does the text after the colon that ends the encoded text.
-    ensures opening { (bytes fork new : List ℕ) → with_resource_fork bytes fork ≡ Ok new → opening new ≡ opening bytes }
-    ensures closing { (bytes fork new : List ℕ) → with_resource_fork bytes fork ≡ Ok new → closing new ≡ closing bytes }
+    // The text up to the first colon after the mark stays, and so does the text after the colon
+    // that ends the encoded text.
+    ensures opening { (bytes fork new : List ℕ) → with_resource_fork bytes fork ≡ Ok new
+        → opening new ≡ opening bytes }
+    ensures closing { (bytes fork new : List ℕ) → with_resource_fork bytes fork ≡ Ok new
+        → closing new ≡ closing bytes }
 
     // A file that holds the fork stays as it is.
     ensures same { (bytes : List ℕ) (file : File) → decoded bytes ≡ Ok file

@@ -2,7 +2,6 @@
 #![tactic(auto)]
 
 mod alphabet;
-mod checksum;
 mod fault;
 mod file;
 mod laws;

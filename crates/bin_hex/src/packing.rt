@@ -1,8 +1,8 @@
 //! Bytes as groups of six bits, and back.
 
 ghost use Rattle.std.specs.Prelude.{◌≡◌, ◌<◌, ◌++◌, OnOk, IfOk};
-ghost use Rattle.bin_hex.specs.Packing.{completed, held_after, IsHeld, groups_of, left_after, IsLeft, last_group};
-ghost use Rattle.bin_hex.specs.Packing.{groups_after};
+ghost use Rattle.bin_hex.specs.Packing.{completed, held_after, IsHeld, groups_of, left_after};
+ghost use Rattle.bin_hex.specs.Packing.{IsLeft, last_group, groups_after};
 ghost use Rattle.bin_hex.specs.declared.packing.Left.TheVariants as left_bits;
 
 use std::alloc::{AllocError, Global};
@@ -16,7 +16,8 @@ pub enum Held {
     Two(u8),
 }
 
-/// Bits that are left of a byte and make no group of six yet: none, or so many, as the lowest of a byte.
+/// Bits that are left of a byte and make no group of six yet: none, or so many, as the lowest of a
+/// byte.
 #[derive(Clone, Copy)]
 pub enum Left {
     Nothing,

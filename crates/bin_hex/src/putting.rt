@@ -1,9 +1,11 @@
 //! A BinHex file with another resource fork.
 
-ghost use Rattle.std.specs.Prelude.{◌≡◌, ◌-◌, ◌≤◌, ◌<◌, ◌^◌, ◌++◌, length, bytes_eq, IfOk, IfErr, None, Ok};
+ghost use Rattle.std.specs.Prelude.{◌≡◌, ◌-◌, ◌≤◌, ◌<◌, ◌^◌, ◌++◌, length, bytes_eq, IfOk, IfErr};
+ghost use Rattle.std.specs.Prelude.{None, Ok};
 ghost use Rattle.bin_hex.specs.BinHex.{decoded};
 ghost use Rattle.bin_hex.specs.File.{view, refusal};
-ghost use Rattle.bin_hex.specs.Putting.{encoded_text, opening, closing, with_file, with_fork, placed, with_resource_fork, Prevents};
+ghost use Rattle.bin_hex.specs.Putting.{encoded_text, opening, closing, with_file, with_fork};
+ghost use Rattle.bin_hex.specs.Putting.{placed, with_resource_fork, Prevents};
 
 use crate::fault::{BinHexFault, PutFault};
 use crate::file::BinHexFile;
@@ -19,7 +21,8 @@ fn are_same(a: &[u8], b: &[u8]) -> bool
     a == b
 }
 
-/// Returns the bytes from the encoded text on, after the first colon after the mark; none where there is none.
+/// Returns the bytes from the encoded text on, after the first colon after the mark; none where
+/// there is none.
 fn text_in<'b>(bytes: &'b [u8]) -> &'b [u8]
     ensures text { result.now ≡ encoded_text bytes.now }
     ensures within { length result.now ≤ length bytes.now }
@@ -71,7 +74,8 @@ fn with_fork_of(alloc: Global, file: BinHexFile, fork: &[u8]) -> Result<BinHexFi
     })
 }
 
-/// Returns the bytes of a BinHex file, which stand for a file, with a resource fork in the place of its own.
+/// Returns the bytes of a BinHex file, which stand for a file, with a resource fork in the place of
+/// its own.
 #[tactic(auto, using(crate::proofs::Fitting::name_fits, crate::proofs::Fitting::data_fork_fits))]
 fn placed_of(
     alloc: Global,
@@ -93,17 +97,18 @@ fn placed_of(
     Ok(with_file_of(alloc, bytes, &new)?)
 }
 
-/// Puts a resource fork into a BinHex file in the place of its own. The text up to the first colon after the line that says
-/// that the file must be converted stays as it is, and so does the text after the colon that ends the encoded text; that is
-/// written anew, in lines of 64 characters, which end with LF. A file that holds this fork stays as it is. Time and memory
-/// are linear in the text, the file and the fork.
+/// Puts a resource fork into a BinHex file in the place of its own. The text up to the first colon
+/// after the line that says that the file must be converted stays as it is, and so does the text
+/// after the colon that ends the encoded text; that is written anew, in lines of 64 characters,
+/// which end with LF. A file that holds this fork stays as it is. Time and memory are linear in the
+/// text, the file and the fork.
 ///
 /// RFC 1741, appendix A.
 ///
 /// # Errors
 ///
-/// `Damaged` where `read` finds damage, `TooLong` where the fork has 2^32 bytes or more, and `HostMemory` where the host is out
-/// of memory.
+/// `Damaged` where `read` finds damage, `TooLong` where the fork has 2^32 bytes or more, and
+/// `HostMemory` where the host is out of memory.
 #[tactic(auto, unfolding(crate::specs::Putting::with_resource_fork))]
 pub fn put_fork(alloc: Global, bytes: &[u8], fork: &[u8]) -> Result<Vec<u8>, PutFault>
     ensures made { IfOk result (λ new. with_resource_fork bytes.now fork.now ≡ Ok new.items) }

@@ -1,28 +1,32 @@
 //! Reading a BinHex file.
 
-ghost use Rattle.std.specs.Prelude.{◌≡◌, ◌+◌, ◌≤◌, ◌<◌, ◌^◌, length, IfOk, IfErr, OnOk, IsTrue, None, Ok};
+ghost use Rattle.std.specs.Prelude.{◌≡◌, ◌+◌, ◌≤◌, ◌<◌, ◌^◌, length, IfOk, IfErr, OnOk, IsTrue};
+ghost use Rattle.std.specs.Prelude.{None, Ok};
 ghost use Rattle.bin_hex.specs.BinHex.{decoded, unpacked};
 ghost use Rattle.bin_hex.specs.Contents as contents;
-ghost use Rattle.bin_hex.specs.Contents.{checked, header_in, fork_in, file_of, file_in, field, name_length};
+ghost use Rattle.bin_hex.specs.Contents.{checked, header_in, fork_in, file_of, file_in, field};
+ghost use Rattle.bin_hex.specs.Contents.{name_length};
 ghost use Rattle.bin_hex.specs.Faults.{Tells};
 ghost use Rattle.bin_hex.specs.File.{view, refusal, is_name_length};
 ghost use Rattle.bin_hex.specs.Reader.{rest_of};
 ghost use Rattle.bin_hex.specs.Runs as runs_text;
 ghost use Rattle.bin_hex.specs.declared.fault.Part.TheVariants as part_of;
 
-use crate::checksum::checksum_of;
 use crate::fault::{BinHexFault, Damage, Part};
 use crate::file::BinHexFile;
 use crate::runs::Runs;
 use crate::text::{after_colon, after_mark, packed_of};
 use byteorder::{BigEndian, ByteOrder};
+use checksums::checksum_of;
 use std::alloc::Global;
 
 impl Runs {
     /// Judges the checksum that follows a part.
     fn check(&mut self, alloc: Global, part: Part, bytes: &[u8]) -> Result<(), BinHexFault>
-        ensures right { OnOk result (checked part bytes.now (rest_of self.old) ≡ Ok (bytes.now, rest_of self.new)) }
-        ensures fault { IfErr result (λ fault. Tells fault (checked part bytes.now (rest_of self.old))) }
+        ensures right { OnOk result (checked part bytes.now (rest_of self.old)
+            ≡ Ok (bytes.now, rest_of self.new)) }
+        ensures fault { IfErr result (λ fault.
+            Tells fault (checked part bytes.now (rest_of self.old))) }
     {
         let sum = self.piece(alloc, 2)?;
         if BigEndian::read_u16(&sum) == checksum_of(bytes) {
@@ -38,7 +42,8 @@ impl Runs {
             ≡ Ok (rest.items, rest_of self.new)) }
         ensures length { IfOk result (λ rest. length rest.items ≡ name_len + 19) }
         ensures named { OnOk result (IsTrue (is_name_length name_len)) }
-        ensures fault { IfErr result (λ fault. Tells fault (contents.after_length name_len (rest_of self.old))) }
+        ensures fault { IfErr result (λ fault.
+            Tells fault (contents.after_length name_len (rest_of self.old))) }
     {
         if name_len < 1 || 63 < name_len {
             return Err(BinHexFault::Damaged(Damage::NameLength));
@@ -49,8 +54,10 @@ impl Runs {
     /// Returns the header.
     #[tactic(auto, unfolding(crate::specs::Contents::header_in))]
     fn header(&mut self, alloc: Global) -> Result<Vec<u8>, BinHexFault>
-        ensures header { IfOk result (λ header. header_in (rest_of self.old) ≡ Ok (header.items, rest_of self.new)) }
-        ensures length { IfOk result (λ header. length header.items ≡ name_length header.items + 20) }
+        ensures header { IfOk result (λ header. header_in (rest_of self.old)
+            ≡ Ok (header.items, rest_of self.new)) }
+        ensures length { IfOk result (λ header. length header.items
+            ≡ name_length header.items + 20) }
         ensures named { IfOk result (λ header. IsTrue (is_name_length (name_length header.items))) }
         ensures fault { IfErr result (λ fault. Tells fault (header_in (rest_of self.old))) }
     {
@@ -65,9 +72,11 @@ impl Runs {
     #[tactic(auto, unfolding(crate::specs::Contents::fork_in))]
     fn fork(&mut self, alloc: Global, part: Part, count: usize) -> Result<Vec<u8>, BinHexFault>
         requires { count < 2 ^ 32 }
-        ensures fork { IfOk result (λ fork. fork_in part count (rest_of self.old) ≡ Ok (fork.items, rest_of self.new)) }
+        ensures fork { IfOk result (λ fork. fork_in part count (rest_of self.old)
+            ≡ Ok (fork.items, rest_of self.new)) }
         ensures length { IfOk result (λ fork. length fork.items ≡ count) }
-        ensures fault { IfErr result (λ fault. Tells fault (fork_in part count (rest_of self.old))) }
+        ensures fault { IfErr result (λ fault.
+            Tells fault (fork_in part count (rest_of self.old))) }
     {
         let fork = self.piece(alloc, count)?;
         self.check(alloc, part, &fork)?;
@@ -114,8 +123,10 @@ fn file_with(
     requires data_fork { length data_fork.items < 2 ^ 32 }
     requires resource_fork { length resource_fork.items < 2 ^ 32 }
     ensures fits { IfOk result (λ file. refusal (view file) ≡ None) }
-    ensures file { IfOk result (λ file. view file ≡ file_of header.now data_fork.items resource_fork.items) }
-    ensures fault { IfErr result (λ fault. Tells fault (Ok (file_of header.now data_fork.items resource_fork.items))) }
+    ensures file { IfOk result (λ file. view file
+        ≡ file_of header.now data_fork.items resource_fork.items) }
+    ensures fault { IfErr result (λ fault.
+        Tells fault (Ok (file_of header.now data_fork.items resource_fork.items))) }
 {
     let name_len = header[0] as usize;
     Ok(BinHexFile {
@@ -147,18 +158,20 @@ fn unpack(alloc: Global, packed: Vec<u8>) -> Result<BinHexFile, BinHexFault>
     Runs::new(packed).file(alloc)
 }
 
-/// Reads a BinHex file. Time and memory are linear in the text and in the file: memory for a fork is taken once, for as many
-/// bytes as the header gives, and only where the text stands for so many.
+/// Reads a BinHex file. Time and memory are linear in the text and in the file: memory for a fork
+/// is taken once, for as many bytes as the header gives, and only where the text stands for so
+/// many.
 ///
-/// Any text may stand before the line that says that the file must be converted, between it and the first colon, and after
-/// the colon that ends the encoded text; CR, LF, blanks and tabs may stand anywhere within that.
+/// Any text may stand before the line that says that the file must be converted, between it and the
+/// first colon, and after the colon that ends the encoded text; CR, LF, blanks and tabs may stand
+/// anywhere within that.
 ///
 /// RFC 1741, appendix A.
 ///
 /// # Errors
 ///
-/// Returns what is damaged: the text as a whole is judged first, from its beginning on, then the file part by part. Returns
-/// `HostMemory` where the host is out of memory.
+/// Returns what is damaged: the text as a whole is judged first, from its beginning on, then the
+/// file part by part. Returns `HostMemory` where the host is out of memory.
 pub fn read(alloc: Global, bytes: &[u8]) -> Result<BinHexFile, BinHexFault>
     ensures file { IfOk result (λ file. decoded bytes.now ≡ Ok (view file)) }
     ensures fits { IfOk result (λ file. refusal (view file) ≡ None) }

@@ -1,7 +1,8 @@
 //! Runs of equal bytes.
 
-ghost use Rattle.std.specs.Prelude.{◌≡◌, ◌+◌, ◌≤◌, ◌<◌, ◌^◌, ◌++◌, ◌∷◌, [], false, length, drop, replicate, nat_le, nat_lt, flat_map};
-ghost use Rattle.std.specs.Prelude.{OnOk, IfOk, IfErr, IfSome, IfNone, Ok};
+ghost use Rattle.std.specs.Prelude.{◌≡◌, ◌+◌, ◌≤◌, ◌<◌, ◌^◌, ◌++◌, ◌∷◌, [], false, length, drop};
+ghost use Rattle.std.specs.Prelude.{replicate, nat_le, nat_lt, flat_map, OnOk, IfOk, IfErr, IfSome};
+ghost use Rattle.std.specs.Prelude.{IfNone, Ok};
 ghost use Rattle.bin_hex.specs.Contents as contents;
 ghost use Rattle.bin_hex.specs.Faults.{Tells};
 ghost use Rattle.bin_hex.specs.Runs.{expanded, literal, run, runs_after, compressed};
@@ -102,14 +103,16 @@ impl Runs {
         count <= found
     }
 
-    /// Returns the next `count` bytes that the text stands for. Memory is taken once, for exactly as many, and only where the
-    /// text stands for so many.
+    /// Returns the next `count` bytes that the text stands for. Memory is taken once, for exactly
+    /// as many, and only where the text stands for so many.
     #[tactic(auto, using(crate::proofs::Pieces::cut_off, crate::proofs::Pieces::too_few, crate::proofs::Pieces::whole))]
     pub fn piece(&mut self, alloc: Global, count: usize) -> Result<Vec<u8>, BinHexFault>
         requires { count < 2 ^ 32 }
-        ensures piece { IfOk result (λ bytes. contents.piece count (rest_of self.old) ≡ Ok (bytes.items, rest_of self.new)) }
+        ensures piece { IfOk result (λ bytes. contents.piece count (rest_of self.old)
+            ≡ Ok (bytes.items, rest_of self.new)) }
         ensures length { IfOk result (λ bytes. length bytes.items ≡ count) }
-        ensures fault { IfErr result (λ fault. Tells fault (contents.piece count (rest_of self.old))) }
+        ensures fault { IfErr result (λ fault.
+            Tells fault (contents.piece count (rest_of self.old))) }
     {
         if !self.holds(count) {
             return Err(BinHexFault::Damaged(Damage::CutOff));
@@ -138,7 +141,8 @@ impl Runs {
     }
 }
 
-/// Returns how many bytes a byte of a text with runs gives, after a marker that is not yet followed up, or not.
+/// Returns how many bytes a byte of a text with runs gives, after a marker that is not yet followed
+/// up, or not.
 fn given_by(marked: bool, byte: u8) -> u8
     ensures { result ≡ given marked byte }
 {
@@ -172,7 +176,8 @@ fn push_literal(out: &mut Vec<u8>, byte: u8) -> Result<(), AllocError>
 
 /// Appends a byte so many times, one by one.
 fn push_literals(out: &mut Vec<u8>, byte: u8, count: u8) -> Result<(), AllocError>
-    ensures { OnOk result (out.new.items ≡ out.old.items ++ flat_map literal (replicate count byte)) }
+    ensures { OnOk result (out.new.items
+        ≡ out.old.items ++ flat_map literal (replicate count byte)) }
 {
     for i in 0..count {
         push_literal(out, byte)?;

@@ -1,6 +1,7 @@
 //! The text of a BinHex file, down to the bytes that it stands for.
 
-ghost use Rattle.std.specs.Prelude.{◌≡◌, ◌+◌, ◌≤◌, ◌<◌, ◌^◌, length, IfSome, IfNone, IfOk, IfErr, Some, None, Ok};
+ghost use Rattle.std.specs.Prelude.{◌≡◌, ◌+◌, ◌≤◌, ◌<◌, ◌^◌, length, IfSome, IfNone, IfOk, IfErr};
+ghost use Rattle.std.specs.Prelude.{Some, None, Ok};
 ghost use Rattle.bin_hex.specs.BinHex.{packed_in};
 ghost use Rattle.bin_hex.specs.Faults.{Tells};
 ghost use Rattle.bin_hex.specs.Text as text;
@@ -44,8 +45,8 @@ pub fn after_colon<'b>(bytes: &'b [u8]) -> Option<&'b [u8]>
     None
 }
 
-/// Returns whether bytes are those of a BinHex file: whether a line stands among them that says that the file must be
-/// converted. What follows may be damaged.
+/// Returns whether bytes are those of a BinHex file: whether a line stands among them that says
+/// that the file must be converted. What follows may be damaged.
 ///
 /// RFC 1741, appendix A.
 pub fn is_bin_hex(bytes: &[u8]) -> bool
@@ -54,8 +55,8 @@ pub fn is_bin_hex(bytes: &[u8]) -> bool
     after_mark(bytes).is_some()
 }
 
-/// Returns the bytes, with runs, that an encoded text stands for, up to the colon that ends it. The text begins at an offset
-/// in the file.
+/// Returns the bytes, with runs, that an encoded text stands for, up to the colon that ends it. The
+/// text begins at an offset in the file.
 #[tactic(auto, using(crate::proofs::Taking::ends, crate::proofs::Taking::blank, crate::proofs::Taking::six_more, crate::proofs::Taking::foreign, crate::proofs::Taking::no_end))]
 pub fn packed_of(alloc: Global, encoded: &[u8], start: usize) -> Result<Vec<u8>, BinHexFault>
     requires { start + length encoded.now < 2 ^ 64 }

@@ -1,20 +1,22 @@
 //! Writing a BinHex file.
 
-ghost use Rattle.std.specs.Prelude.{◌≡◌, ◌+◌, ◌≤◌, ◌<◌, ◌^◌, ◌++◌, length, map, IfOk, IfErr, OnOk, None, if◌then◌else◌, ◌==◌, ◌∷◌, []};
+ghost use Rattle.std.specs.Prelude.{◌≡◌, ◌+◌, ◌≤◌, ◌<◌, ◌^◌, ◌++◌, length, map, IfOk, IfErr, OnOk};
+ghost use Rattle.std.specs.Prelude.{None, if◌then◌else◌, ◌==◌, ◌∷◌, []};
 ghost use Rattle.byteorder.specs.Endian.{big_bytes};
 ghost use Rattle.bin_hex.specs.BinHex.{groups, encoded};
-ghost use Rattle.bin_hex.specs.Contents.{named, fields, header, with_checksum, bytes_of as file_bytes};
+ghost use Rattle.bin_hex.specs.Contents.{named, fields, header, with_checksum};
+ghost use Rattle.bin_hex.specs.Contents.{bytes_of as file_bytes};
 ghost use Rattle.bin_hex.specs.File.{view, refusal, Refuses, is_name_length};
 ghost use Rattle.bin_hex.specs.Putting.{encoded_lines};
 ghost use Rattle.bin_hex.specs.Text.{text_of, put_in_line, column_after};
 
 use crate::alphabet::character_of;
-use crate::checksum::checksum_of;
 use crate::fault::WriteFault;
 use crate::file::BinHexFile;
 use crate::packing::groups_of_bytes;
 use crate::runs::compressed_of;
 use byteorder::{BigEndian, ByteOrder};
+use checksums::checksum_of;
 use std::alloc::{AllocError, Global};
 
 /// The line that says what follows, and an empty line.
@@ -103,7 +105,8 @@ fn bytes_of(alloc: Global, file: &BinHexFile) -> Result<Vec<u8>, AllocError>
     Ok(out)
 }
 
-/// Appends a character, in a new line where 64 stand in the last one, and returns how many stand in the last one then.
+/// Appends a character, in a new line where 64 stand in the last one, and returns how many stand in
+/// the last one then.
 fn push_character(out: &mut Vec<u8>, column: usize, byte: u8) -> Result<usize, AllocError>
     requires { column ≤ 64 }
     ensures text { OnOk result (out.new.items ≡ out.old.items ++ put_in_line column byte) }
@@ -119,8 +122,8 @@ fn push_character(out: &mut Vec<u8>, column: usize, byte: u8) -> Result<usize, A
     }
 }
 
-/// Appends the encoded text of groups of six bits, with the colon that ends it, in lines of 64 characters, the first after a
-/// line that has one.
+/// Appends the encoded text of groups of six bits, with the colon that ends it, in lines of 64
+/// characters, the first after a line that has one.
 pub(crate) fn push_lines(out: &mut Vec<u8>, groups: &[u8]) -> Result<(), AllocError>
     ensures { OnOk result (out.new.items ≡ out.old.items ++ encoded_lines groups.now) }
 {
@@ -173,15 +176,15 @@ fn judge(file: &BinHexFile) -> Result<(), WriteFault>
     Ok(())
 }
 
-/// Writes a file as BinHex: the line that says that it must be converted, an empty line, and lines of 64 characters, which
-/// end with LF.
+/// Writes a file as BinHex: the line that says that it must be converted, an empty line, and lines
+/// of 64 characters, which end with LF.
 ///
 /// RFC 1741, appendix A.
 ///
 /// # Errors
 ///
-/// Returns `NameLength` where the name has no bytes or more than 63, `TooLong` where a fork has 2^32 bytes or more, and
-/// `HostMemory` where the host is out of memory.
+/// Returns `NameLength` where the name has no bytes or more than 63, `TooLong` where a fork has
+/// 2^32 bytes or more, and `HostMemory` where the host is out of memory.
 pub fn write(alloc: Global, file: &BinHexFile) -> Result<Vec<u8>, WriteFault>
     ensures text { IfOk result (λ text. text.items ≡ encoded (view file.now)) }
     ensures fits { OnOk result (refusal (view file.now) ≡ None) }

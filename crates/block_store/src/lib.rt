@@ -1,5 +1,5 @@
-//! The blocks of a heap zone, and the master pointers through which its relocatable blocks are reached: their
-//! definitions, and the contract that every store of them meets.
+//! The blocks of a heap zone, and the master pointers through which its relocatable blocks are
+//! reached: their definitions, and the contract that every store of them meets.
 #![tactic(auto)]
 
 mod flags;

@@ -56,8 +56,8 @@ pub fn find_free_in<W: Walk>(walk: &mut W, bytes: u32) -> Option<u32>
     None
 }
 
-/// Returns the place of the lowest block that may be purged after `purges` purges, as the place is in the zone before
-/// them.
+/// Returns the place of the lowest block that may be purged after `purges` purges, as the place is
+/// in the zone before them.
 fn find_purgeable_in<W: Walk>(walk: &mut W, purges: u32, sparing: Sparing) -> Option<u32>
     requires { sizes (W.rest walk.old) < 2 ^ 32 }
     ensures { result ≡ option_map (λ s. sizes s.below)
@@ -80,7 +80,8 @@ fn find_purgeable_in<W: Walk>(walk: &mut W, purges: u32, sparing: Sparing) -> Op
 /// Returns the place of the lowest block that may be purged after `purges` purges.
 pub fn next_purgeable_in<W: Walk>(walk: &mut W, purges: u32, sparing: Sparing) -> Option<u32>
     requires { sizes (W.rest walk.old) < 2 ^ 32 }
-    ensures { FindsLowest (may_be_purged (spared sparing)) (purged purges sparing (W.rest walk.old)) result }
+    ensures { FindsLowest (may_be_purged (spared sparing))
+        (purged purges sparing (W.rest walk.old)) result }
 {
     find_purgeable_in(walk, purges, sparing)
 }
@@ -101,7 +102,8 @@ pub fn purgeable_in<W: Walk>(walk: &mut W, sparing: Sparing) -> u32
 
 /// Returns the purges left after a block that is free or is purged; `None` where the block stays.
 pub fn left_after(block: Seen, left: u32, sparing: Sparing) -> Option<u32>
-    ensures { (b : Block) → seen b ≡ block → result ≡ left_past (spared sparing) left (opened_block sparing b) }
+    ensures { (b : Block) → seen b ≡ block
+        → result ≡ left_past (spared sparing) left (opened_block sparing b) }
 {
     if left > 0 && may_purge(block, sparing) {
         Some(left - 1)
@@ -124,7 +126,8 @@ fn begins_with_room<W: Walk>(walk: &mut W, bytes: u32) -> bool
 
 /// Reports whether a free block of at least `bytes` bytes follows the block of a master pointer.
 pub fn room_above_in<W: Walk>(walk: &mut W, number: u32, bytes: u32) -> bool
-    ensures { IfSome (spot (is_relocatable number) (W.rest walk.old)) (λ s. result ≡ is_some (taken bytes s.above)) }
+    ensures { IfSome (spot (is_relocatable number) (W.rest walk.old)) (λ s. result
+        ≡ is_some (taken bytes s.above)) }
 {
     while let Some(block) = walk.next_block() {
         if is_of(block, number) {

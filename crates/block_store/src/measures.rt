@@ -5,7 +5,7 @@ ghost use Rattle.std.specs.Prelude.{◌<◌};
 ghost use Rattle.std.specs.Prelude.{◌^◌};
 ghost use Rattle.mac_words.specs.Size.{padded};
 
-use windows::GREATEST_MEMORY;
+use memory_windows::GREATEST_MEMORY;
 
 /// The size of a block's header in bytes.
 pub const HEADER_SIZE: u32 = 16;

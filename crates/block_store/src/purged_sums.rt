@@ -25,8 +25,8 @@ pub fn free_after_in<W: Walk>(walk: &mut W, purges: u32, sparing: Sparing) -> u3
     total
 }
 
-/// Returns the size in bytes of the largest free block after `purges` purges: of the largest stretch of neighbouring
-/// blocks that are free or are purged.
+/// Returns the size in bytes of the largest free block after `purges` purges: of the largest
+/// stretch of neighbouring blocks that are free or are purged.
 pub fn largest_after_in<W: Walk>(walk: &mut W, purges: u32, sparing: Sparing) -> u32
     requires { sizes (W.rest walk.old) < 2 ^ 32 }
     ensures { result ≡ largest_free (purged purges sparing (W.rest walk.old)) }

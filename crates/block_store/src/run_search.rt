@@ -1,6 +1,7 @@
 //! The search for a run among blocks, some of which would be purged.
 
-ghost use Rattle.std.specs.Prelude.{◌≡◌, ◌+◌, ◌≤◌, ◌<◌, ◌^◌, ◌&&◌, ◌∷◌, ℕ, List, None, true, false, nat_le};
+ghost use Rattle.std.specs.Prelude.{◌≡◌, ◌+◌, ◌≤◌, ◌<◌, ◌^◌, ◌&&◌, ◌∷◌, ℕ, List, None, true, false};
+ghost use Rattle.std.specs.Prelude.{nat_le};
 ghost use Rattle.std.specs.Option.{option_map};
 ghost use Rattle.block_store.specs.Block.{Block, sizes, is_relocatable, tidy};
 ghost use Rattle.block_store.specs.Run.{run_spot, has, has_free};
@@ -14,8 +15,9 @@ ghost use Rattle.block_store.specs.Inner.RunScan.{is_wanted, suits, scan_from};
 use crate::sparing::{Seen, Sparing};
 use crate::walk::{Walk, is_counted_free, is_in_run, may_purge, size_of_seen};
 
-/// The state of a search for a run: the purges left, the place where the current run began, its number of free bytes so
-/// far, whether it has the block that it must have, and the place of the search.
+/// The state of a search for a run: the purges left, the place where the current run began, its
+/// number of free bytes so far, whether it has the block that it must have, and the place of the
+/// search.
 #[derive(Clone, Copy, Debug, PartialEq, Eq)]
 pub struct RunScan {
     pub left: u32,
@@ -77,8 +79,8 @@ pub fn scan_run(block: Seen, number: Option<u32>, scan: RunScan, sparing: Sparin
     next
 }
 
-/// Returns the place of the lowest run that has `bytes` free bytes after `purges` purges, and, where `number` is given,
-/// the block of that master pointer.
+/// Returns the place of the lowest run that has `bytes` free bytes after `purges` purges, and,
+/// where `number` is given, the block of that master pointer.
 #[tactic(auto, using(crate::proofs::Regroup::RunScans::scan_kept))]
 pub fn search_runs_in<W: Walk>(
     walk: &mut W,
@@ -119,13 +121,14 @@ pub fn find_run_in<W: Walk>(walk: &mut W, bytes: u32, purges: u32, sparing: Spar
 /// Returns the place of the run of a master pointer's block, where the run has `bytes` free bytes.
 pub fn run_of_in<W: Walk>(walk: &mut W, number: u32, bytes: u32) -> Option<u32>
     requires { sizes (W.rest walk.old) < 2 ^ 32 }
-    ensures { FindsLowestRun (λ run. has (is_relocatable number) run && has_free bytes run) (tidy (W.rest walk.old))
-        result }
+    ensures { FindsLowestRun (λ run. has (is_relocatable number) run && has_free bytes run)
+        (tidy (W.rest walk.old)) result }
 {
     search_runs_in(walk, Some(number), bytes, 0, Sparing::Nothing)
 }
 
-/// Reports whether the run of a master pointer's block has `bytes` free bytes, after `purges` purges.
+/// Reports whether the run of a master pointer's block has `bytes` free bytes, after `purges`
+/// purges.
 pub fn has_run_of<W: Walk>(
     walk: &mut W,
     number: u32,

@@ -41,8 +41,8 @@ pub fn largest_run_in<W: Walk>(walk: &mut W) -> u32
     most.max(free)
 }
 
-/// Returns the distance from the walk's first block to the bottom of the run after the first one; `None` where there is
-/// no other run.
+/// Returns the distance from the walk's first block to the bottom of the run after the first one;
+/// `None` where there is no other run.
 pub fn next_run_in<W: Walk>(walk: &mut W) -> Option<u32>
     requires { sizes (W.rest walk.old) < 2 ^ 32 }
     ensures { result ≡ place_behind (sizes (segments (W.rest walk.old)).first)
@@ -60,7 +60,8 @@ pub fn next_run_in<W: Walk>(walk: &mut W) -> Option<u32>
 
 /// Reports whether a block is purged where `left` purges are left.
 fn goes(block: Seen, left: u32, sparing: Sparing) -> bool
-    ensures { (b : Block) → seen b ≡ block → result ≡ (nat_lt 0 left && may_be_purged (spared sparing) b) }
+    ensures { (b : Block) → seen b ≡ block
+        → result ≡ (nat_lt 0 left && may_be_purged (spared sparing) b) }
 {
     left > 0 && may_purge_now(block, sparing)
 }
@@ -68,7 +69,8 @@ fn goes(block: Seen, left: u32, sparing: Sparing) -> bool
 /// Returns the number of free bytes in the first run, after `purges` purges in the run.
 fn run_free_in<W: Walk>(walk: &mut W, purges: u32, sparing: Sparing) -> u32
     requires { sizes (W.rest walk.old) < 2 ^ 32 }
-    ensures { result ≡ free_sum (lowest_purged purges (spared sparing) (segments (W.rest walk.old)).first) }
+    ensures { result
+        ≡ free_sum (lowest_purged purges (spared sparing) (segments (W.rest walk.old)).first) }
 {
     let mut left = purges;
     let mut free = 0;
@@ -89,7 +91,8 @@ fn run_free_in<W: Walk>(walk: &mut W, purges: u32, sparing: Sparing) -> u32
 /// Reports whether the first run has `bytes` free bytes, after `purges` purges in the run.
 pub fn run_has_free_in<W: Walk>(walk: &mut W, bytes: u32, purges: u32, sparing: Sparing) -> bool
     requires { sizes (W.rest walk.old) < 2 ^ 32 }
-    ensures { result ≡ has_free bytes (lowest_purged purges (spared sparing) (segments (W.rest walk.old)).first) }
+    ensures { result ≡ has_free bytes
+        (lowest_purged purges (spared sparing) (segments (W.rest walk.old)).first) }
 {
     bytes <= run_free_in(walk, purges, sparing)
 }

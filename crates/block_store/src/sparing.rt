@@ -4,7 +4,8 @@ use crate::flags::Flags;
 
 /// The handles that a call names, by their master pointers, while room is sought for the call.
 ///
-/// *Inside Macintosh: Memory*, chapter 1, "Memory Reservation" and "Purging and Reallocating Relocatable Blocks".
+/// *Inside Macintosh: Memory*, chapter 1, "Memory Reservation" and "Purging and Reallocating
+/// Relocatable Blocks".
 #[derive(Clone, Copy, Debug, PartialEq, Eq)]
 pub enum Sparing {
     /// The search spares no block: any unlocked, purgeable block may be purged.
@@ -17,7 +18,8 @@ pub enum Sparing {
     Freed(u32),
 }
 
-/// A block without its bytes: the logical size of an allocated block, and the physical size of a free block.
+/// A block without its bytes: the logical size of an allocated block, and the physical size of a
+/// free block.
 #[derive(Clone, Copy, Debug, PartialEq, Eq)]
 pub enum Seen {
     Free(u32),

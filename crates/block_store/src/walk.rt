@@ -1,4 +1,5 @@
-//! Walks over the blocks of a zone, in whatever the zone is kept, and what is said of a block that a walk reads.
+//! Walks over the blocks of a zone, in whatever the zone is kept, and what is said of a block that
+//! a walk reads.
 
 ghost use Rattle.std.specs.Prelude.{◌≡◌, ◌<◌, ◌^◌, List, []};
 ghost use Rattle.block_store.specs.Block.{Block, Relocatable, free_of, is_relocatable, no_flags};
@@ -91,7 +92,8 @@ fn is_named(slot: u32, sparing: Sparing) -> bool
 
 /// Reports whether a block may be purged, where purges are left.
 pub fn may_purge(block: Seen, sparing: Sparing) -> bool
-    ensures { (b : Block) → seen b ≡ block → result ≡ may_be_purged (spared sparing) (opened_block sparing b) }
+    ensures { (b : Block) → seen b ≡ block
+        → result ≡ may_be_purged (spared sparing) (opened_block sparing b) }
 {
     match block {
         Seen::Relocatable(slot, flags, _) => {

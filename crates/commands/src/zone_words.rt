@@ -10,12 +10,13 @@ use crate::play_words::{FILE_WORD, OWN_WORD, SYSTEM_WORD, gives_files, parts_in}
 use crate::request::Request;
 use clap::{ArgGroup, ArgMatches, Command};
 use fork_tasks::ToolFault;
-use heap_view::Part;
 use job_tasks::{
-    JobZone, Lines, PartitionSize, PlayWork, Playing, Task, ToldLines, Work, ZoneForm, ZoneView,
+    JobZone, Lines, PartitionSize, PlayWork, Playing, Task, ToldLines, Work, ZoneView,
 };
+use script_text::is_label;
 use std::alloc::{AllocError, Global};
-use zone_view::Strips;
+use zone_drawing::{Choice, Digits, Part};
+use zone_replay::{BlockName, Details, Form, Only, Strips};
 
 const HEAP_ABOUT: &str = "Runs a script up to a line and prints the blocks of its zone";
 
@@ -51,14 +52,21 @@ open file. The last line names the step after which the zone is shown: the last
 that was run, before the quit at the script's end.
 With --at the script is run up to and including the last call up to that line; 0
 is the launch. With --plain a tab stands between fields, there are no titles,
-and each line begins with 'block', 'total', 'largest' or 'after'. With --svg a
+and each line begins with 'block', 'total', 'largest' or 'after'. With --hex
+distances and sizes have eight hexadecimal digits. With --only just the locked
+blocks have lines, or the purgeable ones, the free ones, or the block that NAME
+stands for as the zone lies; the totals are those of the whole zone. With --bytes
+the bytes of the block that NAME stands for are printed in its place, 16 in a
+line after the distance of the first, or that NAME has no block. With --svg a
 picture shows the zone as a strip and each block in a cell, or, of more than 60
 blocks, the strip wrapped into rows; --from and --to show a part of the zone.
 With --steps the picture has a strip for the zone after line FROM and one after
 each further call up to line TO that changed it, with --all after each, and an
-arrow for each block that moved from one to the next; with --text in place of
---svg, each call from line FROM to line TO is printed in words, as 'macmem
-script --text' prints it.
+arrow for each block that moved from one to the next; with --inside also strips
+inside the calls: after each try that found no room, after each line of the
+grow-zone script, once blocks had been purged, and once room had been made. With
+--text in place of --svg, each call from line FROM to line TO is printed in
+words, as 'macmem script --text' prints it.
 Faults are reported as 'macmem script' reports them; 'macmem lint SCRIPT' says
 in words what is wrong with each faulty line. The script has files by --fork,
 --system and --file, as by 'macmem script'.
@@ -87,6 +95,24 @@ const AT_RULE: &str = "the line must be a decimal number";
 const PLAIN: &str = "plain";
 
 const PLAIN_HELP: &str = "Print a tab between fields, and no titles";
+
+/// The name of the flag for distances and sizes in hexadecimal, without its two hyphens.
+const HEX: &str = "hex";
+
+const HEX_HELP: &str = "Print distances and sizes in hexadecimal";
+
+/// The name of the option for the blocks that are listed, without its two hyphens.
+const ONLY: &str = "only";
+
+const ONLY_HELP: &str = "List only these: 'locked', 'purgeable', 'free' or a name";
+
+/// The name of the option for the bytes of a block, without its two hyphens.
+const BYTES: &str = "bytes";
+
+const BYTES_HELP: &str = "Print the bytes of the block of this name, not the zone";
+
+/// The rule for a name, which is printed where the word is none.
+const NAME_RULE: &str = "a name has 1 to 63 letters, digits and '_', the first of them no digit";
 
 /// The name of the flag for a picture, without its two hyphens.
 const SVG: &str = "svg";
@@ -121,6 +147,11 @@ const ALL: &str = "all";
 
 const ALL_HELP: &str = "Draw also calls that changed nothing, with --steps";
 
+/// The name of the flag for strips inside the calls, without its two hyphens.
+const INSIDE: &str = "inside";
+
+const INSIDE_HELP: &str = "Draw also purges, tries and lines of the grow-zone script inside calls";
+
 /// The names of the options for the part of a zone that a picture shows, without their two hyphens.
 const FROM: &str = "from";
 
@@ -144,22 +175,44 @@ const FILE_WORDS: [Ruled; 3] = [
 ];
 
 /// The words that say what is shown of the zone, and how.
-const SHOWN_WORDS: [Ruled; 5] = [
+const SHOWN_WORDS: [Ruled; 8] = [
     (Word::Setting(AT, "LINE", AT_HELP), &[]),
     (Word::Flag(PLAIN, PLAIN_HELP), &[Rule::Excludes(SVG)]),
+    (
+        Word::Flag(HEX, HEX_HELP),
+        &[Rule::Excludes(SVG), Rule::Excludes(STEPS)],
+    ),
+    (
+        Word::Setting(ONLY, "BLOCKS", ONLY_HELP),
+        &[Rule::Excludes(SVG), Rule::Excludes(STEPS)],
+    ),
+    (
+        Word::Setting(BYTES, "NAME", BYTES_HELP),
+        &[
+            Rule::Excludes(PLAIN),
+            Rule::Excludes(HEX),
+            Rule::Excludes(ONLY),
+            Rule::Excludes(SVG),
+            Rule::Excludes(STEPS),
+        ],
+    ),
     (Word::Flag(SVG, SVG_HELP), &[]),
     (Word::Setting(FROM, "BYTE", FROM_HELP), &[Rule::Needs(SVG)]),
     (Word::Setting(TO, "BYTE", TO_HELP), &[Rule::Needs(SVG)]),
 ];
 
 /// The words for several moments.
-const MOMENT_WORDS: [Ruled; 3] = [
+const MOMENT_WORDS: [Ruled; 4] = [
     (
         Word::Setting(STEPS, "FROM..TO", STEPS_HELP),
         &[Rule::Excludes(AT), Rule::Excludes(JOB), Rule::Needs(STRIPS)],
     ),
     (
         Word::Flag(ALL, ALL_HELP),
+        &[Rule::Excludes(TEXT), Rule::Needs(STEPS)],
+    ),
+    (
+        Word::Flag(INSIDE, INSIDE_HELP),
         &[Rule::Excludes(TEXT), Rule::Needs(STEPS)],
     ),
     (
@@ -243,16 +296,74 @@ fn part_in(alloc: Global, matches: &ArgMatches<'_>) -> Result<Part, ToolFault>
     }
 }
 
+/// Reads a name of a script.
+fn script_name(text: &str) -> Option<BlockName> {
+    if is_label(text.as_bytes()) {
+        BlockName::new(text.as_bytes())
+    } else {
+        None
+    }
+}
+
+/// Returns a name of a script, which stands for the value of this name.
+fn name_in(alloc: Global, value: &str, text: &str) -> Result<BlockName, ToolFault>
+    ensures { IfErr result (λ fault. IsUsage (message_of fault)) }
+{
+    match script_name(text) {
+        Some(name) => Ok(name),
+        None => Err(bad(alloc, value, text, NAME_RULE)?),
+    }
+}
+
+/// Returns the blocks that are listed. The words for kinds stand for these, also where a script has
+/// such a name.
+fn only_in(alloc: Global, matches: &ArgMatches<'_>) -> Result<Only, ToolFault>
+    ensures { IfErr result (λ fault. IsUsage (message_of fault)) }
+{
+    match matches.get_str(ONLY) {
+        None => Ok(Only::Blocks(Choice::All)),
+        Some("locked") => Ok(Only::Blocks(Choice::Locked)),
+        Some("purgeable") => Ok(Only::Blocks(Choice::Purgeable)),
+        Some("free") => Ok(Only::Blocks(Choice::Free)),
+        Some(name) => Ok(Only::Named(name_in(alloc, "BLOCKS", name)?)),
+    }
+}
+
+/// Returns what a list has of the zone.
+fn details_in(alloc: Global, matches: &ArgMatches<'_>) -> Result<Details, ToolFault>
+    ensures { IfErr result (λ fault. IsUsage (message_of fault)) }
+{
+    let digits = if matches.get_flag(HEX) {
+        Digits::Hexadecimal
+    } else {
+        Digits::Decimal
+    };
+    let only = only_in(alloc, matches)?;
+    Ok(Details { digits, only })
+}
+
+/// Returns the form in which the zone is listed.
+fn list_in(alloc: Global, matches: &ArgMatches<'_>) -> Result<Form, ToolFault>
+    ensures { IfErr result (λ fault. IsUsage (message_of fault)) }
+{
+    let details = details_in(alloc, matches)?;
+    if matches.get_flag(PLAIN) {
+        Ok(Form::Tabs(details))
+    } else {
+        Ok(Form::Columns(details))
+    }
+}
+
 /// Returns the form in which the zone is shown.
-fn form_in(alloc: Global, matches: &ArgMatches<'_>) -> Result<ZoneForm, ToolFault>
+fn form_in(alloc: Global, matches: &ArgMatches<'_>) -> Result<Form, ToolFault>
     ensures { IfErr result (λ fault. IsUsage (message_of fault)) }
 {
     if matches.get_flag(SVG) {
-        Ok(ZoneForm::Picture(part_in(alloc, matches)?))
-    } else if matches.get_flag(PLAIN) {
-        Ok(ZoneForm::Tabs)
+        Ok(Form::Picture(part_in(alloc, matches)?))
+    } else if let Some(name) = matches.get_str(BYTES) {
+        Ok(Form::Bytes(name_in(alloc, "NAME", name)?))
     } else {
-        Ok(ZoneForm::Columns)
+        list_in(alloc, matches)
     }
 }
 
@@ -291,9 +402,13 @@ fn lines_in(alloc: Global, matches: &ArgMatches<'_>) -> Result<Lines, ToolFault>
         return Ok(Lines::One(line, form_in(alloc, matches)?));
     };
     let part = part_in(alloc, matches)?;
-    let all = matches.get_flag(ALL);
+    let strips = Strips {
+        part,
+        all: matches.get_flag(ALL),
+        inside: matches.get_flag(INSIDE),
+    };
     match two_lines(text) {
-        Some((from, to)) => Ok(Lines::Each(from, to, Strips { part, all })),
+        Some((from, to)) => Ok(Lines::Each(from, to, strips)),
         None => Err(bad(alloc, "FROM..TO", text, STEPS_RULE)?),
     }
 }

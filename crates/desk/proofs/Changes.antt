@@ -6,10 +6,10 @@ use Rattle.std.specs.Borrow.{Bor}
 use Rattle.std.specs.Slice.{IsItemAt}
 use Rattle.std.specs.Option.{ok_or}
 use Rattle.std.proofs.lemmas.Option.{slice_get-map, slice_get_read, slice_get_past}
-use Rattle.windows.specs.declared.Window.{Window}
+use Rattle.memory_windows.specs.declared.Window.{Window}
 use Rattle.std.proofs.lemmas.List.Elements.{All-contains}
-use Rattle.windows.specs.Windows.{put_in}
-use Rattle.windows.specs.Outside.{IsOutside}
+use Rattle.memory_windows.specs.Windows.{put_in}
+use Rattle.memory_windows.specs.Outside.{IsOutside}
 use Rattle.mac_words.specs.declared.code.OsErr.{OsErr}
 use Rattle.res_calls.specs.Files.{Resources}
 use Rattle.heap_calls.specs.declared.refusal.Refusal.{Refusal}

@@ -1,6 +1,6 @@
 use Rattle.std.proofs.Common.{◌≡◌, ◌∙◌, ◌≤◌, ◌+◌, ◌++◌, arith, ℕ, Bool, true, false, refl, sym, ap, cond}
 use Rattle.std.proofs.Common.{List, Option, Some, None}
-use Rattle.windows.specs.declared.Window.{Window}
+use Rattle.memory_windows.specs.declared.Window.{Window}
 use Rattle.mac_words.specs.declared.code.OsErr.{OsErr}
 use Rattle.block_store.specs.Block.{Block, sizes, fresh}
 use Rattle.block_store.specs.Rest.{Site}

@@ -34,14 +34,6 @@ apps_next text apps i a less =
 
 -- A fork that was written has a line.
 
-no-line : (name : List ℕ) (k : ℕ) (file : List ℕ) (len : ℕ) → fork_of name k file len ≡ [] → ⊥
-no-line name k file len is = absurd cc
-
-pub some-line : (name : List ℕ) (k : ℕ) (f : File) → f.written ≡ true → fork_told name k f ≢ []
-some-line name k f is none =
-    no-line name k f.name (length f.fork)
-    (sym (ap (λ (t : Bool). cond t (fork_of name k f.name (length f.fork)) []) is) ∙ none)
-
 -- where a line is still to come, there are lines
 pub still-lines : (text old item rest all : List ℕ) → (text ++ item) ++ rest ≡ old ++ all → Extends old text → item ≢ []
     → all ≢ []

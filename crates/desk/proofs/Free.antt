@@ -4,9 +4,9 @@ use Rattle.std.proofs.Common.{length, take, drop, slice_index_or, sym, ◌∙◌
 use Rattle.std.proofs.lemmas.List.{at_drop_more}
 use Rattle.std.proofs.lemmas.List.Elements.{All-contains}
 use Rattle.std.specs.List.{Contains}
-use Rattle.windows.specs.declared.Window.{Window}
-use Rattle.windows.specs.Outside.{IsOutside, IsOutsideAll}
-use Rattle.windows.proofs.Listed.{All-without_window}
+use Rattle.memory_windows.specs.declared.Window.{Window}
+use Rattle.memory_windows.specs.Outside.{IsOutside, IsOutsideAll}
+use Rattle.memory_windows.proofs.Listed.{All-without_window}
 use Rattle.block_store.specs.Rest.{Site}
 use Rattle.fork_format.specs.Content.{Content}
 use Rattle.script_text.specs.declared.job.Event.{Event}

@@ -5,7 +5,7 @@ use Rattle.std.proofs.lemmas.List.{map-set, at_drop_more}
 use Rattle.std.specs.List.{flat_map}
 use Rattle.script_text.specs.DeskLog.{end_of}
 use Rattle.std.specs.Prelude.{Result, Ok, Err, IsOk, is_ok, OnOk, OnErr}
-use Rattle.windows.specs.declared.Window.{Window}
+use Rattle.memory_windows.specs.declared.Window.{Window}
 use Rattle.script_text.specs.Script.{ScriptParts}
 use Rattle.script_text.specs.declared.script.Line.{Line}
 use Rattle.script_text.specs.declared.job.Event.{Event}
@@ -25,8 +25,8 @@ use Rattle.desk.specs.Halting.{WithinTurns, WithinRounds, WithinEvent, WroteFork
 
 -- What holds within an act, a round or events.
 
--- what holds where a turn begins, and where an act does
-turn-begun : (P : Live → Type 0) (lines : List Line) (script : ScriptParts) (live : Live) → P live
+-- what holds where a turn begins, so also where its first step halts; and where an act begins
+pub turn-begun : (P : Live → Type 0) (lines : List Line) (script : ScriptParts) (live : Live) → P live
     → WithinTurn P lines script live
 turn-begun P [] script live so = so
 turn-begun P (l ∷ lines) script live so = inl so
@@ -102,11 +102,6 @@ pub turn_next : (P : Live → Type 0) (lines : List Line) (i : ℕ) (l : Line) (
 turn_next P lines i l script live m less goes waits within =
     subst (λ ls. WithinTurn P ls script live) (sym (at_drop_more (λ (ls : List Line). ls) lines i l less))
     (inr (waits, subst (Goes (WithinTurn P (drop (i + 1) lines) script)) (sym goes) within))
-
--- and a halt in the step of a line that is left
-pub turn_halts : (P : Live → Type 0) (lines : List Line) (script : ScriptParts) (live : Live) → P live
-    → WithinTurn P lines script live
-turn_halts P lines script live so = turn-begun P lines script live so
 
 -- one more application's turn of a round
 pub turns_next : (P : State → Type 0) (n i : ℕ) (s : State) → i < n
@@ -185,10 +180,6 @@ leaves_alike w n text new r after same files = λ i. record {
   transcript = (sym same) i;
   files = (sym files) i;
 }
-
-pub on_any_err : {T E : Type 0} (result : Result T E) (P : Type 0) → P → OnErr result P
-on_any_err (Ok x) P so = tt
-on_any_err (Err e) P so = so
 
 -- what went well has not failed
 pub never_failed : {T E : Type 0} {e : E} (result : Result T E) (P : Type 0) → IsOk result → result ≡ Err e → P

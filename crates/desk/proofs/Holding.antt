@@ -3,10 +3,10 @@ use Rattle.std.proofs.Common.{◌≡◌, ℕ, ◌+◌, ◌<◌, ◌≤◌, zero,
 use Rattle.std.proofs.Common.{length, map, drop, Option, Some, None, option_map}
 use Rattle.std.proofs.Common.{slice_get, slice_set, IfSome, refl, sym, ◌∙◌, ap, subst, arith}
 use Rattle.std.specs.List.{Contains}
-use Rattle.windows.specs.declared.Window.{Window}
-use Rattle.windows.specs.Windows.{put_in, taken_out}
-use Rattle.windows.proofs.Ordered.{contains-counted, times-put_in, times-taken_out, length-taken_out, one-itself, none-counted}
-use Rattle.windows.proofs.Listed.{length-with_window}
+use Rattle.memory_windows.specs.declared.Window.{Window}
+use Rattle.memory_windows.specs.Windows.{put_in, taken_out}
+use Rattle.memory_windows.proofs.Ordered.{contains-counted, times-put_in, times-taken_out, length-taken_out, one-itself, none-counted}
+use Rattle.memory_windows.proofs.Listed.{length-with_window}
 use Rattle.partitions.proofs.Order.{given_back}
 use Rattle.script_text.specs.Script.{ScriptParts}
 use Rattle.script_text.specs.declared.script.Line.{Line}

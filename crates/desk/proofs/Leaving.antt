@@ -4,8 +4,8 @@ use Rattle.std.proofs.Common.{Option, Some, None, IfSome, slice_get, slice_set, 
 use Rattle.std.proofs.Common.{subst, true, arith}
 use Rattle.std.proofs.lemmas.List.{append-nil}
 use Rattle.std.specs.List.{Contains}
-use Rattle.windows.specs.declared.Window.{Window}
-use Rattle.windows.specs.Windows.{put_in}
+use Rattle.memory_windows.specs.declared.Window.{Window}
+use Rattle.memory_windows.specs.Windows.{put_in}
 use Rattle.block_store.specs.Rest.{Site}
 use Rattle.fork_format.specs.Content.{Content}
 use Rattle.desk.specs.declared.act.Act.{Act}

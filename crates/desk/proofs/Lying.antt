@@ -4,10 +4,10 @@ use Rattle.std.proofs.Common.{refl, sym, ◌∙◌, ap, subst, append_assoc}
 use Rattle.std.proofs.lemmas.List.{append-nil}
 use Rattle.std.proofs.lemmas.List.Elements.{All-contains}
 use Rattle.std.specs.List.{Contains}
-use Rattle.windows.specs.declared.Window.{Window}
-use Rattle.windows.specs.Windows.{IsApart, InOrder, Misses}
-use Rattle.windows.proofs.Listed.{All-without_window}
-use Rattle.windows.proofs.Ordered.{apart-taken_out}
+use Rattle.memory_windows.specs.declared.Window.{Window}
+use Rattle.memory_windows.specs.Windows.{IsApart, InOrder, Misses}
+use Rattle.memory_windows.proofs.Listed.{All-without_window}
+use Rattle.memory_windows.proofs.Ordered.{apart-taken_out}
 use Rattle.block_store.specs.Block.{Block}
 use Rattle.block_store.specs.Slot.{Slot}
 use Rattle.fork_format.specs.Content.{Content}

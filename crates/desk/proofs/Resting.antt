@@ -65,7 +65,7 @@ module _ (script : ScriptParts) where
       by_wait first rest false = rest
 
 -- an application that runs has fewer than so many steps to take; and is within its script as well
-abbrev Soon : ℕ → ScriptParts → Phase → Type 0
+abbrev Soon : (most : ℕ) → ScriptParts → Phase → Type 0
 Soon k script (Waiting start) = Unit {0}
 Soon k script (Running live) = length script.steps < live.steps + k
 Soon k script (Ended launched) = Unit {0}

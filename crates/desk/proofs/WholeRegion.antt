@@ -2,10 +2,10 @@
 use Rattle.std.proofs.Common.{◌≡◌, ◌∙◌, ◌+◌, ◌++◌, ℕ, Bool, false, List, [], length, Result, Ok, Err, IfOk, ap, subst, sym, arith}
 use Rattle.std.proofs.lemmas.List.{nil_from_length, drop_all, append-nil}
 use Rattle.std.specs.List.{Contains}
-use Rattle.windows.specs.declared.Window.{Window}
-use Rattle.windows.specs.Windows.{with_window, without_window, window, put_in, taken_out}
-use Rattle.windows.specs.Writes.{written}
-use Rattle.windows.proofs.Ordered.{contains-counted, length-taken_out, one-itself}
+use Rattle.memory_windows.specs.declared.Window.{Window}
+use Rattle.memory_windows.specs.Windows.{with_window, without_window, window, put_in, taken_out}
+use Rattle.memory_windows.specs.Writes.{written}
+use Rattle.memory_windows.proofs.Ordered.{contains-counted, length-taken_out, one-itself}
 use Rattle.block_store.specs.Block.{Block}
 use Rattle.block_store.specs.Slot.{Slot}
 use Rattle.heap_calls.specs.State.{State as Heap}

@@ -1,8 +1,8 @@
 use Rattle.std.specs.Prelude.{ℕ, ◌+◌, Bool, Option, Some, None, Result, Ok, Err, List, [], ◌∷◌, ◌++◌, map}
 use Rattle.std.specs.Prelude.{length, max, slice_get, slice_set, if◌then◌else◌, zero, suc}
 use Rattle.std.specs.List.{list_any}
-use Rattle.windows.specs.declared.Window.{Window}
-use Rattle.windows.specs.Windows.{put_in, taken_out}
+use Rattle.memory_windows.specs.declared.Window.{Window}
+use Rattle.memory_windows.specs.Windows.{put_in, taken_out}
 use Rattle.mac_words.specs.declared.code.OsErr.{OsErr}
 use Rattle.mac_words.specs.declared.code.TheConstants.OsErr.{MEM_FULL, PROFILE}
 use Rattle.partitions.specs.Grant.{grant}

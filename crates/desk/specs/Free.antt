@@ -1,5 +1,5 @@
 use Rattle.std.specs.Prelude.{ℕ, suc, Result, Ok, Err, List, [], ◌∷◌, take}
-use Rattle.windows.specs.Outside.{IsOutsideAll}
+use Rattle.memory_windows.specs.Outside.{IsOutsideAll}
 use Rattle.mac_words.specs.declared.code.OsErr.{OsErr}
 use Rattle.fork_format.specs.Content.{Content}
 use Rattle.script_text.specs.declared.job.Event.{Event}

@@ -1,7 +1,7 @@
 use Rattle.std.specs.Prelude.{◌≡◌, ℕ, ◌+◌, ◌⊎◌, List, [], ◌∷◌, length, Option, Some, None, map}
-use Rattle.windows.specs.declared.Window.{Window}
-use Rattle.windows.specs.Windows.{put_in, taken_out}
-use Rattle.windows.specs.Counted.{one, times}
+use Rattle.memory_windows.specs.declared.Window.{Window}
+use Rattle.memory_windows.specs.Windows.{put_in, taken_out}
+use Rattle.memory_windows.specs.Counted.{one, times}
 use Rattle.block_store.specs.Rest.{Site}
 use Rattle.desk.specs.Phase.{Left, window_of}
 use Rattle.desk.specs.Desk.{Place}

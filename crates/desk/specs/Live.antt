@@ -1,5 +1,5 @@
 use Rattle.std.specs.Prelude.{◌≡◌, Bool, false, Option, Some, None, map}
-use Rattle.windows.specs.declared.Window.{Window}
+use Rattle.memory_windows.specs.declared.Window.{Window}
 use Rattle.mac_words.specs.declared.code.OsErr.{OsErr}
 use Rattle.block_store.specs.Rest.{Site}
 use Rattle.res_calls.specs.View.{view_file}

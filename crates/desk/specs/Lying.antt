@@ -1,5 +1,5 @@
 use Rattle.std.specs.Prelude.{ℕ, Result, Ok, Err, List, [], ◌∷◌}
-use Rattle.windows.specs.declared.Window.{Window}
+use Rattle.memory_windows.specs.declared.Window.{Window}
 use Rattle.mac_words.specs.declared.code.OsErr.{OsErr}
 use Rattle.fork_format.specs.Content.{Content}
 use Rattle.block_store.specs.Block.{Block}

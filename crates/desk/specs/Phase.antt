@@ -1,6 +1,6 @@
 use Rattle.std.specs.Prelude.{ℕ, ◌+◌, Bool, true, false, Option, Some, None, Result, List, [], ◌∷◌, ◌++◌, drop, length}
 use Rattle.std.specs.Prelude.{slice_get, if◌then◌else◌}
-use Rattle.windows.specs.declared.Window.{Window}
+use Rattle.memory_windows.specs.declared.Window.{Window}
 use Rattle.mac_words.specs.declared.code.OsErr.{OsErr}
 use Rattle.script_text.specs.Script.{ScriptParts}
 use Rattle.script_text.specs.Transcript.{launch_line, end_line}

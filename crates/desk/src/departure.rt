@@ -2,7 +2,7 @@
 
 use block_store::BlockStore;
 use mac_words::{Label, OsErr};
-use windows::Window;
+use memory_windows::Window;
 
 /// What an application gives back as it ends.
 pub struct Departure<'j, S: BlockStore> {

@@ -4,10 +4,10 @@ ghost use Rattle.std.specs.Prelude.{◌≡◌, ℕ, ◌≤◌, ◌<◌, ◌%◌,
 ghost use Rattle.std.specs.Prelude.{None, option_map, IsTrue, Err, false, is_ok, IfOk, IsOk, OnOk};
 ghost use Rattle.std.specs.Prelude.{OnErr, IfErr, IfSome, slice_get, vec_len, vec_capacity};
 ghost use Rattle.std.specs.List.{list_all, Contains};
-ghost use Rattle.windows.specs.declared.Window.{Window as Stretch};
-ghost use Rattle.windows.specs.declared.list.TheConstants.{MOST_WINDOWS};
-ghost use Rattle.windows.specs.Outside.{IsOutside};
-ghost use Rattle.windows.specs.Windows.{Misses, taken_out};
+ghost use Rattle.memory_windows.specs.declared.Window.{Window as Stretch};
+ghost use Rattle.memory_windows.specs.declared.list.TheConstants.{MOST_WINDOWS};
+ghost use Rattle.memory_windows.specs.Outside.{IsOutside};
+ghost use Rattle.memory_windows.specs.Windows.{Misses, taken_out};
 ghost use Rattle.block_store.specs.Block.{Block, fresh};
 ghost use Rattle.block_store.specs.Rest.{Site};
 ghost use Rattle.block_store.specs.Slot.{Slot};
@@ -44,11 +44,11 @@ use block_store::{BlockStore, ZoneMaker};
 use fork_format::Content;
 use heap_calls::Refusal;
 use mac_words::OsErr;
+use memory_windows::Window;
 use partitions::Grants;
 use script_text::{APP_ROOM, write_app_end, write_app_launch, write_app_refusal};
 use std::alloc::{AllocError, Global};
 use std::marker::Model;
-use windows::Window;
 
 /// Several applications in one memory, each in a window of its own.
 ///

@@ -19,10 +19,10 @@ use crate::partition::Partition;
 use applications::{Application, Exit, ends_turn};
 use block_store::BlockStore;
 use mac_words::OsErr;
+use memory_windows::Window;
 use res_calls::Resources;
 use script_text::{END_ROOM, Line, Script, write_end, write_launch};
 use std::alloc::{AllocError, Global};
-use windows::Window;
 
 /// An application that runs in a window of the memory, with the number of steps that it took since
 /// its launch.

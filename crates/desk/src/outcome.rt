@@ -56,7 +56,8 @@ pub struct Outcome {
 /// The reason why a run has no outcome.
 #[derive(Clone, Copy, Debug, PartialEq, Eq, Error)]
 pub enum RunFault {
-    /// The System file's fork can't be read: -39 (eofErr) if it has no bytes, -199 (mapReadErr) if they are damaged.
+    /// The System file's fork can't be read: -39 (eofErr) if it has no bytes, -199 (mapReadErr) if
+    /// they are damaged.
     #[error("the System file can't be read: {}", .0.number())]
     System(OsErr),
     /// The host is out of memory before the first event.

@@ -3,7 +3,7 @@
 ghost use Rattle.std.specs.Prelude.{◌≡◌, ◌≤◌, ◌%◌};
 ghost use Rattle.block_store.specs.declared.measures.TheConstants.{GREATEST_ZONE};
 
-use windows::Window;
+use memory_windows::Window;
 
 /// The partition of an application that runs: a window that a zone can fill.
 #[derive(Clone, Copy)]

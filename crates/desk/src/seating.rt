@@ -22,8 +22,8 @@ use crate::seat::Seat;
 use block_store::BlockStore;
 use core::mem::replace_with;
 use mac_words::Label;
+use memory_windows::Window;
 use std::alloc::AllocError;
-use windows::Window;
 
 /// Performs an act of the application of a place, if it runs. Returns what the application gives
 /// back if it ends.

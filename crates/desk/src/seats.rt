@@ -25,8 +25,8 @@ use crate::seat::Seat;
 use crate::seating;
 use block_store::BlockStore;
 use fork_format::Content;
+use memory_windows::Window;
 use std::alloc::{AllocError, Global};
-use windows::Window;
 
 /// Returns a place for each application, at which it waits for its launch.
 pub(crate) fn places<'j, S: BlockStore>(

@@ -2,7 +2,7 @@
 
 ghost use Rattle.std.specs.Prelude.{◌≡◌, ◌<◌, ◌≤◌, ℕ, suc, length, take, OnOk, OnErr};
 ghost use Rattle.std.specs.Io.KnownBytes.{append_known};
-ghost use Rattle.windows.specs.declared.Window.{Window as Stretch};
+ghost use Rattle.memory_windows.specs.declared.Window.{Window as Stretch};
 ghost use Rattle.block_store.specs.Rest.{Site};
 ghost use Rattle.applications.specs.Reports.{reports};
 ghost use Rattle.desk.specs.declared.act.Act.TheVariants.{Step, Turn, Quit};

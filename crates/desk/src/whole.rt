@@ -4,7 +4,7 @@ ghost use Rattle.std.specs.Prelude.{◌≡◌, ◌≢◌, ℕ, ◌<◌, ◌≤�
 ghost use Rattle.std.specs.Prelude.{length, map, take, suc, IsTrue, IfOk, IfErr, OnOk, OnErr};
 ghost use Rattle.std.specs.Io.KnownBytes.{append_known};
 ghost use Rattle.std.specs.List.{list_all, flat_map};
-ghost use Rattle.windows.specs.declared.Window.{Window};
+ghost use Rattle.memory_windows.specs.declared.Window.{Window};
 ghost use Rattle.block_store.specs.Rest.{Site};
 ghost use Rattle.fork_format.specs.Content.{Group as GroupValue};
 ghost use Rattle.fork_format.specs.Canonical.{has_refs, are_distinct};

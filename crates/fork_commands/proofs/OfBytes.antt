@@ -1,4 +1,4 @@
-use Rattle.std.proofs.Common.{◌≡◌, ℕ, zero, suc, ◌+◌, ◌<◌, Bool, true, false, cond, List, [], ◌∷◌, ◌++◌, map, take, drop, replicate, arith}
+use Rattle.std.proofs.Common.{◌≡◌, ℕ, zero, suc, ◌+◌, ◌<◌, Bool, true, false, cond, List, [], ◌∷◌, map, drop, replicate, arith}
 use Rattle.std.proofs.Common.{Option, Some, None, Ok, Err, refl}
 use Rattle.std.specs.Prelude.{◌==◌, nat_le, ◌&&◌, filter, length, slice_index, IfSome}
 use Rattle.std.specs.List.{flat_map, AllByRecursion}
@@ -9,34 +9,21 @@ use Rattle.rez_text.specs.Bytes.{AreBytes, HasBytes, IsOfBytes}
 use Rattle.mac_words.specs.declared.code.TheConstants.OsErr.{END_OF_FILE, MAP_READ}
 use Rattle.fork_commands.specs.declared.fault.FileFault.TheVariants.{Code}
 use Rattle.fork_commands.specs.Reading.{content_or_fault, content_of_fork}
+use Rattle.plain_laws.proofs.Bytes.{byte-at, bytes-take, bytes-drop}
+use Rattle.plain_laws.proofs.Elements.{each-append}
 
 -- The content of a fork of bytes is of bytes.
 
-byte_at : (bytes : List ℕ) (k : ℕ) → AreBytes bytes → slice_index bytes k < 256
-byte_at [] k are = omega arith
-byte_at (b ∷ bytes) zero are = are.0
-byte_at (b ∷ bytes) (suc k) are = byte_at bytes k are.1
-
--- the same, said of each place
+-- each place of bytes has a byte
 pub each_byte : (bytes : List ℕ) → AreBytes bytes → (k : ℕ) → slice_index bytes k < 256
-each_byte bytes are = λ k. byte_at bytes k are
-
-all_drop : (n : ℕ) (bytes : List ℕ) → AreBytes bytes → AreBytes (drop n bytes)
-all_drop zero bytes are = are
-all_drop (suc n) [] are = tt
-all_drop (suc n) (b ∷ bytes) are = all_drop n bytes are.1
-
-all_take : (n : ℕ) (bytes : List ℕ) → AreBytes bytes → AreBytes (take n bytes)
-all_take zero bytes are = tt
-all_take (suc n) [] are = tt
-all_take (suc n) (b ∷ bytes) are = (are.0, all_take n bytes are.1)
+each_byte bytes are = λ k. byte-at bytes k are
 
 pub zeros : (n : ℕ) → AreBytes (replicate n 0)
 zeros zero = tt
 zeros (suc n) = (omega arith, zeros n)
 
 a_part : (n at : ℕ) (bytes : List ℕ) → AreBytes bytes → AreBytes (part n at bytes)
-a_part n at bytes are = all_take n (drop at bytes) (all_drop at bytes are)
+a_part n at bytes are = bytes-take n (drop at bytes) (bytes-drop at bytes are)
 
 a_name : (place : Option ℕ) (bytes : List ℕ) → AreBytes bytes → IfSome (name_at place bytes) AreBytes
 a_name None bytes are = tt
@@ -52,10 +39,6 @@ refs : (bytes places : List ℕ) → AreBytes bytes → AllByRecursion HasBytes 
 refs bytes [] are = tt
 refs bytes (at ∷ places) are = (a_ref bytes at are, refs bytes places are)
 
-two_runs : (xs ys : List Ref) → AllByRecursion HasBytes xs → AllByRecursion HasBytes ys → AllByRecursion HasBytes (xs ++ ys)
-two_runs [] ys a b = b
-two_runs (x ∷ xs) ys a b = (a.0, two_runs xs ys a.1 b)
-
 -- the resources of the groups of a type
 abbrev of_kind : ℕ → List Group → List Ref
 of_kind k groups = flat_map (λ (g : Group). g.refs) (filter (is_of k) groups)
@@ -67,7 +50,7 @@ of_type k bytes (at ∷ places) are = cases (is_of k (group_at bytes at)) (of_ty
     cases : (t : Bool) → AllByRecursion HasBytes (of_kind k (map (group_at bytes) places))
         → AllByRecursion HasBytes (flat_map (λ (g : Group). g.refs) (cond t (group_at bytes at ∷ filter (is_of k)
         (map (group_at bytes) places)) (filter (is_of k) (map (group_at bytes) places))))
-    cases true rest = two_runs (map (ref_at bytes) (ref_places at bytes)) _ (refs bytes (ref_places at bytes) are) rest
+    cases true rest = each-append HasBytes (map (ref_at bytes) (ref_places at bytes)) _ (refs bytes (ref_places at bytes) are) rest
     cases false rest = rest
 
 abbrev group_of : List Group → ℕ → Group

@@ -5,7 +5,8 @@ ghost use Rattle.rez_statements.specs.View.{types_of};
 ghost use Rattle.rez_text.specs.View.{files_of};
 ghost use Rattle.fork_commands.specs.Sources.{HasEnough, HoldsStated, StopsAssembly};
 ghost use Rattle.fork_commands.specs.Sources as spec;
-ghost use Rattle.fork_commands.specs.declared.assembling.AssemblyFault.TheVariants as assembly_fault;
+ghost use Rattle.fork_commands.specs.declared.assembling.AssemblyFault.TheVariants
+    as assembly_fault;
 
 use crate::fault::{FileFault, WorkFault};
 use crate::work::canonical;

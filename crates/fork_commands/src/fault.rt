@@ -33,11 +33,12 @@ impl fmt::Display for Twin {
     }
 }
 
-/// What is wrong with the bytes of a file. Its `Display` is the end of the line that is printed for the file.
+/// What is wrong with the bytes of a file. Its `Display` is the end of the line that is printed for
+/// the file.
 #[derive(Clone, Copy, Debug, Error)]
 pub enum FileFault {
-    /// The bytes are no resource fork, the fork has no such resource, or what is to be made doesn't fit the format of a
-    /// fork.
+    /// The bytes are no resource fork, the fork has no such resource, or what is to be made doesn't
+    /// fit the format of a fork.
     #[error("fork {}", .code.number())]
     Code {
         /// The result code.

@@ -11,11 +11,6 @@ use Rattle.fork_edits.specs.Setting.{first_changed}
 
 -- The first item that passes a test, changed in its place; items are seen by a view.
 
--- the index that a search gives is inside
-pub position_inside : {A : Type 0} (p : A → Bool) (xs : List A) (i : ℕ) → position p xs ≡ Some i → i < length xs
-position_inside p [] i e = cc
-position_inside p (x ∷ xs) i e = (position-Some p (x ∷ xs) i x e).0
-
 -- another item put at the first place that passes
 changed_at : {A B : Type 0} (v : A → B) (p : B → Bool) (f : B → B) (xs : List A) (i : ℕ) (x y : A) → i < length xs
     → p (v (get_or xs i x)) ≡ true → ((k : ℕ) → k < i → p (v (get_or xs k x)) ≡ false) → v y ≡ f (v (get_or xs i x))

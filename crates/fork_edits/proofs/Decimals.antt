@@ -75,16 +75,19 @@ attrs_decimal n fits =
     let number : digits_read (decimal n) ≡ Some n =
     rw (some_digit n small) (from_same 0 (decimal n) ∙ after_decimal 255 n small (omega arith)) in
     let read : number_read (decimal n) ≡ Some n =
-    rw (and_right (nat_le 1 (length (decimal n))) (slice_index (decimal n) 0 == 43) (first_digit (decimal n) 43 digits (omega arith) (omega arith)))
-    number in
-    rw (and_right (length (decimal n) == 3) (slice_index (decimal n) 0 == 36) (first_digit (decimal n) 36 digits (omega arith) (omega arith)), read) refl
+    rw (and_right (nat_le 1 (length (decimal n))) (slice_index (decimal n) 0 == 43)
+    (first_digit (decimal n) 43 digits (omega arith) (omega arith))) number in
+    rw (
+      and_right (length (decimal n) == 3) (slice_index (decimal n) 0 == 36) (first_digit (decimal n) 36 digits (omega arith) (omega arith)),
+      read,
+    ) refl
 
 pub id_decimal : (z : ℤ) → FitsSigned w16 z → id_read (signed_decimal z) ≡ Some z
 id_decimal (pos n) fits =
     let within : n < 2 ^ 15 = fits.sfits in
     let small : n < 2 ^ 64 = omega arith in
-    rw (and_right (nat_le 1 (length (decimal n))) (slice_index (decimal n) 0 == 45) (first_digit (decimal n) 45 (digits-decimal n small) (omega arith) (omega arith)))
-    (ap (option_map pos) (within_decimal 32767 n small (omega arith)))
+    rw (and_right (nat_le 1 (length (decimal n))) (slice_index (decimal n) 0 == 45) (first_digit (decimal n) 45 (digits-decimal n small)
+    (omega arith) (omega arith))) (ap (option_map pos) (within_decimal 32767 n small (omega arith)))
 id_decimal (negsuc n) fits =
     let within : n < 2 ^ 15 = fits.sfits in
     let some : nat_le 1 (suc (length (decimal (suc n)))) ≡ true = grind (arith, nat_tests) in

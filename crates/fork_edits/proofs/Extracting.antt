@@ -2,6 +2,7 @@
 use Rattle.std.proofs.Common.{◌≡◌, ℕ, ◌+◌, ◌<◌, ◌^◌, Bool, true, false, List, [], ◌∷◌, map, length, refl, sym, ◌∙◌, ap, arith}
 use Rattle.std.specs.Prelude.{Ok, is_some}
 use Rattle.std.specs.List.{AllByRecursion}
+use Rattle.plain_laws.proofs.Elements.{each-append}
 use Rattle.fork_format.specs.Canonical.{canon}
 use Rattle.fork_format.specs.Content.{Ref, Group, Content, IsRef, IsGroup}
 use Rattle.fork_edits.specs.Contents.{Entry, Listed, entry, listed, contents_text}
@@ -14,7 +15,6 @@ use Rattle.fork_edits.specs.Twins.{twin}
 use Rattle.fork_edits.proofs.Filing.{IsFile, fixed_file, numbered_file}
 use Rattle.fork_edits.proofs.Relisting.{IsEntry, list_again}
 use Rattle.fork_edits.proofs.Repacking.{packed_again}
-use Rattle.fork_edits.proofs.Wording.{all_joined}
 
 -- the limits of a resource and its type
 pub record IsStated (x : Row) : Type 0 where
@@ -28,7 +28,7 @@ refs_stated k (r ∷ refs) low h = (record { kind = low; ref = h.0 }, refs_state
 pub rows_stated : (groups : List Group) → AllByRecursion IsGroup groups → AllByRecursion IsStated (rows groups)
 rows_stated [] h = tt
 rows_stated (g ∷ groups) h =
-    all_joined IsStated (group_rows g) (rows groups) (refs_stated g.kind g.refs h.0.kind h.0.refs) (rows_stated groups h.1)
+    each-append IsStated (group_rows g) (rows groups) (refs_stated g.kind g.refs h.0.kind h.0.refs) (rows_stated groups h.1)
 
 -- the lines of resources and their files
 entry_is : (f : Filed) → IsFile f.file → IsStated f.row → HasByteName f.row → IsEntry (entry f)
@@ -83,7 +83,8 @@ packed_is : (folder : List ℕ → List ℕ) (files : List Filed) → HasFiles f
     → packed_rows (map entry files) (map (λ (e : Entry). folder e.file) (map entry files)) ≡ map (λ (f : Filed). f.row) files
 packed_is folder [] h = refl
 packed_is folder (f ∷ files) h =
-    let with_datum : List ℕ → Row = λ d. row f.row.kind (record { id = f.row.resource.id; name = f.row.resource.name; attrs = f.row.resource.attrs; datum = d }) in
+    let with_datum : List ℕ → Row =
+    λ d. row f.row.kind (record { id = f.row.resource.id; name = f.row.resource.name; attrs = f.row.resource.attrs; datum = d }) in
     ap (λ d. with_datum d ∷ packed_rows (map entry files) (map (λ (e : Entry). folder e.file) (map entry files))) h.0
     ∙ ap (λ l. f.row ∷ l) (packed_is folder files h.1)
 

@@ -8,6 +8,7 @@ use Rattle.std.specs.List.{AllByRecursion, flat_map, list_all}
 use Rattle.std.proofs.lemmas.Bool.{and_right}
 use Rattle.std.proofs.lemmas.Bool.Decides.{nat_tests}
 use Rattle.std.proofs.lemmas.List.{length-append}
+use Rattle.plain_laws.proofs.Elements.{each-append}
 use Rattle.byteorder.specs.Endian.{big_bytes}
 use Rattle.mac_words.specs.Digits.{upper_digit}
 use Rattle.fork_edits.specs.FileNames.{is_plain_byte, safe_byte, name_part, place_text, file_name}
@@ -17,7 +18,7 @@ use Rattle.fork_edits.specs.Resources.{Row}
 use Rattle.fork_edits.specs.Texts.{hex_byte}
 use Rattle.fork_edits.proofs.Naming.{IsDigits, digits-decimal, digits-place}
 use Rattle.fork_edits.proofs.Quoting.{IsByte}
-use Rattle.fork_edits.proofs.Wording.{IsGraph, all_joined}
+use Rattle.fork_edits.proofs.Wording.{IsGraph}
 
 -- a byte that may stand in the name of a file
 abbrev pub IsFiled : ℕ → Type 0
@@ -71,13 +72,13 @@ filed_fixed_byte small b fits = by_capital (is_capital b) refl
 filed_fixed_bytes : (small : Bool) (bytes : List ℕ) → AllByRecursion IsByte bytes → AllByRecursion IsFiled (fixed_bytes small bytes)
 filed_fixed_bytes small [] h = tt
 filed_fixed_bytes small (b ∷ bytes) h =
-    all_joined IsFiled (fixed_byte small b) (fixed_bytes (case_after small b) bytes) (filed_fixed_byte small b h.0)
+    each-append IsFiled (fixed_byte small b) (fixed_bytes (case_after small b) bytes) (filed_fixed_byte small b h.0)
     (filed_fixed_bytes (case_after small b) bytes h.1)
 
 filed_safe_bytes : (bytes : List ℕ) → AllByRecursion IsByte bytes → AllByRecursion IsFiled (flat_map safe_byte bytes)
 filed_safe_bytes [] h = tt
 filed_safe_bytes (b ∷ bytes) h =
-    all_joined IsFiled (safe_byte b) (flat_map safe_byte bytes) (filed_safe b h.0) (filed_safe_bytes bytes h.1)
+    each-append IsFiled (safe_byte b) (flat_map safe_byte bytes) (filed_safe b h.0) (filed_safe_bytes bytes h.1)
 
 filed_signed : (z : ℤ) → FitsSigned w16 z → AllByRecursion IsFiled (signed_decimal z)
 filed_signed (pos n) fits =
@@ -133,11 +134,12 @@ is_file text h long =
 
 ended : (text : List ℕ) → AllByRecursion IsFiled text → IsFile (text ++ 46 ∷ 98 ∷ 105 ∷ 110 ∷ [])
 ended text h =
-    is_file (text ++ 46 ∷ 98 ∷ 105 ∷ 110 ∷ []) (all_joined IsFiled text (46 ∷ 98 ∷ 105 ∷ 110 ∷ []) h filed_end)
+    is_file (text ++ 46 ∷ 98 ∷ 105 ∷ 110 ∷ []) (each-append IsFiled text (46 ∷ 98 ∷ 105 ∷ 110 ∷ []) h filed_end)
     (omega (arith, length-append text (46 ∷ 98 ∷ 105 ∷ 110 ∷ [])))
 
-with_dash : (text rest : List ℕ) → AllByRecursion IsFiled text → AllByRecursion IsFiled rest → AllByRecursion IsFiled ((text ++ 45 ∷ []) ++ rest)
-with_dash text rest h k = all_joined IsFiled (text ++ 45 ∷ []) rest (all_joined IsFiled text (45 ∷ []) h (refl, tt)) k
+with_dash : (text rest : List ℕ) → AllByRecursion IsFiled text → AllByRecursion IsFiled rest
+    → AllByRecursion IsFiled ((text ++ 45 ∷ []) ++ rest)
+with_dash text rest h k = each-append IsFiled (text ++ 45 ∷ []) rest (each-append IsFiled text (45 ∷ []) h (refl, tt)) k
 
 pub fixed_file : (kind : ℕ) (id : ℤ) → FitsSigned w16 id → IsFile (fixed_name kind id)
 fixed_file kind id fits =
@@ -152,10 +154,9 @@ filed_name (Some name) h = (refl, filed_safe_bytes (take 48 name) (first_bytes 4
 pub numbered_file : (n : ℕ) (x : Row) → n < 2 ^ 64 → FitsSigned w16 x.resource.id
     → IfSome x.resource.name (AllByRecursion IsByte) → IsFile (file_name n x)
 numbered_file n x small fits bytes =
-    ended (place_text n ++ 45 ∷ [] ++ (flat_map safe_byte (big_bytes 4 x.kind) ++ 45 ∷ [] ++ signed_decimal x.resource.id ++ name_part x.resource.name))
-    (with_dash (place_text n) (flat_map safe_byte (big_bytes 4 x.kind) ++ 45 ∷ [] ++ signed_decimal x.resource.id ++ name_part x.resource.name)
-    (filed_digits (place_text n) (digits-place n small))
-    (all_joined IsFiled (flat_map safe_byte (big_bytes 4 x.kind) ++ 45 ∷ [] ++ signed_decimal x.resource.id) (name_part x.resource.name)
+    ended (place_text n ++ 45 ∷ [] ++ (flat_map safe_byte (big_bytes 4 x.kind) ++ 45 ∷ [] ++ signed_decimal x.resource.id
+    ++ name_part x.resource.name)) (with_dash (place_text n) (flat_map safe_byte (big_bytes 4 x.kind) ++ 45 ∷ []
+    ++ signed_decimal x.resource.id ++ name_part x.resource.name) (filed_digits (place_text n) (digits-place n small))
+    (each-append IsFiled (flat_map safe_byte (big_bytes 4 x.kind) ++ 45 ∷ [] ++ signed_decimal x.resource.id) (name_part x.resource.name)
     (with_dash (flat_map safe_byte (big_bytes 4 x.kind)) (signed_decimal x.resource.id)
-    (filed_safe_bytes (big_bytes 4 x.kind) (four_bytes x.kind)) (filed_signed x.resource.id fits))
-    (filed_name x.resource.name bytes)))
+    (filed_safe_bytes (big_bytes 4 x.kind) (four_bytes x.kind)) (filed_signed x.resource.id fits)) (filed_name x.resource.name bytes)))

@@ -1,5 +1,6 @@
 -- The files of a content in a folder: no two have one name, so each keeps its bytes.
-use Rattle.std.proofs.Common.{◌≡◌, ◌≢◌, ℕ, ◌+◌, ◌<◌, ◌^◌, Bool, true, false, cond, List, [], ◌∷◌, map, length, Some, None, refl, sym, ◌∙◌, ap, arith}
+use Rattle.std.proofs.Common.{◌≡◌, ◌≢◌, ℕ, ◌+◌, ◌<◌, ◌^◌, Bool, true, false, cond, List, [], ◌∷◌, map, length, Some, None, refl, sym, ◌∙◌}
+use Rattle.std.proofs.Common.{ap, arith}
 use Rattle.std.specs.Prelude.{bytes_eq, is_some}
 use Rattle.std.specs.List.{AllByRecursion, find}
 use Rattle.std.specs.Str.{str_to_ascii_lowercase}
@@ -72,9 +73,6 @@ pub files_apart : (c : Content) → IsListable c → AreApart (filed (rows c.gro
 files_apart c h = files_by (is_some (twin (rows c.groups))) (rows c.groups) refl h.few (rows_stated c.groups h.limits.groups)
 
 -- files that are written in a folder, of which no two have one name, are there
-same_name : (name : List ℕ) → bytes_eq name name ≡ true
-same_name name = (bytes_eq-Decides name name).1 refl
-
 other_name : (f g : Filed) → str_to_ascii_lowercase f.file ≢ str_to_ascii_lowercase g.file → bytes_eq f.file g.file ≡ false
 other_name f g other = by_test (bytes_eq f.file g.file) refl
   where
@@ -90,8 +88,10 @@ has_past f all (g ∷ files) other h =
 
 has_files : (files : List Filed) → AreApart files → HasFiles (file_bytes files) files
 has_files [] h = tt
-has_files (f ∷ files) h =
-    (ap (λ t. cond t f.row.resource.datum (file_bytes files f.file)) (same_name f.file), has_past f files files h.0 (has_files files h.1))
+has_files (f ∷ files) h = (
+  ap (λ t. cond t f.row.resource.datum (file_bytes files f.file)) ((bytes_eq-Decides f.file f.file).1 refl),
+  has_past f files files h.0 (has_files files h.1),
+)
 
 pub folder_has : (c : Content) → IsListable c → HasFiles (file_bytes (filed (rows c.groups))) (filed (rows c.groups))
 folder_has c h = has_files (filed (rows c.groups)) (files_apart c h)

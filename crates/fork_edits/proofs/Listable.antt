@@ -5,22 +5,23 @@ use Rattle.std.specs.Prelude.{IfSome, IsTrue, ◌==◌, ◌&&◌, nat_le, slice_
 use Rattle.std.specs.List.{AllByRecursion, list_all}
 use Rattle.std.proofs.Math.Facts.{sfits_to_z}
 use Rattle.std.proofs.lemmas.Bool.{leb-true}
-use Rattle.std.proofs.lemmas.List.{length-append, length-take, length-replicate, length-drop}
+use Rattle.std.proofs.lemmas.List.{length-append, length-take}
 use Rattle.std.proofs.lemmas.List.Sums.{sum_by-cons}
 use Rattle.std.proofs.lemmas.Nat.{and_le_r}
+use Rattle.plain_laws.proofs.Elements.{each-append}
 use Rattle.byteorder.specs.Numbers.{big_from-lt}
 use Rattle.fork_format.specs.Content.{Ref, Group, Content, refs_of, joined, IsRef, IsGroup}
-use Rattle.fork_format.specs.Fork.{number, part, offsets, data_start, map_start, type_places, ref_count, ref_places, name_place, name_at, ref_at, group_at, area_of}
-use Rattle.fork_format.specs.Fork.{content_of, parts_fit, types_fit, refs_fit, all_refs, all_data, is_fork, Spells}
+use Rattle.fork_format.specs.Fork.{number, part, offsets, data_start, map_start, type_places, ref_count, ref_places, name_place, name_at}
+use Rattle.fork_format.specs.Fork.{ref_at, group_at, area_of, content_of, parts_fit, types_fit, refs_fit, all_refs, all_data, is_fork}
+use Rattle.fork_format.specs.Fork.{Spells}
 use Rattle.fork_format.specs.Limits.{most_data, most_references}
 use Rattle.fork_format.specs.Place.{put}
 use Rattle.fork_format.proofs.Joining.{joined-push}
-use Rattle.fork_format.proofs.Spelled.{spelled_types, spelled_references}
+use Rattle.fork_format.proofs.Spelled.{spelled_types, spelled_references, area_whole}
 use Rattle.fork_edits.specs.Packing.{HasByteName, IsListable}
 use Rattle.fork_edits.specs.Resources.{row, group_rows, rows}
 use Rattle.fork_edits.proofs.Filing.{first_bytes}
 use Rattle.fork_edits.proofs.Quoting.{IsByte}
-use Rattle.fork_edits.proofs.Wording.{all_joined}
 
 -- the name of a resource is bytes
 abbrev HasBytes : Ref → Type 0
@@ -92,8 +93,8 @@ put_good g (x ∷ groups) k h = by_test (x.kind == g.kind) (put_good g groups k 
         → AllByRecursion IsGood (cond t (record x { refs = x.refs ++ g.refs } ∷ groups) (x ∷ put g groups))
     by_test true more = (
       record {
-        limits = record { kind = h.0.limits.kind; refs = all_joined IsRef x.refs g.refs h.0.limits.refs k.limits.refs };
-        names = all_joined HasBytes x.refs g.refs h.0.names k.names;
+        limits = record { kind = h.0.limits.kind; refs = each-append IsRef x.refs g.refs h.0.limits.refs k.limits.refs };
+        names = each-append HasBytes x.refs g.refs h.0.names k.names;
       },
       h.1,
     )
@@ -184,21 +185,6 @@ zero_bytes : (n : ℕ) → AllByRecursion IsByte (replicate n 0)
 zero_bytes zero = tt
 zero_bytes (suc n) = (lit< tt, zero_bytes n)
 
-area_whole : (bytes : List ℕ) → length (area_of bytes) ≡ 240
-area_whole bytes = by_test (nat_le 256 (length bytes) && nat_le 256 (data_start bytes) && nat_le 256 (map_start bytes)) refl
-  where
-    first_of_three : (a b c : Bool) → (a && b && c) ≡ true → a ≡ true
-    first_of_three true b c h = refl
-    first_of_three false b c h = cc
-
-    by_test : (t : Bool) → (nat_le 256 (length bytes) && nat_le 256 (data_start bytes) && nat_le 256 (map_start bytes)) ≡ t
-        → length (cond t (part 240 16 bytes) (replicate 240 0)) ≡ 240
-    by_test true h =
-        let long : 256 ≤ length bytes = leb-true 256 (length bytes) (first_of_three (nat_le 256 (length bytes))
-        (nat_le 256 (data_start bytes)) (nat_le 256 (map_start bytes)) h) in
-        omega (arith, length-take 240 (drop 16 bytes), length-drop 16 bytes, long)
-    by_test false h = length-replicate {A = ℕ} 240 0
-
 area_bytes : (bytes : List ℕ) → AllByRecursion IsByte bytes → AllByRecursion IsByte (area_of bytes)
 area_bytes bytes h = by_test (nat_le 256 (length bytes) && nat_le 256 (data_start bytes) && nat_le 256 (map_start bytes))
   where
@@ -218,7 +204,7 @@ refs_names k (r ∷ refs) h = (h.0, refs_names k refs h.1)
 rows_names : (groups : List Group) → AllByRecursion IsGood groups → AllByRecursion HasByteName (rows groups)
 rows_names [] h = tt
 rows_names (g ∷ groups) h =
-    all_joined HasByteName (group_rows g) (rows groups) (refs_names g.kind g.refs h.0.names) (rows_names groups h.1)
+    each-append HasByteName (group_rows g) (rows groups) (refs_names g.kind g.refs h.0.names) (rows_names groups h.1)
 
 map_attrs : (n : ℕ) → bit_and n 65439 < 65536
 map_attrs n = let le = and_le_r n 65439 in omega arith

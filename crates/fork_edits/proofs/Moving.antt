@@ -3,6 +3,7 @@ use Rattle.std.specs.Prelude.{ℤ, option_map, is_some, unwrap_or, ◌&&◌, ◌
 use Rattle.std.specs.List.{find, list_all}
 use Rattle.std.specs.Ordering.{int_eq}
 use Rattle.std.proofs.lemmas.Bool.Decides.{Decides-int_eq}
+use Rattle.std.proofs.lemmas.Bool.{and_parts}
 use Rattle.fork_format.specs.Content.{Content}
 use Rattle.fork_edits.specs.Resources.{Row, rows, is_at, found, others}
 use Rattle.fork_edits.specs.Setting.{first_changed}
@@ -16,10 +17,6 @@ use Rattle.fork_edits.proofs.Keeping.{changed_rows}
 abbrev AreApart : {A : Type 0} → (A → Bool) → (A → Bool) → List A → Type 0
 AreApart p q xs = list_all (λ x. p x || not (q x)) xs ≡ true
 
-parts : (s t : Bool) → (s && t) ≡ true → (s ≡ true) × (t ≡ true)
-parts true t h = (refl, h)
-parts false t h = cc
-
 fails : (s t : Bool) → s ≡ false → (s || not t) ≡ true → t ≡ false
 fails true t h e = cc
 fails false true h e = cc
@@ -29,7 +26,7 @@ moved_found : {A : Type 0} (p q : A → Bool) (f : A → A) (xs : List A) → ((
     → AreApart p q xs → find q (first_changed p f xs) ≡ option_map f (find p xs)
 moved_found p q f [] moves apart = refl
 moved_found p q f (x ∷ xs) moves apart =
-    let each = parts (p x || not (q x)) (list_all (λ y. p y || not (q y)) xs) apart in
+    let each = and_parts (p x || not (q x)) (list_all (λ y. p y || not (q y)) xs) apart in
     cases (p x) refl each.0 (moved_found p q f xs moves each.1)
   where
     cases : (t : Bool) → p x ≡ t → (p x || not (q x)) ≡ true → find q (first_changed p f xs) ≡ option_map f (find p xs)
@@ -41,7 +38,7 @@ moved_others : {A : Type 0} (p q : A → Bool) (f : A → A) (xs : List A) → (
     → AreApart p q xs → others q (first_changed p f xs) ≡ others p xs
 moved_others p q f [] moves apart = refl
 moved_others p q f (x ∷ xs) moves apart =
-    let each = parts (p x || not (q x)) (list_all (λ y. p y || not (q y)) xs) apart in
+    let each = and_parts (p x || not (q x)) (list_all (λ y. p y || not (q y)) xs) apart in
     cases (p x) refl each.0 (moved_others p q f xs moves each.1)
   where
     cases : (t : Bool) → p x ≡ t → (p x || not (q x)) ≡ true → others q (first_changed p f xs) ≡ others p xs
@@ -73,7 +70,7 @@ none_apart p q (x ∷ xs) none = cases (p x) (q x) none (none_apart p q xs)
 moves_to : (kind : ℕ) (id : ℤ) (new : Renaming) (x : Row) → is_at kind id x ≡ true
     → is_at kind (unwrap_or new.id id) (row_renamed new x) ≡ true
 moves_to kind id new x here =
-    let each = parts (x.kind == kind) (int_eq x.resource.id id) here in
+    let each = and_parts (x.kind == kind) (int_eq x.resource.id id) here in
     let same : x.resource.id ≡ id = (Decides-int_eq x.resource.id id).0 each.1 in
     rw (each.0, same) ((Decides-int_eq (unwrap_or new.id id) (unwrap_or new.id id)).1 refl)
 

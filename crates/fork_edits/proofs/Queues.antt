@@ -16,27 +16,6 @@ use Rattle.fork_edits.specs.Waiting.{key_cmp, same_key, queued}
 
 -- Resources that wait in queues by type and ID.
 
--- the order of types and IDs tells the same ones
-eq_then : (a b : Ordering) → is_eq (ordering_then a b) ≡ (is_eq a && is_eq b)
-eq_then Less b = refl
-eq_then Equal b = refl
-eq_then Greater b = refl
-
-key_eq : (x y : ℕ × ℤ) → is_eq (key_cmp x y) ≡ same_key x y
-key_eq x y = eq_then (nat_cmp x.0 y.0) (int_cmp x.1 y.1) ∙ ap (λ t. t && int_eq x.1 y.1) (is_eq-nat_cmp x.0 y.0)
-
--- what waits once the queue of a type and an ID is another
-pub queue_updated : (key : ℕ × ℤ) (old new : ℕ × ℤ → Option Queue) (w : Option Queue)
-    → ((q : ℕ × ℤ) → new q ≡ cond (is_eq (key_cmp key q)) w (old q)) → (q : ℕ × ℤ)
-    → queued (new q) ≡ cond (same_key key q) (queued w) (queued (old q))
-queue_updated key old new w is q =
-    ap queued (is q) ∙ apart (is_eq (key_cmp key q))
-    ∙ ap (λ (t : Bool). cond t (queued w) (queued (old q))) (key_eq key q)
-  where
-    apart : (t : Bool) → queued (cond t w (old q)) ≡ cond t (queued w) (queued (old q))
-    apart true = refl
-    apart false = refl
-
 -- a type and an ID that are the same, and those that are not
 same_first : (x y : ℕ × ℤ) → same_key x y ≡ true → x.0 ≡ y.0
 same_first x y h = eqb-true x.0 y.0 (left (x.0 == y.0) (int_eq x.1 y.1) h)

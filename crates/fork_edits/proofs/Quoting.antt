@@ -6,6 +6,7 @@ use Rattle.std.specs.List.{AllByRecursion, flat_map, list_all}
 use Rattle.std.proofs.lemmas.Bool.{and_parts, and_right, leb-true}
 use Rattle.std.proofs.lemmas.Bool.Decides.{nat_tests}
 use Rattle.std.proofs.lemmas.Str.{encode_ascii}
+use Rattle.plain_laws.proofs.Elements.{each-append}
 use Rattle.mac_words.specs.Digits.{upper_digit}
 use Rattle.mac_roman.specs.declared.charset.Charset.TheVariants.{Ascii}
 use Rattle.mac_roman.specs.Charset.{is_printable, character}
@@ -14,7 +15,7 @@ use Rattle.fork_edits.specs.Listing.{Draft, type_length, entry_read, with_entry,
 use Rattle.fork_edits.specs.Quoted.{quoted_from, quoted_read, short_name}
 use Rattle.fork_edits.specs.Texts.{hex_byte, is_clear, four_text, char_text, name_text}
 use Rattle.fork_edits.specs.Types.{byte_value, bytes_spelled, digit_value, type_read}
-use Rattle.fork_edits.proofs.Wording.{IsPrint, IsGraph, all_joined, printed, word_first}
+use Rattle.fork_edits.proofs.Wording.{IsPrint, IsGraph, printed, word_first}
 
 abbrev pub IsByte : ℕ → Type 0
 IsByte b = b < 256
@@ -96,7 +97,8 @@ quote_long a b c d rest =
 
 dollar_long : (bytes rest : List ℕ) → AllByRecursion IsGraph bytes → type_length ((36 ∷ bytes) ++ 32 ∷ rest) ≡ suc (length bytes)
 dollar_long bytes rest h =
-    rw (and_right (nat_le 6 (length (36 ∷ bytes ++ 32 ∷ rest))) (36 == 39) refl) (word_first (36 ∷ bytes) rest ((omega arith, omega arith), h))
+    rw (and_right (nat_le 6 (length (36 ∷ bytes ++ 32 ∷ rest))) (36 == 39) refl)
+    (word_first (36 ∷ bytes) rest ((omega arith, omega arith), h))
 
 pub four_is : (a b c d : ℕ) → AllByRecursion IsByte (a ∷ b ∷ c ∷ d ∷ [])
     → IsType (four_text Ascii (a ∷ b ∷ c ∷ d ∷ [])) (a ∷ b ∷ c ∷ d ∷ [])
@@ -109,7 +111,7 @@ four_is a b c d small = by_test (list_all (is_clear Ascii) four) refl
     quoted h = record {
       read = refl;
       long = λ rest. quote_long a b c d rest;
-      print = ((omega arith, omega arith), all_joined IsPrint four (39 ∷ []) (clear_print four h) ((omega arith, omega arith), tt));
+      print = ((omega arith, omega arith), each-append IsPrint four (39 ∷ []) (clear_print four h) ((omega arith, omega arith), tt));
       taken = λ rest e. quote_taken (a ∷ b ∷ c ∷ d ∷ 39 ∷ rest) e;
     }
 
@@ -200,8 +202,10 @@ char_print b small = by_mark (b == 34 || b == 92) refl
 chars_print : (name : List ℕ) → AllByRecursion IsByte name → AllByRecursion IsPrint (flat_map (char_text Ascii) name)
 chars_print [] h = tt
 chars_print (b ∷ name) h =
-    all_joined IsPrint (char_text Ascii b) (flat_map (char_text Ascii) name) (char_print b h.0) (chars_print name h.1)
+    each-append IsPrint (char_text Ascii b) (flat_map (char_text Ascii) name) (char_print b h.0) (chars_print name h.1)
 
 pub name_print : (name : List ℕ) → AllByRecursion IsByte name → AllByRecursion IsPrint (name_text Ascii (Some name))
-name_print name h =
-    ((omega arith, omega arith), all_joined IsPrint (flat_map (char_text Ascii) name) (34 ∷ []) (chars_print name h) ((omega arith, omega arith), tt))
+name_print name h = (
+  (omega arith, omega arith),
+  each-append IsPrint (flat_map (char_text Ascii) name) (34 ∷ []) (chars_print name h) ((omega arith, omega arith), tt),
+)

@@ -1,19 +1,21 @@
 -- The list of a content is read again.
 use Rattle.std.proofs.Common.{◌≡◌, ℕ, ◌+◌, ◌<◌, ◌≤◌, ◌^◌, Bool, true, false, cond, List, [], ◌∷◌, ◌++◌}
-use Rattle.std.proofs.Common.{length, decimal, replicate, Option, Some, None, Result, Ok, refl, sym, ◌∙◌, ap, arith, append_assoc, append-nil, take, drop, subst, ◌*◌, suc}
+use Rattle.std.proofs.Common.{length, decimal, replicate, Option, Some, None, Result, Ok, refl, sym, ◌∙◌, ap, arith, append_assoc}
+use Rattle.std.proofs.Common.{append-nil, take, drop, subst, ◌*◌, suc}
 use Rattle.std.specs.Prelude.{FitsSigned, ℤ, pos, negsuc, ◌==◌, IfSome, unwrap_or, option_map}
 use Rattle.std.specs.Fmt.{signed_decimal}
 use Rattle.std.specs.Int.{w16}
 use Rattle.std.specs.List.{AllByRecursion, flat_map, list_all, slice_split}
 use Rattle.std.proofs.lemmas.Bool.{and_parts, eqb-true}
+use Rattle.plain_laws.proofs.Elements.{each-append}
 use Rattle.byteorder.specs.Endian.{big_bytes, big_number}
-use Rattle.byteorder.specs.Numbers.{big_number-reads_back}
 use Rattle.mac_roman.specs.declared.charset.Charset.TheVariants.{Ascii}
+use Rattle.fork_format.proofs.Standing.{kind_again}
 use Rattle.fork_edits.specs.declared.entries.LineFault.{LineFault}
 use Rattle.fork_edits.specs.Attributes.{attrs_read}
 use Rattle.fork_edits.specs.Contents.{Entry, Listed, name_field, entry_line, attrs_line, area_line, listed_text}
-use Rattle.fork_edits.specs.Listing.{word, after_word, type_length, fields_after, entry_in, entry_of, entry_read, file_read, name_read, Draft, at_line, line_read}
-use Rattle.fork_edits.specs.Listing.{said, lines_read, no_draft, is_newline, with_entry, contents_read}
+use Rattle.fork_edits.specs.Listing.{word, after_word, type_length, fields_after, entry_in, entry_of, entry_read, file_read, name_read}
+use Rattle.fork_edits.specs.Listing.{Draft, at_line, line_read, said, lines_read, no_draft, is_newline, with_entry, contents_read}
 use Rattle.fork_edits.specs.Numbers.{id_read}
 use Rattle.fork_edits.specs.Quoted.{quoted_read}
 use Rattle.fork_edits.specs.Texts.{hex_byte, char_text, type_text, name_text}
@@ -21,8 +23,8 @@ use Rattle.fork_edits.proofs.Decimals.{within_decimal, attrs_decimal, id_decimal
 use Rattle.fork_edits.proofs.Filing.{IsFile, four_bytes}
 use Rattle.fork_edits.proofs.Naming.{digits-decimal}
 use Rattle.fork_edits.proofs.Quoting.{IsByte, IsType, no_zero, four_is, hex_back, hex_graph, hex_length, name_back, name_print}
-use Rattle.fork_edits.proofs.Wording.{IsPrint, IsGraph, all_joined, printed, digits_graph, take_first, drop_first, word_is, after_is, word_all, after_all}
-use Rattle.fork_edits.proofs.Wording.{line_first, no_return}
+use Rattle.fork_edits.proofs.Wording.{IsPrint, IsGraph, printed, digits_graph, take_first, drop_first, word_is, after_is, word_all}
+use Rattle.fork_edits.proofs.Wording.{after_all, line_first, no_return}
 
 -- what a line can say of a resource
 pub record IsEntry (e : Entry) : Type 0 where
@@ -69,7 +71,8 @@ last_is file (Some name) h short bytes = record {
   filed = ap file_read (word_is file (name_text Ascii (Some name)) h.graph) ∙ h.read;
   named = ap name_read (after_is file (name_text Ascii (Some name)) h.graph)
       ∙ quoted_named (flat_map (char_text Ascii) name ++ 34 ∷ []) (Some name) (name_back name bytes short);
-  print = all_joined IsPrint file (32 ∷ name_text Ascii (Some name)) (printed file h.graph) ((omega arith, omega arith), name_print name bytes);
+  print = each-append IsPrint file (32 ∷ name_text Ascii (Some name)) (printed file h.graph)
+      ((omega arith, omega arith), name_print name bytes);
 }
 
 -- a line is read
@@ -85,22 +88,23 @@ line_read_again ty four id attrs last file name z n h i d a r l =
     let second : after_word rest ≡ attrs ++ 32 ∷ last = after_is id (attrs ++ 32 ∷ last) i in
     let third : after_word (after_word rest) ≡ last = ap after_word second ∙ after_is attrs last a in
     let ids : id_read (word rest) ≡ Some z = ap id_read (word_is id (attrs ++ 32 ∷ last) i) ∙ d in
-    let bits : attrs_read (word (after_word rest)) ≡ Some n = ap (λ l. attrs_read (word l)) second ∙ ap attrs_read (word_is attrs last a) ∙ r in
+    let bits : attrs_read (word (after_word rest)) ≡ Some n = ap (λ l. attrs_read (word l)) second
+    ∙ ap attrs_read (word_is attrs last a) ∙ r in
     let named : file_read (word (after_word (after_word rest))) ≡ Some file = ap (λ l. file_read (word l)) third ∙ l.filed in
     let quoted : name_read (after_word (after_word (after_word rest))) ≡ Some name = ap (λ l. name_read (after_word l)) third ∙ l.named in
     ap (λ l. entry_in (fields_after l (drop (type_length (ty ++ 32 ∷ rest) + 1) (ty ++ 32 ∷ rest)))) first
     ∙ ap (λ l. entry_in (fields_after ty l)) after
-    ∙ ap (λ o. entry_of o (id_read (word rest)) (attrs_read (word (after_word rest))) (file_read (word (after_word (after_word rest)))) (name_read (after_word (after_word (after_word rest))))) h.read
-    ∙ ap (λ o. entry_of (Some four) o (attrs_read (word (after_word rest))) (file_read (word (after_word (after_word rest)))) (name_read (after_word (after_word (after_word rest))))) ids
-    ∙ ap (λ o. entry_of (Some four) (Some z) o (file_read (word (after_word (after_word rest)))) (name_read (after_word (after_word (after_word rest))))) bits
+    ∙ ap (λ o. entry_of o (id_read (word rest)) (attrs_read (word (after_word rest))) (file_read (word (after_word (after_word rest))))
+    (name_read (after_word (after_word (after_word rest))))) h.read
+    ∙ ap (λ o. entry_of (Some four) o (attrs_read (word (after_word rest))) (file_read (word (after_word (after_word rest))))
+    (name_read (after_word (after_word (after_word rest))))) ids
+    ∙ ap (λ o. entry_of (Some four) (Some z) o (file_read (word (after_word (after_word rest))))
+    (name_read (after_word (after_word (after_word rest))))) bits
     ∙ ap (λ o. entry_of (Some four) (Some z) (Some n) o (name_read (after_word (after_word (after_word rest))))) named
     ∙ ap (λ o. entry_of (Some four) (Some z) (Some n) (Some file) o) quoted
 
 type_is : (kind : ℕ) → IsType (type_text Ascii kind) (big_bytes 4 kind)
 type_is kind = four_is _ _ _ _ (four_bytes kind)
-
-kind_again : (kind : ℕ) → kind < 2 ^ 32 → big_number 4 (big_bytes 4 kind) ≡ kind
-kind_again kind low = ap (big_number 4) (sym (append-nil (big_bytes 4 kind))) ∙ big_number-reads_back 4 kind [] low
 
 decimal_graph : (n : ℕ) → n < 2 ^ 64 → AllByRecursion IsGraph (decimal n)
 decimal_graph n small = digits_graph (decimal n) (digits-decimal n small)
@@ -128,10 +132,10 @@ line_print : (ty id attrs last : List ℕ) → AllByRecursion IsPrint ty → All
     → AllByRecursion IsPrint last → AllByRecursion IsPrint (line_of ty id attrs last)
 line_print ty id attrs last t i a l =
     let blank : IsPrint 32 = (omega arith, omega arith) in
-    all_joined IsPrint ty (32 ∷ (id ++ 32 ∷ (attrs ++ 32 ∷ last))) t (
+    each-append IsPrint ty (32 ∷ (id ++ 32 ∷ (attrs ++ 32 ∷ last))) t (
       blank,
-      all_joined IsPrint id (32 ∷ (attrs ++ 32 ∷ last)) (printed id i)
-          (blank, all_joined IsPrint attrs (32 ∷ last) (printed attrs a) (blank, l)),
+      each-append IsPrint id (32 ∷ (attrs ++ 32 ∷ last)) (printed id i)
+          (blank, each-append IsPrint attrs (32 ∷ last) (printed attrs a) (blank, l)),
     )
 
 entry_print : (e : Entry) → IsEntry e → AllByRecursion IsPrint (text_of e)
@@ -159,8 +163,8 @@ entries_again n attrs area front [] h = ap (λ l. Ok (said (draft attrs area l))
 entries_again n attrs area front (e ∷ entries) h =
     let last : List ℕ = signed_decimal e.id ++ 32 ∷ (decimal e.attrs ++ 32 ∷ (e.file ++ name_field e.name)) in
     ap (λ l. lines_read n (draft attrs area front) (slice_split is_newline l)) (line_text e (flat_map entry_line entries))
-    ∙ next_line n (draft attrs area front) (draft attrs area (front ++ e ∷ [])) (text_of e) (flat_map entry_line entries) (entry_print e h.0)
-    ((type_is e.kind).taken (32 ∷ last) (draft attrs area front)
+    ∙ next_line n (draft attrs area front) (draft attrs area (front ++ e ∷ [])) (text_of e) (flat_map entry_line entries)
+    (entry_print e h.0) ((type_is e.kind).taken (32 ∷ last) (draft attrs area front)
     ∙ ap (λ r. with_entry r (draft attrs area front)) (entry_again e h.0))
     ∙ entries_again (n + 1) attrs area (front ++ e ∷ []) entries h.1
     ∙ ap (λ l. Ok (said (draft attrs area l))) (append_assoc front (e ∷ []) entries)
@@ -211,8 +215,10 @@ zeros (b ∷ bytes) h =
     let none : b ≡ 0 = eqb-true b 0 each.0 in
     ap (λ l. 0 ∷ l) (zeros bytes each.1) ∙ ap (λ (k : ℕ). k ∷ bytes) (sym none)
 
-area_again : (n : ℕ) (o : Option ℕ) (area text : List ℕ) (total : Result Listed (ℕ × LineFault)) → length area ≡ 240 → AllByRecursion IsByte area
-    → ((k : ℕ) (p : Option (List ℕ)) → unwrap_or p (replicate 240 0) ≡ area → lines_read k (draft o p []) (slice_split is_newline text) ≡ total)
+area_again : (n : ℕ) (o : Option ℕ) (area text : List ℕ) (total : Result Listed (ℕ × LineFault)) → length area ≡ 240
+    → AllByRecursion IsByte area
+    → ((k : ℕ) (p : Option (List ℕ)) → unwrap_or p (replicate 240 0) ≡ area
+    → lines_read k (draft o p []) (slice_split is_newline text) ≡ total)
     → lines_read n (draft o None []) (slice_split is_newline (area_line area ++ text)) ≡ total
 area_again n o area text total size h more = by_test (list_all (λ (b : ℕ). b == 0) area) refl
   where

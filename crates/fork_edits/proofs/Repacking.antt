@@ -1,5 +1,6 @@
 -- Resources that were taken out of a content, packed again.
-use Rattle.std.proofs.Common.{◌≡◌, ℕ, Bool, true, false, cond, List, [], ◌∷◌, ◌++◌, map, length, refl, sym, ◌∙◌, ap, append_assoc, append-nil, arith}
+use Rattle.std.proofs.Common.{◌≡◌, ℕ, Bool, true, false, cond, List, [], ◌∷◌, ◌++◌, map, length, refl, sym, ◌∙◌, ap, append_assoc}
+use Rattle.std.proofs.Common.{append-nil, arith}
 use Rattle.std.specs.Prelude.{◌==◌, not, nat_le}
 use Rattle.std.specs.List.{list_all}
 use Rattle.std.proofs.lemmas.Bool.{and_parts, eq-eqb}
@@ -34,7 +35,8 @@ with_past g (x ∷ xs) groups other =
     let each = and_parts (not (g.kind == x.kind)) (list_all (λ (y : Row). not (g.kind == y.kind)) xs) other in
     past (g.kind == x.kind) each.0 ∙ with_past g xs (put (row_group x) groups) each.1
   where
-    past : (t : Bool) → not t ≡ true → with_rows xs (cond t (record g { refs = g.refs ++ x.resource ∷ [] } ∷ groups) (g ∷ put (row_group x) groups))
+    past : (t : Bool) → not t ≡ true
+        → with_rows xs (cond t (record g { refs = g.refs ++ x.resource ∷ [] } ∷ groups) (g ∷ put (row_group x) groups))
         ≡ with_rows xs (g ∷ put (row_group x) groups)
     past true e = cc
     past false e = refl

@@ -23,19 +23,20 @@ name_decides (Some a) (Some b) =
     decides_as (bytes_eq a b) (λ (h : a ≡ b). ap Some h) (λ (h : Some a ≡ Some b). cc) (bytes_eq-Decides a b)
 
 ref_decides : (r s : Ref) → Decides (same_ref r s) (r ≡ s)
-ref_decides r s = decides_as (same_ref r s) (λ (h : ((r.id ≡ s.id × r.name ≡ s.name) × r.attrs ≡ s.attrs) × r.datum ≡ s.datum). let e : r ≡ s = λ i. record { id = h.0.0.0 i; name = h.0.0.1 i; attrs = h.0.1 i; datum = h.1 i } in e)
+ref_decides r s = decides_as (same_ref r s) (λ (h : ((r.id ≡ s.id × r.name ≡ s.name) × r.attrs ≡ s.attrs) × r.datum ≡ s.datum).
+    let e : r ≡ s = λ i. record { id = h.0.0.0 i; name = h.0.0.1 i; attrs = h.0.1 i; datum = h.1 i } in e)
     (λ (e : r ≡ s). (((ap (λ (x : Ref). x.id) e, ap (λ (x : Ref). x.name) e), ap (λ (x : Ref). x.attrs) e), ap (λ (x : Ref). x.datum) e))
     (Decides-and _ _ (Decides-and _ _ (Decides-and _ _ (Decides-int_eq r.id s.id) (name_decides r.name s.name))
     (Decides-eqb r.attrs s.attrs)) (bytes_eq-Decides r.datum s.datum))
 
 group_decides : (g h : Group) → Decides (same_group g h) (g ≡ h)
-group_decides g h = decides_as (same_group g h) (λ (e : g.kind ≡ h.kind × g.refs ≡ h.refs). let same : g ≡ h = λ i. record { kind = e.0 i; refs = e.1 i } in same)
-    (λ (e : g ≡ h). (ap (λ (x : Group). x.kind) e, ap (λ (x : Group). x.refs) e))
-    (Decides-and _ _ (Decides-eqb g.kind h.kind)
-    (slice_eq-Decides ref_decides g.refs h.refs (pointwise same_ref g.refs h.refs) refl))
+group_decides g h = decides_as (same_group g h) (λ (e : g.kind ≡ h.kind × g.refs ≡ h.refs). let same : g ≡ h =
+    λ i. record { kind = e.0 i; refs = e.1 i } in same) (λ (e : g ≡ h). (ap (λ (x : Group). x.kind) e, ap (λ (x : Group). x.refs) e))
+    (Decides-and _ _ (Decides-eqb g.kind h.kind) (slice_eq-Decides ref_decides g.refs h.refs (pointwise same_ref g.refs h.refs) refl))
 
 pub content_decides : (c d : Content) → Decides (same_content c d) (c ≡ d)
-content_decides c d = decides_as (same_content c d) (λ (e : (c.area ≡ d.area × c.attrs ≡ d.attrs) × c.groups ≡ d.groups). let same : c ≡ d = λ i. record { area = e.0.0 i; attrs = e.0.1 i; groups = e.1 i } in same)
+content_decides c d = decides_as (same_content c d) (λ (e : (c.area ≡ d.area × c.attrs ≡ d.attrs) × c.groups ≡ d.groups).
+    let same : c ≡ d = λ i. record { area = e.0.0 i; attrs = e.0.1 i; groups = e.1 i } in same)
     (λ (e : c ≡ d). ((ap (λ (x : Content). x.area) e, ap (λ (x : Content). x.attrs) e), ap (λ (x : Content). x.groups) e))
     (Decides-and _ _ (Decides-and _ _ (bytes_eq-Decides c.area d.area) (Decides-eqb c.attrs d.attrs))
     (slice_eq-Decides group_decides c.groups d.groups (pointwise same_group c.groups d.groups) refl))

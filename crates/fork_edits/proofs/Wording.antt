@@ -5,6 +5,7 @@ use Rattle.std.specs.List.{AllByRecursion, slice_split, onto_first}
 use Rattle.std.proofs.lemmas.Bool.{and_right}
 use Rattle.std.proofs.lemmas.Bool.Decides.{nat_tests}
 use Rattle.std.proofs.lemmas.List.Splits.{slice_split-cons_no}
+use Rattle.std.proofs.lemmas.List.{take_all}
 use Rattle.fork_edits.specs.Listing.{word_length, word, after_word, is_newline, without_return}
 use Rattle.fork_edits.proofs.Naming.{IsDigits}
 
@@ -14,10 +15,6 @@ IsPrint b = (32 ≤ b) × (b ≤ 126)
 
 abbrev pub IsGraph : ℕ → Type 0
 IsGraph b = (33 ≤ b) × (b ≤ 126)
-
-pub all_joined : {A : Type 0} (P : A → Type 0) (xs ys : List A) → AllByRecursion P xs → AllByRecursion P ys → AllByRecursion P (xs ++ ys)
-all_joined P [] ys h k = k
-all_joined P (x ∷ xs) ys h k = (h.0, all_joined P xs ys h.1 k)
 
 pub all_weaker : (P Q : ℕ → Type 0) → ((b : ℕ) → P b → Q b) → (xs : List ℕ) → AllByRecursion P xs → AllByRecursion Q xs
 all_weaker P Q weaker [] h = tt
@@ -55,10 +52,6 @@ drop_first (c ∷ w) rest b =
     let more : suc (length w) + 1 ≡ suc (length w + 1) = omega arith in
     ap (λ (n : ℕ). drop n (c ∷ (w ++ b ∷ rest))) more ∙ drop_first w rest b
 
-take_all : (w : List ℕ) → take (length w) w ≡ w
-take_all [] = refl
-take_all (b ∷ w) = ap (λ l. b ∷ l) (take_all w)
-
 drop_all : (w : List ℕ) → drop (length w + 1) w ≡ []
 drop_all [] = refl
 drop_all (c ∷ w) =
@@ -72,7 +65,7 @@ pub after_is : (w rest : List ℕ) → AllByRecursion IsGraph w → after_word (
 after_is w rest h = ap (λ (n : ℕ). drop (n + 1) (w ++ 32 ∷ rest)) (word_first w rest h) ∙ drop_first w rest 32
 
 pub word_all : (w : List ℕ) → AllByRecursion IsGraph w → word w ≡ w
-word_all w h = ap (λ (n : ℕ). take n w) (word_last w h) ∙ take_all w
+word_all w h = ap (λ (n : ℕ). take n w) (word_last w h) ∙ take_all (length w) w (omega arith)
 
 pub after_all : (w : List ℕ) → AllByRecursion IsGraph w → after_word w ≡ []
 after_all w h = ap (λ (n : ℕ). drop (n + 1) w) (word_last w h) ∙ drop_all w

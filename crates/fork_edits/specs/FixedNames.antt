@@ -16,7 +16,8 @@ is_small b = is_between 97 122 b
 abbrev pub letter : Bool → ℕ → List ℕ
 letter turns b = if turns then 43 ∷ b ∷ [] else b ∷ []
 
--- A byte that follows a letter in small or in capitals: letters as above, a digit as it is, and any other byte as _ and two hexadecimal digits.
+-- A byte that follows a letter in small or in capitals: letters as above, a digit as it is, and any other byte as _ and two hexadecimal
+-- digits.
 abbrev pub fixed_byte : Bool → ℕ → List ℕ
 fixed_byte small b =
     if is_capital b then letter small b

@@ -1,5 +1,6 @@
 use Rattle.std.specs.Prelude.{◌≡◌, ℕ, ℤ, ◌+◌, ◌-◌, Bool, ◌&&◌, ◌||◌, ◌==◌, not, nat_le, suc, Option, Some, None, Result, Ok, Err}
-use Rattle.std.specs.Prelude.{List, [], ◌∷◌, ◌++◌, option_map, unwrap_or, if◌then◌else◌, codes, bytes_eq, length, take, drop, replicate, slice_index}
+use Rattle.std.specs.Prelude.{List, [], ◌∷◌, ◌++◌, option_map, unwrap_or, if◌then◌else◌, codes, bytes_eq, length, take, drop, replicate}
+use Rattle.std.specs.Prelude.{slice_index}
 use Rattle.std.specs.List.{list_all, slice_split}
 use Rattle.byteorder.specs.Endian.{big_number}
 use Rattle.fork_edits.specs.declared.entries.LineFault.{LineFault}

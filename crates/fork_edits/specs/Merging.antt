@@ -15,8 +15,8 @@ abbrev pub replaced_by : List Row → List Row → List Row
 replaced_by [] news = []
 replaced_by (r ∷ olds) news = unwrap_or (find (is_same r) news) r ∷ replaced_by olds (others (is_same r) news)
 
--- The resources of both: those of the first in order, replaced by their counterparts in the second, and then those of the second that are no
--- one's counterpart.
+-- The resources of both: those of the first in order, replaced by their counterparts in the second, and then those of the second that are
+-- no one's counterpart.
 abbrev pub both : List Row → List Row → List Row
 both olds news = replaced_by olds news ++ unmatched news olds
 

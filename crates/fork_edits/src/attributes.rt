@@ -4,7 +4,8 @@ ghost use Rattle.std.specs.Prelude.{◌≡◌, option_map};
 ghost use Rattle.std.specs.List.{slice_split};
 ghost use Rattle.mac_words.specs.declared.attributes.Attrs.{Attrs as AttrsValue};
 ghost use Rattle.fork_edits.specs.Types.{is_between};
-ghost use Rattle.fork_edits.specs.Attributes.{digits_read, number_read, word_value, words_value, is_comma, attrs_read};
+ghost use Rattle.fork_edits.specs.Attributes.{digits_read, number_read, word_value, words_value};
+ghost use Rattle.fork_edits.specs.Attributes.{is_comma, attrs_read};
 
 use crate::types::byte_value_of;
 use mac_words::Attrs;
@@ -93,9 +94,9 @@ fn read_value(text: &[u8]) -> Option<u8>
     read_words(text)
 }
 
-/// Returns the attributes that a text stands for: `$40`, two hexadecimal digits in either case; a number from 0 to 255 in
-/// decimal digits, before which zeros and a plus may stand; or the words `sysheap`, `purgeable`, `locked`, `protected` and `preload`, with commas between
-/// them.
+/// Returns the attributes that a text stands for: `$40`, two hexadecimal digits in either case; a
+/// number from 0 to 255 in decimal digits, before which zeros and a plus may stand; or the words
+/// `sysheap`, `purgeable`, `locked`, `protected` and `preload`, with commas between them.
 ///
 /// *More Macintosh Toolbox*, chapter 1, "Resource Attributes".
 pub fn read_attrs(text: &[u8]) -> Option<Attrs>

@@ -1,12 +1,13 @@
-//! The list of what a fork holds that stands beside the files of its resources. Where the host is out of memory, a text may have
-//! got a part of what is appended.
+//! The list of what a fork holds that stands beside the files of its resources. Where the host is
+//! out of memory, a text may have got a part of what is appended.
 
 ghost use Rattle.std.specs.Prelude.{◌≡◌, ◌++◌, ◌==◌, OnOk, codes, decimal, map};
 ghost use Rattle.std.specs.List.{flat_map, list_all};
 ghost use Rattle.byteorder.specs.Endian.{big_number};
 ghost use Rattle.mac_roman.specs.declared.charset.Charset.TheVariants.{Ascii};
 ghost use Rattle.fork_format.specs.View.{view_name, view};
-ghost use Rattle.fork_edits.specs.Contents.{name_field, entry, entry_line, attrs_line, area_line, listed, listed_text};
+ghost use Rattle.fork_edits.specs.Contents.{name_field, entry, entry_line, attrs_line, area_line};
+ghost use Rattle.fork_edits.specs.Contents.{listed, listed_text};
 ghost use Rattle.fork_edits.specs.Lines.{key_text};
 ghost use Rattle.fork_edits.specs.View.{view_row, view_filed};
 
@@ -40,7 +41,8 @@ fn push_name_field(text: &mut Vec<u8>, name: &Option<RefName<'_>>) -> Result<(),
 
 /// Appends the type, the ID and the attributes of a resource, with a blank after each.
 fn push_head(text: &mut Vec<u8>, row: &Row<'_>) -> Result<(), AllocError>
-    ensures { OnOk result (text.new.items ≡ text.old.items ++ (key_text Ascii (view_row row.now).kind (view_row row.now).resource.id
+    ensures { OnOk result (text.new.items
+        ≡ text.old.items ++ (key_text Ascii (view_row row.now).kind (view_row row.now).resource.id
         ++ codes " " ++ decimal (view_row row.now).resource.attrs ++ codes " ")) }
 {
     push_key(text, Charset::Ascii, row.ty, &row.resource.id)?;
@@ -52,7 +54,8 @@ fn push_head(text: &mut Vec<u8>, row: &Row<'_>) -> Result<(), AllocError>
 
 /// Appends the line of a resource.
 fn push_entry(text: &mut Vec<u8>, filed: &FiledRow<'_>) -> Result<(), AllocError>
-    ensures { OnOk result (text.new.items ≡ text.old.items ++ entry_line (entry (view_filed filed.now))) }
+    ensures { OnOk result (text.new.items
+        ≡ text.old.items ++ entry_line (entry (view_filed filed.now))) }
 {
     push_head(text, &filed.row)?;
     text.extend_from_slice(filed.file.as_bytes())?;
@@ -63,7 +66,8 @@ fn push_entry(text: &mut Vec<u8>, filed: &FiledRow<'_>) -> Result<(), AllocError
 
 /// Appends the lines of resources.
 fn push_entries(text: &mut Vec<u8>, files: &[FiledRow<'_>]) -> Result<(), AllocError>
-    ensures { OnOk result (text.new.items ≡ text.old.items ++ flat_map entry_line (map entry (map view_filed files.now))) }
+    ensures { OnOk result (text.new.items
+        ≡ text.old.items ++ flat_map entry_line (map entry (map view_filed files.now))) }
 {
     for filed in files {
         push_entry(text, filed)?;
@@ -107,9 +111,10 @@ fn push_area_line(text: &mut Vec<u8>, area: &[u8]) -> Result<(), AllocError>
     Ok(())
 }
 
-/// Appends the list of what a fork holds that stands beside the files of its resources, a line for each: `map` and the
-/// attributes of the map in decimal, if they are not 0; `area` and the 240 bytes after the header in hexadecimal, if they are
-/// not all 0; and for each resource, in the order of the fork, its type, its ID, its attributes in decimal, the name of its file
+/// Appends the list of what a fork holds that stands beside the files of its resources, a line for
+/// each: `map` and the attributes of the map in decimal, if they are not 0; `area` and the 240
+/// bytes after the header in hexadecimal, if they are not all 0; and for each resource, in the
+/// order of the fork, its type, its ID, its attributes in decimal, the name of its file
 /// (`filed_rows`) and its name, if it has one, as in `'STR ' 128 32 STR_20-128.bin "Greeting"`.
 pub fn append_contents(
     text: &mut Vec<u8>,

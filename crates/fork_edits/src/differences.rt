@@ -6,9 +6,10 @@ ghost use Rattle.std.specs.Cmp.Lexicographic.{pointwise};
 ghost use Rattle.std.specs.Ordering.{int_eq};
 ghost use Rattle.fork_format.specs.View.{view_name, view_ref, view_group, view};
 ghost use Rattle.fork_edits.specs.Resources.{Row as RowValue, others};
-ghost use Rattle.fork_edits.specs.Differences.{same_name, same_ref, same_group, same_content, parts, is_same};
-ghost use Rattle.fork_edits.specs.Differences.{Added, changes, compared, paired, alone, unmatched, matched};
-ghost use Rattle.fork_edits.specs.Differences.{map_differences, found_differences, or_order, differences};
+ghost use Rattle.fork_edits.specs.Differences.{same_name, same_ref, same_group, same_content};
+ghost use Rattle.fork_edits.specs.Differences.{parts, is_same, Added, changes, compared, paired};
+ghost use Rattle.fork_edits.specs.Differences.{alone, unmatched, matched, map_differences};
+ghost use Rattle.fork_edits.specs.Differences.{found_differences, or_order, differences};
 ghost use Rattle.fork_edits.specs.View.{view_row, view_parts, view_difference};
 ghost use Rattle.fork_edits.specs.Waiting.{AreWaiting};
 
@@ -164,8 +165,10 @@ fn note_compared<'a, 'b>(
     old: &Row<'a>,
     news: &mut Waiting<'b>,
 ) -> Result<(), AllocError>
-    ensures noted { (rows : List RowValue) → AreWaiting news.old rows → OnOk result (map view_difference found.new.items
-        ≡ map view_difference found.old.items ++ compared (view_row old.now) (find (is_same (view_row old.now)) rows)) }
+    ensures noted { (rows : List RowValue) → AreWaiting news.old rows
+        → OnOk result (map view_difference found.new.items
+        ≡ map view_difference found.old.items
+        ++ compared (view_row old.now) (find (is_same (view_row old.now)) rows)) }
     ensures others { (rows : List RowValue) → AreWaiting news.old rows
         → OnOk result (AreWaiting news.new (others (is_same (view_row old.now)) rows)) }
 {
@@ -184,7 +187,8 @@ fn note_paired<'a, 'b>(
     news: &[Row<'b>],
 ) -> Result<(), AllocError>
     ensures { OnOk result (map view_difference found.new.items
-        ≡ map view_difference found.old.items ++ paired (map view_row olds.now) (map view_row news.now)) }
+        ≡ map view_difference found.old.items
+        ++ paired (map view_row olds.now) (map view_row news.now)) }
 {
     let mut waiting = waiting_of(alloc, news)?;
     for old in olds {
@@ -200,8 +204,10 @@ fn note_alone<'a, 'b>(
     new: &Row<'b>,
     olds: &mut Waiting<'a>,
 ) -> Result<(), AllocError>
-    ensures noted { (rows : List RowValue) → AreWaiting olds.old rows → OnOk result (map view_difference found.new.items
-        ≡ map view_difference found.old.items ++ map Added (alone (view_row new.now) (find (is_same (view_row new.now)) rows))) }
+    ensures noted { (rows : List RowValue) → AreWaiting olds.old rows
+        → OnOk result (map view_difference found.new.items
+        ≡ map view_difference found.old.items
+        ++ map Added (alone (view_row new.now) (find (is_same (view_row new.now)) rows))) }
     ensures others { (rows : List RowValue) → AreWaiting olds.old rows
         → OnOk result (AreWaiting olds.new (others (is_same (view_row new.now)) rows)) }
 {
@@ -220,7 +226,8 @@ fn note_added<'a, 'b>(
     news: &[Row<'b>],
 ) -> Result<(), AllocError>
     ensures { OnOk result (map view_difference found.new.items
-        ≡ map view_difference found.old.items ++ map Added (unmatched (map view_row news.now) (map view_row olds.now))) }
+        ≡ map view_difference found.old.items
+        ++ map Added (unmatched (map view_row news.now) (map view_row olds.now))) }
 {
     let mut waiting = waiting_of(alloc, olds)?;
     for new in news {
@@ -237,7 +244,8 @@ fn note_matched<'a, 'b>(
     news: &[Row<'b>],
 ) -> Result<(), AllocError>
     ensures { OnOk result (map view_difference found.new.items
-        ≡ map view_difference found.old.items ++ matched (map view_row olds.now) (map view_row news.now)) }
+        ≡ map view_difference found.old.items
+        ++ matched (map view_row olds.now) (map view_row news.now)) }
 {
     note_paired(alloc, found, olds, news)?;
     note_added(alloc, found, olds, news)?;
@@ -285,7 +293,8 @@ fn found_all<'a, 'b>(
     a: &Content<'a>,
     b: &Content<'b>,
 ) -> Result<Vec<Difference<'a, 'b>>, AllocError>
-    ensures { IfOk result (λ v. map view_difference v.items ≡ or_order (found_differences (view a.now) (view b.now))) }
+    ensures { IfOk result (λ v. map view_difference v.items
+        ≡ or_order (found_differences (view a.now) (view b.now))) }
 {
     let mut found = Vec::new(alloc);
     note_all(alloc, &mut found, a, b)?;
@@ -301,7 +310,8 @@ fn differences_of<'a, 'b>(
     a: &Content<'a>,
     b: &Content<'b>,
 ) -> Result<Vec<Difference<'a, 'b>>, AllocError>
-    ensures { IfOk result (λ v. map view_difference v.items ≡ differences (view a.now) (view b.now)) }
+    ensures { IfOk result (λ v. map view_difference v.items
+        ≡ differences (view a.now) (view b.now)) }
 {
     if is_content_same(a, b) {
         return Ok(Vec::new(alloc));
@@ -309,18 +319,21 @@ fn differences_of<'a, 'b>(
     found_all(alloc, a, b)
 }
 
-/// Returns how a first content and a second differ: in the area, in the attributes of the map, then in the resources of the
-/// first, in order, and last in those that only the second has. Resources are matched by type and ID, of several with one
-/// type and ID the first with the first, the second with the second, and so on. Where nothing else differs, the order in
-/// which the resources stand does; contents that are the same differ in nothing.
+/// Returns how a first content and a second differ: in the area, in the attributes of the map, then
+/// in the resources of the first, in order, and last in those that only the second has. Resources
+/// are matched by type and ID, of several with one type and ID the first with the first, the second
+/// with the second, and so on. Where nothing else differs, the order in which the resources stand
+/// does; contents that are the same differ in nothing.
 ///
-/// Resources are found by type and ID, wherever they stand: the time grows with the number of resources times its logarithm.
+/// Resources are found by type and ID, wherever they stand: the time grows with the number of
+/// resources times its logarithm.
 pub fn diff<'a, 'b>(
     alloc: Global,
     a: &Content<'a>,
     b: &Content<'b>,
 ) -> Result<Vec<Difference<'a, 'b>>, AllocError>
-    ensures differences { IfOk result (λ v. map view_difference v.items ≡ differences (view a.now) (view b.now)) }
+    ensures differences { IfOk result (λ v. map view_difference v.items
+        ≡ differences (view a.now) (view b.now)) }
     ensures alike { IfOk result (λ v. (v.items ≡ []) ↔ (view a.now ≡ view b.now)) }
 {
     let found = differences_of(alloc, a, b)?;

@@ -1,4 +1,5 @@
-//! What the list says that stands beside the files of the resources of a fork, and why a list can't be read.
+//! What the list says that stands beside the files of the resources of a fork, and why a list can't
+//! be read.
 
 ghost use Rattle.std.specs.Prelude.{◌≡◌, string_bytes};
 ghost use Rattle.fork_edits.specs.Listing.{stopped_at};
@@ -63,7 +64,8 @@ pub enum LineFault {
     /// The ID is no number from -32768 to 32767.
     #[error("the ID can't be read")]
     Id,
-    /// The attributes are no number from 0 to 255, no two hexadecimal digits after `$`, and no words.
+    /// The attributes are no number from 0 to 255, no two hexadecimal digits after `$`, and no
+    /// words.
     #[error("the attributes can't be read")]
     Attributes,
     /// The name of the file is no name of a file in the folder.

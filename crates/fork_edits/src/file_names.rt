@@ -1,5 +1,5 @@
-//! The names of the files to which resources are written. Where the host is out of memory, a text may have got a part of
-//! what is appended.
+//! The names of the files to which resources are written. Where the host is out of memory, a text
+//! may have got a part of what is appended.
 
 ghost use Rattle.std.specs.Prelude.{◌≡◌, ◌++◌, OnOk, replicate, take, string_bytes};
 ghost use Rattle.std.specs.List.{flat_map};
@@ -7,7 +7,8 @@ ghost use Rattle.std.specs.Fmt.{signed_decimal};
 ghost use Rattle.byteorder.specs.Endian.{big_number, big_bytes};
 ghost use Rattle.fork_format.specs.View.{view_name};
 ghost use Rattle.fork_edits.specs.Texts.{hex_byte};
-ghost use Rattle.fork_edits.specs.FileNames.{is_plain_byte, safe_byte, place_text, name_part, resource_part, file_name};
+ghost use Rattle.fork_edits.specs.FileNames.{is_plain_byte, safe_byte, place_text, name_part};
+ghost use Rattle.fork_edits.specs.FileNames.{resource_part, file_name};
 ghost use Rattle.fork_edits.specs.View.{view_row};
 
 use crate::resources::Row;
@@ -51,7 +52,8 @@ pub(crate) fn push_safe(text: &mut String, byte: u8) -> Result<(), AllocError>
 
 /// Appends bytes, each so that it may stand in the name of a file.
 fn push_all_safe(text: &mut String, bytes: &[u8]) -> Result<(), AllocError>
-    ensures { OnOk result (string_bytes text.new ≡ string_bytes text.old ++ flat_map safe_byte bytes.now) }
+    ensures { OnOk result (string_bytes text.new
+        ≡ string_bytes text.old ++ flat_map safe_byte bytes.now) }
 {
     for byte in bytes {
         push_safe(text, *byte)?;
@@ -92,7 +94,8 @@ fn shown(bytes: &[u8]) -> &[u8]
 
 /// Appends the first bytes of a name, or nothing for no name.
 fn push_name_part(text: &mut String, name: &Option<RefName<'_>>) -> Result<(), AllocError>
-    ensures { OnOk result (string_bytes text.new ≡ string_bytes text.old ++ name_part (view_name name.now)) }
+    ensures { OnOk result (string_bytes text.new
+        ≡ string_bytes text.old ++ name_part (view_name name.now)) }
 {
     if let Some(name) = name {
         text.push_str("-")?;
@@ -121,7 +124,8 @@ pub(crate) fn push_number(text: &mut String, id: &i16) -> Result<(), AllocError>
 
 /// Appends the type, the ID and the name of a resource.
 fn push_resource(text: &mut String, row: &Row<'_>) -> Result<(), AllocError>
-    ensures { OnOk result (string_bytes text.new ≡ string_bytes text.old ++ resource_part (view_row row.now)) }
+    ensures { OnOk result (string_bytes text.new
+        ≡ string_bytes text.old ++ resource_part (view_row row.now)) }
 {
     push_type(text, row.ty)?;
     text.push_str("-")?;
@@ -130,14 +134,15 @@ fn push_resource(text: &mut String, row: &Row<'_>) -> Result<(), AllocError>
     Ok(())
 }
 
-/// Appends the name of the file to which the resource with a number is written, as `0001-STR_20-128-Greeting.bin`: the
-/// number, the type, the ID, and up to 48 bytes of the name, if the resource has one. A byte that is no letter and no digit is
-/// `_` and two hexadecimal digits.
+/// Appends the name of the file to which the resource with a number is written, as
+/// `0001-STR_20-128-Greeting.bin`: the number, the type, the ID, and up to 48 bytes of the name, if
+/// the resource has one. A byte that is no letter and no digit is `_` and two hexadecimal digits.
 ///
-/// Two names with different numbers differ, also where a host takes letters in either case for the same
-/// (`file_names_are_apart`).
+/// Two names with different numbers differ, also where a host takes letters in either case for the
+/// same (`file_names_are_apart`).
 pub fn append_file_name(text: &mut String, number: usize, row: &Row<'_>) -> Result<(), AllocError>
-    ensures { OnOk result (string_bytes text.new ≡ string_bytes text.old ++ file_name number (view_row row.now)) }
+    ensures { OnOk result (string_bytes text.new
+        ≡ string_bytes text.old ++ file_name number (view_row row.now)) }
 {
     push_place(text, number)?;
     text.push_str("-")?;

@@ -2,7 +2,8 @@
 
 ghost use Rattle.std.specs.Prelude.{◌≡◌, is_some, map, IfOk};
 ghost use Rattle.fork_format.specs.View.{view};
-ghost use Rattle.fork_edits.specs.Filed.{filed_fixed, filed_numbered, numbered_from, filed_by, filed};
+ghost use Rattle.fork_edits.specs.Filed.{filed_fixed, filed_numbered, numbered_from, filed_by};
+ghost use Rattle.fork_edits.specs.Filed.{filed};
 ghost use Rattle.fork_edits.specs.Resources.{rows};
 ghost use Rattle.fork_edits.specs.Twins.{twin};
 ghost use Rattle.fork_edits.specs.View.{view_row, view_filed};
@@ -43,7 +44,8 @@ fn fixed<'b>(alloc: Global, row: &Row<'b>) -> Result<FiledRow<'b>, AllocError>
 
 /// Returns resources with the names of their files by number, from 1 on.
 fn all_numbered<'b>(alloc: Global, rows: &[Row<'b>]) -> Result<Vec<FiledRow<'b>>, AllocError>
-    ensures { IfOk result (λ files. map view_filed files.items ≡ numbered_from 1 (map view_row rows.now)) }
+    ensures { IfOk result (λ files. map view_filed files.items
+        ≡ numbered_from 1 (map view_row rows.now)) }
 {
     let mut files = Vec::new(alloc);
     for (i, row) in rows.iter().enumerate() {
@@ -54,7 +56,8 @@ fn all_numbered<'b>(alloc: Global, rows: &[Row<'b>]) -> Result<Vec<FiledRow<'b>>
 
 /// Returns resources with the names of their files by type and ID.
 fn all_fixed<'b>(alloc: Global, rows: &[Row<'b>]) -> Result<Vec<FiledRow<'b>>, AllocError>
-    ensures { IfOk result (λ files. map view_filed files.items ≡ map filed_fixed (map view_row rows.now)) }
+    ensures { IfOk result (λ files. map view_filed files.items
+        ≡ map filed_fixed (map view_row rows.now)) }
 {
     let mut files = Vec::new(alloc);
     for row in rows {
@@ -69,7 +72,8 @@ fn all_filed<'b>(
     numbered: bool,
     rows: &[Row<'b>],
 ) -> Result<Vec<FiledRow<'b>>, AllocError>
-    ensures { IfOk result (λ files. map view_filed files.items ≡ filed_by numbered (map view_row rows.now)) }
+    ensures { IfOk result (λ files. map view_filed files.items
+        ≡ filed_by numbered (map view_row rows.now)) }
 {
     if numbered {
         all_numbered(alloc, rows)
@@ -87,13 +91,16 @@ fn has_twins(alloc: Global, content: &Content<'_>) -> Result<bool, AllocError>
     Ok(twin.is_some())
 }
 
-/// Returns the resources of a content in order, each with the name of the file to which it is written: by its type and its ID
-/// (`append_fixed_name`), so that the name stays as it is when other resources come and go. Where two resources have one type and
-/// ID, the names of all are by number (`append_file_name`), from 1 on.
+/// Returns the resources of a content in order, each with the name of the file to which it is
+/// written: by its type and its ID (`append_fixed_name`), so that the name stays as it is when
+/// other resources come and go. Where two resources have one type and ID, the names of all are by
+/// number (`append_file_name`), from 1 on.
 ///
-/// No two have one name, also where a host takes letters in either case for the same (`files_are_apart`).
+/// No two have one name, also where a host takes letters in either case for the same
+/// (`files_are_apart`).
 pub fn filed_rows<'b>(alloc: Global, content: &Content<'b>) -> Result<Vec<FiledRow<'b>>, AllocError>
-    ensures { IfOk result (λ files. map view_filed files.items ≡ filed (rows (view content.now).groups)) }
+    ensures { IfOk result (λ files. map view_filed files.items
+        ≡ filed (rows (view content.now).groups)) }
 {
     let rows = rows_of(alloc, content)?;
     let numbered = has_twins(alloc, content)?;

@@ -1,9 +1,10 @@
-//! The names of the files to which resources are written, by type and ID alone. Where the host is out of memory, a text may have
-//! got a part of what is appended.
+//! The names of the files to which resources are written, by type and ID alone. Where the host is
+//! out of memory, a text may have got a part of what is appended.
 
 ghost use Rattle.std.specs.Prelude.{◌≡◌, ◌<◌, ◌++◌, OnOk, string_bytes, false};
 ghost use Rattle.byteorder.specs.Endian.{big_number, big_bytes};
-ghost use Rattle.fork_edits.specs.FixedNames.{is_capital, is_small, letter, fixed_byte, case_after, fixed_bytes, fixed_name};
+ghost use Rattle.fork_edits.specs.FixedNames.{is_capital, is_small, letter, fixed_byte, case_after};
+ghost use Rattle.fork_edits.specs.FixedNames.{fixed_bytes, fixed_name};
 
 use crate::file_names::{push_number, push_safe};
 use byteorder::{BigEndian, ByteOrder};
@@ -65,7 +66,8 @@ fn is_small_after(small: bool, byte: u8) -> bool
 
 /// Appends bytes, each so that it may stand in the name of a file.
 fn push_all_fixed(text: &mut String, bytes: &[u8]) -> Result<(), AllocError>
-    ensures { OnOk result (string_bytes text.new ≡ string_bytes text.old ++ fixed_bytes false bytes.now) }
+    ensures { OnOk result (string_bytes text.new
+        ≡ string_bytes text.old ++ fixed_bytes false bytes.now) }
 {
     let mut small = false;
     for byte in bytes {
@@ -85,14 +87,16 @@ fn push_fixed_type(text: &mut String, ty: OsType) -> Result<(), AllocError>
     push_all_fixed(text, &bytes)
 }
 
-/// Appends the name of the file to which the resource of a type and an ID is written, as `STR_20-128.bin` or `+vers-1.bin`: the
-/// type and the ID. A plus stands before a letter whose case is not that of the letter before it (a capital at first); a byte
-/// that is no letter and no digit is `_` and two hexadecimal digits.
+/// Appends the name of the file to which the resource of a type and an ID is written, as
+/// `STR_20-128.bin` or `+vers-1.bin`: the type and the ID. A plus stands before a letter whose case
+/// is not that of the letter before it (a capital at first); a byte that is no letter and no digit
+/// is `_` and two hexadecimal digits.
 ///
-/// The name does not depend on the other resources of the fork, and two names differ, also where a host takes letters in either
-/// case for the same (`fixed_file_names_are_apart`).
+/// The name does not depend on the other resources of the fork, and two names differ, also where a
+/// host takes letters in either case for the same (`fixed_file_names_are_apart`).
 pub fn append_fixed_name(text: &mut String, ty: OsType, id: &i16) -> Result<(), AllocError>
-    ensures { OnOk result (string_bytes text.new ≡ string_bytes text.old ++ fixed_name (big_number 4 ty.0) id.now) }
+    ensures { OnOk result (string_bytes text.new
+        ≡ string_bytes text.old ++ fixed_name (big_number 4 ty.0) id.now) }
 {
     push_fixed_type(text, ty)?;
     text.push_str("-")?;

@@ -1,5 +1,5 @@
-//! What is done with the content of a resource fork: resources are found, set, taken out, renamed, merged and compared, and named for
-//! people and for files.
+//! What is done with the content of a resource fork: resources are found, set, taken out, renamed,
+//! merged and compared, and named for people and for files.
 #![tactic(auto)]
 
 mod attributes;

@@ -1,11 +1,11 @@
-//! Resources and differences as lines that a person reads. Where the host is out of memory, a text may have got a part of
-//! what is appended.
+//! Resources and differences as lines that a person reads. Where the host is out of memory, a text
+//! may have got a part of what is appended.
 
 ghost use Rattle.std.specs.Prelude.{◌≡◌, ◌++◌, OnOk};
 ghost use Rattle.byteorder.specs.Endian.{big_number};
 ghost use Rattle.fork_format.specs.View.{view_ref};
-ghost use Rattle.fork_edits.specs.Lines.{numbers_text, row_text, row_line, word_if, parts_text, key_text, changed_line, difference_line};
-ghost use Rattle.fork_edits.specs.Lines.{compressed_text};
+ghost use Rattle.fork_edits.specs.Lines.{numbers_text, row_text, row_line, word_if, parts_text};
+ghost use Rattle.fork_edits.specs.Lines.{key_text, changed_line, difference_line, compressed_text};
 ghost use Rattle.fork_edits.specs.View.{view_row, view_parts, view_difference};
 
 use crate::differences::{Difference, Parts};
@@ -22,7 +22,8 @@ const COMPRESSED: u8 = 1;
 
 /// Appends the ID, the attributes and the length of a resource, with a blank before each.
 fn push_numbers(text: &mut Vec<u8>, resource: &Ref<'_>) -> Result<(), AllocError>
-    ensures { OnOk result (text.new.items ≡ text.old.items ++ numbers_text (view_ref resource.now)) }
+    ensures { OnOk result (text.new.items
+        ≡ text.old.items ++ numbers_text (view_ref resource.now)) }
 {
     text.push(b' ')?;
     text.extend_from_slice(Buffer::new().format(resource.id).as_bytes())?;
@@ -32,8 +33,8 @@ fn push_numbers(text: &mut Vec<u8>, resource: &Ref<'_>) -> Result<(), AllocError
     text.extend_from_slice(Buffer::new().format(resource.datum.len()).as_bytes())
 }
 
-/// Appends a resource as a person reads it: its type, its ID, its attributes in decimal, the length of its stored data in
-/// bytes, and its name.
+/// Appends a resource as a person reads it: its type, its ID, its attributes in decimal, the length
+/// of its stored data in bytes, and its name.
 pub fn append_row(text: &mut Vec<u8>, charset: Charset, row: &Row<'_>) -> Result<(), AllocError>
     ensures { OnOk result (text.new.items ≡ text.old.items ++ row_text charset (view_row row.now)) }
 {
@@ -50,7 +51,8 @@ fn push_line(
     sign: u8,
     row: &Row<'_>,
 ) -> Result<(), AllocError>
-    ensures { OnOk result (text.new.items ≡ text.old.items ++ row_line charset sign (view_row row.now)) }
+    ensures { OnOk result (text.new.items
+        ≡ text.old.items ++ row_line charset sign (view_row row.now)) }
 {
     text.push(sign)?;
     text.push(b' ')?;
@@ -86,7 +88,8 @@ pub(crate) fn push_key(
     ty: OsType,
     id: &i16,
 ) -> Result<(), AllocError>
-    ensures { OnOk result (text.new.items ≡ text.old.items ++ key_text charset (big_number 4 ty.0) id.now) }
+    ensures { OnOk result (text.new.items
+        ≡ text.old.items ++ key_text charset (big_number 4 ty.0) id.now) }
 {
     append_type(text, charset, ty)?;
     text.push(b' ')?;
@@ -103,7 +106,8 @@ fn push_changed(
     parts: &Parts,
 ) -> Result<(), AllocError>
     ensures { OnOk result (text.new.items
-        ≡ text.old.items ++ changed_line charset (big_number 4 ty.0) id.now (view_parts parts.now)) }
+        ≡ text.old.items
+        ++ changed_line charset (big_number 4 ty.0) id.now (view_parts parts.now)) }
 {
     text.extend_from_slice(b"~ ")?;
     push_key(text, charset, ty, id)?;
@@ -112,15 +116,16 @@ fn push_changed(
     Ok(())
 }
 
-/// Appends the line of a difference: `- ` and the resource for one that was removed, `+ ` and the resource for one that was
-/// added, and `~ ` for what differs: a type, an ID and the parts `name`, `attributes` and `bytes`; `area`; `map attributes`;
-/// `order`.
+/// Appends the line of a difference: `- ` and the resource for one that was removed, `+ ` and the
+/// resource for one that was added, and `~ ` for what differs: a type, an ID and the parts `name`,
+/// `attributes` and `bytes`; `area`; `map attributes`; `order`.
 pub fn append_difference(
     text: &mut Vec<u8>,
     charset: Charset,
     difference: &Difference<'_, '_>,
 ) -> Result<(), AllocError>
-    ensures { OnOk result (text.new.items ≡ text.old.items ++ difference_line charset (view_difference difference.now)) }
+    ensures { OnOk result (text.new.items
+        ≡ text.old.items ++ difference_line charset (view_difference difference.now)) }
 {
     match difference {
         Difference::Area => text.extend_from_slice(b"~ area\n"),
@@ -132,8 +137,8 @@ pub fn append_difference(
     }
 }
 
-/// Appends ` compressed` for a resource whose stored data is compressed (`resCompressed`), and nothing for another: the word
-/// stands after the resource's name. The data is never expanded.
+/// Appends ` compressed` for a resource whose stored data is compressed (`resCompressed`), and
+/// nothing for another: the word stands after the resource's name. The data is never expanded.
 pub fn append_compressed(text: &mut Vec<u8>, attrs: Attrs) -> Result<(), AllocError>
     ensures { OnOk result (text.new.items ≡ text.old.items ++ compressed_text attrs.0) }
 {

@@ -1,13 +1,19 @@
 //! Reading the list that stands beside the files of the resources of a fork.
 
-ghost use Rattle.std.specs.Prelude.{◌≡◌, ◌<◌, ◌≤◌, ◌==◌, ◌||◌, ◌++◌, ◌∷◌, [], ◌+◌, bytes_eq, codes, true, Ok, IfOk, IfErr, OnOk, length, map, option_map, string_bytes, take, drop};
+ghost use Rattle.std.specs.Prelude.{◌≡◌, ◌<◌, ◌≤◌, ◌==◌, ◌||◌, ◌++◌, ◌∷◌, [], ◌+◌, bytes_eq, codes};
+ghost use Rattle.std.specs.Prelude.{true, Ok, IfOk, IfErr, OnOk, length, map, option_map};
+ghost use Rattle.std.specs.Prelude.{string_bytes, take, drop};
 ghost use Rattle.std.specs.List.{list_all, slice_split};
-ghost use Rattle.fork_edits.specs.Listing.{word_length, word, after_word, type_length, fields_after, fields, is_file_byte, is_file_name};
-ghost use Rattle.fork_edits.specs.Listing.{file_read, name_read, entry_in, entry_read, with_attrs, area_read, with_area, with_entry, is_remark};
-ghost use Rattle.fork_edits.specs.Listing.{line_read, without_return, said, lines_read, no_draft, is_newline, contents_read, StopsLine, StopsList};
+ghost use Rattle.fork_edits.specs.Listing.{word_length, word, after_word, type_length};
+ghost use Rattle.fork_edits.specs.Listing.{fields_after, fields, is_file_byte, is_file_name};
+ghost use Rattle.fork_edits.specs.Listing.{file_read, name_read, entry_in, entry_read, with_attrs};
+ghost use Rattle.fork_edits.specs.Listing.{area_read, with_area, with_entry, is_remark, line_read};
+ghost use Rattle.fork_edits.specs.Listing.{without_return, said, lines_read, no_draft, is_newline};
+ghost use Rattle.fork_edits.specs.Listing.{contents_read, StopsLine, StopsList};
 ghost use Rattle.fork_edits.specs.Numbers.{number_within};
 ghost use Rattle.fork_edits.specs.Types.{bytes_spelled};
-ghost use Rattle.fork_edits.specs.View.{name_listed, view_entry, view_list, view_fields, view_draft};
+ghost use Rattle.fork_edits.specs.View.{name_listed, view_entry, view_list, view_fields};
+ghost use Rattle.fork_edits.specs.View.{view_draft};
 
 use crate::attributes::read_attrs;
 use crate::entries::{ContentsFault, ContentsList, LineFault, LineStop, ListedEntry};
@@ -122,10 +128,12 @@ fn push_ascii(text: &mut String, byte: u8) -> Result<(), AllocError>
     Ok(())
 }
 
-/// Appends a text, if each byte of it may stand in the name of a file, and reports whether it is so.
+/// Appends a text, if each byte of it may stand in the name of a file, and reports whether it
+/// is so.
 fn push_file(file: &mut String, text: &[u8]) -> Result<bool, AllocError>
     ensures tested { IfOk result (λ good. good ≡ list_all is_file_byte text.now) }
-    ensures pushed { IfOk result (λ good. good ≡ true → string_bytes file.new ≡ string_bytes file.old ++ text.now) }
+    ensures pushed { IfOk result (λ good. good ≡ true
+        → string_bytes file.new ≡ string_bytes file.old ++ text.now) }
 {
     for byte in text {
         if !is_of_file(*byte) {
@@ -138,7 +146,8 @@ fn push_file(file: &mut String, text: &[u8]) -> Result<bool, AllocError>
 
 /// Reports whether a text names the folder itself or the one above it, or nothing.
 fn is_no_file(text: &[u8]) -> bool
-    ensures { result ≡ (length text.now == 0 || bytes_eq text.now (codes ".") || bytes_eq text.now (codes "..")) }
+    ensures { result ≡ (length text.now == 0 || bytes_eq text.now (codes ".")
+        || bytes_eq text.now (codes "..")) }
 {
     text.is_empty() || text == b".".as_slice() || text == b"..".as_slice()
 }
@@ -201,8 +210,10 @@ fn read_fields(alloc: Global, fields: &Fields<'_>) -> Result<ListedEntry, LineSt
 
 /// Takes the line of a resource.
 fn take_entry(alloc: Global, line: &[u8], draft: &mut Draft) -> Result<(), LineStop>
-    ensures made { OnOk result (with_entry (entry_read line.now) (view_draft draft.old) ≡ Ok (view_draft draft.new)) }
-    ensures fault { IfErr result (λ fault. StopsLine fault (with_entry (entry_read line.now) (view_draft draft.old))) }
+    ensures made { OnOk result (with_entry (entry_read line.now) (view_draft draft.old)
+        ≡ Ok (view_draft draft.new)) }
+    ensures fault { IfErr result (λ fault.
+        StopsLine fault (with_entry (entry_read line.now) (view_draft draft.old))) }
 {
     let fields = fields_of(line);
     let entry = read_fields(alloc, &fields)?;
@@ -212,10 +223,11 @@ fn take_entry(alloc: Global, line: &[u8], draft: &mut Draft) -> Result<(), LineS
 
 /// Takes the attributes of the map.
 fn take_attrs(text: &[u8], draft: &mut Draft) -> Result<(), LineStop>
-    ensures made { OnOk result (with_attrs (view_draft draft.old).attrs (number_within 65535 text.now) (view_draft draft.old)
+    ensures made { OnOk result (with_attrs (view_draft draft.old).attrs
+        (number_within 65535 text.now) (view_draft draft.old)
         ≡ Ok (view_draft draft.new)) }
-    ensures fault { IfErr result (λ fault. StopsLine fault
-        (with_attrs (view_draft draft.old).attrs (number_within 65535 text.now) (view_draft draft.old))) }
+    ensures fault { IfErr result (λ fault. StopsLine fault (with_attrs (view_draft draft.old).attrs
+        (number_within 65535 text.now) (view_draft draft.old))) }
 {
     if draft.attrs.is_some() {
         return Err(LineStop::Wrong(LineFault::SecondMap));
@@ -244,7 +256,8 @@ fn spelled(text: &[u8]) -> Option<[u8; 240]>
 
 /// Takes the bytes after the header.
 fn take_area(text: &[u8], draft: &mut Draft) -> Result<(), LineStop>
-    ensures made { OnOk result (with_area (view_draft draft.old).area (area_read text.now) (view_draft draft.old)
+    ensures made { OnOk result
+        (with_area (view_draft draft.old).area (area_read text.now) (view_draft draft.old)
         ≡ Ok (view_draft draft.new)) }
     ensures fault { IfErr result (λ fault. StopsLine fault
         (with_area (view_draft draft.old).area (area_read text.now) (view_draft draft.old))) }
@@ -278,8 +291,10 @@ fn is_remark_line(line: &[u8]) -> bool
 
 /// Takes a line.
 fn take_line(alloc: Global, line: &[u8], draft: &mut Draft) -> Result<(), LineStop>
-    ensures made { OnOk result (line_read line.now (view_draft draft.old) ≡ Ok (view_draft draft.new)) }
-    ensures fault { IfErr result (λ fault. StopsLine fault (line_read line.now (view_draft draft.old))) }
+    ensures made { OnOk result (line_read line.now (view_draft draft.old)
+        ≡ Ok (view_draft draft.new)) }
+    ensures fault { IfErr result (λ fault.
+        StopsLine fault (line_read line.now (view_draft draft.old))) }
 {
     if is_remark_line(line) {
         return Ok(());
@@ -307,7 +322,8 @@ fn bare_line(line: &[u8]) -> &[u8]
 
 /// Returns the lines of a text.
 fn lines_of(alloc: Global, text: &[u8]) -> Result<Vec<&[u8]>, AllocError>
-    ensures { IfOk result (λ lines. map (λ line. line.now) lines.items ≡ slice_split is_newline text.now) }
+    ensures { IfOk result (λ lines. map (λ line. line.now) lines.items
+        ≡ slice_split is_newline text.now) }
 {
     let mut lines = Vec::new(alloc);
     for line in text.split(|b| *b == b'\n') {
@@ -318,8 +334,10 @@ fn lines_of(alloc: Global, text: &[u8]) -> Result<Vec<&[u8]>, AllocError>
 
 /// Returns what the lines of a list say.
 fn draft_of(alloc: Global, lines: &[&[u8]]) -> Result<Draft, ContentsFault>
-    ensures made { IfOk result (λ d. lines_read 1 no_draft (map (λ line. line.now) lines.now) ≡ Ok (said (view_draft d))) }
-    ensures fault { IfErr result (λ fault. StopsList fault (lines_read 1 no_draft (map (λ line. line.now) lines.now))) }
+    ensures made { IfOk result (λ d. lines_read 1 no_draft (map (λ line. line.now) lines.now)
+        ≡ Ok (said (view_draft d))) }
+    ensures fault { IfErr result (λ fault.
+        StopsList fault (lines_read 1 no_draft (map (λ line. line.now) lines.now))) }
 {
     let mut draft = Draft {
         attrs: None,
@@ -346,18 +364,20 @@ fn list_of(draft: Draft) -> ContentsList
     }
 }
 
-/// Reads the list that stands beside the files of the resources of a fork (`append_contents`): a line for each resource with its
-/// type, its ID, its attributes, the name of its file and, if it has one, its name in double quotes, with a blank between; at most one line
-/// `map` with the attributes of the map, and at most one line `area` with 480 hexadecimal digits, in any order. Where they are left
-/// out, the attributes of the map, and the bytes after the header, are 0. Empty lines, and lines that begin with `#`, say
-/// nothing. LF, or CR with LF, ends a line.
+/// Reads the list that stands beside the files of the resources of a fork (`append_contents`): a
+/// line for each resource with its type, its ID, its attributes, the name of its file and, if it
+/// has one, its name in double quotes, with a blank between; at most one line `map` with the
+/// attributes of the map, and at most one line `area` with 480 hexadecimal digits, in any order.
+/// Where they are left out, the attributes of the map, and the bytes after the header, are 0. Empty
+/// lines, and lines that begin with `#`, say nothing. LF, or CR with LF, ends a line.
 ///
-/// A type, an ID and attributes are as `read_type` and `read_attrs` take them. The name of a file has printable characters of ASCII
-/// other than a blank and a slash, and is neither `.` nor `..`.
+/// A type, an ID and attributes are as `read_type` and `read_attrs` take them. The name of a file
+/// has printable characters of ASCII other than a blank and a slash, and is neither `.` nor `..`.
 ///
 /// # Errors
 ///
-/// The first line that can't be read, and why; if the host is out of memory nothing is said of the list.
+/// The first line that can't be read, and why; if the host is out of memory nothing is said of the
+/// list.
 pub fn read_contents(alloc: Global, text: &[u8]) -> Result<ContentsList, ContentsFault>
     ensures made { IfOk result (λ l. contents_read text.now ≡ Ok (view_list l)) }
     ensures fault { IfErr result (λ fault. StopsList fault (contents_read text.now)) }

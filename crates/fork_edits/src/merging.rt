@@ -1,13 +1,15 @@
 //! A content that holds the resources of two.
 
-ghost use Rattle.std.specs.Prelude.{◌≡◌, ◌++◌, ◌∷◌, [], List, Ok, Some, map, option_map, unwrap_or, IfOk, IfErr, OnOk};
+ghost use Rattle.std.specs.Prelude.{◌≡◌, ◌++◌, ◌∷◌, [], List, Ok, Some, map, option_map, unwrap_or};
+ghost use Rattle.std.specs.Prelude.{IfOk, IfErr, OnOk};
 ghost use Rattle.std.specs.List.{find};
 ghost use Rattle.byteorder.specs.Endian.{big_number};
 ghost use Rattle.fork_format.specs.Place.{ArePlaces, put, opened, place};
 ghost use Rattle.fork_format.specs.View.{view_group, view};
 ghost use Rattle.fork_edits.specs.Resources.{Row as RowValue, others};
 ghost use Rattle.fork_edits.specs.Differences.{is_same, alone, unmatched};
-ghost use Rattle.fork_edits.specs.Merging.{replaced_by, both, row_group, with_rows, clash, in_the_way, merged};
+ghost use Rattle.fork_edits.specs.Merging.{replaced_by, both, row_group, with_rows, clash};
+ghost use Rattle.fork_edits.specs.Merging.{in_the_way, merged};
 ghost use Rattle.fork_edits.specs.MergeFaults.{StopsMerge};
 ghost use Rattle.fork_edits.specs.View.{view_row};
 ghost use Rattle.fork_edits.specs.Waiting.{AreWaiting};
@@ -53,8 +55,10 @@ fn push_replaced<'b>(
     old: &Row<'b>,
     news: &mut Waiting<'b>,
 ) -> Result<(), AllocError>
-    ensures pushed { (rows : List RowValue) → AreWaiting news.old rows → OnOk result (map view_row out.new.items
-        ≡ map view_row out.old.items ++ unwrap_or (find (is_same (view_row old.now)) rows) (view_row old.now) ∷ []) }
+    ensures pushed { (rows : List RowValue) → AreWaiting news.old rows
+        → OnOk result (map view_row out.new.items
+        ≡ map view_row out.old.items
+        ++ unwrap_or (find (is_same (view_row old.now)) rows) (view_row old.now) ∷ []) }
     ensures others { (rows : List RowValue) → AreWaiting news.old rows
         → OnOk result (AreWaiting news.new (others (is_same (view_row old.now)) rows)) }
 {
@@ -73,7 +77,8 @@ fn push_all_replaced<'b>(
     news: &[Row<'b>],
 ) -> Result<(), AllocError>
     ensures { OnOk result (map view_row out.new.items
-        ≡ map view_row out.old.items ++ replaced_by (map view_row olds.now) (map view_row news.now)) }
+        ≡ map view_row out.old.items
+        ++ replaced_by (map view_row olds.now) (map view_row news.now)) }
 {
     let mut waiting = waiting_of(alloc, news)?;
     for old in olds {
@@ -89,8 +94,10 @@ fn push_alone<'b>(
     new: &Row<'b>,
     olds: &mut Waiting<'b>,
 ) -> Result<(), AllocError>
-    ensures pushed { (rows : List RowValue) → AreWaiting olds.old rows → OnOk result (map view_row out.new.items
-        ≡ map view_row out.old.items ++ alone (view_row new.now) (find (is_same (view_row new.now)) rows)) }
+    ensures pushed { (rows : List RowValue) → AreWaiting olds.old rows
+        → OnOk result (map view_row out.new.items
+        ≡ map view_row out.old.items
+        ++ alone (view_row new.now) (find (is_same (view_row new.now)) rows)) }
     ensures others { (rows : List RowValue) → AreWaiting olds.old rows
         → OnOk result (AreWaiting olds.new (others (is_same (view_row new.now)) rows)) }
 {
@@ -124,7 +131,8 @@ fn both_of<'b>(
     olds: &[Row<'b>],
     news: &[Row<'b>],
 ) -> Result<Vec<Row<'b>>, AllocError>
-    ensures { IfOk result (λ v. map view_row v.items ≡ both (map view_row olds.now) (map view_row news.now)) }
+    ensures { IfOk result (λ v. map view_row v.items
+        ≡ both (map view_row olds.now) (map view_row news.now)) }
 {
     let mut out = Vec::new(alloc);
     push_all_replaced(alloc, &mut out, olds, news)?;
@@ -132,7 +140,8 @@ fn both_of<'b>(
     Ok(out)
 }
 
-/// Returns the place of a type's group. The group of a new type is put after the others, with no resource yet.
+/// Returns the place of a type's group. The group of a new type is put after the others, with no
+/// resource yet.
 fn place_of<'b>(
     alloc: Global,
     kind: u32,
@@ -143,7 +152,8 @@ fn place_of<'b>(
     requires kind { kind ≡ big_number 4 ty.0 }
     requires places { ArePlaces places.old (map view_group groups.old.items) }
     ensures places { OnOk result (ArePlaces places.new (map view_group groups.new.items)) }
-    ensures groups { OnOk result (map view_group groups.new.items ≡ opened kind (map view_group groups.old.items)) }
+    ensures groups { OnOk result (map view_group groups.new.items
+        ≡ opened kind (map view_group groups.old.items)) }
     ensures at { IfOk result (λ at. place kind (map view_group groups.new.items) ≡ Some at) }
 {
     if let Some(place) = places.get(&kind) {
@@ -194,7 +204,8 @@ fn clash_of<'b>(
     olds: &[Row<'b>],
     news: &[Row<'b>],
 ) -> Result<Option<Row<'b>>, AllocError>
-    ensures { IfOk result (λ r. option_map view_row r ≡ clash (map view_row olds.now) (map view_row news.now)) }
+    ensures { IfOk result (λ r. option_map view_row r
+        ≡ clash (map view_row olds.now) (map view_row news.now)) }
 {
     let mut waiting = waiting_of(alloc, news)?;
     for old in olds {
@@ -206,7 +217,8 @@ fn clash_of<'b>(
     Ok(None)
 }
 
-/// Returns the first resource that stands in the way of a second list, unless the second's resources are to replace the first's.
+/// Returns the first resource that stands in the way of a second list, unless the second's
+/// resources are to replace the first's.
 fn way_of<'b>(
     alloc: Global,
     replaces: bool,
@@ -243,25 +255,28 @@ fn content_of_both<'b>(
     })
 }
 
-/// Returns a content with the resources of two: of each type those of the first in order and then those of the second, the
-/// types of the first in order and then those that only the second has. The attributes of the map and the 240 bytes after the
-/// header are the first's. Where `replaces` holds, a resource of a type and an ID that stand in both is the second's, in the
-/// place of the first's.
+/// Returns a content with the resources of two: of each type those of the first in order and then
+/// those of the second, the types of the first in order and then those that only the second has.
+/// The attributes of the map and the 240 bytes after the header are the first's. Where `replaces`
+/// holds, a resource of a type and an ID that stand in both is the second's, in the place of the
+/// first's.
 ///
 /// The time grows with the number of resources times its logarithm.
 ///
 /// # Errors
 ///
-/// `InBoth` with the first type and ID that stand in both, unless `replaces` holds; where the host is out of memory nothing is
-/// said of the contents.
+/// `InBoth` with the first type and ID that stand in both, unless `replaces` holds; where the host
+/// is out of memory nothing is said of the contents.
 pub fn merge<'b>(
     alloc: Global,
     first: &Content<'b>,
     second: &Content<'b>,
     replaces: bool,
 ) -> Result<Content<'b>, MergeFault>
-    ensures made { IfOk result (λ content. merged replaces (view first.now) (view second.now) ≡ Ok (view content)) }
-    ensures fault { IfErr result (λ fault. StopsMerge fault (merged replaces (view first.now) (view second.now))) }
+    ensures made { IfOk result (λ content. merged replaces (view first.now) (view second.now)
+        ≡ Ok (view content)) }
+    ensures fault { IfErr result (λ fault.
+        StopsMerge fault (merged replaces (view first.now) (view second.now))) }
 {
     let olds = rows_of(alloc, first)?;
     let news = rows_of(alloc, second)?;

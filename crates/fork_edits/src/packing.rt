@@ -58,9 +58,10 @@ fn rows_of_list<'b>(
     Ok(rows)
 }
 
-/// Returns the content that a list and the files that it names state: the bytes of the n-th file are the stored data of the resource of the
-/// n-th line. A resource whose type stood in a line before is the last one of its type so far, and a new type stands after the
-/// others; of two resources of one type and ID both stand in the content. Names and stored data are lent.
+/// Returns the content that a list and the files that it names state: the bytes of the n-th file
+/// are the stored data of the resource of the n-th line. A resource whose type stood in a line
+/// before is the last one of its type so far, and a new type stands after the others; of two
+/// resources of one type and ID both stand in the content. Names and stored data are lent.
 ///
 /// *More Macintosh Toolbox*, chapter 1, "Resource Files".
 pub fn packed_content<'b>(
@@ -68,7 +69,8 @@ pub fn packed_content<'b>(
     list: &'b ContentsList,
     files: &'b [Vec<u8>],
 ) -> Result<Content<'b>, AllocError>
-    ensures { IfOk result (λ c. view c ≡ packed_content (view_list list.now) (map (λ file. file.items) files.now)) }
+    ensures { IfOk result (λ c. view c
+        ≡ packed_content (view_list list.now) (map (λ file. file.items) files.now)) }
 {
     let rows = rows_of_list(alloc, list.entries.as_slice(), files)?;
     let groups = grouped(alloc, rows.as_slice())?;

@@ -1,6 +1,7 @@
 //! Names in double quotes, as they stand in lists.
 
-ghost use Rattle.std.specs.Prelude.{◌≡◌, ◌≤◌, ◌++◌, ◌==◌, [], Some, None, IfOk, OnOk, length, option_map, if◌then◌else◌};
+ghost use Rattle.std.specs.Prelude.{◌≡◌, ◌≤◌, ◌++◌, ◌==◌, [], Some, None, IfOk, OnOk, length};
+ghost use Rattle.std.specs.Prelude.{option_map, if◌then◌else◌};
 ghost use Rattle.fork_edits.specs.Quoted.{next_within, completed, is_end, quoted_from, quoted_read};
 ghost use Rattle.fork_edits.specs.View.{name_listed};
 ghost use Rattle.fork_edits.specs.declared.quoted.Within.TheVariants.{Start, Quotes, Escape, Low};
@@ -140,8 +141,8 @@ fn name_bytes(alloc: Global, text: &[u8]) -> Result<Option<Vec<u8>>, AllocError>
     Ok(None)
 }
 
-/// Returns the name that a text stands for: in double quotes, with a backslash before a double quote or a backslash, and `\0x` with
-/// two hexadecimal digits for any byte; at most 255 bytes.
+/// Returns the name that a text stands for: in double quotes, with a backslash before a double
+/// quote or a backslash, and `\0x` with two hexadecimal digits for any byte; at most 255 bytes.
 pub(crate) fn read_name(alloc: Global, text: &[u8]) -> Result<Option<ListedName>, AllocError>
     ensures { IfOk result (λ r. option_map name_listed r ≡ quoted_read text.now) }
 {

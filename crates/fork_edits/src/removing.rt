@@ -16,7 +16,8 @@ use mac_words::OsType;
 
 /// Takes out the first resource that has an ID, if there is one.
 fn cut_first(refs: &mut Vec<Ref<'_>>, key: &Key)
-    ensures { map view_ref refs.new.items ≡ others (has_id key.now.id) (map view_ref refs.old.items) }
+    ensures { map view_ref refs.new.items
+        ≡ others (has_id key.now.id) (map view_ref refs.old.items) }
 {
     match index_of(refs.as_slice(), key) {
         Some(index) => {
@@ -26,19 +27,23 @@ fn cut_first(refs: &mut Vec<Ref<'_>>, key: &Key)
     }
 }
 
-/// Takes out the first resource of a group that has an ID, if there is one, and reports whether none is left.
+/// Takes out the first resource of a group that has an ID, if there is one, and reports whether
+/// none is left.
 fn cut_of(group: &mut Group<'_>, key: &Key) -> bool
     ensures cut { view_group group.new
-        ≡ record (view_group group.old) { refs = others (has_id key.now.id) (view_group group.old).refs } }
+        ≡ record (view_group
+        group.old) { refs = others (has_id key.now.id) (view_group group.old).refs } }
     ensures emptied { result ≡ (length (view_group group.new).refs == 0) }
 {
     cut_first(&mut group.refs, key);
     group.refs.is_empty()
 }
 
-/// Takes out the resource of a type and an ID from the group that has it, and the group where no resource is left.
+/// Takes out the resource of a type and an ID from the group that has it, and the group where no
+/// resource is left.
 fn cut_at(groups: &mut Vec<Group<'_>>, at: usize, key: &Key)
-    requires { position (λ (g : StoredGroup). has_resource key.now.kind key.now.id (view_group g)) groups.old.items
+    requires { position (λ (g : StoredGroup). has_resource key.now.kind key.now.id (view_group g))
+        groups.old.items
         ≡ Some at }
     ensures { map view_group groups.new.items
         ≡ groups_without key.now.kind key.now.id (map view_group groups.old.items) }
@@ -60,8 +65,8 @@ fn cut_in(groups: &mut Vec<Group<'_>>, key: &Key)
     }
 }
 
-/// Takes out the first resource of a type and an ID, and returns it; the type goes too where no resource of it is left.
-/// Where there is none of the type and the ID, the content stays as it was.
+/// Takes out the first resource of a type and an ID, and returns it; the type goes too where no
+/// resource of it is left. Where there is none of the type and the ID, the content stays as it was.
 ///
 /// *More Macintosh Toolbox*, chapter 1, "Resource Files".
 pub fn remove_resource<'b>(content: &mut Content<'b>, ty: OsType, id: i16) -> Option<Ref<'b>>

@@ -1,11 +1,13 @@
 //! A content in which one resource has another ID, name or attributes.
 
-ghost use Rattle.std.specs.Prelude.{◌≡◌, map, option_map, unwrap_or, Some, None, IfErr, OnOk, OnErr};
+ghost use Rattle.std.specs.Prelude.{◌≡◌, map, option_map, unwrap_or, Some, None, IfErr, OnOk};
+ghost use Rattle.std.specs.Prelude.{OnErr};
 ghost use Rattle.byteorder.specs.Endian.{big_number};
 ghost use Rattle.fork_format.specs.View.{view_ref, view_group, view};
 ghost use Rattle.fork_edits.specs.Resources.{has_id};
 ghost use Rattle.fork_edits.specs.Setting.{first_changed};
-ghost use Rattle.fork_edits.specs.Renaming.{renamed, group_renamed, groups_renamed, with_renamed, refusal};
+ghost use Rattle.fork_edits.specs.Renaming.{renamed, group_renamed, groups_renamed, with_renamed};
+ghost use Rattle.fork_edits.specs.Renaming.{refusal};
 ghost use Rattle.fork_edits.specs.View.{view_renaming};
 
 use crate::resources::{Key, first_of};
@@ -63,7 +65,8 @@ fn renamed_ref<'b>(r: &Ref<'b>, new: &Renaming<'b>) -> Ref<'b>
 /// Gives the first resource that has an ID what it gets, if there is one.
 fn rename_first<'b>(refs: &mut Vec<Ref<'b>>, key: &Key, new: &Renaming<'b>)
     ensures { map view_ref refs.new.items
-        ≡ first_changed (has_id key.now.id) (renamed (view_renaming new.now)) (map view_ref refs.old.items) }
+        ≡ first_changed (has_id key.now.id) (renamed (view_renaming new.now))
+        (map view_ref refs.old.items) }
 {
     match index_of(refs.as_slice(), key) {
         Some(index) => {
@@ -76,7 +79,8 @@ fn rename_first<'b>(refs: &mut Vec<Ref<'b>>, key: &Key, new: &Renaming<'b>)
 
 /// Gives the first resource of a group that has an ID what it gets, if there is one.
 fn rename_of<'b>(group: &mut Group<'b>, key: &Key, new: &Renaming<'b>)
-    ensures { view_group group.new ≡ group_renamed key.now.id (view_renaming new.now) (view_group group.old) }
+    ensures { view_group group.new
+        ≡ group_renamed key.now.id (view_renaming new.now) (view_group group.old) }
 {
     rename_first(&mut group.refs, key, new);
 }
@@ -84,7 +88,8 @@ fn rename_of<'b>(group: &mut Group<'b>, key: &Key, new: &Renaming<'b>)
 /// Gives the first resource of a type and an ID among groups what it gets, if there is one.
 fn rename_in<'b>(groups: &mut Vec<Group<'b>>, key: &Key, new: &Renaming<'b>)
     ensures { map view_group groups.new.items
-        ≡ groups_renamed key.now.kind key.now.id (view_renaming new.now) (map view_group groups.old.items) }
+        ≡ groups_renamed key.now.kind key.now.id (view_renaming new.now)
+        (map view_group groups.old.items) }
 {
     match group_with(groups.as_slice(), key) {
         Some(at) => rename_of(&mut groups[at], key, new),
@@ -119,22 +124,23 @@ fn refusal_of(content: &Content<'_>, key: &Key, new: &Renaming<'_>) -> Option<Re
     None
 }
 
-/// Gives the first resource of a type and an ID another ID, another name or no name, and other attributes. Its stored data
-/// and its place stay.
+/// Gives the first resource of a type and an ID another ID, another name or no name, and other
+/// attributes. Its stored data and its place stay.
 ///
 /// *More Macintosh Toolbox*, chapter 1, "Resource Files".
 ///
 /// # Errors
 ///
-/// `NotFound` where no resource has the type and the ID; `Taken` where a resource of the type has the new ID, unless that is
-/// the ID that it had. The content then stays as it was.
+/// `NotFound` where no resource has the type and the ID; `Taken` where a resource of the type has
+/// the new ID, unless that is the ID that it had. The content then stays as it was.
 pub fn rename_resource<'b>(
     content: &mut Content<'b>,
     ty: OsType,
     id: i16,
     new: &Renaming<'b>,
 ) -> Result<(), RenameFault>
-    ensures allowed { OnOk result (refusal (big_number 4 ty.0) id (view_renaming new.now) (view content.old) ≡ None) }
+    ensures allowed { OnOk result
+        (refusal (big_number 4 ty.0) id (view_renaming new.now) (view content.old) ≡ None) }
     ensures refused { IfErr result (λ fault.
         refusal (big_number 4 ty.0) id (view_renaming new.now) (view content.old) ≡ Some fault) }
     ensures renamed { OnOk result (view content.new

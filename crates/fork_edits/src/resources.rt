@@ -4,7 +4,8 @@ ghost use Rattle.std.specs.Prelude.{◌≡◌, ◌++◌, ◌==◌, map, option_m
 ghost use Rattle.std.specs.List.{find};
 ghost use Rattle.byteorder.specs.Endian.{big_number};
 ghost use Rattle.fork_format.specs.View.{view_ref, view_group, view};
-ghost use Rattle.fork_edits.specs.Resources.{Row as RowValue, has_id, is_at, found, group_rows, rows};
+ghost use Rattle.fork_edits.specs.Resources.{Row as RowValue, has_id, is_at, found, group_rows};
+ghost use Rattle.fork_edits.specs.Resources.{rows};
 ghost use Rattle.fork_edits.specs.View.{view_row};
 
 use fork_format::{Content, Group, Ref, kind_of};
@@ -77,7 +78,8 @@ pub fn find_resource<'b>(content: &Content<'b>, ty: OsType, id: i16) -> Option<R
 
 /// Appends the resources of a group, each with its type.
 fn push_rows<'b>(out: &mut Vec<Row<'b>>, group: &Group<'b>) -> Result<(), AllocError>
-    ensures { OnOk result (map view_row out.new.items ≡ map view_row out.old.items ++ group_rows (view_group group.now)) }
+    ensures { OnOk result (map view_row out.new.items
+        ≡ map view_row out.old.items ++ group_rows (view_group group.now)) }
 {
     let ty = group.ty;
     for r in &group.refs {

@@ -2,7 +2,8 @@
 
 ghost use Rattle.std.specs.Prelude.{◌≡◌, ◌<◌, ◌≤◌, ◌^◌, Ok, Err, IfOk, IfErr, length, option_map};
 ghost use Rattle.fork_format.specs.View.{view_name};
-ghost use Rattle.fork_edits.specs.RomanNames.{name_bytes, short_name, name_or_fault, name_read, StopsName};
+ghost use Rattle.fork_edits.specs.RomanNames.{name_bytes, short_name, name_or_fault, name_read};
+ghost use Rattle.fork_edits.specs.RomanNames.{StopsName};
 
 use fork_format::RefName;
 use mac_roman::{RomanFault, to_roman};
@@ -61,15 +62,15 @@ fn short_name(bytes: &[u8]) -> Result<RomanName, NameFault>
 }
 
 impl RomanName {
-    /// Returns the name that a text stands for. The text is UTF-8, each of whose characters is one byte of Mac OS Roman; bytes that
-    /// are not UTF-8 are taken as they are.
+    /// Returns the name that a text stands for. The text is UTF-8, each of whose characters is one
+    /// byte of Mac OS Roman; bytes that are not UTF-8 are taken as they are.
     ///
     /// *More Macintosh Toolbox*, chapter 1, "Resource File Format".
     ///
     /// # Errors
     ///
-    /// `NoCharacter` with the first character that Mac OS Roman has not; `TooLong` for a name of more than 255 bytes; where the
-    /// host is out of memory nothing is said of the text.
+    /// `NoCharacter` with the first character that Mac OS Roman has not; `TooLong` for a name of
+    /// more than 255 bytes; where the host is out of memory nothing is said of the text.
     pub fn read(alloc: Global, text: &[u8]) -> Result<RomanName, NameFault>
         ensures made { IfOk result (λ name. name_read text.now ≡ Ok (name_bytes name)) }
         ensures fault { IfErr result (λ fault. StopsName fault (name_read text.now)) }

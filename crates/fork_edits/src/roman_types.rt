@@ -35,15 +35,16 @@ fn type_in(bytes: &[u8]) -> Result<OsType, TypeFault>
     }
 }
 
-/// Returns the type that a text stands for: the forms are those of `read_type`. The text is UTF-8, each of whose characters is one
-/// byte of Mac OS Roman, so that `'A•bc'` has four; bytes that are not UTF-8 are taken as they are.
+/// Returns the type that a text stands for: the forms are those of `read_type`. The text is UTF-8,
+/// each of whose characters is one byte of Mac OS Roman, so that `'A•bc'` has four; bytes that are
+/// not UTF-8 are taken as they are.
 ///
 /// *More Macintosh Toolbox*, chapter 1, "Resource Types".
 ///
 /// # Errors
 ///
-/// `NoCharacter` with the first character that Mac OS Roman has not; `NotAType` for a text of another form; where the host is
-/// out of memory nothing is said of the text.
+/// `NoCharacter` with the first character that Mac OS Roman has not; `NotAType` for a text of
+/// another form; where the host is out of memory nothing is said of the text.
 pub fn read_type_text(alloc: Global, text: &[u8]) -> Result<OsType, TypeFault>
     ensures made { IfOk result (λ ty. type_text_read text.now ≡ Ok ty.0) }
     ensures fault { IfErr result (λ fault. StopsType fault (type_text_read text.now)) }

@@ -9,8 +9,9 @@ ghost use Rattle.fork_format.specs.Content.{is_of};
 ghost use Rattle.fork_format.specs.Place.{put};
 ghost use Rattle.fork_format.specs.View.{view_ref, view_group, view};
 ghost use Rattle.fork_edits.specs.Resources.{has_id};
-ghost use Rattle.fork_edits.specs.Setting.{changed, blank, first_changed, has_resource, group_changed, replaced};
-ghost use Rattle.fork_edits.specs.Setting.{one_group, with_one, groups_with, with_resource};
+ghost use Rattle.fork_edits.specs.Setting.{changed, blank, first_changed, has_resource};
+ghost use Rattle.fork_edits.specs.Setting.{group_changed, replaced, one_group, with_one};
+ghost use Rattle.fork_edits.specs.Setting.{groups_with, with_resource};
 ghost use Rattle.fork_edits.specs.View.{view_change};
 
 use crate::resources::{Key, find_in};
@@ -73,7 +74,8 @@ pub fn index_of(refs: &[Ref<'_>], key: &Key) -> Option<usize>
 /// Changes the first resource that has an ID, if there is one.
 fn change_first<'b>(refs: &mut Vec<Ref<'b>>, key: &Key, change: &Change<'b>)
     ensures { map view_ref refs.new.items
-        ≡ first_changed (has_id key.now.id) (changed (view_change change.now)) (map view_ref refs.old.items) }
+        ≡ first_changed (has_id key.now.id) (changed (view_change change.now))
+        (map view_ref refs.old.items) }
 {
     match index_of(refs.as_slice(), key) {
         Some(index) => {
@@ -86,7 +88,8 @@ fn change_first<'b>(refs: &mut Vec<Ref<'b>>, key: &Key, change: &Change<'b>)
 
 /// Changes the first resource of a group that has an ID, if there is one.
 fn change_group<'b>(group: &mut Group<'b>, key: &Key, change: &Change<'b>)
-    ensures { view_group group.new ≡ group_changed key.now.id (view_change change.now) (view_group group.old) }
+    ensures { view_group group.new
+        ≡ group_changed key.now.id (view_change change.now) (view_group group.old) }
 {
     change_first(&mut group.refs, key, change);
 }
@@ -100,7 +103,8 @@ fn holds(group: &Group<'_>, key: &Key) -> bool
 
 /// Returns the index of the first group that has a resource of a type and an ID.
 pub fn group_with(groups: &[Group<'_>], key: &Key) -> Option<usize>
-    ensures { result ≡ position (λ (g : StoredGroup). has_resource key.now.kind key.now.id (view_group g)) groups.now }
+    ensures { result ≡ position
+        (λ (g : StoredGroup). has_resource key.now.kind key.now.id (view_group g)) groups.now }
 {
     groups.iter().position(|g| holds(g, key))
 }
@@ -114,17 +118,20 @@ fn group_of(groups: &[Group<'_>], kind: u32) -> Option<usize>
 
 /// Changes the resource of a type and an ID in the group that has it.
 fn replace<'b>(groups: &mut Vec<Group<'b>>, at: usize, key: &Key, change: &Change<'b>)
-    requires { position (λ (g : StoredGroup). has_resource key.now.kind key.now.id (view_group g)) groups.old.items
+    requires { position (λ (g : StoredGroup). has_resource key.now.kind key.now.id (view_group g))
+        groups.old.items
         ≡ Some at }
     ensures { map view_group groups.new.items
-        ≡ replaced key.now.kind key.now.id (view_change change.now) (map view_group groups.old.items) }
+        ≡ replaced key.now.kind key.now.id (view_change change.now)
+        (map view_group groups.old.items) }
 {
     change_group(&mut groups[at], key, change);
 }
 
 /// Adds a resource to a group.
 pub fn push_ref<'b>(group: &mut Group<'b>, r: Ref<'b>) -> Result<(), AllocError>
-    ensures joined { OnOk result (view_group group.new ≡ with_one (view_ref r.entry) (view_group group.old)) }
+    ensures joined { OnOk result (view_group group.new
+        ≡ with_one (view_ref r.entry) (view_group group.old)) }
     ensures kept { OnErr result (view_group group.new ≡ view_group group.old) }
 {
     group.refs.push(r)?;
@@ -133,10 +140,12 @@ pub fn push_ref<'b>(group: &mut Group<'b>, r: Ref<'b>) -> Result<(), AllocError>
 
 /// Adds a resource to the first group of its type.
 fn join<'b>(groups: &mut Vec<Group<'b>>, at: usize, kind: u32, r: Ref<'b>) -> Result<(), AllocError>
-    requires { position (λ (g : StoredGroup). is_of kind (view_group g)) groups.old.items ≡ Some at }
+    requires { position (λ (g : StoredGroup). is_of kind (view_group g)) groups.old.items
+        ≡ Some at }
     ensures joined { OnOk result (map view_group groups.new.items
         ≡ put (one_group kind (view_ref r.entry)) (map view_group groups.old.items)) }
-    ensures kept { OnErr result (map view_group groups.new.items ≡ map view_group groups.old.items) }
+    ensures kept { OnErr result (map view_group groups.new.items
+        ≡ map view_group groups.old.items) }
 {
     push_ref(&mut groups[at], r)
 }
@@ -149,8 +158,10 @@ fn open<'b>(
     r: Ref<'b>,
 ) -> Result<(), AllocError>
     ensures opened { OnOk result (map view_group groups.new.items
-        ≡ map view_group groups.old.items ++ one_group (big_number 4 ty.0) (view_ref r.entry) ∷ []) }
-    ensures kept { OnErr result (map view_group groups.new.items ≡ map view_group groups.old.items) }
+        ≡ map view_group groups.old.items
+        ++ one_group (big_number 4 ty.0) (view_ref r.entry) ∷ []) }
+    ensures kept { OnErr result (map view_group groups.new.items
+        ≡ map view_group groups.old.items) }
 {
     let mut refs = Vec::new(alloc);
     refs.push(r)?;
@@ -166,8 +177,10 @@ fn add<'b>(
     r: Ref<'b>,
 ) -> Result<(), AllocError>
     ensures added { OnOk result (map view_group groups.new.items
-        ≡ put (one_group (big_number 4 ty.0) (view_ref r.entry)) (map view_group groups.old.items)) }
-    ensures kept { OnErr result (map view_group groups.new.items ≡ map view_group groups.old.items) }
+        ≡ put (one_group (big_number 4 ty.0) (view_ref r.entry))
+        (map view_group groups.old.items)) }
+    ensures kept { OnErr result (map view_group groups.new.items
+        ≡ map view_group groups.old.items) }
 {
     let kind = kind_of(ty);
     match group_of(groups.as_slice(), kind) {
@@ -186,8 +199,10 @@ fn set_in<'b>(
 ) -> Result<(), AllocError>
     requires { key.now.kind ≡ big_number 4 ty.0 }
     ensures set { OnOk result (map view_group groups.new.items
-        ≡ groups_with key.now.kind key.now.id (view_change change.now) (map view_group groups.old.items)) }
-    ensures kept { OnErr result (map view_group groups.new.items ≡ map view_group groups.old.items) }
+        ≡ groups_with key.now.kind key.now.id (view_change change.now)
+        (map view_group groups.old.items)) }
+    ensures kept { OnErr result (map view_group groups.new.items
+        ≡ map view_group groups.old.items) }
 {
     match group_with(groups.as_slice(), key) {
         Some(at) => {
@@ -198,8 +213,9 @@ fn set_in<'b>(
     }
 }
 
-/// Sets the resource of a type and an ID: the first one is replaced in its place, and where there is none, the resource
-/// is added after those of its type, or in a group at the end where its type is new.
+/// Sets the resource of a type and an ID: the first one is replaced in its place, and where there
+/// is none, the resource is added after those of its type, or in a group at the end where its type
+/// is new.
 ///
 /// *More Macintosh Toolbox*, chapter 1, "Resource Files".
 pub fn set_resource<'b>(

@@ -1,5 +1,5 @@
-//! Types and names as a person reads them. Where the host is out of memory, a text may have got a part of what is
-//! appended.
+//! Types and names as a person reads them. Where the host is out of memory, a text may have got a
+//! part of what is appended.
 
 ghost use Rattle.std.specs.Prelude.{◌≡◌, ◌<◌, ◌++◌, OnOk, length};
 ghost use Rattle.std.specs.List.{flat_map, list_all};
@@ -78,10 +78,11 @@ fn push_four(text: &mut Vec<u8>, charset: Charset, bytes: &[u8]) -> Result<(), A
     Ok(())
 }
 
-/// Appends a type as a person reads it: `'STR '`, or `$` and eight hexadecimal digits where one of the four bytes is a
-/// single quote or isn't printed as a character (`Charset::prints`).
+/// Appends a type as a person reads it: `'STR '`, or `$` and eight hexadecimal digits where one of
+/// the four bytes is a single quote or isn't printed as a character (`Charset::prints`).
 pub fn append_type(text: &mut Vec<u8>, charset: Charset, ty: OsType) -> Result<(), AllocError>
-    ensures { OnOk result (text.new.items ≡ text.old.items ++ type_text charset (big_number 4 ty.0)) }
+    ensures { OnOk result (text.new.items
+        ≡ text.old.items ++ type_text charset (big_number 4 ty.0)) }
 {
     let mut bytes = [0; 4];
     BigEndian::write_u32(&mut bytes, kind_of(ty));
@@ -105,7 +106,8 @@ fn push_char(text: &mut Vec<u8>, charset: Charset, byte: u8) -> Result<(), Alloc
 
 /// Appends the bytes of a name.
 fn push_chars(text: &mut Vec<u8>, charset: Charset, bytes: &[u8]) -> Result<(), AllocError>
-    ensures { OnOk result (text.new.items ≡ text.old.items ++ flat_map (char_text charset) bytes.now) }
+    ensures { OnOk result (text.new.items
+        ≡ text.old.items ++ flat_map (char_text charset) bytes.now) }
 {
     for byte in bytes {
         push_char(text, charset, *byte)?;
@@ -113,14 +115,16 @@ fn push_chars(text: &mut Vec<u8>, charset: Charset, bytes: &[u8]) -> Result<(), 
     Ok(())
 }
 
-/// Appends a name as a person reads it: in double quotes, with a backslash before a double quote or a backslash, and
-/// `\0x` with two hexadecimal digits for a byte that isn't printed as a character (`Charset::prints`); `-` for no name.
+/// Appends a name as a person reads it: in double quotes, with a backslash before a double quote or
+/// a backslash, and `\0x` with two hexadecimal digits for a byte that isn't printed as a character
+/// (`Charset::prints`); `-` for no name.
 pub fn append_name(
     text: &mut Vec<u8>,
     charset: Charset,
     name: &Option<RefName<'_>>,
 ) -> Result<(), AllocError>
-    ensures { OnOk result (text.new.items ≡ text.old.items ++ name_text charset (view_name name.now)) }
+    ensures { OnOk result (text.new.items
+        ≡ text.old.items ++ name_text charset (view_name name.now)) }
 {
     let Some(name) = name else {
         text.push(b'-')?;

@@ -14,8 +14,8 @@ use crate::waiting::{Waiting, take_counterpart, waiting_of};
 use fork_format::Content;
 use std::alloc::{AllocError, Global};
 
-/// Reports whether another resource that waits has the type and the ID of the first one that waits, which then waits no
-/// longer.
+/// Reports whether another resource that waits has the type and the ID of the first one that waits,
+/// which then waits no longer.
 fn has_twin<'b>(alloc: Global, row: &Row<'b>, waiting: &mut Waiting<'b>) -> Result<bool, AllocError>
     ensures twin { (rows : List RowValue) → AreWaiting waiting.old (view_row row.now ∷ rows)
         → IfOk result (λ has. has ≡ is_some (find (is_same (view_row row.now)) rows)) }
@@ -40,8 +40,9 @@ fn twin_in<'b>(alloc: Global, rows: &[Row<'b>]) -> Result<Option<Row<'b>>, Alloc
     Ok(None)
 }
 
-/// Returns the first resource of a content whose type and ID another one after it has. Where there is none, the files of no two
-/// resources have the same name by type and ID (`files_without_twins_are_apart`).
+/// Returns the first resource of a content whose type and ID another one after it has. Where there
+/// is none, the files of no two resources have the same name by type and ID
+/// (`files_without_twins_are_apart`).
 ///
 /// The time grows with the number of resources times its logarithm.
 pub fn first_twin<'b>(alloc: Global, content: &Content<'b>) -> Result<Option<Row<'b>>, AllocError>

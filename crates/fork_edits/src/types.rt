@@ -1,6 +1,7 @@
 //! Types as people write them.
 
-ghost use Rattle.std.specs.Prelude.{◌≡◌, ◌<◌, ◌≤◌, ◌==◌, ℕ, List, Option, option_map, IfSome, Some, None, length, take, drop};
+ghost use Rattle.std.specs.Prelude.{◌≡◌, ◌<◌, ◌≤◌, ◌==◌, ℕ, List, Option, option_map, IfSome, Some};
+ghost use Rattle.std.specs.Prelude.{None, length, take, drop};
 ghost use Rattle.mac_words.specs.declared.name.OsType.{OsType as TypeValue};
 ghost use Rattle.fork_edits.specs.Types.{digit_value, byte_value, bytes_spelled, padded, type_read};
 
@@ -72,8 +73,9 @@ fn quoted(text: &[u8]) -> [u8; 4]
     bytes
 }
 
-/// Returns the type that a text stands for: `'STR '` in quotes, exactly four bytes between them; `STR`, one to four
-/// bytes, with blanks for those that are missing; or `$53545220`, eight hexadecimal digits in either case.
+/// Returns the type that a text stands for: `'STR '` in quotes, exactly four bytes between them;
+/// `STR`, one to four bytes, with blanks for those that are missing; or `$53545220`, eight
+/// hexadecimal digits in either case.
 ///
 /// *More Macintosh Toolbox*, chapter 1, "Resource Types".
 pub fn read_type(text: &[u8]) -> Option<OsType>

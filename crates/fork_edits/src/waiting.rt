@@ -1,6 +1,7 @@
 //! Resources that wait for a counterpart, in queues by type and ID.
 
-ghost use Rattle.std.specs.Prelude.{◌≡◌, ◌++◌, ◌∷◌, [], ℕ, ℤ, List, map, cond, option_map, OnOk, IfOk};
+ghost use Rattle.std.specs.Prelude.{◌≡◌, ◌++◌, ◌∷◌, [], ℕ, ℤ, List, map, cond, option_map, OnOk};
+ghost use Rattle.std.specs.Prelude.{IfOk};
 ghost use Rattle.std.specs.List.{find};
 ghost use Rattle.byteorder.specs.Endian.{big_number};
 ghost use Rattle.fork_edits.specs.Resources.{Row as RowValue, others};
@@ -36,7 +37,8 @@ fn key_of(row: &Row<'_>) -> (u32, i16)
 /// Takes out the queue of a type and an ID, or makes an empty one.
 fn take_queue<'b>(alloc: Global, waiting: &mut Waiting<'b>, key: (u32, i16)) -> Queue<'b>
     ensures queue { map view_row result.rows.items ≡ waits waiting.old key }
-    ensures rest { (q : ℕ × ℤ) → waits waiting.new q ≡ cond (same_key key q) [] (waits waiting.old q) }
+    ensures rest { (q : ℕ × ℤ)
+        → waits waiting.new q ≡ cond (same_key key q) [] (waits waiting.old q) }
 {
     match waiting.queues.remove(&key) {
         Some(queue) => queue,
@@ -53,7 +55,8 @@ fn put_queue<'b>(
     queue: Queue<'b>,
 ) -> Result<(), AllocError>
     ensures { OnOk result ((q : ℕ × ℤ)
-        → waits waiting.new q ≡ cond (same_key key q) (map view_row queue.entry.rows.items) (waits waiting.old q)) }
+        → waits waiting.new q
+        ≡ cond (same_key key q) (map view_row queue.entry.rows.items) (waits waiting.old q)) }
 {
     waiting.queues.insert(key, queue)?;
     Ok(())
@@ -100,7 +103,8 @@ pub fn take_counterpart<'b>(
     waiting: &mut Waiting<'b>,
 ) -> Result<Option<Row<'b>>, AllocError>
     ensures found { (rows : List RowValue) → AreWaiting waiting.old rows
-        → IfOk result (λ found. option_map view_row found ≡ find (is_same (view_row row.now)) rows) }
+        → IfOk result (λ found. option_map view_row found
+        ≡ find (is_same (view_row row.now)) rows) }
     ensures others { (rows : List RowValue) → AreWaiting waiting.old rows
         → OnOk result (AreWaiting waiting.new (others (is_same (view_row row.now)) rows)) }
 {

@@ -1,11 +1,9 @@
-use Rattle.std.proofs.Common.{◌≡◌, ℕ, Bool, true, false, not, List, [], ◌∷◌, map, refl, sym, ◌∙◌, ap, ◌⊎◌, inl, inr}
-use Rattle.std.proofs.Common.{◌≢◌}
+use Rattle.std.proofs.Common.{◌≡◌, ℕ, Bool, true, false, not, List, [], ◌∷◌, map, refl, sym, ◌∙◌, ap}
 use Rattle.std.specs.Prelude.{◌==◌, ◌↔◌, IsTrue, IsSorted, IsPermutation}
 use Rattle.std.specs.List.{IsDistinct, AllByRecursion, list_all}
 use Rattle.std.specs.List.Sorted.{IsStrictlyIncreasing}
 use Rattle.std.specs.Ordering.{nat_cmp, is_eq}
 use Rattle.std.proofs.Math.Dec.{eqb}
-use Rattle.std.proofs.lemmas.Bool.Decides.{eqb_tells}
 use Rattle.std.proofs.lemmas.List.Sorted.{IsPermutation-sym, IsNonDecreasingBy-from_sort}
 use Rattle.std.proofs.lemmas.Map.Keys.{IsDistinct-IsPermutation, IsDistinct-from_sorted}
 use Rattle.std.proofs.lemmas.Map.Keys.{IsStrictlyIncreasing-from_distinct, sorted_from_strictly_increasing}
@@ -13,22 +11,11 @@ use Rattle.fork_format.specs.Content.{Group, joined}
 use Rattle.fork_format.specs.Canonical.{are_distinct}
 use Rattle.fork_format.specs.Fork.{kind_in, group_at}
 use Rattle.std.proofs.lemmas.Bool.{and_parts}
-use Rattle.fork_format.proofs.Bools.{and_both, not_same}
+use Rattle.fork_format.proofs.Bools.{and_both, not_same, flips}
 use Rattle.fork_format.proofs.Placing.{is_eq-nat_cmp}
 use Rattle.fork_format.proofs.Whole.{joined-same}
 
 -- Numbers that are all different, as a sort shows it.
-
--- the order of two numbers doesn't matter to whether they are the same
-flips : (m n : ℕ) → (m == n) ≡ (n == m)
-flips m n = cases (eqb_tells m n) (eqb_tells n m)
-  where
-    cases : ((m == n ≡ true) × (m ≡ n)) ⊎ ((m == n ≡ false) × (m ≢ n))
-        → ((n == m ≡ true) × (n ≡ m)) ⊎ ((n == m ≡ false) × (n ≢ m)) → (m == n) ≡ (n == m)
-    cases (inl e) (inl f) = e.0 ∙ sym f.0
-    cases (inl e) (inr f) = absurd (f.1 (sym e.1))
-    cases (inr e) (inl f) = absurd (e.1 (sym f.1))
-    cases (inr e) (inr f) = e.0 ∙ sym f.0
 
 order_flips : (m n : ℕ) → is_eq (nat_cmp m n) ≡ is_eq (nat_cmp n m)
 order_flips m n = is_eq-nat_cmp m n ∙ flips m n ∙ sym (is_eq-nat_cmp n m)

@@ -1,6 +1,6 @@
-use Rattle.std.proofs.Common.{◌≡◌, ℕ, Bool, true, false, not, ◌&&◌, refl, sym, ap, ◌⊎◌, inl, inr, ◌≢◌}
+use Rattle.std.proofs.Common.{◌≡◌, ℕ, Bool, true, false, not, ◌&&◌, refl, sym, ap, ◌⊎◌, inl, inr, ◌≢◌, arith}
 use Rattle.std.specs.Prelude.{◌==◌}
-use Rattle.std.proofs.lemmas.Bool.Decides.{eqb_tells}
+use Rattle.std.proofs.lemmas.Bool.Decides.{eqb_tells, nat_tests}
 
 pub and_both : (a b : Bool) → a ≡ true → b ≡ true → (a && b) ≡ true
 and_both true b p q = q
@@ -22,3 +22,7 @@ not_same m n h = cases (eqb_tells m n) (eqb_tells n m)
     cases (inl e) other = let f : not (m == n) ≡ false = ap not e.0 in cc
     cases (inr e) (inl f) = absurd (e.1 (sym f.1))
     cases (inr e) (inr f) = f.0
+
+-- the order of two numbers doesn't matter to whether they are the same
+pub flips : (m n : ℕ) → (m == n) ≡ (n == m)
+flips m n = grind (arith, nat_tests)

@@ -1,11 +1,9 @@
 use Rattle.std.proofs.Common.{◌≡◌, ℕ, ◌<◌, Bool, true, false, cond, List, [], ◌∷◌, ◌++◌, length, refl, sym, ◌∙◌, ap}
-use Rattle.std.proofs.Common.{Option, Some, None, suc, zero, ◌⊎◌, inl, inr, ◌≢◌, set, get_or, map, arith, Less, Equal}
-use Rattle.std.proofs.Common.{Greater}
-use Rattle.std.specs.Prelude.{◌==◌, nat_lt, option_map}
+use Rattle.std.proofs.Common.{Option, Some, None, suc, zero, ◌⊎◌, inl, inr, ◌≢◌, set, get_or, map, arith}
+use Rattle.std.specs.Prelude.{◌==◌, option_map}
 use Rattle.std.specs.Ordering.{nat_cmp, is_eq}
 use Rattle.std.proofs.lemmas.List.{append-nil, map-set, map_push}
-use Rattle.std.proofs.lemmas.Bool.{ltb-true}
-use Rattle.std.proofs.lemmas.Bool.Decides.{eqb_tells}
+use Rattle.std.proofs.lemmas.Bool.Decides.{eqb_tells, nat_tests}
 use Rattle.byteorder.specs.Endian.{big_number}
 use Rattle.fork_format.specs.Content.{Ref, Group}
 use Rattle.fork_format.specs.View.{view_ref, view_group}
@@ -51,16 +49,7 @@ opened-new k (g ∷ groups) h = cases (g.kind == k) h (opened-new k groups)
 
 -- what the order of two numbers tells of their equality
 pub is_eq-nat_cmp : (k q : ℕ) → is_eq (nat_cmp k q) ≡ (k == q)
-is_eq-nat_cmp k q = cases (nat_lt k q) (k == q) (λ less. apart (ltb-true k q less) (eqb_tells k q))
-  where
-    apart : k < q → ((k == q ≡ true) × (k ≡ q)) ⊎ ((k == q ≡ false) × (k ≢ q)) → (k == q) ≡ false
-    apart less (inl e) = absurd (omega arith)
-    apart less (inr e) = e.0
-
-    cases : (a b : Bool) → (a ≡ true → b ≡ false) → is_eq (cond a Less (cond b Equal Greater)) ≡ b
-    cases true b h = sym (h refl)
-    cases false true h = refl
-    cases false false h = refl
+is_eq-nat_cmp k q = grind (arith, nat_tests)
 
 -- the places with a new type's group
 pub place-new : (q k : ℕ) (groups : List Group) → place k groups ≡ None

@@ -1,11 +1,12 @@
-use Rattle.std.proofs.Common.{◌≡◌, ℕ, Bool, true, false, not, cond, ◌||◌, List, [], ◌∷◌, ◌++◌, length, map, refl}
+use Rattle.std.proofs.Common.{◌≡◌, ℕ, Bool, true, false, not, cond, ◌||◌, List, [], ◌∷◌, ◌++◌, length, map, refl, ◌≤◌, drop, replicate}
 use Rattle.std.proofs.Common.{sym, ◌∙◌, ap, suc, ◌+◌, arith}
-use Rattle.std.specs.Prelude.{◌==◌, filter, nat_le}
+use Rattle.std.specs.Prelude.{◌==◌, filter, nat_le, ◌&&◌}
 use Rattle.std.specs.List.{flat_map, list_all, list_any}
-use Rattle.std.proofs.lemmas.Bool.{and_parts, le-leb}
+use Rattle.std.proofs.lemmas.Bool.{and_parts, le-leb, or_right, leb-true}
+use Rattle.std.proofs.lemmas.List.{length-take, length-drop}
 use Rattle.fork_format.specs.Content.{Ref, Group, Content, distinct, joined, is_of}
 use Rattle.fork_format.specs.Canonical.{has_refs, are_distinct}
-use Rattle.fork_format.specs.Fork.{Spells, group_at, ref_at, type_places, type_list, number, offsets}
+use Rattle.fork_format.specs.Fork.{Spells, group_at, ref_at, type_places, type_list, number, offsets, area_of, part, data_start, map_start}
 use Rattle.fork_format.proofs.Bools.{same_self, and_both}
 use Rattle.fork_format.proofs.Joining.{all_others, distinct-distinct}
 
@@ -22,10 +23,6 @@ is_weaker p q (n ∷ ns) weak h =
     let both : (p n ≡ true) × (list_all p ns ≡ true) = and_parts (p n) (list_all p ns) h in
     and_both (q n) (list_all q ns) (weak n both.0) (is_weaker p q ns weak both.1)
 
-or_second : (a b : Bool) → b ≡ true → (a || b) ≡ true
-or_second true b h = refl
-or_second false b h = h
-
 kinds-any : (groups : List Group)
     → list_all (λ k. list_any (is_of k) groups) (map (λ (g : Group). g.kind) groups) ≡ true
 kinds-any [] = refl
@@ -33,7 +30,7 @@ kinds-any (g ∷ groups) = and_both
     (list_any (is_of g.kind) (g ∷ groups)) _
     (ap (λ t. t || list_any (is_of g.kind) groups) (same_self g.kind))
     (is_weaker (λ k. list_any (is_of k) groups) (λ k. list_any (is_of k) (g ∷ groups))
-    (map (λ (x : Group). x.kind) groups) (λ k h. or_second (is_of k g) (list_any (is_of k) groups) h)
+    (map (λ (x : Group). x.kind) groups) (λ k h. or_right (is_of k g) (list_any (is_of k) groups) h)
     (kinds-any groups))
 
 -- what all numbers pass, each of them once passes
@@ -111,3 +108,16 @@ spelled_references bytes c s =
     ap (list_all has_refs) is
     ∙ joined-has_refs gs (distinct (map (λ (g : Group). g.kind) gs)) (groups_have-refs bytes (type_places bytes))
     (distinct-all (λ k. list_any (is_of k) gs) (map (λ (g : Group). g.kind) gs) (kinds-any gs))
+
+-- the area after the header is always whole
+pub area_whole : (bytes : List ℕ) → length (area_of bytes) ≡ 240
+area_whole bytes = cases (nat_le 256 (length bytes)) (nat_le 256 (data_start bytes)) (nat_le 256 (map_start bytes)) refl
+  where
+    cases : (a b d : Bool) → nat_le 256 (length bytes) ≡ a
+        → length (cond (a && b && d) (part 240 16 bytes) (replicate 240 0)) ≡ 240
+    cases true true true e =
+        let long : 256 ≤ length bytes = leb-true 256 (length bytes) e in
+        let f = length-take 240 (drop 16 bytes) in let g = length-drop 16 bytes in omega (arith, f, g, long)
+    cases true true false e = refl
+    cases true false d e = refl
+    cases false b d e = refl

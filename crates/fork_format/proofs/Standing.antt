@@ -51,6 +51,10 @@ pub number-stands : (n x at : ℕ) (bytes : List ℕ) → x < 256 ^ n → Stands
 number-stands n x at bytes small s = ap (big_number n) (stands_drop (big_bytes n x) at bytes s)
     ∙ big_number-reads_back n x s.after small
 
+-- a type of four bytes is read
+pub kind_again : (kind : ℕ) → kind < 2 ^ 32 → big_number 4 (big_bytes 4 kind) ≡ kind
+kind_again kind low = ap (big_number 4) (sym (append-nil (big_bytes 4 kind))) ∙ big_number-reads_back 4 kind [] low
+
 -- a part that stands there is read
 pub part-stands : (xs : List ℕ) (at : ℕ) (bytes : List ℕ) → StandsAt xs at bytes → part (length xs) at bytes ≡ xs
 part-stands xs at bytes s = ap (take (length xs)) (stands_drop xs at bytes s) ∙ take-append_seam xs s.after

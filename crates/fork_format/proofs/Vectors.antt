@@ -1,5 +1,5 @@
 use Rattle.std.proofs.Common.{◌≡◌, ℕ, true, false, List, [], ◌∷◌, ◌++◌, replicate, take, drop, refl, Some, None}
-use Rattle.std.specs.Prelude.{pos}
+use Rattle.std.specs.Prelude.{pos, ℤ, Option}
 use Rattle.fork_format.specs.Content.{Ref, Content}
 use Rattle.fork_format.specs.Fork.{is_fork, Spells}
 use Rattle.fork_format.specs.Canonical.{canon, fits}
@@ -21,6 +21,10 @@ note_fork = (0 ∷ 0 ∷ 1 ∷ 0 ∷ 0 ∷ 0 ∷ 1 ∷ 7 ∷ 0 ∷ 0 ∷ 0 ∷ 7
     ++ (0 ∷ 0 ∷ 0 ∷ 3 ∷ 72 ∷ 105 ∷ 33 ∷ 0 ∷ 0 ∷ 1 ∷ 0 ∷ 0 ∷ 0 ∷ 1 ∷ 7 ∷ 0 ∷ 0 ∷ 0 ∷ 7 ∷ 0 ∷ 0 ∷ 0 ∷ 55 ∷ 0
     ∷ 0 ∷ 0 ∷ 0 ∷ 0 ∷ 0 ∷ 0 ∷ 0 ∷ 0 ∷ 28 ∷ 0 ∷ 50 ∷ 0 ∷ 0 ∷ 84 ∷ 69 ∷ 88 ∷ 84 ∷ 0 ∷ 0 ∷ 0 ∷ 10 ∷ 0 ∷ 129 ∷ 0
     ∷ 0 ∷ 0 ∷ 0 ∷ 0 ∷ 0 ∷ 0 ∷ 0 ∷ 0 ∷ 0 ∷ 4 ∷ 78 ∷ 111 ∷ 116 ∷ 101 ∷ [])
+
+-- a resource
+abbrev pub a_ref : ℤ → Option (List ℕ) → ℕ → List ℕ → Ref
+a_ref id name attrs datum = record { id = id; name = name; attrs = attrs; datum = datum }
 
 -- their contents
 abbrev pub no_content : Content

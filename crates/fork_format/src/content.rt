@@ -1,5 +1,5 @@
-//! What a resource fork holds. The names and the stored data of resources are lent: they stay where they stand in the
-//! fork.
+//! What a resource fork holds. The names and the stored data of resources are lent: they stay where
+//! they stand in the fork.
 
 ghost use Rattle.std.specs.Prelude.{◌≤◌, length};
 

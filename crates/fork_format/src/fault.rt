@@ -24,8 +24,8 @@ pub enum ForkFault {
 }
 
 impl ForkFault {
-    /// Returns the result code: -39 (eofErr) for `Empty`, -199 (mapReadErr) for `BadMap`, and none where the host is
-    /// out of memory.
+    /// Returns the result code: -39 (eofErr) for `Empty`, -199 (mapReadErr) for `BadMap`, and none
+    /// where the host is out of memory.
     ///
     /// *More Macintosh Toolbox*, chapter 1, "Result Codes".
     pub fn code(self) -> Option<OsErr>
@@ -59,7 +59,8 @@ pub enum WriteFault {
 }
 
 impl WriteFault {
-    /// Returns the result code: -34 (dskFulErr) for `TooLarge`, and none where the host is out of memory.
+    /// Returns the result code: -34 (dskFulErr) for `TooLarge`, and none where the host is out of
+    /// memory.
     ///
     /// *More Macintosh Toolbox*, chapter 1, "Result Codes".
     pub fn code(self) -> Option<OsErr>

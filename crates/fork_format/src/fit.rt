@@ -1,7 +1,7 @@
 //! Whether a content can be written, and the sizes of the parts of its canonical fork.
 
-ghost use Rattle.std.specs.Prelude.{◌≡◌, ◌+◌, ◌≤◌, ◌==◌, ◌↔◌, ℕ, not, length, map, IsTrue, IsSome, IfSome, Some};
-ghost use Rattle.std.specs.Prelude.{None, if◌then◌else◌};
+ghost use Rattle.std.specs.Prelude.{◌≡◌, ◌+◌, ◌≤◌, ◌==◌, ◌↔◌, ℕ, not, length, map, IsTrue, IsSome};
+ghost use Rattle.std.specs.Prelude.{IfSome, Some, None, if◌then◌else◌};
 ghost use Rattle.std.specs.List.{list_all};
 ghost use Rattle.byteorder.specs.Endian.{big_number};
 ghost use Rattle.fork_format.specs.Content.{Group as GroupValue, refs_of};
@@ -21,20 +21,23 @@ use mac_words::OsType;
 const MAX_DATUM_OFFSET: usize = 16_777_215;
 /// The largest offset of a name. The next number, 65535, stands for no name.
 const MAX_NAME_OFFSET: usize = 65_534;
-/// The greatest offset, from the type list, at which the references may end. The type list stands 28 bytes above the
-/// start of the map, and the offset of the name list, from the start of the map, has two bytes.
+/// The greatest offset, from the type list, at which the references may end. The type list stands
+/// 28 bytes above the start of the map, and the offset of the name list, from the start of the map,
+/// has two bytes.
 const MAX_REFS_END: usize = 65_507;
 /// The greatest number of types whose entries end at or below `MAX_REFS_END`.
 const MAX_TYPES: usize = 8_188;
 
-/// Where the stored data and the name of a resource begin, from the start of the resource data and from the name list.
+/// Where the stored data and the name of a resource begin, from the start of the resource data and
+/// from the name list.
 #[derive(Clone, Copy)]
 pub struct Starts {
     pub datum: usize,
     pub name: usize,
 }
 
-/// The sizes of the parts of a canonical fork in bytes: type list and references, resource data, and names.
+/// The sizes of the parts of a canonical fork in bytes: type list and references, resource data,
+/// and names.
 #[derive(Clone, Copy)]
 pub struct Extents {
     pub refs_end: usize,
@@ -49,8 +52,8 @@ pub fn kind_of(ty: OsType) -> u32
     BigEndian::read_u32(&ty.0)
 }
 
-/// Reports whether a resource's stored data and name may begin at these offsets, and the stored data ends within the
-/// limit.
+/// Reports whether a resource's stored data and name may begin at these offsets, and the stored
+/// data ends within the limit.
 fn may_begin(r: &Ref<'_>, starts: Starts) -> bool
     ensures { result ≡ is_low starts (view_ref r.now) }
 {
@@ -76,8 +79,8 @@ pub fn starts_after(r: &Ref<'_>, starts: Starts) -> Starts
     }
 }
 
-/// Returns where stored data and names begin after these resources, if those of each of the resources may begin where
-/// they do.
+/// Returns where stored data and names begin after these resources, if those of each of the
+/// resources may begin where they do.
 fn starts_behind(refs: &[Ref<'_>], starts: Starts) -> Option<Starts>
     requires datum { starts.datum ≤ MAX_DATA }
     requires name { starts.name ≤ 65790 }
@@ -95,7 +98,8 @@ fn starts_behind(refs: &[Ref<'_>], starts: Starts) -> Option<Starts>
     Some(next)
 }
 
-/// Returns where the stored data and the names of all resources end, if those of each resource may begin where they do.
+/// Returns where the stored data and the names of all resources end, if those of each resource may
+/// begin where they do.
 fn ends_of(groups: &[Group<'_>]) -> Option<Starts>
     ensures behind { result ≡ behind no_starts (refs_of (map view_group groups.now)) }
     ensures datum { IfSome result (λ s. s.datum ≤ MAX_DATA) }
@@ -111,9 +115,11 @@ fn ends_of(groups: &[Group<'_>]) -> Option<Starts>
     Some(ends)
 }
 
-/// Returns where the references end, from the type list, if no group is empty and the name list may begin there.
+/// Returns where the references end, from the type list, if no group is empty and the name list may
+/// begin there.
 fn refs_end_of(groups: &[Group<'_>]) -> Option<usize>
-    ensures end { result ≡ refs_end (refs_offset (map view_group groups.now)) (map view_group groups.now) }
+    ensures end { result
+        ≡ refs_end (refs_offset (map view_group groups.now)) (map view_group groups.now) }
     ensures low { IfSome result (λ at. at ≤ MAX_REFS_END) }
 {
     if groups.len() > MAX_TYPES {
@@ -132,7 +138,8 @@ fn refs_end_of(groups: &[Group<'_>]) -> Option<usize>
 
 /// Reports whether no group is of the type.
 fn is_type_new(kind: u32, groups: &[Group<'_>]) -> bool
-    ensures { result ≡ list_all (λ m. not (m == kind)) (map (λ (g : GroupValue). g.kind) (map view_group groups.now)) }
+    ensures { result ≡ list_all (λ m. not (m == kind))
+        (map (λ (g : GroupValue). g.kind) (map view_group groups.now)) }
 {
     for group in groups {
         if kind_of(group.ty) == kind {
@@ -154,8 +161,8 @@ fn are_types_different(groups: &[Group<'_>]) -> bool
     true
 }
 
-/// Returns the sizes of the parts of the canonical fork, if the content fits. The types are compared last, when there
-/// are few.
+/// Returns the sizes of the parts of the canonical fork, if the content fits. The types are
+/// compared last, when there are few.
 pub fn extents_of(content: &Content<'_>) -> Option<Extents>
     ensures found { IfSome result (λ e. AreExtents e (view content.now).groups) }
     ensures fits { IsSome result ↔ IsTrue (canonical.fits (view content.now)) }
@@ -177,10 +184,10 @@ pub fn extents_of(content: &Content<'_>) -> Option<Extents>
     })
 }
 
-/// Reports whether a content can be written as a resource fork: no group is empty, no two groups are of the same type,
-/// there are at most 65,535 groups, and each offset of a reference list, of the name list (at most 65,535), of a name
-/// (at most 65,534) and of a resource's stored data (at most 16,777,215) can be written; the resource data takes at
-/// most 134,217,728 bytes.
+/// Reports whether a content can be written as a resource fork: no group is empty, no two groups
+/// are of the same type, there are at most 65,535 groups, and each offset of a reference list, of
+/// the name list (at most 65,535), of a name (at most 65,534) and of a resource's stored data (at
+/// most 16,777,215) can be written; the resource data takes at most 134,217,728 bytes.
 ///
 /// *More Macintosh Toolbox*, chapter 1, "Resource File Format".
 pub fn fits(content: &Content<'_>) -> bool

@@ -8,13 +8,14 @@ ghost use Rattle.fork_format.specs.Canonical.{canon, clear, fits, has_refs, are_
 ghost use Rattle.fork_format.specs.Code.{content_or_code};
 ghost use Rattle.mac_words.specs.declared.code.TheConstants.OsErr.{END_OF_FILE, MAP_READ};
 
-/// States that bytes spell at most one content, that each type of that content stands once and has references, and that
-/// the content has none of the bits that a reader clears.
+/// States that bytes spell at most one content, that each type of that content stands once and has
+/// references, and that the content has none of the bits that a reader clears.
 pub fn bytes_spell_one_content()
     ensures one { (bytes : List ℕ) (c d : Content) → Spells bytes c → Spells bytes d → c ≡ d }
     ensures distinct { (bytes : List ℕ) (c : Content) → Spells bytes c
         → are_distinct (map (λ (g : Group). g.kind) c.groups) ≡ true }
-    ensures references { (bytes : List ℕ) (c : Content) → Spells bytes c → list_all has_refs c.groups ≡ true }
+    ensures references { (bytes : List ℕ) (c : Content) → Spells bytes c
+        → list_all has_refs c.groups ≡ true }
     ensures clear { (bytes : List ℕ) (c : Content) → Spells bytes c → clear c ≡ c }
 {}
 
@@ -22,16 +23,19 @@ pub fn bytes_spell_one_content()
 ///
 /// *More Macintosh Toolbox*, chapter 1, "Result Codes".
 pub fn bytes_have_a_content_or_a_code()
-    ensures content { (bytes : List ℕ) (c : Content) → Spells bytes c → content_or_code bytes ≡ Ok c }
+    ensures content { (bytes : List ℕ) (c : Content) → Spells bytes c
+        → content_or_code bytes ≡ Ok c }
     ensures empty { content_or_code [] ≡ Err END_OF_FILE }
-    ensures damaged { (bytes : List ℕ) → bytes ≢ [] → IsUnspelled bytes → content_or_code bytes ≡ Err MAP_READ }
+    ensures damaged { (bytes : List ℕ) → bytes ≢ [] → IsUnspelled bytes
+        → content_or_code bytes ≡ Err MAP_READ }
 {}
 
-/// States that each content that fits the format is read again from its canonical fork: the fork spells the content
-/// without the bits that a reader clears, and spells nothing else.
+/// States that each content that fits the format is read again from its canonical fork: the fork
+/// spells the content without the bits that a reader clears, and spells nothing else.
 ///
 /// *More Macintosh Toolbox*, chapter 1, "Resource File Format".
 pub fn a_canonical_fork_is_read_again()
     ensures spelled { (c : Content) → IsContent c → fits c ≡ true → Spells (canon c) (clear c) }
-    ensures only { (c d : Content) → IsContent c → fits c ≡ true → Spells (canon c) d → d ≡ clear c }
+    ensures only { (c d : Content) → IsContent c → fits c ≡ true
+        → Spells (canon c) d → d ≡ clear c }
 {}

@@ -1,11 +1,12 @@
 //! Where the parts of a resource fork lie, and whether they lie in its bytes.
 
-ghost use Rattle.std.specs.Prelude.{◌≡◌, ◌+◌, ◌*◌, ◌≤◌, ◌<◌, ◌^◌, length, ℕ, IsTrue, IfSome, IsNone, IsSome, ◌↔◌};
-ghost use Rattle.std.specs.Prelude.{Some, None, if◌then◌else◌, sum_by};
+ghost use Rattle.std.specs.Prelude.{◌≡◌, ◌+◌, ◌*◌, ◌≤◌, ◌<◌, ◌^◌, length, ℕ, IsTrue, IfSome};
+ghost use Rattle.std.specs.Prelude.{IsNone, IsSome, ◌↔◌, Some, None, if◌then◌else◌, sum_by};
 ghost use Rattle.std.specs.List.{list_all};
-ghost use Rattle.fork_format.specs.Fork.{number, parts_fit, types_fit, ref_size, name_place, name_fits, datum_place};
-ghost use Rattle.fork_format.specs.Fork.{datum_fits, ref_fits, refs_fit, offsets, type_count, type_places, ref_count};
-ghost use Rattle.fork_format.specs.Fork.{ref_places, type_size, is_fork};
+ghost use Rattle.fork_format.specs.Fork.{number, parts_fit, types_fit, ref_size, name_place};
+ghost use Rattle.fork_format.specs.Fork.{name_fits, datum_place, datum_fits, ref_fits, refs_fit};
+ghost use Rattle.fork_format.specs.Fork.{offsets, type_count, type_places, ref_count, ref_places};
+ghost use Rattle.fork_format.specs.Fork.{type_size, is_fork};
 ghost use Rattle.fork_format.specs.Layout.{IsLayout, sizes_if};
 ghost use Rattle.fork_format.specs.declared.layout.TheConstants.{MAX_ENTRIES};
 
@@ -13,9 +14,11 @@ use byteorder::{BigEndian, ByteOrder};
 
 /// The greatest number of references with which a fork is read.
 const MAX_REFS: usize = 65_536;
-/// The greatest total size of the stored data in bytes, with its lengths, with which a fork is read or written.
+/// The greatest total size of the stored data in bytes, with its lengths, with which a fork is read
+/// or written.
 pub(crate) const MAX_DATA: usize = 134_217_728;
-/// The greatest number of entries in a type list, which gives the number less one in two bytes; FFFF stands for none.
+/// The greatest number of entries in a type list, which gives the number less one in two bytes;
+/// FFFF stands for none.
 const MAX_ENTRIES: usize = 65_535;
 
 /// Where resource data, map, type list and name list begin or end.
@@ -133,7 +136,8 @@ pub fn type_count_of(l: Layout, bytes: &[u8]) -> usize
 fn datum_size_of(l: Layout, bytes: &[u8], at: usize) -> Option<usize>
     requires layout { IsLayout l bytes.now }
     requires small { at < 2 ^ 40 }
-    ensures size { result ≡ (if datum_fits at bytes.now then Some (4 + number 4 at bytes.now) else None) }
+    ensures size { result
+        ≡ (if datum_fits at bytes.now then Some (4 + number 4 at bytes.now) else None) }
     ensures small { IfSome result (λ size. size < 2 ^ 32 + 4) }
 {
     if l.data_end < at + 4 {
@@ -147,8 +151,8 @@ fn datum_size_of(l: Layout, bytes: &[u8], at: usize) -> Option<usize>
     }
 }
 
-/// Returns the size of the stored data of a reference, if the reference and its name lie in the map, and the stored
-/// data in the resource data.
+/// Returns the size of the stored data of a reference, if the reference and its name lie in the
+/// map, and the stored data in the resource data.
 fn ref_size_of(l: Layout, bytes: &[u8], at: usize) -> Option<usize>
     requires layout { IsLayout l bytes.now }
     requires small { at < 2 ^ 40 }
@@ -184,11 +188,13 @@ fn refs_size_of(l: Layout, bytes: &[u8], first: usize, count: usize) -> Option<u
     Some(data)
 }
 
-/// Returns the total size of the stored data of a type's references, if all of them lie where they must.
+/// Returns the total size of the stored data of a type's references, if all of them lie where they
+/// must.
 fn type_size_of(l: Layout, bytes: &[u8], at: usize) -> Option<usize>
     requires layout { IsLayout l bytes.now }
     requires room { at + 8 ≤ length bytes.now }
-    ensures size { result ≡ (if refs_fit bytes.now at then Some (type_size bytes.now at) else None) }
+    ensures size { result
+        ≡ (if refs_fit bytes.now at then Some (type_size bytes.now at) else None) }
     ensures small { IfSome result (λ size. size ≤ 65536 * (2 ^ 32 + 3)) }
 {
     refs_size_of(
@@ -199,7 +205,8 @@ fn type_size_of(l: Layout, bytes: &[u8], at: usize) -> Option<usize>
     )
 }
 
-/// Returns the total size of the stored data of all types' references, if all of them lie where they must.
+/// Returns the total size of the stored data of all types' references, if all of them lie where
+/// they must.
 #[tactic(auto, using(crate::proofs::Loops::tally_goes_on, crate::proofs::Loops::tally_ends))]
 fn types_size_of(l: Layout, bytes: &[u8], first: usize, count: usize) -> Option<usize>
     requires layout { IsLayout l bytes.now }
@@ -235,7 +242,8 @@ fn refs_of_types(bytes: &[u8], first: usize, count: usize) -> usize
     refs
 }
 
-/// Returns the layout of bytes that spell a content. The limits are tested as well, and nothing is copied.
+/// Returns the layout of bytes that spell a content. The limits are tested as well, and nothing is
+/// copied.
 pub fn layout_of_fork(bytes: &[u8]) -> Option<Layout>
     ensures found { IfSome result (λ l. IsLayout l bytes.now) }
     ensures fork { IsSome result ↔ IsTrue (is_fork bytes.now) }

@@ -1,17 +1,17 @@
 //! Reading a resource fork: the content that its bytes spell.
 
-ghost use Rattle.std.specs.Prelude.{◌≡◌, ◌+◌, ◌*◌, ◌≤◌, ◌<◌, ◌^◌, ◌++◌, length, IsTrue, IfOk, OnOk, ◌↔◌, ◌≢◌, []};
-ghost use Rattle.std.specs.Prelude.{map, Some};
+ghost use Rattle.std.specs.Prelude.{◌≡◌, ◌+◌, ◌*◌, ◌≤◌, ◌<◌, ◌^◌, ◌++◌, length, IsTrue, IfOk, OnOk};
+ghost use Rattle.std.specs.Prelude.{◌↔◌, ◌≢◌, [], map, Some};
 ghost use Rattle.std.specs.List.{list_all};
 ghost use Rattle.std.specs.Int.{cast_signed, w16};
 ghost use Rattle.byteorder.specs.Endian.{big_number};
 ghost use Rattle.std.specs.List.Sorted.{IsStrictlyIncreasing};
 ghost use Rattle.fork_format.specs.Canonical.{are_distinct, has_refs};
 ghost use Rattle.fork_format.specs.Content.{Content as ContentValue, Group as GroupValue, joined};
-ghost use Rattle.fork_format.specs.Fork.{number, kind_in, name_place, name_at, name_fits, ref_at, ref_fits};
-ghost use Rattle.fork_format.specs.Fork.{ref_count, ref_places, refs_fit, group_at, datum_at, offsets, kept};
-ghost use Rattle.fork_format.specs.Fork.{map_kept, map_start, types_fit, type_places, is_fork, content_of, Spells};
-ghost use Rattle.fork_format.specs.Fork.{IsUnspelled};
+ghost use Rattle.fork_format.specs.Fork.{number, kind_in, name_place, name_at, name_fits, ref_at};
+ghost use Rattle.fork_format.specs.Fork.{ref_fits, ref_count, ref_places, refs_fit, group_at};
+ghost use Rattle.fork_format.specs.Fork.{datum_at, offsets, kept, map_kept, map_start, types_fit};
+ghost use Rattle.fork_format.specs.Fork.{type_places, is_fork, content_of, Spells, IsUnspelled};
 ghost use Rattle.fork_format.specs.Fork as fork;
 ghost use Rattle.fork_format.specs.Layout.{IsLayout};
 ghost use Rattle.fork_format.specs.Place.{ArePlaces, put, opened, place};
@@ -140,7 +140,8 @@ fn fill<'b>(l: Layout, bytes: &'b [u8], at: usize, group: &mut Group<'b>) -> Res
     read_refs(l, bytes, first, count, &mut group.refs)
 }
 
-/// Returns the place of a type's group. The group of a new type is put after the others, with no resource yet.
+/// Returns the place of a type's group. The group of a new type is put after the others, with no
+/// resource yet.
 fn place_of<'b>(
     alloc: Global,
     kind: u32,
@@ -149,7 +150,8 @@ fn place_of<'b>(
 ) -> Result<usize, AllocError>
     requires { ArePlaces places.old (map view_group groups.old.items) }
     ensures places { OnOk result (ArePlaces places.new (map view_group groups.new.items)) }
-    ensures groups { OnOk result (map view_group groups.new.items ≡ opened kind (map view_group groups.old.items)) }
+    ensures groups { OnOk result (map view_group groups.new.items
+        ≡ opened kind (map view_group groups.old.items)) }
     ensures at { IfOk result (λ at. place kind (map view_group groups.new.items) ≡ Some at) }
 {
     if let Some(place) = places.get(&kind) {
@@ -198,7 +200,8 @@ fn read_joined<'b>(
     requires room { first + 8 * count ≤ length bytes.now }
     requires few { count ≤ MAX_ENTRIES }
     requires fits { IsTrue (list_all (refs_fit bytes.now) (offsets first 8 count)) }
-    ensures { IfOk result (λ v. map view_group v.items ≡ joined (map (group_at bytes.now) (offsets first 8 count))) }
+    ensures { IfOk result (λ v. map view_group v.items
+        ≡ joined (map (group_at bytes.now) (offsets first 8 count))) }
 {
     let mut groups = Vec::new(alloc);
     let mut places = BTreeMap::new(alloc);
@@ -244,7 +247,8 @@ fn read_apart<'b>(
     requires room { first + 8 * count ≤ length bytes.now }
     requires few { count ≤ MAX_ENTRIES }
     requires fits { IsTrue (list_all (refs_fit bytes.now) (offsets first 8 count)) }
-    ensures { IfOk result (λ v. map view_group v.items ≡ map (group_at bytes.now) (offsets first 8 count)) }
+    ensures { IfOk result (λ v. map view_group v.items
+        ≡ map (group_at bytes.now) (offsets first 8 count)) }
 {
     let mut groups = Vec::with_capacity(alloc, count)?;
     let mut at = first;
@@ -290,7 +294,8 @@ fn are_apart(numbers: &mut [u32]) -> bool
     do_rise(numbers)
 }
 
-/// Returns the groups of types that follow one another. Groups are joined only where two types are the same.
+/// Returns the groups of types that follow one another. Groups are joined only where two types are
+/// the same.
 fn read_types<'b>(
     alloc: Global,
     l: Layout,
@@ -302,7 +307,8 @@ fn read_types<'b>(
     requires room { first + 8 * count ≤ length bytes.now }
     requires few { count ≤ MAX_ENTRIES }
     requires fits { IsTrue (list_all (refs_fit bytes.now) (offsets first 8 count)) }
-    ensures { IfOk result (λ v. map view_group v.items ≡ joined (map (group_at bytes.now) (offsets first 8 count))) }
+    ensures { IfOk result (λ v. map view_group v.items
+        ≡ joined (map (group_at bytes.now) (offsets first 8 count))) }
 {
     let mut kinds = kinds_of(alloc, bytes, first, count)?;
     if are_apart(kinds.as_mut_slice()) {
@@ -350,9 +356,9 @@ fn read_content<'b>(alloc: Global, l: Layout, bytes: &'b [u8]) -> Result<Content
 
 /// Reads a resource fork.
 ///
-/// A fork that is read has at most 65,536 references in all, and at most 134,217,728 bytes of stored data with its
-/// lengths, summed over the references; stored data and lists may be shared. Nothing is copied before these limits are
-/// known to hold.
+/// A fork that is read has at most 65,536 references in all, and at most 134,217,728 bytes of
+/// stored data with its lengths, summed over the references; stored data and lists may be shared.
+/// Nothing is copied before these limits are known to hold.
 ///
 /// *More Macintosh Toolbox*, chapter 1, "Resource File Format".
 pub fn read_fork<'b>(alloc: Global, bytes: &'b [u8]) -> Result<Content<'b>, ForkFault>
@@ -361,7 +367,8 @@ pub fn read_fork<'b>(alloc: Global, bytes: &'b [u8]) -> Result<Content<'b>, Fork
     ensures only { IfOk result (λ c. (d : ContentValue) → Spells bytes.now d → d ≡ view c) }
 
     // Each type of the content stands once, and has references.
-    ensures distinct { IfOk result (λ c. IsTrue (are_distinct (map (λ (g : GroupValue). g.kind) (view c).groups))) }
+    ensures distinct { IfOk result (λ c.
+        IsTrue (are_distinct (map (λ (g : GroupValue). g.kind) (view c).groups))) }
     ensures references { IfOk result (λ c. IsTrue (list_all has_refs (view c).groups)) }
 
     // A fork is refused where there are no bytes, or where the bytes spell no content.

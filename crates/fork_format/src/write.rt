@@ -1,16 +1,18 @@
 //! Writing a resource fork: the one canonical fork of a content.
 
-ghost use Rattle.std.specs.Prelude.{◌≡◌, ◌<◌, ◌^◌, ◌++◌, map, false, ◌↔◌, IsTrue, IsSome, IfOk, OnOk, Some};
+ghost use Rattle.std.specs.Prelude.{◌≡◌, ◌<◌, ◌^◌, ◌++◌, map, false, ◌↔◌, IsTrue, IsSome, IfOk};
+ghost use Rattle.std.specs.Prelude.{OnOk, Some};
 ghost use Rattle.std.specs.List.{list_all, flat_map};
 ghost use Rattle.std.specs.Int.{cast_unsigned, w16};
 ghost use Rattle.byteorder.specs.Endian.{big_bytes};
 ghost use Rattle.fork_format.specs.Content.{refs_of, IsRef, AreRefs, AreKinds, HaveRefs, IsContent};
 ghost use Rattle.fork_format.specs.Fork.{Spells};
-ghost use Rattle.fork_format.specs.Canonical.{datum, name, reference, references, types, header, lists, map_of, canon};
-ghost use Rattle.fork_format.specs.Canonical.{clear, data_of, names_of, name_offset};
+ghost use Rattle.fork_format.specs.Canonical.{datum, name, reference, references, types, header};
+ghost use Rattle.fork_format.specs.Canonical.{lists, map_of, canon, clear, data_of, names_of};
+ghost use Rattle.fork_format.specs.Canonical.{name_offset};
 ghost use Rattle.fork_format.specs.Canonical as canonical;
-ghost use Rattle.fork_format.specs.Extent.{is_low, is_name_low, behind, no_starts, refs_end, is_short, are_short};
-ghost use Rattle.fork_format.specs.Extent.{AreExtents};
+ghost use Rattle.fork_format.specs.Extent.{is_low, is_name_low, behind, no_starts, refs_end};
+ghost use Rattle.fork_format.specs.Extent.{is_short, are_short, AreExtents};
 ghost use Rattle.fork_format.specs.View.{view_name, view_ref, view_group, view};
 
 use crate::content::{Content, Group, Ref, RefName};
@@ -82,7 +84,8 @@ fn put_header(out: &mut Vec<u8>, extents: Extents, content: &Content<'_>) -> Res
 /// Writes the stored data of resources, each with its length.
 fn put_data(out: &mut Vec<u8>, refs: &[Ref<'_>]) -> Result<(), AllocError>
     requires { IsTrue (list_all is_short (map view_ref refs.now)) }
-    ensures { OnOk result (out.new.items ≡ out.old.items ++ flat_map datum (map view_ref refs.now)) }
+    ensures { OnOk result (out.new.items
+        ≡ out.old.items ++ flat_map datum (map view_ref refs.now)) }
 {
     for r in refs {
         put_word(out, r.datum.len() as u32)?;
@@ -105,7 +108,8 @@ fn put_all_data(out: &mut Vec<u8>, groups: &[Group<'_>]) -> Result<(), AllocErro
 /// Writes the entries of the types, whose references stand one after another.
 fn put_types(out: &mut Vec<u8>, groups: &[Group<'_>], first: usize) -> Result<(), AllocError>
     requires { IsSome (refs_end first (map view_group groups.now)) }
-    ensures types { OnOk result (out.new.items ≡ out.old.items ++ types first (map view_group groups.now)) }
+    ensures types { OnOk result (out.new.items
+        ≡ out.old.items ++ types first (map view_group groups.now)) }
     ensures kinds { OnOk result (AreKinds (map view_group groups.now)) }
 {
     let mut at = first;
@@ -146,7 +150,8 @@ fn put_reference(out: &mut Vec<u8>, r: &Ref<'_>, starts: Starts) -> Result<(), A
     Ok(())
 }
 
-/// Writes the references of resources, and returns where the stored data and the name of the next resource begin.
+/// Writes the references of resources, and returns where the stored data and the name of the next
+/// resource begin.
 fn put_references(out: &mut Vec<u8>, refs: &[Ref<'_>], starts: Starts) -> Result<Starts, AllocError>
     requires { IsSome (behind starts (map view_ref refs.now)) }
     ensures references { OnOk result (out.new.items ≡ out.old.items
@@ -226,7 +231,8 @@ fn put_lists(out: &mut Vec<u8>, content: &Content<'_>) -> Result<(), AllocError>
 fn put_map(out: &mut Vec<u8>, extents: Extents, content: &Content<'_>) -> Result<(), AllocError>
     requires extents { AreExtents extents (view content.now).groups }
     requires fits { IsTrue (canonical.fits (view content.now)) }
-    ensures map { OnOk result (out.new.items ≡ out.old.items ++ map_of content.now.attrs (view content.now).groups) }
+    ensures map { OnOk result (out.new.items
+        ≡ out.old.items ++ map_of content.now.attrs (view content.now).groups) }
     ensures attrs { OnOk result (content.now.attrs < 65536) }
     ensures kinds { OnOk result (AreKinds (view content.now).groups) }
     ensures sized { OnOk result (HaveRefs (view content.now).groups) }
@@ -255,19 +261,20 @@ fn put_fork(out: &mut Vec<u8>, extents: Extents, content: &Content<'_>) -> Resul
     Ok(())
 }
 
-/// Returns the canonical fork of a content: header, area, resource data, map. The stored data, the references and the
-/// names follow one another without gaps, in the order of the resources.
+/// Returns the canonical fork of a content: header, area, resource data, map. The stored data, the
+/// references and the names follow one another without gaps, in the order of the resources.
 ///
 /// *More Macintosh Toolbox*, chapter 1, "Resource File Format".
 pub fn write_fork(alloc: Global, content: &Content<'_>) -> Result<Vec<u8>, WriteFault>
-    // The fork is the canonical one, and a reader reads the content from it again, without the bits that a reader
-    // clears.
+    // The fork is the canonical one, and a reader reads the content from it again, without the bits
+    // that a reader clears.
     ensures fork { IfOk result (λ fork. fork.items ≡ canon (view content.now)) }
     ensures read_again { IfOk result (λ fork. Spells fork.items (clear (view content.now))) }
 
     // A content is refused exactly where it does not fit.
     ensures fits { OnOk result (IsTrue (canonical.fits (view content.now))) }
-    ensures too_large { (result ≡ Err WriteFault.TooLarge) ↔ (canonical.fits (view content.now) ≡ false) }
+    ensures too_large { (result ≡ Err WriteFault.TooLarge)
+        ↔ (canonical.fits (view content.now) ≡ false) }
 {
     let Some(extents) = extents_of(content) else {
         return Err(WriteFault::TooLarge);

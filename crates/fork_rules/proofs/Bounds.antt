@@ -1,18 +1,18 @@
 use Rattle.std.proofs.Common.{◌≡◌, ℕ, ◌+◌, ◌<◌, ◌≤◌, ◌^◌, Bool, true, false, cond, List, [], ◌∷◌, ◌++◌, length, map, drop}
-use Rattle.std.proofs.Common.{replicate, Option, Some, None, refl, arith, rules}
-use Rattle.std.specs.Prelude.{slice_index, filter, nat_lt, nat_le, IfSome, ◌&&◌}
+use Rattle.std.proofs.Common.{Option, Some, None, refl, arith, rules}
+use Rattle.std.specs.Prelude.{slice_index, filter, nat_lt, IfSome}
 use Rattle.std.specs.List.{flat_map, list_all, AllByRecursion}
 use Rattle.std.specs.Int.{w16}
 use Rattle.std.proofs.Math.Facts.{sfits_to_z}
-use Rattle.std.proofs.lemmas.Bool.{and_parts, ltb-true, leb-true}
+use Rattle.std.proofs.lemmas.Bool.{and_parts, ltb-true}
 use Rattle.std.proofs.lemmas.Bool.Decides.{Decides-ltb}
-use Rattle.std.proofs.lemmas.List.{get_or-drop, length-take, length-drop}
+use Rattle.std.proofs.lemmas.List.{get_or-drop, length-take}
 use Rattle.std.proofs.lemmas.Nat.{and_le_l, and_le_r}
 use Rattle.byteorder.specs.Numbers.{big_from-lt}
 use Rattle.fork_format.specs.Content.{Ref, Group, IsRef, IsGroup, AreRefs, IsContent, is_of, distinct}
-use Rattle.fork_format.specs.Fork.{number, part, ref_at, ref_places, group_at, type_places, content_of, area_of, name_at, name_place}
-use Rattle.fork_format.specs.Fork.{map_start, data_start}
-use Rattle.fork_format.proofs.Spelled.{distinct-all}
+use Rattle.fork_format.specs.Fork.{number, ref_at, ref_places, group_at, type_places, content_of, name_at, name_place}
+use Rattle.fork_format.specs.Fork.{map_start}
+use Rattle.fork_format.proofs.Spelled.{distinct-all, area_whole}
 use Rattle.fork_format.proofs.Bools.{and_both}
 
 -- The content that bytes spell keeps the limits of its parts.
@@ -84,18 +84,6 @@ are_groups bytes places (k ∷ ks) are small =
       record { kind = ltb-true k 4294967296 both.0; refs = of_type k bytes places are },
       are_groups bytes places ks are both.1,
     )
-
-area_whole : (bytes : List ℕ) → length (area_of bytes) ≡ 240
-area_whole bytes = cases (nat_le 256 (length bytes)) (nat_le 256 (data_start bytes)) (nat_le 256 (map_start bytes)) refl
-  where
-    cases : (a b d : Bool) → nat_le 256 (length bytes) ≡ a
-        → length (cond (a && b && d) (part 240 16 bytes) (replicate 240 0)) ≡ 240
-    cases true true true e =
-        let long : 256 ≤ length bytes = leb-true 256 (length bytes) e in
-        let f = length-take 240 (drop 16 bytes) in let g = length-drop 16 bytes in omega (arith, f, g, long)
-    cases true true false e = refl
-    cases true false d e = refl
-    cases false b d e = refl
 
 pub spelled_content : (bytes : List ℕ) → AreBytes bytes → IsContent (content_of bytes)
 spelled_content bytes are =

@@ -1,4 +1,5 @@
-use Rattle.std.proofs.Common.{Bool, true, false, cond, length, drop, get_or, refl, ◌≡◌, ℕ, ◌+◌, ◌-◌, ◌<◌, ◌≤◌, List, [], ◌∷◌, ◌++◌, append_assoc, sym, ◌∙◌, ap, arith, zero}
+use Rattle.std.proofs.Common.{Bool, true, false, cond, length, drop, get_or, refl, ◌≡◌, ℕ, ◌+◌, ◌-◌, ◌<◌, ◌≤◌, List, [], ◌∷◌, ◌++◌}
+use Rattle.std.proofs.Common.{append_assoc, sym, ◌∙◌, ap, arith, zero}
 use Rattle.std.proofs.lemmas.List.{append-nil}
 use Rattle.std.specs.Prelude.{filter}
 use Rattle.std.specs.List.{flat_map}

@@ -9,9 +9,6 @@ use Rattle.fork_rules.specs.Texts.{damaged_text, form_text, whole_text, why_text
 pub spelled : (bytes : List ℕ) → is_fork bytes ≡ true → IsUnspelled bytes → ⊥
 spelled bytes h none = none (content_of bytes) (record { fork = h; content = refl })
 
-pub some_bytes : (bytes : List ℕ) → is_fork bytes ≡ true → bytes ≡ [] → ⊥
-some_bytes bytes h none = let e : is_fork [] ≡ true = subst (λ l. is_fork l ≡ true) none h in cc
-
 -- what damaged bytes are, and what others are
 pub damaged : (bytes text new : List ℕ) (b : Broken) → Some b ≡ broken bytes → new ≡ text ++ damaged_text b
     → new ≡ text ++ why_text bytes

@@ -1,9 +1,10 @@
 //! The first rule of the format that bytes break.
 
 ghost use Rattle.std.specs.Prelude.{◌≡◌, ◌+◌, ◌*◌, ◌≤◌, ◌<◌, ◌^◌, length, IfSome, None};
-ghost use Rattle.fork_format.specs.Fork.{offsets, name_place, name_fits, datum_place, datum_fits, type_places};
-ghost use Rattle.fork_rules.specs.Breaking.{broken_part, broken_list, broken_reference, broken_type, broken_limit};
-ghost use Rattle.fork_rules.specs.Breaking.{first_of, key_in};
+ghost use Rattle.fork_format.specs.Fork.{offsets, name_place, name_fits, datum_place, datum_fits};
+ghost use Rattle.fork_format.specs.Fork.{type_places};
+ghost use Rattle.fork_rules.specs.Breaking.{broken_part, broken_list, broken_reference};
+ghost use Rattle.fork_rules.specs.Breaking.{broken_type, broken_limit, first_of, key_in};
 ghost use Rattle.fork_rules.specs.Breaking as spec;
 ghost use Rattle.fork_rules.specs.Parts.{AreParts};
 
@@ -61,7 +62,8 @@ fn key_of(bytes: &[u8], entry: usize, at: usize) -> ResourceKey
     }
 }
 
-/// Returns the first rule that the reference at an offset breaks, of the type whose entry is at another offset.
+/// Returns the first rule that the reference at an offset breaks, of the type whose entry is at
+/// another offset.
 fn broken_reference_of(parts: Parts, bytes: &[u8], entry: usize, at: usize) -> Option<Broken>
     requires parts { AreParts parts bytes.now }
     requires entry { entry + 8 ≤ length bytes.now }
@@ -80,7 +82,8 @@ fn broken_reference_of(parts: Parts, bytes: &[u8], entry: usize, at: usize) -> O
     None
 }
 
-/// Returns the first rule that one of `count` references breaks, of the type whose entry is at an offset.
+/// Returns the first rule that one of `count` references breaks, of the type whose entry is at an
+/// offset.
 #[tactic(auto, using(crate::proofs::Walking::passes, crate::proofs::Walking::ends))]
 fn broken_references_of(
     parts: Parts,
@@ -149,8 +152,8 @@ fn broken_limit_of(parts: Parts, bytes: &[u8]) -> Option<Broken>
     }
 }
 
-/// Returns the first rule of the format that bytes break, and where; none where they are a resource fork. The rules are
-/// tested in the order of `Rule`. Nothing is allocated.
+/// Returns the first rule of the format that bytes break, and where; none where they are a resource
+/// fork. The rules are tested in the order of `Rule`. Nothing is allocated.
 ///
 /// *More Macintosh Toolbox*, chapter 1, "Resource File Format".
 pub fn broken_rule(bytes: &[u8]) -> Option<Broken>

@@ -1,6 +1,7 @@
 //! What differs from the canonical form.
 
-ghost use Rattle.std.specs.Prelude.{◌≡◌, ◌↔◌, ◌+◌, ◌++◌, ◌∷◌, drop, filter, IfOk, OnOk, IsTrue, false, []};
+ghost use Rattle.std.specs.Prelude.{◌≡◌, ◌↔◌, ◌+◌, ◌++◌, ◌∷◌, drop, filter, IfOk, OnOk, IsTrue};
+ghost use Rattle.std.specs.Prelude.{false, []};
 ghost use Rattle.std.specs.Cmp.Lexicographic.{pointwise};
 ghost use Rattle.std.specs.Str.{bytes_eq};
 ghost use Rattle.fork_format.specs.Canonical.{canon};
@@ -53,7 +54,8 @@ fn each_place(places: &[usize], distance: usize, size: usize) -> Fields<'_>
 /// Returns where the copy of the header stands, if it is other than the header.
 fn copy_of<'p>(places: &'p Places, bytes: &[u8]) -> Fields<'p>
     requires { ArePlaces places.now bytes.now }
-    ensures { column result.size result.distance result.places.now bytes.now ≡ bytes_of region.HeaderCopy bytes.now }
+    ensures { column result.size result.distance result.places.now bytes.now
+        ≡ bytes_of region.HeaderCopy bytes.now }
 {
     if part_of(bytes, places.parts.map_start, 0, 16) == part_of(bytes, 0, 0, 16) {
         each_place(&places.map[0..0], 0, 16)
@@ -65,7 +67,8 @@ fn copy_of<'p>(places: &'p Places, bytes: &[u8]) -> Fields<'p>
 /// Returns where a fork has a region.
 fn fields_of<'p>(region: Region, places: &'p Places, bytes: &[u8]) -> Fields<'p>
     requires { ArePlaces places.now bytes.now }
-    ensures { column result.size result.distance result.places.now bytes.now ≡ bytes_of region bytes.now }
+    ensures { column result.size result.distance result.places.now bytes.now
+        ≡ bytes_of region bytes.now }
 {
     let parts = places.parts;
     let entries = places.entries.as_slice();
@@ -108,8 +111,9 @@ fn are_fields_same(
     others: &[u8],
     other_fields: Fields<'_>,
 ) -> bool
-    ensures { result ≡ pointwise bytes_eq (column fields.entry.size fields.entry.distance fields.entry.places.now bytes.now)
-        (column other_fields.entry.size other_fields.entry.distance other_fields.entry.places.now others.now) }
+    ensures { result ≡ pointwise bytes_eq (column fields.entry.size fields.entry.distance
+        fields.entry.places.now bytes.now) (column other_fields.entry.size
+        other_fields.entry.distance other_fields.entry.places.now others.now) }
 {
     if fields.places.len() != other_fields.places.len() {
         return false;
@@ -200,8 +204,8 @@ pub fn differences_of(alloc: Global, bytes: &[u8], others: &[u8]) -> Result<Vec<
     differing(alloc, &REGIONS, bytes, &places, others, &other_places)
 }
 
-/// Returns the regions in which a fork differs from the canonical fork of its content; or `TooLarge` where the content
-/// does not fit, and so has no canonical fork.
+/// Returns the regions in which a fork differs from the canonical fork of its content; or
+/// `TooLarge` where the content does not fit, and so has no canonical fork.
 ///
 /// *More Macintosh Toolbox*, chapter 1, "Resource File Format".
 pub fn differences_from_canonical(
@@ -212,14 +216,16 @@ pub fn differences_from_canonical(
     requires { Spells bytes.now (view content.now) }
 
     // The regions are those in which the fork and the canonical fork differ, in order.
-    ensures differences { IfOk result (λ v. v.items ≡ differences bytes.now (canon (view content.now))) }
+    ensures differences { IfOk result (λ v. v.items
+        ≡ differences bytes.now (canon (view content.now))) }
 
     // There are none exactly where the fork is the canonical one.
     ensures canonical { IfOk result (λ v. (v.items ≡ []) ↔ (bytes.now ≡ canon (view content.now))) }
 
     // A content is refused exactly where it does not fit.
     ensures fits { OnOk result (IsTrue (canonical.fits (view content.now))) }
-    ensures too_large { (result ≡ Err WriteFault.TooLarge) ↔ (canonical.fits (view content.now) ≡ false) }
+    ensures too_large { (result ≡ Err WriteFault.TooLarge)
+        ↔ (canonical.fits (view content.now) ≡ false) }
 {
     let fork = write_fork(alloc, content)?;
     let regions = differences_of(alloc, bytes, fork.as_slice())?;

@@ -23,8 +23,8 @@ pub fn no_difference_is_the_canonical_fork()
         → (differences bytes (canon c) ≡ []) ↔ (bytes ≡ canon c) }
 {}
 
-/// States that no stored data of a canonical fork is that of two references, and that it stands in the order of the
-/// references.
+/// States that no stored data of a canonical fork is that of two references, and that it stands in
+/// the order of the references.
 ///
 /// *More Macintosh Toolbox*, chapter 1, "Resource File Format".
 pub fn a_canonical_fork_shares_no_data()

@@ -1,6 +1,7 @@
 //! Where the parts of a fork lie: resource data, map, type list and name list.
 
-ghost use Rattle.std.specs.Prelude.{◌≡◌, ◌+◌, ◌*◌, ◌≤◌, ◌<◌, length, IfOk, IfErr, Some, None, sum_by};
+ghost use Rattle.std.specs.Prelude.{◌≡◌, ◌+◌, ◌*◌, ◌≤◌, ◌<◌, length, IfOk, IfErr, Some, None};
+ghost use Rattle.std.specs.Prelude.{sum_by};
 ghost use Rattle.fork_format.specs.Fork.{ref_count, offsets, type_count, type_list};
 ghost use Rattle.fork_rules.specs.Breaking.{broken_part, broken_list};
 ghost use Rattle.fork_rules.specs.Parts.{AreParts};

@@ -1,4 +1,5 @@
-//! Where the parts of a fork begin, and where the entries of its type list and its references stand.
+//! Where the parts of a fork begin, and where the entries of its type list and its references
+//! stand.
 
 ghost use Rattle.std.specs.Prelude.{◌≡◌, ◌+◌, ◌*◌, ◌≤◌, ◌<◌, ◌^◌, ◌++◌, length, IfOk, OnOk, IsTrue};
 ghost use Rattle.std.specs.List.{flat_map};
@@ -9,8 +10,8 @@ use crate::numbers::half;
 use crate::parts::{Parts, parts_of, type_count_of};
 use std::alloc::{AllocError, Global};
 
-/// Where the parts of a fork begin, and where the entries of its type list and its references stand. What stands once is
-/// a list of one place.
+/// Where the parts of a fork begin, and where the entries of its type list and its references
+/// stand. What stands once is a list of one place.
 #[derive(Drop)]
 pub struct Places {
     pub parts: Parts,
@@ -73,7 +74,8 @@ fn references_of(
 ) -> Result<Vec<usize>, AllocError>
     requires parts { AreParts parts bytes.now }
     requires room { first + 8 * count ≤ length bytes.now }
-    ensures { IfOk result (λ v. v.items ≡ flat_map (λ type. ref_places type bytes.now) (offsets first 8 count)) }
+    ensures { IfOk result (λ v. v.items
+        ≡ flat_map (λ type. ref_places type bytes.now) (offsets first 8 count)) }
 {
     let mut places = Vec::new(alloc);
     let mut at = first;

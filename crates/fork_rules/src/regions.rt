@@ -1,7 +1,7 @@
 //! The regions of a resource fork that are compared.
 
-/// A region of a resource fork: a part of it, or the same field of each entry of the type list or of each reference. The
-/// regions stand in the order of the canonical fork.
+/// A region of a resource fork: a part of it, or the same field of each entry of the type list or
+/// of each reference. The regions stand in the order of the canonical fork.
 ///
 /// *More Macintosh Toolbox*, chapter 1, "Resource File Format".
 #[derive(Clone, Copy, Debug, PartialEq, Eq)]
@@ -16,7 +16,8 @@ pub enum Region {
     MapLength,
     /// The 240 bytes after the header: 112 bytes of system data and 128 bytes of application data.
     Area,
-    /// The resource data: the stored data of resources with its lengths, and whatever stands between.
+    /// The resource data: the stored data of resources with its lengths, and whatever stands
+    /// between.
     Data,
     /// The copy of the header at the start of the map.
     HeaderCopy,

@@ -1,12 +1,14 @@
-//! What a fork is, in words. Where the host is out of memory, a text may have got a part of what is appended.
+//! What a fork is, in words. Where the host is out of memory, a text may have got a part of what is
+//! appended.
 
 ghost use Rattle.std.specs.Prelude.{◌≡◌, ◌++◌, OnOk, IfOk, IsTrue};
 ghost use Rattle.std.specs.Fmt.{signed_decimal};
 ghost use Rattle.std.specs.List.{flat_map};
 ghost use Rattle.fork_format.specs.Fork.{is_fork, content_of, Spells};
 ghost use Rattle.fork_format.specs.View.{view};
-ghost use Rattle.fork_rules.specs.Texts.{kind_text, resource_text, rule_text, damaged_text, region_text, next_text};
-ghost use Rattle.fork_rules.specs.Texts.{accepted_text, form_text, why_text};
+ghost use Rattle.fork_rules.specs.Texts.{kind_text, resource_text, rule_text, damaged_text};
+ghost use Rattle.fork_rules.specs.Texts.{region_text, next_text, accepted_text, form_text};
+ghost use Rattle.fork_rules.specs.Texts.{why_text};
 
 use crate::breaking::broken_rule;
 use crate::comparing::differences_from_canonical;
@@ -26,7 +28,8 @@ fn push_around(
     ty: OsType,
     after: &[u8],
 ) -> Result<(), AllocError>
-    ensures { OnOk result (text.new.items ≡ text.old.items ++ (before.now ++ kind_text ty ++ after.now)) }
+    ensures { OnOk result (text.new.items
+        ≡ text.old.items ++ (before.now ++ kind_text ty ++ after.now)) }
 {
     text.extend_from_slice(before)?;
     append_type(text, Charset::Ascii, ty)?;
@@ -58,7 +61,8 @@ fn push_with_resource(
     key: &ResourceKey,
     after: &[u8],
 ) -> Result<(), AllocError>
-    ensures { OnOk result (text.new.items ≡ text.old.items ++ (before.now ++ resource_text key.now ++ after.now)) }
+    ensures { OnOk result (text.new.items
+        ≡ text.old.items ++ (before.now ++ resource_text key.now ++ after.now)) }
 {
     text.extend_from_slice(before)?;
     push_resource(text, key)?;
@@ -98,7 +102,8 @@ pub fn append_rule(text: &mut Vec<u8>, rule: &Rule) -> Result<(), AllocError>
     }
 }
 
-/// Appends a broken rule and where it is broken: 'damaged: the type list lies outside the map, at 286'.
+/// Appends a broken rule and where it is broken: 'damaged: the type list lies outside the map, at
+/// 286'.
 pub fn append_damaged(text: &mut Vec<u8>, broken: &Broken) -> Result<(), AllocError>
     ensures { OnOk result (text.new.items ≡ text.old.items ++ damaged_text broken.now) }
 {
@@ -161,8 +166,8 @@ fn push_others(text: &mut Vec<u8>, regions: &[Region]) -> Result<(), AllocError>
     Ok(())
 }
 
-/// Appends the regions in which a fork differs from the canonical fork: 'accepted: offset of the map, name list'; with
-/// none, 'canonical'.
+/// Appends the regions in which a fork differs from the canonical fork: 'accepted: offset of the
+/// map, name list'; with none, 'canonical'.
 pub fn append_accepted(text: &mut Vec<u8>, regions: &[Region]) -> Result<(), AllocError>
     ensures { OnOk result (text.new.items ≡ text.old.items ++ accepted_text regions.now) }
 {
@@ -176,8 +181,8 @@ pub fn append_accepted(text: &mut Vec<u8>, regions: &[Region]) -> Result<(), All
     }
 }
 
-/// Appends what a fork of a content is: 'canonical'; what differs from its canonical fork; or 'accepted: no canonical
-/// fork' where the content does not fit.
+/// Appends what a fork of a content is: 'canonical'; what differs from its canonical fork; or
+/// 'accepted: no canonical fork' where the content does not fit.
 pub fn append_form(
     alloc: Global,
     text: &mut Vec<u8>,
@@ -185,7 +190,8 @@ pub fn append_form(
     bytes: &[u8],
 ) -> Result<(), AllocError>
     requires { Spells bytes.now (view content.now) }
-    ensures { OnOk result (text.new.items ≡ text.old.items ++ form_text (view content.now) bytes.now) }
+    ensures { OnOk result (text.new.items
+        ≡ text.old.items ++ form_text (view content.now) bytes.now) }
 {
     match differences_from_canonical(alloc, content, bytes) {
         Ok(regions) => append_accepted(text, regions.as_slice()),
@@ -210,14 +216,16 @@ fn content_of_whole(alloc: Global, bytes: &[u8]) -> Result<Content<'_>, AllocErr
 /// Appends what a fork is.
 fn append_whole(alloc: Global, text: &mut Vec<u8>, bytes: &[u8]) -> Result<(), AllocError>
     requires { IsTrue (is_fork bytes.now) }
-    ensures { OnOk result (text.new.items ≡ text.old.items ++ form_text (content_of bytes.now) bytes.now) }
+    ensures { OnOk result (text.new.items
+        ≡ text.old.items ++ form_text (content_of bytes.now) bytes.now) }
 {
     let content = content_of_whole(alloc, bytes)?;
     append_form(alloc, text, &content, bytes)?;
     Ok(())
 }
 
-/// Appends what the bytes of a fork are: the rule that they break, and where; or what differs from the canonical fork.
+/// Appends what the bytes of a fork are: the rule that they break, and where; or what differs from
+/// the canonical fork.
 ///
 /// *More Macintosh Toolbox*, chapter 1, "Resource File Format".
 pub fn append_why(alloc: Global, text: &mut Vec<u8>, bytes: &[u8]) -> Result<(), AllocError>

@@ -20,17 +20,6 @@ use Rattle.fork_tasks.specs.Fault.{Message, HostMemory, Fork, IsForkFault}
 use Rattle.fork_tasks.proofs.Accesses.{none}
 use Rattle.fork_tasks.proofs.Packed.{none_read}
 
--- no files are named, and the fork is stated
-pub states_alone : (source : List ℕ) (known : List Declared) (text fork : List ℕ) (old new : Option (List Access))
-    → assembled known [] text ≡ Ok fork → new ≡ old → States source known text fork old new
-states_alone source known text fork old new is same =
-    let no_paths : paths_named source known text ≡ [] = ap (λ r. map (path_from source) (lacked r)) is in record {
-      files = [];
-      count = ap length (sym no_paths);
-      made = is;
-      reads = same ∙ none old ∙ ap (λ ps. and_then old (reads_at ps [])) (sym no_paths);
-    }
-
 -- no files are named, and the text is at fault
 pub refused_alone : (source : List ℕ) (known : List Declared) (text : List ℕ) (fault : FileFault) (old new : Option (List Access))
     (message : Message) → assembled known [] text ≡ Err (Faulty fault) → new ≡ old → message ≡ Fork source fault
@@ -169,8 +158,3 @@ assembles a paths known fork out sent p before q old first mid last new silent i
   writes = subst (λ x. Delivers (NewFile a.out) x p q last new) all
       (subst (λ x. Delivers (NewFile a.out) sent x q last new) silent h);
 }
-
--- the fault of a source is reported with its path
-pub source_stopped : {A : Type 0} (path : List ℕ) (fault : FileFault) (wanted : Result A Unassembled) (message : Message)
-    → wanted ≡ Err (Faulty fault) → message ≡ Fork path fault → IsSourceFault path wanted message
-source_stopped path fault wanted message stops is = subst (λ m. IsSourceFault path wanted m) (sym is) (refl, stops)

@@ -55,13 +55,6 @@ files_stopped folder files old mid new message made s =
     further all all (Folder folder ∷ []) (map write_in files) old old mid refl (begun all old) made in
     stopped_among all (map write_in files) (map write_in files) [] old mid new message (sym (append-nil (map write_in files))) so s
 
--- the folder was made, and then the files were written
-pub all_written : (folder : List ℕ) (files : List ToWrite) (old mid new : Option (List Access))
-    → mid ≡ and_then old (Folder folder ∷ []) → new ≡ and_then mid (map write_in files)
-    → new ≡ and_then old (writes_in folder files)
-all_written folder files old mid new made written =
-    written ∙ ap (λ a. and_then a (map write_in files)) made ∙ one_more old (Folder folder ∷ []) (map write_in files)
-
 -- a file is written before those that come after it
 pub of_item : (files : List ResourceFile) (i : ℕ) (file : ResourceFile) → i < length files → file ≡ get_or files i file
     → map write_in (map view_file (drop i files))

@@ -40,3 +40,7 @@ quiet_silent p q (CannotRead named) same = same
 quiet_silent p q (Script named line kind) same = same
 quiet_silent p q (NotLaunched named app) same = same
 quiet_silent p q (Dump named why) same = same
+
+-- what is quiet after nothing was printed
+pub quiet_from : (p mid q : Option (List ℕ)) (message : Message) → mid ≡ p → IsQuiet mid q message → IsQuiet p q message
+quiet_from p mid q message same h = subst (λ x. IsQuiet x q message) same h

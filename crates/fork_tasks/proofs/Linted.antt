@@ -21,7 +21,7 @@ use Rattle.fork_tasks.specs.Declaring.{Knows, IsUnknown}
 use Rattle.fork_tasks.specs.Accesses.{Access, Read, Failed, and_then}
 use Rattle.fork_tasks.specs.Delivering.{IsUndelivered}
 use Rattle.fork_tasks.specs.Ending.{ending_of}
-use Rattle.fork_tasks.specs.Fault.{Message, IsQuiet}
+use Rattle.fork_tasks.specs.Fault.{Message}
 use Rattle.fork_tasks.specs.Linting.{Adds, AreLines, IsLinted, AreLinted, HasLinted, PrintsLines, LeavesLines, Undelivered, is_clean}
 use Rattle.fork_tasks.specs.Linting.{line_of, LinesOf, faulty_lines, kind_at, lines_by, Lints, IsUnlinted, Unknown, Unprinted, paths_of}
 use Rattle.fork_tasks.specs.Linting.{types_read, KnowsFor, KnowsIf, needs_types}
@@ -32,9 +32,6 @@ use Rattle.fork_tasks.proofs.Surveyed.{both, seen_reads, seen_step}
 -- What is added to a text now, with any lines of the faulty lines that are left, is the lines of all.
 abbrev pub GoesOn : List ℕ → List ℕ → List ℕ → List ℕ → List ℕ → Type 0
 GoesOn path all left old text = (rest : List ℕ) → AreLines path left rest → Adds (AreLines path all) old (text ++ rest)
-
-pub no_line : (path all text : List ℕ) → GoesOn path all all text text
-no_line path all text rest h = (rest, refl, h)
 
 one_line : (path all more old text new words : List ℕ) (n : ℕ) → GoesOn path all (n ∷ more) old text
     → new ≡ text ++ line_of path n words → GoesOn path all more old new
@@ -236,10 +233,6 @@ unprinted faulty paths xs sent p mid q old then new message silent are is (text,
 pub same_paths : (slice items : List (Bor (List ℕ))) → slice ≡ items
     → map (λ (path : Bor (List ℕ)). path.now) slice ≡ map (λ (path : Bor (List ℕ)). path.now) items
 same_paths slice items same = ap (map (λ (path : Bor (List ℕ)). path.now)) same
-
--- what is quiet after nothing was printed
-pub quiet_from : (p mid q : Option (List ℕ)) (message : Message) → mid ≡ p → IsQuiet mid q message → IsQuiet p q message
-quiet_from p mid q message same h = subst (λ x. IsQuiet x q message) same h
 
 -- the types of a file of declarations were not declared
 pub unknown_all : (l : Linting) (paths : List (List ℕ)) (old new : Option (List Access)) (message : Message)

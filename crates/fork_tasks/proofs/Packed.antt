@@ -99,10 +99,6 @@ list_faulty p path text read old new message is made same fault = ListFaulty rea
     (subst (λ x. IsForkFault x (listed_in read) message) is
     (subst (λ t. IsForkFault path (listed_in t) message) same fault))
 
-pub list_unread : (p : Packing) (path : List ℕ) (old new : Option (List Access)) (message : Message)
-    → path ≡ list_path p → IsUnread path old new message → IsUnpacked p old new message
-list_unread p path old new message is unread = ListUnread (subst (λ x. IsUnread x old new message) is unread)
-
 -- there is no memory for the paths of the files
 pub no_paths : (p : Packing) (text : List ℕ) (l : Listed) (old new : Option (List Access)) → listed_in text ≡ Ok l
     → new ≡ and_then old (Read (list_path p) text ∷ []) → IsUnpacked p old new HostMemory

@@ -1,16 +1,9 @@
-use Rattle.std.proofs.Common.{◌≡◌, ℕ, List, [], ◌++◌, Option, Some, None, refl, sym, ◌∙◌, ap, append_assoc, append-nil}
+use Rattle.std.proofs.Common.{◌≡◌, ℕ, List, [], ◌++◌, Option, refl, sym, ◌∙◌, ap, append_assoc}
 use Rattle.std.specs.Io.KnownBytes.{append_known}
+use Rattle.mac_words.proofs.Appending.{known-nil, known-append}
 use Rattle.fork_tasks.specs.Printing.{PrintsBut, PrintsFront}
 
 -- Bytes that are printed one after the other.
-
-known-nil : (a : Option (List ℕ)) → a ≡ append_known a []
-known-nil None = refl
-known-nil (Some xs) = ap Some (sym (append-nil xs))
-
-known-append : (a : Option (List ℕ)) (x y : List ℕ) → append_known (append_known a x) y ≡ append_known a (x ++ y)
-known-append None x y = refl
-known-append (Some xs) x y = ap Some (append_assoc xs x y)
 
 -- nothing was printed
 pub nothing : (bytes : List ℕ) (a : Option (List ℕ)) → PrintsFront bytes a a

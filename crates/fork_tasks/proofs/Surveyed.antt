@@ -44,14 +44,6 @@ surveyed_reads path xs (inl h) = all_seen_read (path ∷ []) xs h
 surveyed_reads path xs (inr (inl (files, seen, is, h))) = ap (list_all is_reading) is ∙ all_seen_read files seen h
 surveyed_reads path xs (inr (inr is)) = ap (list_all is_reading) is
 
--- what is read is only reading
-pub only_reads : (old new : Option (List Access)) (xs : List Access) → list_all is_reading xs ≡ true → new ≡ and_then old xs
-    → OnlyReads old new
-only_reads old new xs reads made = (xs, reads, made)
-
-pub no_reads : (old new : Option (List Access)) → new ≡ old → OnlyReads old new
-no_reads old new same = ([], refl, same ∙ none old)
-
 pub reads_on : (old mid new : Option (List Access)) (xs : List Access) → list_all is_reading xs ≡ true
     → mid ≡ and_then old xs → OnlyReads mid new → OnlyReads old new
 reads_on old mid new xs reads made (ys, more, next) = (

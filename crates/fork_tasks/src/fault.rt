@@ -11,8 +11,8 @@ use script_text::FaultKind;
 use std::alloc::{AllocError, Global};
 use thiserror::Error;
 
-/// The reason why the work was not done. Its `Display` is the text printed on the standard error: one line, or the
-/// text of the command line's parser.
+/// The reason why the work was not done. Its `Display` is the text printed on the standard error:
+/// one line, or the text of the command line's parser.
 #[derive(Debug, Drop, Error)]
 pub enum ToolFault {
     /// The words make no request that the program knows, or ask for help.

@@ -1,6 +1,7 @@
-use Rattle.std.proofs.Common.{◌≡◌, ℕ, zero, suc, Bool, true, false, ◌&&◌, List, ◌∷◌, take, drop, set, refl, ap, arith}
+use Rattle.std.proofs.Common.{◌≡◌, ℕ, zero, suc, false, List, ◌∷◌, take, drop, set, refl, ap, arith}
 use Rattle.std.specs.Prelude.{nat_le}
 use Rattle.std.specs.List.{list_all}
+use Rattle.std.proofs.lemmas.Bool.{and_left, and_right}
 use Rattle.fork_format.specs.Content.{Content}
 use Rattle.fork_format.specs.Canonical.{canon}
 use Rattle.fork_format.specs.Fork.{number}
@@ -8,23 +9,16 @@ use Rattle.fork_wrappers.specs.MacBinary.{is_first, is_old_header, is_header, is
 
 -- A canonical fork of which one byte was changed is no file of MacBinary I.
 
-fails-left : (a b : Bool) → a ≡ false → (a && b) ≡ false
-fails-left a b h = rw h refl
-
-fails-right : (a b : Bool) → b ≡ false → (a && b) ≡ false
-fails-right true b h = h
-fails-right false b h = refl
-
 -- without a name there is no header
 no_header : (bytes : List ℕ) → number 1 1 bytes ≡ 0 → is_header bytes ≡ false
-no_header bytes none = fails-left _ _ (fails-right _ (nat_le 1 (number 1 1 bytes)) (ap (nat_le 1) none))
+no_header bytes none = and_left _ _ (and_right _ (nat_le 1 (number 1 1 bytes)) (ap (nat_le 1) none))
 
 no_name : (bytes : List ℕ) → number 1 1 bytes ≡ 0 → is_first bytes ≡ false
 no_name bytes none = rw (no_header bytes none) refl
 
 -- with a control character in its name the file is none of MacBinary I
 bad_name : (bytes : List ℕ) → list_all is_printable (name bytes) ≡ false → is_first bytes ≡ false
-bad_name bytes bad = fails-left _ _ (fails-left _ _ (fails-right (is_old_header bytes) _ bad))
+bad_name bytes bad = and_left _ _ (and_left _ _ (and_right (is_old_header bytes) _ bad))
 
 -- a name's first character is the byte at 2, which is 1 in a canonical fork
 first_byte : (b n : ℕ) (rest : List ℕ) → n ≡ suc b → list_all is_printable (take n (1 ∷ rest)) ≡ false

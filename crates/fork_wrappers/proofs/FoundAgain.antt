@@ -2,7 +2,7 @@ use Rattle.std.proofs.Common.{◌≡◌, ℕ, zero, suc, ◌+◌, ◌*◌, ◌�
 use Rattle.std.proofs.Common.{length, take, Option, Some, None, refl, sym, ◌∙◌, ap, arith}
 use Rattle.std.specs.Prelude.{◌==◌, nat_lt, filter, Result, Ok, Err}
 use Rattle.std.specs.List.{list_all}
-use Rattle.std.proofs.lemmas.Bool.{and_from, eq-eqb, cond-true}
+use Rattle.std.proofs.lemmas.Bool.{and_from, eq-eqb, cond-true, cond-false, le-ltb}
 use Rattle.std.proofs.lemmas.List.{length-take-le}
 use Rattle.std.proofs.lemmas.List.Elements.{filter-append}
 use Rattle.std.proofs.lemmas.List.Folds.{list_all-append}
@@ -15,7 +15,6 @@ use Rattle.fork_wrappers.specs.declared.new_entries.ForkSpan.{ForkSpan}
 use Rattle.fork_wrappers.specs.declared.fault.EntriesFault.{EntriesFault}
 use Rattle.fork_wrappers.proofs.NewEntries.{Roomy, laid, Entries, all_entries, own_entry}
 use Rattle.fork_wrappers.proofs.Stretches.{part_stands_at, same_number}
-use Rattle.fork_wrappers.proofs.Tests.{past, not_less}
 use Rattle.fork_wrappers.proofs.Walking.{only_one}
 
 -- The fork is found again among the entries of the new file.
@@ -67,9 +66,9 @@ said : (new fork : List ℕ) (n : ℕ) → 26 + 12 * n ≤ length new → is_ver
     → fork_named new (only_entry (filter (is_fork_entry new) (offsets 26 12 n))) ≡ Ok fork
     → fork_in_entries new ≡ Ok fork
 said new fork n long known count fits named =
-    past (nat_lt (length new) 26) _ _ (not_less (length new) 26 (omega arith)) ∙ past _ _ _ (ap not known)
-    ∙ past (nat_lt (length new) (entries_end new)) _ _ (not_less (length new) (entries_end new) (omega (arith, count)))
-    ∙ past _ _ _ (ap (λ k. not (list_all (entry_fits new) (offsets 26 12 k))) count ∙ ap not fits)
+    cond-false (nat_lt (length new) 26) _ _ (le-ltb (length new) 26 (omega arith)) ∙ cond-false _ _ _ (ap not known)
+    ∙ cond-false (nat_lt (length new) (entries_end new)) _ _ (le-ltb (length new) (entries_end new) (omega (arith, count)))
+    ∙ cond-false _ _ _ (ap (λ k. not (list_all (entry_fits new) (offsets 26 12 k))) count ∙ ap not fits)
     ∙ ap (λ k. fork_named new (only_entry (filter (is_fork_entry new) (offsets 26 12 k)))) count ∙ named
 
 -- the version stays

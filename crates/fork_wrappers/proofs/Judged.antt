@@ -10,6 +10,7 @@ use Rattle.fork_wrappers.specs.Unwrapped.{wrapping_of, is_mac_binary, of_wrapper
 use Rattle.fork_wrappers.specs.declared.fault.EntriesFault.{EntriesFault}
 use Rattle.fork_wrappers.specs.declared.fault.WrapFault.{WrapFault}
 use Rattle.fork_wrappers.specs.declared.wrapping.Wrapping.TheVariants as wrapping
+use Rattle.fork_wrappers.proofs.Tests.{went_on}
 
 -- What is known of a file in which a fork was found.
 
@@ -22,18 +23,12 @@ pub record IsListed (file : List ℕ) : Type 0 where
   pub fork : List ℕ
   pub named : fork_named file (fork_entry file) ≡ Ok fork
 
--- a test that did not refuse
-passed : {F : Type 0} (t : Bool) (why : F) (rest : Result (List ℕ) F) (fork : List ℕ) → cond t (Err why) rest ≡ Ok fork
-    → (t ≡ false) × (rest ≡ Ok fork)
-passed true why rest fork h = cc
-passed false why rest fork h = (refl, h)
-
 pub listed : (file fork : List ℕ) → fork_in_entries file ≡ Ok fork → IsListed file
 listed file fork h =
-    let a = passed (nat_lt (length file) 26) _ _ fork h in
-    let b = passed (not (is_version_known file)) _ _ fork a.1 in
-    let c = passed (nat_lt (length file) (entries_end file)) _ _ fork b.1 in
-    let d = passed (not (list_all (entry_fits file) (entry_places file))) _ _ fork c.1 in
+    let a = went_on (nat_lt (length file) 26) _ _ fork h in
+    let b = went_on (not (is_version_known file)) _ _ fork a.1 in
+    let c = went_on (nat_lt (length file) (entries_end file)) _ _ fork b.1 in
+    let d = went_on (not (list_all (entry_fits file) (entry_places file))) _ _ fork c.1 in
     record {
       header = ltb-false (length file) 26 a.0;
       known = not-false _ b.0;
@@ -42,15 +37,6 @@ listed file fork h =
       fork = fork;
       named = d.1;
     }
-
-pub listed_if_ok : (wrapper : EntriesFault → WrapFault) (file : List ℕ)
-    → is_ok (of_wrapper wrapper (fork_in_entries file)) ≡ true → IsListed file
-listed_if_ok wrapper file h = cases (fork_in_entries file) refl h
-  where
-    cases : (r : Result (List ℕ) EntriesFault) → fork_in_entries file ≡ r → is_ok (of_wrapper wrapper r) ≡ true
-        → IsListed file
-    cases (Ok fork) e h = listed file fork e
-    cases (Err why) e h = cc
 
 -- a MacBinary file has a header
 header_long : (file : List ℕ) → is_header file ≡ true → 128 ≤ length file

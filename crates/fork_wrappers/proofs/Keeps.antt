@@ -3,8 +3,8 @@ use Rattle.std.proofs.Common.{sym, ◌∙◌, ap, subst, arith, inl, inr}
 use Rattle.std.specs.Prelude.{◌==◌, nat_lt, Result, Ok, Err}
 use Rattle.std.specs.List.{AllByRecursion}
 use Rattle.std.proofs.lemmas.Bool.{ltb-false}
+use Rattle.checksums.specs.Checksum.{checksum}
 use Rattle.fork_format.specs.Fork.{number, part}
-use Rattle.fork_wrappers.specs.Checksum.{checksum}
 use Rattle.fork_wrappers.specs.Entries.{entry_count, entries_end, entry_places, fork_in_entries}
 use Rattle.fork_wrappers.specs.MacBinary.{padded, data_length, fork_length, data_place, fork_place, least_version}
 use Rattle.fork_wrappers.specs.MacBinary.{fork_behind, checked_fork}
@@ -21,7 +21,8 @@ use Rattle.fork_wrappers.specs.declared.wrapping.Wrapping.TheVariants as wrappin
 use Rattle.fork_wrappers.proofs.Judged.{IsListed, listed, mac_binary_long}
 use Rattle.fork_wrappers.proofs.NewEntries.{head_kept, new_count, new_rest, Entries, all_entries}
 use Rattle.fork_wrappers.proofs.NewHeaders.{header_kept, fields_kept, data_kept, fork_told, fork_begins, pieces}
-use Rattle.fork_wrappers.proofs.Rewraps.{Rewrapping, rewrapping, roomy, padded_made, went_on}
+use Rattle.fork_wrappers.proofs.Rewraps.{Rewrapping, rewrapping, roomy, padded_made}
+use Rattle.fork_wrappers.proofs.Tests.{went_on}
 
 -- What a file keeps that is given another fork.
 

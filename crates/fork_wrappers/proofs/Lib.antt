@@ -10,7 +10,7 @@ pub mod NewHeaders
 pub mod NewEntries
 pub mod FoundAgain
 pub mod Judged
-pub mod Sums
+pub mod HeldBytes
 pub mod Rewraps
 pub mod Keeps
 pub mod Informed

@@ -3,19 +3,15 @@ use Rattle.std.proofs.Common.{take, drop, refl, ◌∙◌, ap, arith, append_ass
 use Rattle.std.specs.Prelude.{Ok, filter, ◌==◌, nat_lt, nat_le}
 use Rattle.std.specs.List.{list_all}
 use Rattle.std.proofs.Math.Seq.{drop-append_seam, drop-append-add}
-use Rattle.std.proofs.lemmas.Bool.{le-leb}
+use Rattle.std.proofs.lemmas.Bool.{le-leb, and_right, cond-false, cond-true, le-ltb}
+use Rattle.std.proofs.lemmas.List.{take_all}
 use Rattle.byteorder.specs.Numbers.{big_number-reads_back}
 use Rattle.byteorder.specs.Endian.{big_bytes}
 use Rattle.fork_format.specs.Fork.{number, parts_fit, is_fork, offsets}
 use Rattle.fork_wrappers.specs.Entries.{fork_in_entries, only_entry, fork_named, entry_part, entry_fits, is_fork_entry}
-use Rattle.fork_wrappers.proofs.Tests.{past, here, not_less, all_of}
 use Rattle.fork_wrappers.specs.Made.{header, entry, apple_file, apple_single, apple_double}
 use Rattle.fork_wrappers.specs.Unwrapped.{of_wrapper, fork_in, unwrapped}
 use Rattle.fork_wrappers.specs.declared.fault.WrapFault.TheVariants as fault
-
-last_false : (t : Bool) → (t && false) ≡ false
-last_false true = refl
-last_false false = refl
 
 -- what the header and the two entries of a file say
 record Says (bytes info fork : List ℕ) : Type 0 where
@@ -59,12 +55,13 @@ said_fork bytes info fork s =
     (ap (λ n. n == 2) s.info_id) (ap (λ n. n == 2) s.fork_id)) in
     let named : entry_part bytes 38 ≡ fork =
     ap (λ n. take n (drop (number 4 42 bytes) bytes)) s.fork_size
-    ∙ ap (λ n. take (length fork) (drop n bytes)) s.fork_place ∙ ap (take (length fork)) s.fork_bytes ∙ all_of fork in
-    past (nat_lt (length bytes) 26) _ _ (not_less (length bytes) 26 (omega (arith, whole)))
-    ∙ past _ _ _ (ap (λ n. not (n == 0x00010000 || n == 0x00020000)) s.version)
-    ∙ past (nat_lt (length bytes) (26 + 12 * number 2 24 bytes)) _ _
-    (not_less (length bytes) (26 + 12 * number 2 24 bytes) (omega (arith, whole, count)))
-    ∙ past _ _ _ (ap (λ n. not (list_all (entry_fits bytes) (offsets 26 12 n))) count
+    ∙ ap (λ n. take (length fork) (drop n bytes)) s.fork_place ∙ ap (take (length fork)) s.fork_bytes
+    ∙ take_all (length fork) fork (omega arith) in
+    cond-false (nat_lt (length bytes) 26) _ _ (le-ltb (length bytes) 26 (omega (arith, whole)))
+    ∙ cond-false _ _ _ (ap (λ n. not (n == 0x00010000 || n == 0x00020000)) s.version)
+    ∙ cond-false (nat_lt (length bytes) (26 + 12 * number 2 24 bytes)) _ _
+    (le-ltb (length bytes) (26 + 12 * number 2 24 bytes) (omega (arith, whole, count)))
+    ∙ cond-false _ _ _ (ap (λ n. not (list_all (entry_fits bytes) (offsets 26 12 n))) count
     ∙ both_hold (entry_fits bytes 26) (entry_fits bytes 38) first second)
     ∙ only ∙ ap Ok named
 
@@ -96,7 +93,7 @@ says magic info fork h =
 
 -- such a file is no fork: with an empty filler its map would have no bytes
 no_fork : (magic : ℕ) (info fork : List ℕ) → is_fork (apple_file magic info fork) ≡ false
-no_fork magic info fork = outside (parts_fit (apple_file magic info fork)) _ _ _ _ (last_false _)
+no_fork magic info fork = outside (parts_fit (apple_file magic info fork)) _ _ _ _ (and_right _ false refl)
   where
     outside : (a b c d e : Bool) → a ≡ false → (a && b && c && d && e) ≡ false
     outside false b c d e h = refl
@@ -110,15 +107,15 @@ pub found_in_single : (info fork : List ℕ) → 50 + length info + length fork 
     → unwrapped (apple_single info fork) ≡ Ok fork
 found_in_single info fork h =
     let bytes : List ℕ = apple_single info fork in
-    ap (λ w. fork_in w bytes) (past (is_fork bytes) _ _ (no_fork 0x00051600 info fork)
-    ∙ here (nat_le 4 (length bytes) && true) _ _ (ap (λ t. t && true) (long 0x00051600 info fork h)))
+    ap (λ w. fork_in w bytes) (cond-false (is_fork bytes) _ _ (no_fork 0x00051600 info fork)
+    ∙ cond-true (nat_le 4 (length bytes) && true) _ _ (ap (λ t. t && true) (long 0x00051600 info fork h)))
     ∙ ap (of_wrapper fault.AppleSingle) (said_fork bytes info fork (says 0x00051600 info fork h))
 
 pub found_in_double : (info fork : List ℕ) → 50 + length info + length fork < 2 ^ 32
     → unwrapped (apple_double info fork) ≡ Ok fork
 found_in_double info fork h =
     let bytes : List ℕ = apple_double info fork in
-    ap (λ w. fork_in w bytes) (past (is_fork bytes) _ _ (no_fork 0x00051607 info fork)
-    ∙ past (nat_le 4 (length bytes) && false) _ _ (last_false _)
-    ∙ here (nat_le 4 (length bytes) && true) _ _ (ap (λ t. t && true) (long 0x00051607 info fork h)))
+    ap (λ w. fork_in w bytes) (cond-false (is_fork bytes) _ _ (no_fork 0x00051607 info fork)
+    ∙ cond-false (nat_le 4 (length bytes) && false) _ _ (and_right _ false refl)
+    ∙ cond-true (nat_le 4 (length bytes) && true) _ _ (ap (λ t. t && true) (long 0x00051607 info fork h)))
     ∙ ap (of_wrapper fault.AppleDouble) (said_fork bytes info fork (says 0x00051607 info fork h))

@@ -1,20 +1,20 @@
-use Rattle.std.proofs.Common.{◌≡◌, ℕ, ◌+◌, ◌-◌, ◌≤◌, Bool, true, false, not, ◌&&◌, List, ◌++◌}
-use Rattle.std.proofs.Common.{length, take, drop, replicate, refl, sym, ◌∙◌, ap, arith, append_assoc, length-append}
+use Rattle.std.proofs.Common.{◌≡◌, ℕ, ◌+◌, ◌-◌, ◌≤◌, not, List, ◌++◌}
+use Rattle.std.proofs.Common.{length, take, drop, replicate, sym, ◌∙◌, ap, arith, append_assoc, length-append}
 use Rattle.std.specs.Prelude.{Ok, ◌==◌, nat_lt}
 use Rattle.std.proofs.Math.Seq.{drop-append_seam, drop-append-add}
-use Rattle.std.proofs.lemmas.List.{drop-append-le, take-append-le, length-drop, length-replicate}
+use Rattle.std.proofs.lemmas.List.{drop-append-le, take-append-le, length-drop, length-replicate, take_all}
+use Rattle.std.proofs.lemmas.Bool.{and_right, cond-false, le-ltb}
+use Rattle.checksums.specs.Checksum.{checksum}
 use Rattle.byteorder.specs.Numbers.{big_from-append}
 use Rattle.byteorder.specs.Endian.{big_number}
 use Rattle.fork_format.specs.Fork.{number, part}
 use Rattle.fork_format.proofs.Bools.{same_self}
-use Rattle.fork_wrappers.specs.Checksum.{checksum}
 use Rattle.fork_wrappers.specs.MacBinary.{padded, data_length, fork_length, secondary_length, least_version, data_place}
 use Rattle.fork_wrappers.specs.MacBinary.{fork_place, fork_behind, checked_fork}
 use Rattle.fork_wrappers.specs.Made.{mac_binary, TellsForks, IsChecked}
 use Rattle.fork_wrappers.specs.Unwrapped.{wrapping_of, of_wrapper, fork_in, unwrapped}
 use Rattle.fork_wrappers.specs.declared.wrapping.Wrapping.TheVariants as wrapping
 use Rattle.fork_wrappers.specs.declared.fault.WrapFault.TheVariants as fault
-use Rattle.fork_wrappers.proofs.Tests.{past, not_less, all_of}
 
 -- a length is no more than that length rounded up
 padded-more : (n : ℕ) → n ≤ padded n
@@ -64,10 +64,6 @@ says header contents fork t =
           ∙ drop-append_seam (contents ++ padding contents) fork;
     }
 
-fails-and : (a b : Bool) → b ≡ false → (a && b) ≡ false
-fails-and true b h = h
-fails-and false b h = refl
-
 said_fork : (bytes contents fork : List ℕ) → Says bytes contents fork → fork_behind bytes ≡ Ok fork
 said_fork bytes contents fork s =
     let whole = s.whole in
@@ -79,11 +75,12 @@ said_fork bytes contents fork s =
     ap (λ n. n + padded (data_length bytes)) begins ∙ ap (λ n. 128 + padded n) s.data_told in
     let found : part (fork_length bytes) (fork_place bytes) bytes ≡ fork =
     ap (λ n. take n (drop (fork_place bytes) bytes)) s.fork_told
-    ∙ ap (λ n. take (length fork) (drop n bytes)) there ∙ ap (take (length fork)) s.fork_bytes ∙ all_of fork in
-    past (nat_lt (length bytes) (data_place bytes + data_length bytes)) _ _
-    (not_less (length bytes) (data_place bytes + data_length bytes) (omega (arith, whole, data_told, begins, more)))
-    ∙ past _ _ _ (fails-and (nat_lt 0 (fork_length bytes)) _
-    (not_less (length bytes) (fork_place bytes + fork_length bytes) (omega (arith, whole, fork_told, there))))
+    ∙ ap (λ n. take (length fork) (drop n bytes)) there ∙ ap (take (length fork)) s.fork_bytes
+    ∙ take_all (length fork) fork (omega arith) in
+    cond-false (nat_lt (length bytes) (data_place bytes + data_length bytes)) _ _
+    (le-ltb (length bytes) (data_place bytes + data_length bytes) (omega (arith, whole, data_told, begins, more)))
+    ∙ cond-false _ _ _ (and_right (nat_lt 0 (fork_length bytes)) _
+    (le-ltb (length bytes) (fork_place bytes + fork_length bytes) (omega (arith, whole, fork_told, there))))
     ∙ ap Ok found
 
 -- the checksum is right, and no later version is asked for
@@ -97,9 +94,9 @@ said_checked header contents fork t i =
     ∙ ap checksum (sym (take-append-le 124 header rest (omega (arith, size)))) in
     let least : least_version (header ++ rest) ≤ 130 =
     let e = in_header 1 123 header rest (omega (arith, size)) in let low = i.readable in omega (arith, e, low) in
-    past _ _ _ (ap (λ n. not (n == checksum (take 124 (header ++ rest)))) told
+    cond-false _ _ _ (ap (λ n. not (n == checksum (take 124 (header ++ rest)))) told
     ∙ ap not (same_self (checksum (take 124 (header ++ rest)))))
-    ∙ past (nat_lt 130 (least_version (header ++ rest))) _ _ (not_less 130 (least_version (header ++ rest)) least)
+    ∙ cond-false (nat_lt 130 (least_version (header ++ rest))) _ _ (le-ltb 130 (least_version (header ++ rest)) least)
     ∙ said_fork (header ++ rest) contents fork (says header contents fork t)
 
 pub found_in_first : (header contents fork : List ℕ) → TellsForks header contents fork

@@ -1,7 +1,7 @@
-use Rattle.std.proofs.Common.{◌≡◌, ℕ, ◌+◌, ◌-◌, ◌<◌, ◌≤◌, ◌^◌, Bool, true, false, not, ◌&&◌, List, ◌++◌}
+use Rattle.std.proofs.Common.{◌≡◌, ℕ, ◌+◌, ◌-◌, ◌<◌, ◌≤◌, ◌^◌, not, List, ◌++◌}
 use Rattle.std.proofs.Common.{length, take, drop, replicate, refl, sym, ◌∙◌, ap, subst, arith, length-append}
 use Rattle.std.specs.Prelude.{Ok, nat_lt}
-use Rattle.std.proofs.lemmas.Bool.{eq-eqb}
+use Rattle.std.proofs.lemmas.Bool.{eq-eqb, and_right, cond-false, le-ltb}
 use Rattle.std.proofs.lemmas.List.{length-take, length-drop, length-take-le, length-replicate}
 use Rattle.std.proofs.Math.Seq.{drop-append_seam}
 use Rattle.byteorder.specs.Endian.{big_bytes}
@@ -11,13 +11,13 @@ use Rattle.fork_format.proofs.Standing.{StandsAt, stands_whole, stands_first, st
 use Rattle.fork_format.proofs.Standing.{number-stands, part-stands}
 use Rattle.fork_wrappers.specs.MacBinary.{padded, data_length, fork_length, least_version, data_place}
 use Rattle.fork_wrappers.specs.MacBinary.{fork_place, fork_behind, checked_fork}
-use Rattle.fork_wrappers.specs.Checksum.{checksum}
 use Rattle.fork_wrappers.specs.Rewrapped.{AreBytes, new_fields, new_checksum, new_front, with_padded}
 use Rattle.fork_wrappers.specs.declared.wrapping.Wrapping.{Wrapping}
 use Rattle.fork_wrappers.specs.declared.wrapping.Wrapping.TheVariants as wrapping
 use Rattle.fork_wrappers.proofs.Stretches.{part_stands_at, same_number, same_part, length-part}
-use Rattle.fork_wrappers.proofs.Sums.{checksum-small, fields_bytes}
-use Rattle.fork_wrappers.proofs.Tests.{past, not_less}
+use Rattle.fork_wrappers.proofs.HeldBytes.{fields_bytes}
+use Rattle.checksums.specs.Checksum.{checksum}
+use Rattle.checksums.proofs.Sums.{checksum-small}
 
 -- MacBinary files with another fork.
 
@@ -180,10 +180,6 @@ fork_begins how file fork h =
     let d = ap padded (data_told how file fork h) in
     omega (arith, b, d)
 
-fails-right : (a b : Bool) → b ≡ false → (a && b) ≡ false
-fails-right true b h = h
-fails-right false b h = refl
-
 -- the fork is found there
 pub found_behind : (how : Wrapping) (file fork : List ℕ) → 128 ≤ length file → length fork < 2 ^ 32
     → fork_behind (with_padded how file fork) ≡ Ok fork
@@ -196,10 +192,10 @@ found_behind how file fork h small =
     let data_is = data_begins how file fork h in
     let fork_is = fork_begins how file fork h in
     let more = padded-more (data_length file) in
-    past (nat_lt (length new) (data_place new + data_length new)) _ _
-    (not_less (length new) (data_place new + data_length new) (omega (arith, inside, data_is, length_is, more)))
-    ∙ past _ _ _ (fails-right (nat_lt 0 (fork_length new)) _
-    (not_less (length new) (fork_place new + fork_length new) (omega (arith, inside, told, fork_is))))
+    cond-false (nat_lt (length new) (data_place new + data_length new)) _ _
+    (le-ltb (length new) (data_place new + data_length new) (omega (arith, inside, data_is, length_is, more)))
+    ∙ cond-false _ _ _ (and_right (nat_lt 0 (fork_length new)) _
+    (le-ltb (length new) (fork_place new + fork_length new) (omega (arith, inside, told, fork_is))))
     ∙ ap Ok (ap (λ n. part n (fork_place new) new) told ∙ ap (λ n. part (length fork) n new) fork_is
     ∙ part-stands fork (fork_place file) new p.own)
 
@@ -217,6 +213,6 @@ found_checked how file fork h small bytes sum readable =
     let is : take 124 new ≡ fields =
     ap (λ n. take n new) (sym (length-fields file (length fork) h)) ∙ part-stands fields 0 new p.fields in
     let least = field_kept 1 32 how file fork h (omega arith) in
-    past _ _ _ (ap not (eq-eqb (number 2 124 new) (checksum (take 124 new)) (told ∙ ap checksum (sym is))))
-    ∙ past (nat_lt 130 (least_version new)) _ _ (not_less 130 (least_version new) (omega (arith, least, readable)))
+    cond-false _ _ _ (ap not (eq-eqb (number 2 124 new) (checksum (take 124 new)) (told ∙ ap checksum (sym is))))
+    ∙ cond-false (nat_lt 130 (least_version new)) _ _ (le-ltb 130 (least_version new) (omega (arith, least, readable)))
     ∙ found_behind how file fork h small

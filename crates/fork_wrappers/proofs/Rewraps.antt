@@ -1,11 +1,12 @@
-use Rattle.std.proofs.Common.{◌≡◌, ℕ, ◌+◌, ◌≤◌, Bool, true, false, not, cond, List, [], ◌∷◌, length, take, refl, sym, ◌∙◌, ap, subst, arith, rules, ◌⊎◌, inl, inr}
+use Rattle.std.proofs.Common.{◌≡◌, ℕ, ◌+◌, ◌≤◌, Bool, true, false, not, cond, List, [], ◌∷◌, length, take, refl, sym, ◌∙◌, ap, subst, arith}
+use Rattle.std.proofs.Common.{rules, ◌⊎◌, inl, inr}
 use Rattle.std.specs.Prelude.{◌==◌, nat_le, nat_lt, bytes_eq, filter, Option, Some, None, Result, Ok, Err, is_ok}
 use Rattle.std.specs.List.{list_all}
-use Rattle.std.proofs.lemmas.Bool.{and_parts, leb-true, ltb-true, ltb-false, not-false, cond-true}
+use Rattle.std.proofs.lemmas.Bool.{and_parts, leb-true, ltb-true, ltb-false, not-false, cond-true, cond-false}
 use Rattle.std.proofs.lemmas.Slice.Eq.{bytes_eq-Decides}
+use Rattle.checksums.specs.Checksum.{checksum}
 use Rattle.byteorder.specs.Endian.{big_bytes}
 use Rattle.fork_format.specs.Fork.{number}
-use Rattle.fork_wrappers.specs.Checksum.{checksum}
 use Rattle.fork_wrappers.specs.Entries.{entry_count, entries_end, entry_places, entry_fits, is_fork_entry, fork_entry}
 use Rattle.fork_wrappers.specs.Entries.{fork_in_entries}
 use Rattle.fork_wrappers.specs.MacBinary.{least_version, fork_behind, checked_fork}
@@ -27,16 +28,10 @@ use Rattle.fork_wrappers.proofs.FoundAgain.{found_again}
 use Rattle.fork_wrappers.proofs.Judged.{IsListed, listed, mac_binary_long}
 use Rattle.fork_wrappers.proofs.NewEntries.{Roomy}
 use Rattle.fork_wrappers.proofs.NewHeaders.{found_behind, found_checked}
-use Rattle.fork_wrappers.proofs.Tests.{past}
 use Rattle.fork_wrappers.proofs.Walking.{only_one}
+use Rattle.fork_wrappers.proofs.Tests.{went_on}
 
 -- What is known of a file that was given another fork.
-
--- a test that did not refuse
-pub went_on : {F : Type 0} (t : Bool) (why : F) (rest : Result (List ℕ) F) (made : List ℕ) → cond t (Err why) rest ≡ Ok made
-    → (t ≡ false) × (rest ≡ Ok made)
-went_on true why rest made h = cc
-went_on false why rest made h = (refl, h)
 
 -- what was made
 is_made : {F : Type 0} (a b : List ℕ) (r : Result (List ℕ) F) → r ≡ Ok a → r ≡ Ok b → a ≡ b
@@ -175,9 +170,6 @@ pub record Made (file fork new : List ℕ) : Type 0 where
 abbrev pub Rewrapping : List ℕ → List ℕ → List ℕ → Type 0
 Rewrapping file fork new = Held file fork new ⊎ Made file fork new
 
-same_bytes : (xs ys : List ℕ) → bytes_eq xs ys ≡ true → xs ≡ ys
-same_bytes xs ys h = search (rules, bytes_eq-Decides)
-
 pub rewrapping : (file fork new : List ℕ) → rewrapped file fork ≡ Ok new → Rewrapping file fork new
 rewrapping file fork new h = cases (unwrapped file) refl h
   where
@@ -185,7 +177,7 @@ rewrapping file fork new h = cases (unwrapped file) refl h
         → cond t (Ok file) (recognized (wrapping_of file) (remade (wrapping_of file) file fork)) ≡ Ok new
         → Rewrapping file fork new
     took old found true e h =
-        inl (record { same = sym (is_made file new _ refl h); held = found ∙ ap Ok (same_bytes old fork e) })
+        inl (record { same = sym (is_made file new _ refl h); held = found ∙ ap Ok ((bytes_eq-Decides old fork).0 e) })
     took old found false e h = judged (remade (wrapping_of file) file fork) refl h
       where
         last : (made : List ℕ) → remade (wrapping_of file) file fork ≡ Ok made → (t : Bool)
@@ -239,14 +231,6 @@ pub found_header : (how : Wrapping) (file : List ℕ) → how ≡ wrapping_of fi
     → 128 ≤ length file
 found_header how file is h = mac_binary_long file (ap is_mac_binary (sym is) ∙ h)
 
-pub found_whole : (how : Wrapping) (file old : List ℕ) → how ≡ wrapping_of file → unwrapped file ≡ Ok old
-    → is_ok (fork_in how file) ≡ true
-found_whole how file old is h = ap (λ w. is_ok (fork_in w file)) is ∙ ap is_ok h
-
-pub is_damaged : (file fork : List ℕ) (why : WrapFault) → unwrapped file ≡ Err why
-    → rewrapped file fork ≡ Err (rewrap_fault.Damaged why)
-is_damaged file fork why h = ap (λ o. replaced o file fork) h
-
 pub is_placed : (how : Wrapping) (file fork old : List ℕ) → how ≡ wrapping_of file → unwrapped file ≡ Ok old
     → rewrapped file fork ≡ placed how old file fork
 is_placed how file fork old is h = ap (λ o. replaced o file fork) h ∙ ap (λ w. placed w old file fork) (sym is)
@@ -260,8 +244,8 @@ pub is_made_among : (file fork out : List ℕ) (span : ForkSpan) → span ≡ fo
     → is_entries_file file span (length fork) ≡ true → out ≡ with_fork file span fork
     → among_entries file (fork_span file) fork ≡ Ok out
 is_made_among file fork out span is clear small e =
-    subst (λ s. among_entries file s fork ≡ Ok out) is (past (not (are_clear file span)) _ _ (ap not clear)
-    ∙ past (not (is_entries_file file span (length fork))) _ _ (ap not small) ∙ ap Ok (sym e))
+    subst (λ s. among_entries file s fork ≡ Ok out) is (cond-false (not (are_clear file span)) _ _ (ap not clear)
+    ∙ cond-false (not (is_entries_file file span (length fork))) _ _ (ap not small) ∙ ap Ok (sym e))
 
 -- a refusal of what is to be made is one of the whole
 pub is_refused : (how : Wrapping) (file fork : List ℕ) (why : RewrapFault) → Refuses why (remade how file fork)

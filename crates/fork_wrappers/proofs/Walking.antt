@@ -1,25 +1,13 @@
 use Rattle.std.proofs.Common.{◌≡◌, ℕ, ◌+◌, ◌-◌, ◌<◌, ◌≤◌, Bool, true, false, ◌&&◌, cond, List, [], ◌∷◌, ◌++◌, Option, Some, None}
-use Rattle.std.proofs.Common.{refl, sym, ◌∙◌, ap, arith, suc, zero, append_assoc}
+use Rattle.std.proofs.Common.{refl, sym, ◌∙◌, ap, arith, zero, append_assoc}
 use Rattle.std.specs.Prelude.{filter, Ok, Err}
 use Rattle.std.specs.List.{list_all}
 use Rattle.std.specs.Option.{option_to_list}
 use Rattle.std.proofs.lemmas.List.{append-nil}
 use Rattle.fork_format.specs.Fork.{offsets}
 use Rattle.fork_format.proofs.Loops.{offsets-left}
-use Rattle.fork_wrappers.specs.Checksum.{with_bit, with_bits}
 use Rattle.fork_wrappers.specs.Entries.{only_entry}
 use Rattle.fork_wrappers.specs.declared.fault.EntriesFault.{EntriesFault}
-
--- one bit of those that are left
-pub a_bit_more : (k sum total : ℕ) → k < 8 → with_bits (8 - k) sum ≡ total → with_bits (8 - (k + 1)) (with_bit sum) ≡ total
-unfolding with_bits
-a_bit_more k sum total h e = let left : 8 - k ≡ suc (8 - (k + 1)) = omega arith in
-    ap (λ n. with_bits n sum) (sym left) ∙ e
-
--- no bit is left
-pub no_bit_more : (k sum total : ℕ) → 8 ≤ k → with_bits (8 - k) sum ≡ total → sum ≡ total
-unfolding with_bits
-no_bit_more k sum total h e = let left : 8 - k ≡ zero = omega arith in ap (λ n. with_bits n sum) (sym left) ∙ e
 
 -- an entry that passes, before others
 pub passes : (test : ℕ → Bool) (at step n k : ℕ) (total : Bool) → k < n → test at ≡ true

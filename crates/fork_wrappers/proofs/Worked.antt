@@ -1,7 +1,7 @@
 use Rattle.std.proofs.Common.{◌≡◌, ℕ, List, [], ◌∷◌, ◌++◌, replicate, take, drop, set, refl}
 use Rattle.std.specs.Prelude.{Ok, Err}
+use Rattle.checksums.specs.Checksum.{with_bits}
 use Rattle.fork_format.proofs.Vectors.{hi_fork}
-use Rattle.fork_wrappers.specs.Checksum.{with_bits, checksum}
 use Rattle.fork_wrappers.specs.MacBinary.{padded}
 use Rattle.fork_wrappers.specs.Made.{apple_double, mac_binary, TellsForks}
 use Rattle.fork_wrappers.specs.Rewrapped.{rewrapped}
@@ -11,16 +11,6 @@ use Rattle.fork_wrappers.specs.declared.fault.WrapFault.TheVariants as wrap_faul
 use Rattle.fork_wrappers.specs.declared.fault.EntriesFault.TheVariants as entries_fault
 use Rattle.fork_wrappers.specs.declared.fault.MacBinaryFault.TheVariants as mac_binary_fault
 use Rattle.fork_wrappers.specs.declared.fault.RewrapFault.TheVariants as rewrap_fault
-
--- the check value of CRC-16/XMODEM, of the text 123456789
-check_value : checksum (49 ∷ 50 ∷ 51 ∷ 52 ∷ 53 ∷ 54 ∷ 55 ∷ 56 ∷ 57 ∷ []) ≡ 0x31C3
-unfolding with_bits
-check_value = refl
-
--- other checksums, as Python's binascii.crc_hqx reckons them: of the text A, and of the bytes 00 80 FF
-other_sums : (checksum (65 ∷ []) ≡ 22757) × (checksum (0 ∷ 128 ∷ 255 ∷ []) ≡ 1384) × (checksum [] ≡ 0)
-unfolding with_bits
-other_sums = (refl, refl, refl)
 
 -- lengths rounded up
 paddings : (padded 0 ≡ 0) × (padded 1 ≡ 128) × (padded 128 ≡ 128) × (padded 129 ≡ 256)

@@ -1,4 +1,3 @@
-pub mod Checksum
 pub mod Entries
 pub mod MacBinary
 pub mod Unwrapped

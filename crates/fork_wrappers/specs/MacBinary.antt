@@ -1,8 +1,8 @@
 use Rattle.std.specs.Prelude.{ℕ, ◌+◌, ◌*◌, ◌/◌, Bool, ◌&&◌, not, ◌==◌, nat_le, nat_lt, List, length, take}
 use Rattle.std.specs.Prelude.{Result, Ok, Err, if◌then◌else◌}
 use Rattle.std.specs.List.{list_all}
+use Rattle.checksums.specs.Checksum.{checksum}
 use Rattle.fork_format.specs.Fork.{number, part}
-use Rattle.fork_wrappers.specs.Checksum.{checksum}
 use Rattle.fork_wrappers.specs.declared.fault.MacBinaryFault.{MacBinaryFault}
 use Rattle.fork_wrappers.specs.declared.fault.MacBinaryFault.TheVariants as fault
 

@@ -1,7 +1,7 @@
 use Rattle.std.specs.Prelude.{◌≡◌, ◌≤◌, ℕ, ◌+◌, ◌-◌, List, ◌++◌, length, replicate, take}
+use Rattle.checksums.specs.Checksum.{checksum}
 use Rattle.byteorder.specs.Endian.{big_bytes}
 use Rattle.fork_format.specs.Fork.{number}
-use Rattle.fork_wrappers.specs.Checksum.{checksum}
 use Rattle.fork_wrappers.specs.MacBinary.{padded, data_length, fork_length, secondary_length, least_version}
 
 -- Files that are made of a resource fork, by the layout of a wrapper.

@@ -1,10 +1,11 @@
-use Rattle.std.specs.Prelude.{◌≡◌, ◌<◌, ℕ, ◌+◌, ◌*◌, ◌-◌, Bool, true, false, ◌&&◌, ◌||◌, not, ◌==◌, nat_le, nat_lt}
+use Rattle.std.specs.Prelude.{◌≡◌, ℕ, ◌+◌, ◌*◌, ◌-◌, Bool, true, false, ◌&&◌, ◌||◌, not, ◌==◌, nat_le, nat_lt}
 use Rattle.std.specs.Prelude.{List, [], ◌++◌, length, take, drop, replicate, Option, Some, None, Result, Ok, Err}
 use Rattle.std.specs.Prelude.{if◌then◌else◌, bytes_eq}
-use Rattle.std.specs.List.{list_all, flat_map, AllByRecursion}
+use Rattle.std.specs.List.{list_all, flat_map}
+pub use Rattle.plain_laws.specs.Bytes.{AreBytes}
+use Rattle.checksums.specs.Checksum.{checksum}
 use Rattle.byteorder.specs.Endian.{big_bytes}
 use Rattle.fork_format.specs.Fork.{number, part}
-use Rattle.fork_wrappers.specs.Checksum.{checksum}
 use Rattle.fork_wrappers.specs.Entries.{entry_count, entries_end, entry_places, is_fork_entry, entry_part, fork_entry}
 use Rattle.fork_wrappers.specs.MacBinary.{padded, fork_length, fork_place}
 use Rattle.fork_wrappers.specs.Made.{entry}
@@ -20,10 +21,6 @@ use Rattle.fork_wrappers.specs.declared.wrapping.Wrapping.TheVariants as wrappin
 -- A file with another fork in the place of its resource fork, wrapped as it was.
 -- AppleSingle/AppleDouble Formats for Foreign Files, Developer's Note (1990); MacBinary II Standard (1987), "The Binary
 -- Transfer Format".
-
--- The list is one of bytes, as every file is.
-abbrev pub AreBytes : List ℕ → Type 0
-AreBytes bytes = AllByRecursion (λ (b : ℕ). b < 256) bytes
 
 -- Where the resource fork stands in a file of AppleSingle or AppleDouble: where its entry says. With no entry of its own
 -- it has no bytes, at the end of the file, and the list gets one entry more.

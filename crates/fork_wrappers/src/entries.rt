@@ -1,12 +1,13 @@
 //! AppleSingle and AppleDouble files.
 
-ghost use Rattle.std.specs.Prelude.{◌≡◌, ◌+◌, ◌*◌, ◌≤◌, ◌<◌, ◌^◌, length, IfOk, IfErr, Some, None, Ok, Err, []};
-ghost use Rattle.std.specs.Prelude.{IsTrue, IfSome, filter, ◌++◌, ◌∷◌};
+ghost use Rattle.std.specs.Prelude.{◌≡◌, ◌+◌, ◌*◌, ◌≤◌, ◌<◌, ◌^◌, length, IfOk, IfErr, Some, None};
+ghost use Rattle.std.specs.Prelude.{Ok, Err, [], IsTrue, IfSome, filter, ◌++◌, ◌∷◌};
 ghost use Rattle.std.specs.Option.{option_to_list};
 ghost use Rattle.std.specs.List.{list_all};
 ghost use Rattle.fork_format.specs.Fork.{number, offsets};
-ghost use Rattle.fork_wrappers.specs.Entries.{is_apple_single, is_apple_double, is_version_known, entry_fits, entry_part};
-ghost use Rattle.fork_wrappers.specs.Entries.{is_fork_entry, only_entry, fork_in_entries};
+ghost use Rattle.fork_wrappers.specs.Entries.{is_apple_single, is_apple_double, is_version_known};
+ghost use Rattle.fork_wrappers.specs.Entries.{entry_fits, entry_part, is_fork_entry, only_entry};
+ghost use Rattle.fork_wrappers.specs.Entries.{fork_in_entries};
 
 use crate::fault::EntriesFault;
 use crate::numbers::{half, part_of, word};
@@ -66,13 +67,15 @@ pub fn names_fork(bytes: &[u8], at: usize) -> bool
     word(bytes, at) == 2
 }
 
-/// Returns the only entry of the resource fork up to the entry at an offset, from the one that was found before it.
+/// Returns the only entry of the resource fork up to the entry at an offset, from the one that was
+/// found before it.
 fn with_entry(bytes: &[u8], at: usize, found: Option<usize>) -> Result<Option<usize>, EntriesFault>
     requires room { at + 12 ≤ length bytes.now }
     requires found { IfSome found (λ before. before + 12 ≤ length bytes.now) }
     requires fits { IsTrue (entry_fits bytes.now at) }
     requires found_fits { IfSome found (λ before. IsTrue (entry_fits bytes.now before)) }
-    ensures entry { result ≡ only_entry (option_to_list found ++ filter (is_fork_entry bytes.now) (at ∷ [])) }
+    ensures entry { result
+        ≡ only_entry (option_to_list found ++ filter (is_fork_entry bytes.now) (at ∷ [])) }
     ensures room { IfOk result (λ entry. IfSome entry (λ at. at + 12 ≤ length bytes.now)) }
     ensures fits { IfOk result (λ entry. IfSome entry (λ at. IsTrue (entry_fits bytes.now at))) }
 {

@@ -60,14 +60,15 @@ pub enum RewrapFault {
     /// The wrapper of the file is damaged.
     #[error("{0}")]
     Damaged(WrapFault),
-    /// What an entry of AppleSingle or AppleDouble names has bytes in the resource fork, in the header or in the list of
-    /// entries, or the resource fork has.
+    /// What an entry of AppleSingle or AppleDouble names has bytes in the resource fork, in the
+    /// header or in the list of entries, or the resource fork has.
     #[error("an entry overlaps the resource fork or the header")]
     Overlap,
     /// A length, an offset or the number of entries does not fit the wrapper.
     #[error("the resource fork is too long for the wrapper")]
     TooLong,
-    /// With this fork the file would be taken for one that is wrapped otherwise, or for a bare fork.
+    /// With this fork the file would be taken for one that is wrapped otherwise, or for a bare
+    /// fork.
     #[error("with this resource fork the file would be taken for another kind of file")]
     Unrecognized,
     /// The host is out of memory.

@@ -1,13 +1,15 @@
 //! What the wrapper of a file says of it, and its data fork.
 
-ghost use Rattle.std.specs.Prelude.{◌≡◌, ◌+◌, ◌*◌, ◌-◌, ◌≤◌, length, IfOk, IfErr, IfSome, Ok, Err, IsTrue, option_map};
+ghost use Rattle.std.specs.Prelude.{◌≡◌, ◌+◌, ◌*◌, ◌-◌, ◌≤◌, length, IfOk, IfErr, IfSome, Ok, Err};
+ghost use Rattle.std.specs.Prelude.{IsTrue, option_map};
 ghost use Rattle.fork_format.specs.Fork.{offsets};
 ghost use Rattle.fork_format.specs.View.{view_name};
 ghost use Rattle.fork_wrappers.specs.MacBinary.{name};
 ghost use Rattle.fork_wrappers.specs.Unwrapped.{wrapping_of, is_mac_binary};
-ghost use Rattle.fork_wrappers.specs.Info.{view_info, bare_info, header_date, header_info, standing_count, first_with};
-ghost use Rattle.fork_wrappers.specs.Info.{named_by, bytes_or_none, real_name, word_at, half_at, entry_date, entries_info, info_in};
-ghost use Rattle.fork_wrappers.specs.Info.{info_of, data_behind, data_in, data_fork_in};
+ghost use Rattle.fork_wrappers.specs.Info.{view_info, bare_info, header_date, header_info};
+ghost use Rattle.fork_wrappers.specs.Info.{standing_count, first_with, named_by, bytes_or_none};
+ghost use Rattle.fork_wrappers.specs.Info.{real_name, word_at, half_at, entry_date, entries_info};
+ghost use Rattle.fork_wrappers.specs.Info.{info_in, info_of, data_behind, data_in, data_fork_in};
 
 use crate::entries::{does_entry_fit, entry_part_of};
 use crate::fault::WrapFault;
@@ -29,8 +31,9 @@ pub struct FileInfo<'b> {
     pub creator: Option<u32>,
     /// The Finder's flags.
     pub flags: Option<u16>,
-    /// When the file was created, in seconds from the midnight that begins the year 1904: in MacBinary by the clock of the
-    /// Macintosh, in AppleSingle and AppleDouble by Greenwich Mean Time.
+    /// When the file was created, in seconds from the midnight that begins the year 1904: in
+    /// MacBinary by the clock of the Macintosh, in AppleSingle and AppleDouble by Greenwich Mean
+    /// Time.
     pub created: Option<u64>,
     /// When it was last changed, in the same seconds.
     pub changed: Option<u64>,
@@ -243,14 +246,16 @@ fn info_in<'b>(how: Wrapping, bytes: &'b [u8]) -> FileInfo<'b>
     }
 }
 
-/// Returns what the wrapper of a file says of it: its name, its type and its creator, the Finder's flags, its dates and the
-/// lengths of its forks. A damaged wrapper is read as far as it stands. Nothing is allocated.
+/// Returns what the wrapper of a file says of it: its name, its type and its creator, the Finder's
+/// flags, its dates and the lengths of its forks. A damaged wrapper is read as far as it stands.
+/// Nothing is allocated.
 ///
-/// Of several entries of AppleSingle or AppleDouble with one ID the first is read. The entry with ID 7, which version 1 has
-/// in the place of the dates and whose form depends on the home file system, is not read.
+/// Of several entries of AppleSingle or AppleDouble with one ID the first is read. The entry with
+/// ID 7, which version 1 has in the place of the dates and whose form depends on the home file
+/// system, is not read.
 ///
-/// MacBinary II Standard (1987), "The Binary Transfer Format"; *AppleSingle/AppleDouble Formats for Foreign Files*,
-/// Developer's Note (1990), "Entry IDs"; RFC 1740, appendices A and B.
+/// MacBinary II Standard (1987), "The Binary Transfer Format"; *AppleSingle/AppleDouble Formats for
+/// Foreign Files*, Developer's Note (1990), "Entry IDs"; RFC 1740, appendices A and B.
 pub fn info(bytes: &[u8]) -> FileInfo<'_>
     ensures { view_info result ≡ info_of bytes.now }
 {
@@ -280,16 +285,18 @@ fn data_in<'b>(how: Wrapping, bytes: &'b [u8]) -> Option<&'b [u8]>
     }
 }
 
-/// Finds the data fork in the bytes of a file: that of MacBinary, or what the entry with ID 1 of AppleSingle names. A bare
-/// fork has none, nor has the header file of AppleDouble. Nothing is allocated.
+/// Finds the data fork in the bytes of a file: that of MacBinary, or what the entry with ID 1 of
+/// AppleSingle names. A bare fork has none, nor has the header file of AppleDouble. Nothing is
+/// allocated.
 ///
 /// # Errors
 /// The faults of `unwrap`.
 ///
-/// MacBinary II Standard (1987), "The Binary Transfer Format"; *AppleSingle/AppleDouble Formats for Foreign Files*,
-/// Developer's Note (1990), "Entry IDs".
+/// MacBinary II Standard (1987), "The Binary Transfer Format"; *AppleSingle/AppleDouble Formats for
+/// Foreign Files*, Developer's Note (1990), "Entry IDs".
 pub fn data_fork(bytes: &[u8]) -> Result<Option<&[u8]>, WrapFault>
-    ensures found { IfOk result (λ found. data_fork_in bytes.now ≡ Ok (option_map (λ fork. fork.now) found)) }
+    ensures found { IfOk result (λ found. data_fork_in bytes.now
+        ≡ Ok (option_map (λ fork. fork.now) found)) }
     ensures fault { IfErr result (λ fault. data_fork_in bytes.now ≡ Err fault) }
 {
     match unwrap(bytes) {

@@ -1,7 +1,6 @@
 //! The resource fork inside a wrapped file: AppleSingle, AppleDouble and MacBinary.
 #![tactic(auto)]
 
-mod checksum;
 mod entries;
 mod fault;
 mod file_info;

@@ -1,14 +1,15 @@
 //! MacBinary files.
 
-ghost use Rattle.std.specs.Prelude.{◌≡◌, ◌+◌, ◌*◌, ◌≤◌, ◌<◌, ◌^◌, ◌==◌, length, IfOk, IfErr, Ok, Err, IsTrue};
+ghost use Rattle.std.specs.Prelude.{◌≡◌, ◌+◌, ◌*◌, ◌≤◌, ◌<◌, ◌^◌, ◌==◌, length, IfOk, IfErr, Ok};
+ghost use Rattle.std.specs.Prelude.{Err, IsTrue};
 ghost use Rattle.std.specs.List.{list_all};
-ghost use Rattle.fork_wrappers.specs.MacBinary.{is_header, is_first, is_second, is_third, padded, data_place};
-ghost use Rattle.fork_wrappers.specs.MacBinary.{fork_place, fork_behind, checked_fork, is_old_header, is_printable, name};
-ghost use Rattle.fork_wrappers.specs.MacBinary.{greatest_length};
+ghost use Rattle.fork_wrappers.specs.MacBinary.{is_header, is_first, is_second, is_third, padded};
+ghost use Rattle.fork_wrappers.specs.MacBinary.{data_place, fork_place, fork_behind, checked_fork};
+ghost use Rattle.fork_wrappers.specs.MacBinary.{is_old_header, is_printable, name, greatest_length};
 
-use crate::checksum::checksum_of;
 use crate::fault::MacBinaryFault;
 use crate::numbers::{byte, half, part_of, word};
+use checksums::checksum_of;
 
 /// Returns whether bytes begin as every MacBinary header does.
 fn begins_a_header(bytes: &[u8]) -> bool

@@ -1,15 +1,18 @@
 //! AppleSingle and AppleDouble files with another resource fork.
 
-ghost use Rattle.std.specs.Prelude.{◌≡◌, ◌+◌, ◌*◌, ◌-◌, ◌≤◌, ◌<◌, ◌^◌, ◌++◌, length, IfOk, IfErr, OnOk, Ok, Err, IsTrue, false};
-ghost use Rattle.std.specs.Prelude.{nat_lt, not};
+ghost use Rattle.std.specs.Prelude.{◌≡◌, ◌+◌, ◌*◌, ◌-◌, ◌≤◌, ◌<◌, ◌^◌, ◌++◌, length, IfOk, IfErr};
+ghost use Rattle.std.specs.Prelude.{OnOk, Ok, Err, IsTrue, false, nat_lt, not};
 ghost use Rattle.std.specs.List.{list_all, flat_map};
 ghost use Rattle.byteorder.specs.Endian.{big_bytes};
 ghost use Rattle.fork_format.specs.Fork.{number, offsets};
-ghost use Rattle.fork_wrappers.specs.Entries.{entry_count, entries_end, entry_places, entry_fits, fork_entry, is_fork_entry};
+ghost use Rattle.fork_wrappers.specs.Entries.{entry_count, entries_end, entry_places, entry_fits};
+ghost use Rattle.fork_wrappers.specs.Entries.{fork_entry, is_fork_entry};
 ghost use Rattle.fork_wrappers.specs.Made.{entry};
-ghost use Rattle.fork_wrappers.specs.Rewrapped.{fork_span, named_place, named_length, is_after_list, is_beside, is_clear};
-ghost use Rattle.fork_wrappers.specs.Rewrapped.{are_clear, moved, new_fork_entry, new_entry, added_entry, new_list};
-ghost use Rattle.fork_wrappers.specs.Rewrapped.{with_fork, is_entries_file, among_entries, Refuses};
+ghost use Rattle.fork_wrappers.specs.Rewrapped.{fork_span, named_place, named_length};
+ghost use Rattle.fork_wrappers.specs.Rewrapped.{is_after_list, is_beside, is_clear, are_clear};
+ghost use Rattle.fork_wrappers.specs.Rewrapped.{moved, new_fork_entry, new_entry, added_entry};
+ghost use Rattle.fork_wrappers.specs.Rewrapped.{new_list, with_fork, is_entries_file};
+ghost use Rattle.fork_wrappers.specs.Rewrapped.{among_entries, Refuses};
 
 use crate::entries::{fork_entry_of, names_fork};
 use crate::fault::RewrapFault;
@@ -49,7 +52,8 @@ fn span_in(file: &[u8]) -> ForkSpan
     }
 }
 
-/// Returns whether what the entry at an offset names lies outside the header and the list of entries.
+/// Returns whether what the entry at an offset names lies outside the header and the list of
+/// entries.
 fn lies_after_list(file: &[u8], at: usize) -> bool
     requires header { 26 ≤ length file.now }
     requires room { at + 12 ≤ length file.now }
@@ -68,7 +72,8 @@ fn lies_beside(file: &[u8], span: ForkSpan, at: usize) -> bool
     place + word(file, at + 8) <= span.at || span.at + span.len <= place
 }
 
-/// Returns whether the entry at an offset is that of the fork, or lies outside the header, the list and the fork.
+/// Returns whether the entry at an offset is that of the fork, or lies outside the header, the list
+/// and the fork.
 fn lies_clear(file: &[u8], span: ForkSpan, at: usize) -> bool
     requires header { 26 ≤ length file.now }
     requires room { at + 12 ≤ length file.now }
@@ -258,8 +263,10 @@ pub fn with_fork_of(alloc: Global, file: &[u8], fork: &[u8]) -> Result<Vec<u8>, 
     requires header { 26 ≤ length file.now }
     requires list { entries_end file.now ≤ length file.now }
     requires fits { IsTrue (list_all (entry_fits file.now) (entry_places file.now)) }
-    ensures made { IfOk result (λ new. among_entries file.now (fork_span file.now) fork.now ≡ Ok new.items) }
-    ensures fault { IfErr result (λ why. Refuses why (among_entries file.now (fork_span file.now) fork.now)) }
+    ensures made { IfOk result (λ new. among_entries file.now (fork_span file.now) fork.now
+        ≡ Ok new.items) }
+    ensures fault { IfErr result (λ why.
+        Refuses why (among_entries file.now (fork_span file.now) fork.now)) }
 {
     let span = span_in(file);
     if !is_fork_clear(file, span) {

@@ -1,17 +1,18 @@
 //! MacBinary files with another resource fork.
 
-ghost use Rattle.std.specs.Prelude.{◌≡◌, ◌+◌, ◌-◌, ◌≤◌, ◌<◌, ◌^◌, ◌++◌, length, IfOk, IfErr, OnOk, Ok, IsTrue, drop, []};
-ghost use Rattle.fork_wrappers.specs.Checksum.{checksum};
+ghost use Rattle.std.specs.Prelude.{◌≡◌, ◌+◌, ◌-◌, ◌≤◌, ◌<◌, ◌^◌, ◌++◌, length, IfOk, IfErr, OnOk};
+ghost use Rattle.std.specs.Prelude.{Ok, IsTrue, drop, []};
+ghost use Rattle.checksums.specs.Checksum.{checksum};
 ghost use Rattle.fork_wrappers.specs.MacBinary.{padded, fork_place, fork_length};
 ghost use Rattle.fork_wrappers.specs.Unwrapped.{is_mac_binary};
-ghost use Rattle.fork_wrappers.specs.Rewrapped.{greatest_fork, new_fields, new_checksum, new_front, with_padded};
-ghost use Rattle.fork_wrappers.specs.Rewrapped.{behind_header, Refuses};
+ghost use Rattle.fork_wrappers.specs.Rewrapped.{greatest_fork, new_fields, new_checksum, new_front};
+ghost use Rattle.fork_wrappers.specs.Rewrapped.{with_padded, behind_header, Refuses};
 
-use crate::checksum::checksum_of;
 use crate::fault::RewrapFault;
 use crate::mac_binary::{fork_place_of, padded_of};
 use crate::numbers::{bytes_between, bytes_from, part_of, put_half, put_word, put_zeros, word};
 use crate::wrapping::Wrapping;
+use checksums::checksum_of;
 use std::alloc::{AllocError, Global};
 
 /// Returns the greatest length of a resource fork of MacBinary.
@@ -40,7 +41,8 @@ fn put_fields(out: &mut Vec<u8>, file: &[u8], len: usize) -> Result<(), AllocErr
 /// Writes the checksum of the first 124 bytes, which stand there alone.
 fn put_checksum(out: &mut Vec<u8>, how: Wrapping, file: &[u8]) -> Result<(), AllocError>
     requires header { 128 ≤ length file.now }
-    ensures { OnOk result (out.new.items ≡ out.old.items ++ new_checksum how file.now out.old.items) }
+    ensures { OnOk result (out.new.items
+        ≡ out.old.items ++ new_checksum how file.now out.old.items) }
 {
     match how {
         Wrapping::MacBinaryI => {

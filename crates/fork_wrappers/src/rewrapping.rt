@@ -1,7 +1,8 @@
 //! A wrapped file with another fork in the place of its resource fork.
 
 ghost use Rattle.std.specs.Prelude.{◌≡◌, ◌≤◌, length, IfOk, IfErr, Ok, IsTrue, bytes_eq, is_ok};
-ghost use Rattle.fork_wrappers.specs.Rewrapped.{remade, same_wrapping, recognized, placed, rewrapped, Refuses};
+ghost use Rattle.fork_wrappers.specs.Rewrapped.{remade, same_wrapping, recognized, placed};
+ghost use Rattle.fork_wrappers.specs.Rewrapped.{rewrapped, Refuses};
 ghost use Rattle.fork_wrappers.specs.Unwrapped.{wrapping_of, is_mac_binary, fork_in, unwrapped};
 
 use crate::fault::RewrapFault;
@@ -51,8 +52,10 @@ fn recognized_of(
 ) -> Result<Vec<u8>, RewrapFault>
     requires header { IsTrue (is_mac_binary how) → 128 ≤ length file.now }
     requires whole { IsTrue (is_ok (fork_in how file.now)) }
-    ensures made { IfOk result (λ new. recognized how (remade how file.now fork.now) ≡ Ok new.items) }
-    ensures fault { IfErr result (λ why. Refuses why (recognized how (remade how file.now fork.now))) }
+    ensures made { IfOk result (λ new. recognized how (remade how file.now fork.now)
+        ≡ Ok new.items) }
+    ensures fault { IfErr result (λ why.
+        Refuses why (recognized how (remade how file.now fork.now))) }
 {
     match remade_of(alloc, how, file, fork) {
         Ok(new) => {
@@ -97,15 +100,17 @@ fn rewrapped_of(alloc: Global, file: &[u8], fork: &[u8]) -> Result<Vec<u8>, Rewr
     }
 }
 
-/// Returns a file with a fork in the place of its resource fork, wrapped as it was. A file that holds this fork stays as
-/// it is.
+/// Returns a file with a fork in the place of its resource fork, wrapped as it was. A file that
+/// holds this fork stays as it is.
 ///
 /// # Errors
-/// `Damaged` where `unwrap` has a fault, `Overlap` where another entry shares bytes with the resource fork or with the list
-/// of entries, `TooLong` where a number does not fit the wrapper, `Unrecognized` where the file would be taken for one
-/// that is wrapped otherwise, and `HostMemory`.
+/// `Damaged` where `unwrap` has a fault, `Overlap` where another entry shares bytes with the
+/// resource fork or with the list of entries, `TooLong` where a number does not fit the wrapper,
+/// `Unrecognized` where the file would be taken for one that is wrapped otherwise, and
+/// `HostMemory`.
 ///
-/// *AppleSingle/AppleDouble Formats for Foreign Files*, Developer's Note (1990); MacBinary II Standard (1987).
+/// *AppleSingle/AppleDouble Formats for Foreign Files*, Developer's Note (1990); MacBinary II
+/// Standard (1987).
 pub fn rewrap(alloc: Global, file: &[u8], fork: &[u8]) -> Result<Vec<u8>, RewrapFault>
     ensures made { IfOk result (λ new. rewrapped file.now fork.now ≡ Ok new.items) }
     ensures fault { IfErr result (λ why. Refuses why (rewrapped file.now fork.now)) }

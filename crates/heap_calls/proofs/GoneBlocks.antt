@@ -1,15 +1,16 @@
-use Rattle.std.proofs.Common.{◌≡◌, ℕ, ◌+◌, ◌-◌, ◌≤◌, ◌<◌, zero, suc, Bool, true, false, not, ◌&&◌, ◌==◌, List, [], ◌∷◌}
-use Rattle.std.proofs.Common.{◌++◌, length, drop, slice_index_or, inl, inr, append_assoc, append-nil, refl, sym, ◌∙◌, ap, cond, arith, Option, Some, None, subst, is_some, map, replicate, ◌*◌}
+use Rattle.std.proofs.Common.{◌≡◌, ℕ, ◌+◌, ◌-◌, ◌≤◌, ◌<◌, zero, suc, Bool, true, false, not, ◌&&◌, List, [], ◌∷◌}
+use Rattle.std.proofs.Common.{◌++◌, length, drop, slice_index_or, inl, inr, append_assoc, append-nil, refl, sym, ◌∙◌, ap, cond, arith}
+use Rattle.std.proofs.Common.{Option, Some, None, subst, is_some, map, replicate, ◌*◌}
 use Rattle.std.proofs.lemmas.Bool.{cond-true, cond-false}
 use Rattle.std.proofs.lemmas.Bool.Decides.{nat_tests}
 use Rattle.std.proofs.lemmas.List.{at_drop_more, length-map, length-replicate}
 use Rattle.std.proofs.lemmas.Option.{none-some}
 use Rattle.std.specs.Option.{option_map}
-use Rattle.std.specs.Prelude.{nat_le, nat_lt}
+use Rattle.std.specs.Prelude.{nat_lt}
 use Rattle.block_store.specs.Block.{Block, Free, Nonrelocatable, Masters, Relocatable, size, sizes, is_purgeable, content_of}
 use Rattle.block_store.specs.Block.{rename, rename_block, tidy}
 use Rattle.block_store.specs.Find.{IsEdge}
-use Rattle.block_store.specs.Room.{Spot, spot_at, raised, may_be_purged, put_at_base, room}
+use Rattle.block_store.specs.Room.{Spot, spot_at, may_be_purged, put_at_base, room}
 use Rattle.block_store.specs.Sparing.{spared, opened}
 use Rattle.block_store.specs.Inner.Stretch.{opened_block}
 use Rattle.block_store.specs.Seen.{seen}
@@ -19,8 +20,8 @@ use Rattle.block_store.specs.declared.sparing.Sparing.{Sparing}
 use Rattle.block_store.specs.declared.sparing.Sparing.TheVariants.{Nothing}
 use Rattle.block_store.proofs.Nonrelocatable.Placing.{spot_at-below}
 use Rattle.block_store.proofs.Zone.Aligned.{spot_at-is}
-use Rattle.block_store.proofs.Zone.Apart.{Apart, apart-size, apart-tidied}
-use Rattle.block_store.proofs.Zone.Parted.{spot_at-parted}
+use Rattle.block_store.proofs.Zone.Apart.{Apart, apart-tidied}
+use Rattle.block_store.proofs.Zone.Parted.{spot_at-parted, spot-end}
 use Rattle.block_store.proofs.Zone.Totals.{total-append}
 use Rattle.block_store.proofs.Renamed.Renaming.{is_purgeable-rename}
 use Rattle.heap_calls.specs.declared.anchor.Anchor.{Anchor}
@@ -32,6 +33,7 @@ use Rattle.heap_calls.specs.Gone.{Gone, gone, room_gone, slot_gone}
 use Rattle.heap_calls.specs.Searches.{room_searches}
 use Rattle.heap_calls.specs.Inner.Base.{base, base_searches}
 use Rattle.mac_words.specs.Size.{phys, padded}
+use Rattle.mac_words.proofs.Plain.{is_some-map}
 use Rattle.block_store.specs.Slot.{Slot}
 use Rattle.block_store.proofs.Renamed.Renaming.{rename_run_spot}
 use Rattle.heap_calls.proofs.NewBlocks.Basing.{base-rename, base_searches-rename}
@@ -39,7 +41,8 @@ use Rattle.heap_calls.proofs.NewBlocks.NewSlots.{at_base, room-base, searches-ba
 use Rattle.heap_calls.proofs.NewBlocks.NewHandles.{base-is, base_searches-is, none-left, some-left}
 use Rattle.block_store.specs.Block.{count, is_masters}
 use Rattle.heap_calls.specs.Inner.Numbered.{number_from, handle_number, pointer_number, leads_to, name_of, memory_of, state_of, Agrees}
-use Rattle.heap_calls.specs.Inner.Telling.{IsNumberOf, gone_named, gone_from, from_spot, blocks_from, base_gone, pointer_gone, zone_slot_gone}
+use Rattle.heap_calls.specs.Inner.Telling.{IsNumberOf, gone_named, gone_from, from_spot, blocks_from, base_gone, pointer_gone}
+use Rattle.heap_calls.specs.Inner.Telling.{zone_slot_gone}
 use Rattle.heap_calls.proofs.Tables.Gone.{new_pointer_gone}
 
 -- What a sink is told of blocks that are purged.
@@ -52,17 +55,6 @@ number_here entries i slot e less is =
     ∙ cond-true (leads_to slot (slice_index_or entries i e)) i _ is
 
 -- Where blocks stand apart, those from a place on are the ones above those that end there.
-spot-end : (bs : List Block) → Apart bs → spot_at (sizes bs) bs ≡ None
-spot-end [] a = refl
-spot-end (c ∷ above) a =
-    let big = apart-size c above a.0 in
-    let n : sizes (c ∷ above) ≡ size c + sizes above = refl in
-    cond-false (sizes (c ∷ above) == 0) _ _ (grind (arith, nat_tests))
-    ∙ cond-true (nat_le (size c) (sizes (c ∷ above))) _ _ (grind (arith, nat_tests))
-    ∙ ap (λ k. option_map (raised c) (spot_at k above))
-    (let z : sizes (c ∷ above) - size c ≡ sizes above = omega arith in z)
-    ∙ ap (option_map (raised c)) (spot-end above a.1)
-
 from-between : (below above : List Block) → Apart (below ++ above) → blocks_from (sizes below) (below ++ above) ≡ above
 from-between below [] a =
     ap from_spot (ap (spot_at (sizes below)) (append-nil below)
@@ -183,10 +175,6 @@ told-all value zone rest es log k k' is same =
     ∙ ap (λ (m : Memory). gone (length m.heap.names) k nothing m.heap.zone) is
     ∙ ap (λ n. gone (length value.heap.names) n nothing value.heap.zone) same
 
-pub some-map : {A B : Type 0} (f : A → B) (o : Option A) → is_some (option_map f o) ≡ is_some o
-some-map f None = refl
-some-map f (Some x) = refl
-
 -- the blocks of a store that are purged, where the names that a search spares are those of slots
 pub gone-spared : (entries : List Anchor) (sp : Block → Bool) (sparing : Sparing)
     → ((b : Block) → sp (rename_block (handle_number entries) (pointer_number entries) b) ≡ spared sparing b)
@@ -226,7 +214,7 @@ module _ (zone : List Block) (rest : Rest) (es : List Anchor) (masters : rest.al
         let found : is_some (base (size new) sparing zone)
         ≡ is_some (room (put_at_base (rename_block f g new)) sp (rename f g zone)) =
         sym (ap is_some (base-is zone rest es masters agrees sp sparing same closed new)
-        ∙ some-map (rename f g) _ ∙ ap is_some (room-base new sparing zone) ∙ some-map (at_base new) _) in
+        ∙ is_some-map (rename f g) _ ∙ ap is_some (room-base new sparing zone) ∙ is_some-map (at_base new) _) in
         let many = base_searches-is zone rest es masters agrees sp sparing same closed new in
         ap (λ t. cond t (gone_from es sparing (base_searches (size new) sparing zone - 1) zone) []) found
         ∙ ap (λ l. cond (is_some (room (put_at_base (rename_block f g new)) sp (rename f g zone))) l [])
@@ -258,8 +246,8 @@ base_gone-any zone slots es new =
     let f = handle_number es in
     let g = pointer_number es in
     let found : is_some (base (size new) Nothing zone) ≡ is_some (room (put_at_base new) nothing (rename f g zone)) =
-    sym (ap is_some (room-base new Nothing (rename f g zone)) ∙ some-map (at_base new) _
-    ∙ ap is_some (base-rename f g (size new) zone) ∙ some-map (rename_run_spot f g) _) in
+    sym (ap is_some (room-base new Nothing (rename f g zone)) ∙ is_some-map (at_base new) _
+    ∙ ap is_some (base-rename f g (size new) zone) ∙ is_some-map (rename_run_spot f g) _) in
     let many : room_searches (put_at_base new) nothing (rename f g zone) ≡ base_searches (size new) Nothing zone =
     searches-base new Nothing (rename f g zone) ∙ base_searches-rename f g (size new) zone in
     ap (λ t. cond t (gone_from es Nothing (base_searches (size new) Nothing zone - 1) zone) []) found

@@ -390,8 +390,8 @@ module _ (value : Memory) (zone : List Block) (rest : Rest) (es : List Anchor) (
             (is_relocatable b.number) (either a.number b.number) (length (content_of b.at.here)
             + length (content_of (rename_block of_slot of_place source.0.here))) (rename of_slot of_place zone))) there.1
             ∙ ap (λ n. size_gone (length (map (name_of rest.slots) es)) (is_relocatable r.number)
-            (either a.number r.number) (n + length (content_of (rename_block of_slot of_place source.0.here))) (rename of_slot of_place zone))
-            (len-is to r there)
+            (either a.number r.number) (n + length (content_of (rename_block of_slot of_place source.0.here)))
+            (rename of_slot of_place zone)) (len-is to r there)
             ∙ ap (λ n. size_gone (length (map (name_of rest.slots) es)) (is_relocatable r.number)
             (either a.number r.number) (length_of r.slot zone + n) (rename of_slot of_place zone)) (len-is from a source)
             ∙ sized-gone (either a.number r.number) (sparing.Two a.slot r.slot) (λ b. refl)

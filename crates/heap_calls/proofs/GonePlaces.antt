@@ -27,7 +27,6 @@ use Rattle.heap_calls.specs.Answer.{Known, handle_at, nothing}
 use Rattle.heap_calls.specs.Purging.{is_loose}
 use Rattle.heap_calls.specs.Gone.{Gone, gone, gone_of, room_gone, found_gone, refill_gone}
 use Rattle.heap_calls.specs.Inside.{has_block}
-use Rattle.heap_calls.specs.Inner.Filling.{IsSizeOf}
 use Rattle.heap_calls.specs.Inner.Given.{slot_of}
 use Rattle.heap_calls.specs.Inner.Loose.{FindsLoose, loose, loose_at}
 use Rattle.heap_calls.specs.Inner.NewBlock.{fresh_block}
@@ -35,7 +34,6 @@ use Rattle.heap_calls.specs.Searches.{room_searches}
 use Rattle.heap_calls.specs.Inner.Numbered.{handle_number, pointer_number, name_of, no_number, state_of, memory_of}
 use Rattle.heap_calls.specs.Inner.Search.{placement, placement_searches, tries}
 use Rattle.heap_calls.specs.Inner.Telling.{gone_named, gone_from, placement_gone, renewed_gone}
-use Rattle.heap_calls.proofs.Filled.Refilled.{freed-gone}
 use Rattle.heap_calls.proofs.NewBlocks.NewHandles.{tries-same}
 use Rattle.heap_calls.proofs.NewBlocks.NewSlots.{tries-map}
 use Rattle.heap_calls.proofs.Numbering.Answering.{handle_at-refused}
@@ -48,6 +46,7 @@ use Rattle.std.proofs.lemmas.List.{length-replicate}
 use Rattle.mac_words.specs.Size.{phys, padded}
 use Rattle.block_store.specs.Block.{Relocatable, no_flags, count, is_masters}
 use Rattle.block_store.specs.Rest.{Rest}
+use Rattle.block_store.proofs.Zone.Absence.{freed-absent}
 use Rattle.heap_calls.specs.State.{State}
 use Rattle.heap_calls.specs.Answer.{nothing}
 use Rattle.heap_calls.specs.Slots.{slotted}
@@ -228,14 +227,6 @@ reallocate_gone-none value zone rest es log handle n code is found =
     ap (λ (m : Memory). reallocate_handle_gone handle n m.heap) (sym is) ∙ reallocate_gone-loose handle n s
     ∙ ap (λ r. found_gone r (λ k. put_gone (length s.names) k.number n (freed (is_relocatable k.number) s.zone))) found
 
--- as many bytes as are wanted, or no block can have either number
-pub renewed_gone-sized : (entries : List Anchor) (slot wanted n : ℕ) (zone : List Block) → IsSizeOf wanted n
-    → renewed_gone entries slot n zone ≡ renewed_gone entries slot wanted zone
-renewed_gone-sized entries slot wanted n zone (inl same) = ap (λ k. renewed_gone entries slot k zone) same
-renewed_gone-sized entries slot wanted n zone (inr (none, none')) =
-    ap (λ t. cond (is_some t) (placement_gone entries (padded n) (sparing.Freed slot) zone) []) none
-    ∙ sym (ap (λ t. cond (is_some t) (placement_gone entries (padded wanted) (sparing.Freed slot) zone) []) none')
-
 -- what is purged for an empty handle
 pub refill_gone-is : (value : Memory) (zone : List Block) (rest : Rest) (es : List Anchor) (log : Log)
     (h slot n : ℕ) {guarded : Bool} → memory_of zone rest es log ≡ value
@@ -245,7 +236,7 @@ refill_gone-is value zone rest es log h slot n {guarded} is at apart small empti
     let s : State = state_of zone rest.slots es in
     let none : has (is_relocatable h) s.zone ≡ false = ap (λ (m : Memory). has_block h m.heap) is ∙ emptied in
     renewed_gone-is es h slot at apart small n rest.slots zone
-    ∙ ap (put_gone (length s.names) h n) (freed-gone (is_relocatable h) s.zone none)
+    ∙ ap (put_gone (length s.names) h n) (freed-absent (is_relocatable h) s.zone none)
     ∙ sym (ap (λ r. found_gone r (λ k. put_gone (length s.names) k.number n s.zone))
     (handle_at-by zone rest.slots es (Some h) h slot refl at))
     ∙ ap (λ (m : Memory). refill_gone h n m.heap) is

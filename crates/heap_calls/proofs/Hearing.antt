@@ -1,4 +1,5 @@
-use Rattle.std.proofs.Common.{◌≡◌, ◌++◌, ◌⊎◌, ◌∙◌, Bool, true, IsTrue, List, Option, Some, [], Result, Ok, Err, OnOk, IsOk, false, inl, inr, refl, sym, ap, subst}
+use Rattle.std.proofs.Common.{◌≡◌, ◌++◌, ◌⊎◌, ◌∙◌, Bool, true, IsTrue, List, Option, Some, [], Result, Ok, Err, OnOk, IsOk, false, inl, inr}
+use Rattle.std.proofs.Common.{refl, sym, ap, subst}
 use Rattle.std.proofs.lemmas.List.{append-nil}
 use Rattle.heap_calls.specs.State.{Memory, CountedMemory}
 use Rattle.heap_calls.specs.Gone.{Gone, Tells, TellsNothing, IsIdle, Rests, Hears}
@@ -13,12 +14,6 @@ use Rattle.heap_calls.specs.Left.{Step, Stops}
 pub rests-still : {A : Type 0} (told waits : A → List Gone → Type 0) (listens : A → Bool) (sink : A)
     → IsIdle told waits sink → Rests told waits listens sink sink
 rests-still told waits listens sink idle = record { idle = idle; same = refl }
-
--- Two steps.
-pub rests-then : {A : Type 0} (told waits : A → List Gone → Type 0) (listens : A → Bool) (sink heard last : A)
-    → Rests told waits listens sink heard → Rests told waits listens heard last → Rests told waits listens sink last
-rests-then told waits listens sink heard last first second =
-    record { idle = second.idle; same = second.same ∙ first.same }
 
 -- A sink hears nothing of a call that purges nothing and says nothing to it.
 pub hears-none : {A : Type 0} (told waits : A → List Gone → Type 0) (listens : A → Bool) (done : Type 0)
@@ -37,15 +32,6 @@ hears-as told waits listens done done' blocks blocks' sink heard also same hears
   tells = λ is on. subst (λ (l : List Gone). Tells told l sink heard) same (hears.tells (also is) on);
   rests = hears.rests;
 }
-
--- A result that is not an error comes after these blocks.
-pub hears-on-ok : {A T E : Type 0} (told waits : A → List Gone → Type 0) (listens : A → Bool) (result : Result T E)
-    (blocks blocks' : List Gone) (sink heard : A) → blocks ≡ blocks' → OnOk result (Tells told blocks sink heard)
-    → Rests told waits listens sink heard → Hears told waits listens (IsOk result) blocks' sink heard
-hears-on-ok told waits listens (Ok value) blocks blocks' sink heard same was rests =
-    record { tells = λ ok on. subst (λ (l : List Gone). Tells told l sink heard) same was; rests = rests }
-hears-on-ok told waits listens (Err fault) blocks blocks' sink heard same was rests =
-    record { tells = λ ok on. let not : false ≡ true = ok in cc; rests = rests }
 
 -- The same, where a sink is told only if it listens.
 pub hears-if-on-ok : {A T E : Type 0} (told waits : A → List Gone → Type 0) (listens : A → Bool) (result : Result T E)
@@ -67,29 +53,6 @@ module _ {A : Type 0} (takes : Bool) (told : A → List Gone → Type 0) (listen
     stops-at-once still same why = record {
       kept = subst (λ (m : CountedMemory). keeps old.memory m.memory) (sym same) (still old.memory);
       left = inr (inl (record { same = same; silent = λ before was. was; why = inr why }));
-    }
-
-    -- the sink had none
-    pub stops-untouched : (heard : A) → ((m : Memory) → keeps m m) → new ≡ old → TellsNothing told sink heard
-        → listens sink ≡ true → Stops takes told listens keeps another first old new sink heard
-    stops-untouched heard still same none on = record {
-      kept = subst (λ (m : CountedMemory). keeps old.memory m.memory) (sym same) (still old.memory);
-      left = inr (inl (record { same = same; silent = none; why = inl on }));
-    }
-
-    -- the sink had none, or the store
-    pub stops-unheard : (heard : A) → keeps old.memory new.memory
-        → (IsTrue takes ⊎ ((new ≡ old) × TellsNothing told sink heard)) → (IsTrue takes ⊎ (listens sink ≡ true))
-        → Stops takes told listens keeps another first old new sink heard
-    stops-unheard heard kept left on = record {
-      kept = kept;
-      left = elim on [
-        | inl store ↦ inl store
-        | inr hears ↦ elim left [
-          | inl store ↦ inl store
-          | inr all ↦ inr (inl (record { same = all.0; silent = all.1; why = inl hears }))
-        ]
-      ];
     }
 
 -- The same of a call that may have done its first step.
@@ -128,12 +91,6 @@ stops-halted takes told listens keeps another first old new sink heard kept back
     | inr all ↦ inr (inl (record { same = back all.same all.kept; silent = all.silent; why = inl all.why }))
   ];
 }
-
--- Two things over a store that takes no host memory.
-pub both-or : {T A B : Type 0} → (T ⊎ A) → (T ⊎ B) → T ⊎ (A × B)
-both-or (inl store) right = inl store
-both-or (inr left) (inl store) = inl store
-both-or (inr left) (inr right) = inr (left, right)
 
 -- What holds in any case holds where there is a value.
 pub on_ok-always : {T E P : Type 0} (result : Result T E) → P → OnOk result P

@@ -14,6 +14,8 @@ pub mod GonePlaces
 pub mod GoneCopies
 pub mod Hearing
 pub mod Tables
+mod Exchanging
 mod Worked
 mod Same
 pub mod Rows
+pub mod Went

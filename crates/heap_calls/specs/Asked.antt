@@ -41,6 +41,7 @@ pub data Asked : Type 0 where
   HandToHand : (handle : Option ℕ) → Asked
   HandAndHand : (from : Option ℕ) (to : Option ℕ) → Asked
   PtrAndHand : (handle : Option ℕ) (bytes : List ℕ) → Asked
+  PtrToXHand : (handle : Option ℕ) (bytes : List ℕ) → Asked
   NewPtr : (size : ℕ) → Asked
   DisposePtr : (pointer : Option ℕ) → Asked
   GetPtrSize : (pointer : Option ℕ) → Asked

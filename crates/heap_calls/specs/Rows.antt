@@ -158,10 +158,14 @@ abbrev pub set_pointer_size : Option ℕ → ℕ → State → Done (Unit {0})
 set_pointer_size pointer n s =
     for_found (pointed_at pointer s) s (λ held. changed nothing (seek_size n nothing s.zone held.at) s)
 
+-- Bytes written into a handle's block from offset i on, once the block has n bytes.
+abbrev pub sized_written : (Block → Bool) → Held → ℕ → ℕ → List ℕ → State → Done (Unit {0})
+sized_written spared held n i x s =
+    changed spared (around [] (Write held.number i x ∷ []) (seek_size n spared s.zone held.at)) s
+
 -- Bytes appended to a handle's block.
 abbrev pub append : (Block → Bool) → Held → List ℕ → State → Done (Unit {0})
-append spared held x s = changed spared (around [] (Write held.number len x ∷ [])
-    (seek_size (len + length x) spared s.zone held.at)) s
+append spared held x s = sized_written spared held (len + length x) len x s
   where
     len : ℕ
     len = length (content_of held.at.here)
@@ -176,6 +180,12 @@ hand_and_hand from to s = for_found (look_up from s) s (λ a. for_found (look_up
 abbrev pub pointer_and_hand : Option ℕ → List ℕ → State → Done (Unit {0})
 pointer_and_hand handle x s =
     for_found (look_up handle s) s (λ held. append (is_relocatable held.number) held x s)
+
+-- PtrToXHand: a handle's block, which is spared, gets the size and the bytes of others.
+-- See decision 241 (`PtrToXHand` is `SetHandleSize` and then `Put`).
+abbrev pub pointer_to_x_hand : Option ℕ → List ℕ → State → Done (Unit {0})
+pointer_to_x_hand handle x s = for_found (look_up handle s) s
+    (λ held. sized_written (is_relocatable held.number) held (length x) 0 x s)
 
 -- ReallocateHandle: a new block of n bytes, all 0, for a handle, whose old block is freed first; -112 (memPurErr) where
 -- the old block is locked.

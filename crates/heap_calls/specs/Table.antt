@@ -9,6 +9,7 @@ use Rattle.heap_calls.specs.Asked.{Asked, NewHandle, NewEmptyHandle, DisposeHand
 use Rattle.heap_calls.specs.Asked.{ReallocateHandle, EmptyHandle, HLock, HUnlock, HPurge, HNoPurge, HGetState, HSetState}
 use Rattle.heap_calls.specs.Asked.{MoveHHi, HLockHi, HandToHand, HandAndHand, PtrAndHand, NewPtr, DisposePtr, GetPtrSize}
 use Rattle.heap_calls.specs.Asked.{SetPtrSize, FreeMem, MaxBlock, PurgeSpace, CompactMem, PurgeMem, MaxMem, ReserveMem}
+use Rattle.heap_calls.specs.Asked.{PtrToXHand}
 use Rattle.heap_calls.specs.Asked.{MoreMasters, MemError, Put, Show, PutPtr, ShowPtr, Where, HandleZone, PtrZone}
 use Rattle.heap_calls.specs.Asked.{telling, seeking, packing}
 use Rattle.heap_calls.specs.Answer.{Answer, dispose_handle, get_handle_size, free_mem, h_lock, h_unlock}
@@ -215,6 +216,7 @@ row (HandToHand handle) = Leaves (λ s. copying_zone (look_up handle s) s)
     (Does (OnHandle handle) Given (rows.hand_to_hand handle))
 row (HandAndHand from to) = Does (OnBoth from to) done (rows.hand_and_hand from to)
 row (PtrAndHand handle bytes) = Does (OnChange handle) done (rows.pointer_and_hand handle bytes)
+row (PtrToXHand handle bytes) = Does (OnChange handle) done (rows.pointer_to_x_hand handle bytes)
 row (NewPtr size) = Does Open Given (rows.new_pointer size)
 row (DisposePtr pointer) = Plain (OnPointer pointer) done (dispose_pointer pointer)
 row (GetPtrSize pointer) = Plain (OnPointer pointer) Number (get_pointer_size pointer)

@@ -1,6 +1,7 @@
 //! What the numbers of handles and pointers stand for in a store.
 
-ghost use Rattle.std.specs.Prelude.{◌≡◌, ◌<◌, slice_get, option_and_then, Some, None, Err, vec_len, vec_capacity};
+ghost use Rattle.std.specs.Prelude.{◌≡◌, ◌<◌, slice_get, option_and_then, Some, None, Err, vec_len};
+ghost use Rattle.std.specs.Prelude.{vec_capacity};
 ghost use Rattle.heap_calls.specs.Inner.Given.{slot_of};
 ghost use Rattle.heap_calls.specs.Inner.Naming.{entered, number_of};
 ghost use Rattle.heap_calls.specs.Inner.Pointing.{target_of};
@@ -10,8 +11,8 @@ use mac_words::OsErr;
 /// What the number of a handle or a pointer stands for in a store.
 #[derive(Clone, Copy, Debug, PartialEq, Eq)]
 pub enum Anchor {
-    /// A handle, by the slot of its master pointer. Only a resource's handle may be guarded: it is then a System
-    /// resource's.
+    /// A handle, by the slot of its master pointer. Only a resource's handle may be guarded: it is
+    /// then a System resource's.
     Handle { slot: u32, guarded: bool },
     /// A pointer, by the place of its block.
     Pointer(u32),
@@ -19,7 +20,8 @@ pub enum Anchor {
     Disposed,
 }
 
-/// A handle that was looked up: its number, the slot of its master pointer, and whether the handle is guarded.
+/// A handle that was looked up: its number, the slot of its master pointer, and whether the handle
+/// is guarded.
 #[derive(Clone, Copy)]
 pub struct Found {
     pub number: usize,
@@ -34,8 +36,9 @@ pub struct Target {
     pub place: u32,
 }
 
-/// Returns the number and the slot of the handle that a name is bound to: -109 (nilHandleErr) where the name is
-/// unbound or the number was never given, -111 (memWZErr) where the number is a pointer's or was disposed of.
+/// Returns the number and the slot of the handle that a name is bound to: -109 (nilHandleErr) where
+/// the name is unbound or the number was never given, -111 (memWZErr) where the number is a
+/// pointer's or was disposed of.
 pub fn slot_of(names: &[Anchor], handle: Option<usize>) -> Result<Found, OsErr>
     ensures { result ≡ slot_of handle names.now }
 {
@@ -53,9 +56,9 @@ pub fn slot_of(names: &[Anchor], handle: Option<usize>) -> Result<Found, OsErr>
     }
 }
 
-/// Returns the number of the pointer that a name is bound to, and the place of its block: -109 (nilHandleErr) where
-/// the name is unbound or the number was never given, -111 (memWZErr) where the number is a handle's or was disposed
-/// of.
+/// Returns the number of the pointer that a name is bound to, and the place of its block: -109
+/// (nilHandleErr) where the name is unbound or the number was never given, -111 (memWZErr) where
+/// the number is a handle's or was disposed of.
 pub fn target_of(names: &[Anchor], pointer: Option<usize>) -> Result<Target, OsErr>
     ensures { result ≡ target_of pointer names.now }
 {
@@ -72,8 +75,8 @@ pub fn target_of(names: &[Anchor], pointer: Option<usize>) -> Result<Target, OsE
     }
 }
 
-/// Enters the handle of `slot`, unguarded, under the next number, for which `names` has room, and returns the number;
-/// -108 (memFullErr) where there is no slot.
+/// Enters the handle of `slot`, unguarded, under the next number, for which `names` has room, and
+/// returns the number; -108 (memFullErr) where there is no slot.
 pub fn name_handle(names: &mut Vec<Anchor>, slot: Option<u32>) -> Result<usize, OsErr>
     requires { vec_len names.old < vec_capacity names.old }
     ensures number { result ≡ number_of slot names.old.items }

@@ -1,16 +1,19 @@
 //! Bytes appended to a handle's block.
 
-ghost use Rattle.std.specs.Prelude.{◌≡◌, ◌≢◌, ◌⊎◌, ◌≤◌, ◌+◌, ◌||◌, Some, Err, true, false, length, take, IsSome};
-ghost use Rattle.std.specs.Prelude.{IsSomeAnd, IsTrue, IsErr, IfOk, OnOk, OnErr, IsOk, None};
+ghost use Rattle.std.specs.Prelude.{◌≡◌, ◌≢◌, ◌⊎◌, ◌≤◌, ◌+◌, ◌||◌, Some, Err, true, false, length};
+ghost use Rattle.std.specs.Prelude.{take, IsSome, IsSomeAnd, IsTrue, IsErr, IfOk, OnOk, OnErr};
+ghost use Rattle.std.specs.Prelude.{IsOk, None};
 ghost use Rattle.block_store.specs.Block.{is_relocatable, content_of};
 ghost use Rattle.block_store.specs.Find.{FindsLowest};
 ghost use Rattle.block_store.specs.Sparing.{spared};
 ghost use Rattle.block_store.specs.Rest.{IsRest, KeepsSlots};
 ghost use Rattle.block_store.specs.Room.{spot};
 ghost use Rattle.heap_calls.specs.Busy.{change_barred, both_barred, unless};
-ghost use Rattle.heap_calls.specs.Inner.Appending.{size_for, behind, lengthened, bytes_of, length_of};
+ghost use Rattle.heap_calls.specs.Inner.Appending.{size_for, behind, lengthened, bytes_of};
+ghost use Rattle.heap_calls.specs.Inner.Appending.{length_of};
 ghost use Rattle.heap_calls.specs.Gone.{IsIdle, gone_unless};
-ghost use Rattle.heap_calls.specs.Rows.{hand_and_hand, pointer_and_hand, doing, doing_silently, purges_made};
+ghost use Rattle.heap_calls.specs.Rows.{hand_and_hand, pointer_and_hand, doing, doing_silently};
+ghost use Rattle.heap_calls.specs.Rows.{purges_made};
 ghost use Rattle.heap_calls.specs.Inner.Halting.{Halts};
 ghost use Rattle.heap_calls.specs.Inner.Given.{IsAnswer, KeepsNames};
 ghost use Rattle.heap_calls.specs.Inner.Growing.{Spares, Stays, fitted};
@@ -35,11 +38,12 @@ use block_store::{BlockStore, Sparing};
 use std::alloc::AllocError;
 
 impl<S: BlockStore> Heap<S> {
-    /// `HandAndHand`: appends the bytes of the block of `from` to the block of `to`, which may be the same handle.
-    /// Neither block is purged for it. Returns -108 (memFullErr) where there is no room, and -30001 (profileErr) where
-    /// `to` is a System resource's. The blocks that are purged for it are reported to the sink, if it listens. Where
-    /// the host is out of memory, all but the zone and the count of moves stays as it was; over a store that takes no
-    /// host memory that can be only where the sink listens, and the whole heap stays as it was.
+    /// `HandAndHand`: appends the bytes of the block of `from` to the block of `to`, which may be
+    /// the same handle. Neither block is purged for it. Returns -108 (memFullErr) where there is no
+    /// room, and -30001 (profileErr) where `to` is a System resource's. The blocks that are purged
+    /// for it are reported to the sink, if it listens. Where the host is out of memory, all but the
+    /// zone and the count of moves stays as it was; over a store that takes no host memory that can
+    /// be only where the sink listens, and the whole heap stays as it was.
     ///
     /// *Inside Macintosh: Memory*, chapter 2, "Manipulating Blocks of Memory".
     pub fn hand_and_hand<K: PurgeSink>(
@@ -49,12 +53,13 @@ impl<S: BlockStore> Heap<S> {
         sink: &mut K,
     ) -> Result<(), Refusal>
         requires idle { IsIdle K.told K.waits sink.old }
-        ensures answer { IsAnswer (unless (both_barred from to self.old.memory) (doing (hand_and_hand from to))
-            self.old.memory) result self.new.memory }
-        ensures hears { Hears K.told K.waits K.listens (result ≢ Err Refusal.HostMemory) (gone_unless (both_barred from
-            to self.old.memory) (purges_made (hand_and_hand from to) self.old.memory.heap)) sink.old sink.new }
-        ensures stops { result ≡ Err Refusal.HostMemory → Stops S.TAKES_HOST K.told K.listens KeepsNames ⊥ None self.old
-            self.new sink.old sink.new }
+        ensures answer { IsAnswer (unless (both_barred from to self.old.memory)
+            (doing (hand_and_hand from to)) self.old.memory) result self.new.memory }
+        ensures hears { Hears K.told K.waits K.listens (result ≢ Err Refusal.HostMemory)
+            (gone_unless (both_barred from to self.old.memory)
+            (purges_made (hand_and_hand from to) self.old.memory.heap)) sink.old sink.new }
+        ensures stops { result ≡ Err Refusal.HostMemory → Stops S.TAKES_HOST K.told K.listens
+            KeepsNames ⊥ None self.old self.new sink.old sink.new }
         ensures lies { self.new.memory.window ≡ self.old.memory.window }
     {
         if let Some(code) = self.both_barred(from, to) {
@@ -64,11 +69,11 @@ impl<S: BlockStore> Heap<S> {
         self.note_refusal(answer)
     }
 
-    /// `PtrAndHand`: appends bytes to the block of a handle. Returns -108 (memFullErr) where there is no room, and
-    /// -30001 (profileErr) where the handle is a System resource's. The blocks that are purged for it are reported to
-    /// the sink, if it listens. Where the host is out of memory, all but the zone and the count of moves stays as it
-    /// was; over a store that takes no host memory that can be only where the sink listens, and the whole heap stays as
-    /// it was.
+    /// `PtrAndHand`: appends bytes to the block of a handle. Returns -108 (memFullErr) where there
+    /// is no room, and -30001 (profileErr) where the handle is a System resource's. The blocks that
+    /// are purged for it are reported to the sink, if it listens. Where the host is out of memory,
+    /// all but the zone and the count of moves stays as it was; over a store that takes no host
+    /// memory that can be only where the sink listens, and the whole heap stays as it was.
     ///
     /// *Inside Macintosh: Memory*, chapter 2, "Manipulating Blocks of Memory".
     pub fn pointer_and_hand<K: PurgeSink>(
@@ -78,13 +83,13 @@ impl<S: BlockStore> Heap<S> {
         sink: &mut K,
     ) -> Result<(), Refusal>
         requires idle { IsIdle K.told K.waits sink.old }
-        ensures answer { IsAnswer (unless (change_barred handle self.old.memory) (doing (pointer_and_hand handle
-            bytes.now)) self.old.memory) result self.new.memory }
-        ensures hears { Hears K.told K.waits K.listens (result ≢ Err Refusal.HostMemory) (gone_unless (change_barred
-            handle self.old.memory) (purges_made (pointer_and_hand handle bytes.now) self.old.memory.heap)) sink.old
-            sink.new }
-        ensures stops { result ≡ Err Refusal.HostMemory → Stops S.TAKES_HOST K.told K.listens KeepsNames ⊥ None self.old
-            self.new sink.old sink.new }
+        ensures answer { IsAnswer (unless (change_barred handle self.old.memory)
+            (doing (pointer_and_hand handle bytes.now)) self.old.memory) result self.new.memory }
+        ensures hears { Hears K.told K.waits K.listens (result ≢ Err Refusal.HostMemory)
+            (gone_unless (change_barred handle self.old.memory) (purges_made
+            (pointer_and_hand handle bytes.now) self.old.memory.heap)) sink.old sink.new }
+        ensures stops { result ≡ Err Refusal.HostMemory → Stops S.TAKES_HOST K.told K.listens
+            KeepsNames ⊥ None self.old self.new sink.old sink.new }
         ensures lies { self.new.memory.window ≡ self.old.memory.window }
     {
         if let Some(code) = self.change_barred(handle) {
@@ -94,8 +99,8 @@ impl<S: BlockStore> Heap<S> {
         self.note_refusal(answer)
     }
 
-    /// Appends the bytes of one handle's block to another's, counts the searches for room, and reports the blocks that
-    /// are purged to a sink, if it listens.
+    /// Appends the bytes of one handle's block to another's, counts the searches for room, and
+    /// reports the blocks that are purged to a sink, if it listens.
     fn append_handle<K: PurgeSink>(
         &mut self,
         from: Option<usize>,
@@ -103,11 +108,12 @@ impl<S: BlockStore> Heap<S> {
         sink: &mut K,
     ) -> Result<(), Refusal>
         requires idle { IsIdle K.told K.waits sink.old }
-        ensures answer { IsAnswer (doing_silently (hand_and_hand from to) self.old.memory) result self.new.memory }
-        ensures hears { Hears K.told K.waits K.listens (result ≢ Err Refusal.HostMemory) (purges_made (hand_and_hand
-            from to) self.old.memory.heap) sink.old sink.new }
-        ensures stops { result ≡ Err Refusal.HostMemory → Stops S.TAKES_HOST K.told K.listens KeepsNames ⊥ None self.old
-            self.new sink.old sink.new }
+        ensures answer { IsAnswer (doing_silently (hand_and_hand from to) self.old.memory) result
+            self.new.memory }
+        ensures hears { Hears K.told K.waits K.listens (result ≢ Err Refusal.HostMemory)
+            (purges_made (hand_and_hand from to) self.old.memory.heap) sink.old sink.new }
+        ensures stops { result ≡ Err Refusal.HostMemory → Stops S.TAKES_HOST K.told K.listens
+            KeepsNames ⊥ None self.old self.new sink.old sink.new }
         ensures lies { self.new.memory.window ≡ self.old.memory.window }
     {
         let source = reach(&self.store, &self.names, from)?;
@@ -125,8 +131,8 @@ impl<S: BlockStore> Heap<S> {
         Ok(self.account(grown)?)
     }
 
-    /// Appends bytes to a handle's block, counts the searches for room, and reports the blocks that are purged to a
-    /// sink, if it listens.
+    /// Appends bytes to a handle's block, counts the searches for room, and reports the blocks that
+    /// are purged to a sink, if it listens.
     fn append_slice<K: PurgeSink>(
         &mut self,
         handle: Option<usize>,
@@ -134,12 +140,13 @@ impl<S: BlockStore> Heap<S> {
         sink: &mut K,
     ) -> Result<(), Refusal>
         requires idle { IsIdle K.told K.waits sink.old }
-        ensures answer { IsAnswer (doing_silently (pointer_and_hand handle bytes.now) self.old.memory) result
-            self.new.memory }
-        ensures hears { Hears K.told K.waits K.listens (result ≢ Err Refusal.HostMemory) (purges_made (pointer_and_hand
-            handle bytes.now) self.old.memory.heap) sink.old sink.new }
-        ensures stops { result ≡ Err Refusal.HostMemory → Stops S.TAKES_HOST K.told K.listens KeepsNames ⊥ None self.old
-            self.new sink.old sink.new }
+        ensures answer { IsAnswer (doing_silently (pointer_and_hand handle bytes.now)
+            self.old.memory) result self.new.memory }
+        ensures hears { Hears K.told K.waits K.listens (result ≢ Err Refusal.HostMemory)
+            (purges_made (pointer_and_hand handle bytes.now) self.old.memory.heap)
+            sink.old sink.new }
+        ensures stops { result ≡ Err Refusal.HostMemory → Stops S.TAKES_HOST K.told K.listens
+            KeepsNames ⊥ None self.old self.new sink.old sink.new }
         ensures lies { self.new.memory.window ≡ self.old.memory.window }
     {
         let held = reach(&self.store, &self.names, handle)?;
@@ -176,8 +183,8 @@ fn joined_size(len: u32, more: usize) -> Option<u32>
     Some(len + more as u32)
 }
 
-/// Changes the logical size of the block of `slot`, which stands at `place`, from `len` bytes to `len + more`, if a
-/// block can have that size and there is room.
+/// Changes the logical size of the block of `slot`, which stands at `place`, from `len` bytes to
+/// `len + more`, if a block can have that size and there is room.
 fn lengthen<S: BlockStore, K: PurgeSink>(
     store: &mut S,
     names: &[Anchor],
@@ -195,18 +202,21 @@ fn lengthen<S: BlockStore, K: PurgeSink>(
     requires len { len ≡ length_of slot (S.zone store.old) }
     requires small { len ≤ GREATEST_ZONE }
     ensures zone { IfOk result (λ grown. fitted (is_relocatable slot) (spared sparing)
-        (length_of slot (S.zone store.old) + more) (S.zone store.old) ≡ made_zone grown.done (S.zone store.new)) }
+        (length_of slot (S.zone store.old) + more) (S.zone store.old)
+        ≡ made_zone grown.done (S.zone store.new)) }
     ensures full { IfOk result (λ grown. grown.done ≡ false → S.zone store.new ≡ S.zone store.old) }
-    ensures searches { IfOk result (λ grown. grown.searches ≡ size_searches (is_relocatable slot) (spared sparing)
-        (length_of slot (S.zone store.old) + more) (S.zone store.old)) }
+    ensures searches { IfOk result (λ grown. grown.searches ≡ size_searches (is_relocatable slot)
+        (spared sparing) (length_of slot (S.zone store.old) + more) (S.zone store.old)) }
     ensures nonrelocatable { KeepsNonrelocatable (S.zone store.old) (S.zone store.new) }
     ensures rest { KeepsSlots (S.rest store.old) (S.rest store.new) }
     ensures moves { OnOk result (Packs (size_moves (is_relocatable slot) (spared sparing)
-        (length_of slot (S.zone store.old) + more) (S.zone store.old)) (S.rest store.old) (S.rest store.new)) }
-    ensures hears { Hears K.told K.waits K.listens (IsOk result) (fitted_gone names.now (is_relocatable slot) sparing
+        (length_of slot (S.zone store.old) + more) (S.zone store.old)) (S.rest store.old)
+        (S.rest store.new)) }
+    ensures hears { Hears K.told K.waits K.listens (IsOk result)
+        (fitted_gone names.now (is_relocatable slot) sparing
         (length_of slot (S.zone store.old) + more) (S.zone store.old)) sink.old sink.new }
-    ensures halts { OnErr result (Halts S.TAKES_HOST K.told K.listens (S.zone store.old) (S.rest store.old)
-        (S.zone store.new) (S.rest store.new) sink.old sink.new) }
+    ensures halts { OnErr result (Halts S.TAKES_HOST K.told K.listens (S.zone store.old)
+        (S.rest store.old) (S.zone store.new) (S.rest store.new) sink.old sink.new) }
 {
     let Some(size) = joined_size(len, more) else {
         return Ok(Grown {
@@ -230,8 +240,8 @@ fn write_behind<S: BlockStore>(store: &mut S, slot: u32, len: u32, bytes: &[u8])
     store.write(place, len, bytes);
 }
 
-/// Copies the first `bytes` bytes of the block of `source` to the block of `slot`, after its first `len` bytes; the
-/// two may be the same block.
+/// Copies the first `bytes` bytes of the block of `source` to the block of `slot`, after its first
+/// `len` bytes; the two may be the same block.
 fn copy_behind<S: BlockStore>(store: &mut S, source: u32, bytes: u32, slot: u32, len: u32)
     requires source { IsSomeAnd (spot (is_relocatable source) (S.zone store.old))
         (λ s. bytes ≤ length (content_of s.here)) }
@@ -261,20 +271,24 @@ fn append_bytes<S: BlockStore, K: PurgeSink>(
 ) -> Result<Grown, AllocError>
     requires idle { IsIdle K.told K.waits sink.old }
     requires found { FindsLowest (is_relocatable slot) (S.zone store.old) (Some place) }
-    ensures zone { IfOk result (λ grown. lengthened (is_relocatable slot) slot (length_of slot (S.zone store.old))
-        bytes.now (S.zone store.old) ≡ made_zone grown.done (S.zone store.new)) }
+    ensures zone { IfOk result (λ grown. lengthened (is_relocatable slot) slot
+        (length_of slot (S.zone store.old)) bytes.now (S.zone store.old)
+        ≡ made_zone grown.done (S.zone store.new)) }
     ensures full { IfOk result (λ grown. grown.done ≡ false → S.zone store.new ≡ S.zone store.old) }
-    ensures searches { IfOk result (λ grown. grown.searches ≡ size_searches (is_relocatable slot) (is_relocatable slot)
+    ensures searches { IfOk result (λ grown. grown.searches
+        ≡ size_searches (is_relocatable slot) (is_relocatable slot)
         (length_of slot (S.zone store.old) + length bytes.now) (S.zone store.old)) }
     ensures nonrelocatable { KeepsNonrelocatable (S.zone store.old) (S.zone store.new) }
     ensures rest { KeepsSlots (S.rest store.old) (S.rest store.new) }
     ensures moves { OnOk result (Packs (size_moves (is_relocatable slot) (is_relocatable slot)
-        (length_of slot (S.zone store.old) + length bytes.now) (S.zone store.old)) (S.rest store.old)
-        (S.rest store.new)) }
-    ensures hears { Hears K.told K.waits K.listens (IsOk result) (fitted_gone names.now (is_relocatable slot) (Sparing.One slot)
-        (length_of slot (S.zone store.old) + length bytes.now) (S.zone store.old)) sink.old sink.new }
-    ensures halts { OnErr result (Halts S.TAKES_HOST K.told K.listens (S.zone store.old) (S.rest store.old)
-        (S.zone store.new) (S.rest store.new) sink.old sink.new) }
+        (length_of slot (S.zone store.old) + length bytes.now) (S.zone store.old))
+        (S.rest store.old) (S.rest store.new)) }
+    ensures hears { Hears K.told K.waits K.listens (IsOk result)
+        (fitted_gone names.now (is_relocatable slot) (Sparing.One slot)
+        (length_of slot (S.zone store.old) + length bytes.now) (S.zone store.old))
+        sink.old sink.new }
+    ensures halts { OnErr result (Halts S.TAKES_HOST K.told K.listens (S.zone store.old)
+        (S.rest store.old) (S.zone store.new) (S.rest store.new) sink.old sink.new) }
 {
     let len = length_at(store, slot, place);
     let grown = lengthen(
@@ -293,8 +307,8 @@ fn append_bytes<S: BlockStore, K: PurgeSink>(
     Ok(grown)
 }
 
-/// Appends the `more` bytes of the block of `source` to the block of `slot`, which stands at `place`; the two may be
-/// the same block.
+/// Appends the `more` bytes of the block of `source` to the block of `slot`, which stands at
+/// `place`; the two may be the same block.
 fn append_block<S: BlockStore, K: PurgeSink>(
     store: &mut S,
     names: &[Anchor],
@@ -308,20 +322,24 @@ fn append_block<S: BlockStore, K: PurgeSink>(
     requires source { IsSome (spot (is_relocatable source) (S.zone store.old)) }
     requires more { more ≡ length_of source (S.zone store.old) }
     requires found { FindsLowest (is_relocatable slot) (S.zone store.old) (Some place) }
-    ensures zone { IfOk result (λ grown. lengthened (spared (Sparing.Two source slot)) slot
-        (length_of slot (S.zone store.old)) (bytes_of (spot (is_relocatable source) (S.zone store.old)))
-        (S.zone store.old) ≡ made_zone grown.done (S.zone store.new)) }
+    ensures zone { IfOk result (λ grown.
+        lengthened (spared (Sparing.Two source slot)) slot (length_of slot (S.zone store.old))
+        (bytes_of (spot (is_relocatable source) (S.zone store.old))) (S.zone store.old)
+        ≡ made_zone grown.done (S.zone store.new)) }
     ensures full { IfOk result (λ grown. grown.done ≡ false → S.zone store.new ≡ S.zone store.old) }
-    ensures searches { IfOk result (λ grown. grown.searches ≡ size_searches (is_relocatable slot)
-        (spared (Sparing.Two source slot)) (length_of slot (S.zone store.old) + more) (S.zone store.old)) }
+    ensures searches { IfOk result (λ grown. grown.searches
+        ≡ size_searches (is_relocatable slot) (spared (Sparing.Two source slot))
+        (length_of slot (S.zone store.old) + more) (S.zone store.old)) }
     ensures nonrelocatable { KeepsNonrelocatable (S.zone store.old) (S.zone store.new) }
     ensures rest { KeepsSlots (S.rest store.old) (S.rest store.new) }
-    ensures moves { OnOk result (Packs (size_moves (is_relocatable slot) (spared (Sparing.Two source slot))
-        (length_of slot (S.zone store.old) + more) (S.zone store.old)) (S.rest store.old) (S.rest store.new)) }
-    ensures hears { Hears K.told K.waits K.listens (IsOk result) (fitted_gone names.now (is_relocatable slot)
-        (Sparing.Two source slot) (length_of slot (S.zone store.old) + more) (S.zone store.old)) sink.old sink.new }
-    ensures halts { OnErr result (Halts S.TAKES_HOST K.told K.listens (S.zone store.old) (S.rest store.old)
-        (S.zone store.new) (S.rest store.new) sink.old sink.new) }
+    ensures moves { OnOk result (Packs (size_moves (is_relocatable slot)
+        (spared (Sparing.Two source slot)) (length_of slot (S.zone store.old) + more)
+        (S.zone store.old)) (S.rest store.old) (S.rest store.new)) }
+    ensures hears { Hears K.told K.waits K.listens (IsOk result)
+        (fitted_gone names.now (is_relocatable slot) (Sparing.Two source slot)
+        (length_of slot (S.zone store.old) + more) (S.zone store.old)) sink.old sink.new }
+    ensures halts { OnErr result (Halts S.TAKES_HOST K.told K.listens (S.zone store.old)
+        (S.rest store.old) (S.zone store.new) (S.rest store.new) sink.old sink.new) }
 {
     let len = length_at(store, slot, place);
     let grown = lengthen(

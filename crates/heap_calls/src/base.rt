@@ -21,8 +21,8 @@ use crate::telling::purge_telling;
 use block_store::{BlockStore, MASTERS_SIZE, Sparing};
 use std::alloc::AllocError;
 
-/// Counts the purges after which a run has `bytes` free bytes: the least number that serves, or all that there can be
-/// where none serves.
+/// Counts the purges after which a run has `bytes` free bytes: the least number that serves, or all
+/// that there can be where none serves.
 fn count_for_base<S: BlockStore>(store: &S, bytes: u32, sparing: Sparing) -> Searched
     ensures there { result.there ≡ is_some (run_spot (has_free bytes)
         (purged result.purges sparing (S.zone store.now))) }
@@ -34,9 +34,9 @@ fn count_for_base<S: BlockStore>(store: &S, bytes: u32, sparing: Sparing) -> Sea
     count_for_run(store, bytes, sparing)
 }
 
-/// Makes a free block of `bytes` bytes at the base of the lowest run that has as many free bytes after as few purges
-/// as serve, and returns the place of that block; `None`, and nothing changes, where no run has them. The blocks that
-/// are purged for it are reported to a sink, if it listens.
+/// Makes a free block of `bytes` bytes at the base of the lowest run that has as many free bytes
+/// after as few purges as serve, and returns the place of that block; `None`, and nothing changes,
+/// where no run has them. The blocks that are purged for it are reported to a sink, if it listens.
 ///
 /// *Inside Macintosh: Memory*, chapter 1, "Memory Reservation".
 pub fn make_base<S: BlockStore, K: PurgeSink>(
@@ -49,17 +49,19 @@ pub fn make_base<S: BlockStore, K: PurgeSink>(
     requires positive { 0 < bytes }
     requires even { bytes % 16 ≡ 0 }
     requires idle { IsIdle K.told K.waits sink.old }
-    ensures place { IfOk result (λ r. IsBaseAt bytes (base bytes sparing (S.zone store.old)) (S.zone store.new)
-        r.place) }
-    ensures none { IfOk result (λ r. MatchOption r.place (S.zone store.new ≡ S.zone store.old) (λ _. Unit {0})) }
-    ensures searches { IfOk result (λ r. r.searches ≡ base_searches bytes sparing (S.zone store.old)) }
+    ensures place { IfOk result (λ r.
+        IsBaseAt bytes (base bytes sparing (S.zone store.old)) (S.zone store.new) r.place) }
+    ensures none { IfOk result (λ r.
+        MatchOption r.place (S.zone store.new ≡ S.zone store.old) (λ _. Unit {0})) }
+    ensures searches { IfOk result (λ r. r.searches
+        ≡ base_searches bytes sparing (S.zone store.old)) }
     ensures few { IfOk result (λ r. r.searches ≤ GREATEST_ZONE + 1) }
     ensures nonrelocatable { KeepsNonrelocatable (S.zone store.old) (S.zone store.new) }
     ensures rest { KeepsAllButPlaced (S.rest store.old) (S.rest store.new) }
-    ensures hears { Hears K.told K.waits K.listens (IsOk result) (base_gone names.now bytes sparing (S.zone
-        store.old)) sink.old sink.new }
-    ensures halts { OnErr result (Halts S.TAKES_HOST K.told K.listens (S.zone store.old) (S.rest store.old)
-        (S.zone store.new) (S.rest store.new) sink.old sink.new) }
+    ensures hears { Hears K.told K.waits K.listens (IsOk result)
+        (base_gone names.now bytes sparing (S.zone store.old)) sink.old sink.new }
+    ensures halts { OnErr result (Halts S.TAKES_HOST K.told K.listens (S.zone store.old)
+        (S.rest store.old) (S.zone store.new) (S.rest store.new) sink.old sink.new) }
 {
     let counted = count_for_base(store, bytes, sparing);
     let searches = counted.purges + 1;
@@ -80,8 +82,8 @@ pub fn make_base<S: BlockStore, K: PurgeSink>(
     })
 }
 
-/// Puts a master pointer block, with 64 unused slots, at the base of a run, where there is room for the block. The
-/// blocks that are purged for it are reported to a sink, if it listens.
+/// Puts a master pointer block, with 64 unused slots, at the base of a run, where there is room for
+/// the block. The blocks that are purged for it are reported to a sink, if it listens.
 ///
 /// *Inside Macintosh: Memory*, chapter 2, "Allocating Master Pointers".
 pub fn make_masters<S: BlockStore, K: PurgeSink>(
@@ -91,17 +93,18 @@ pub fn make_masters<S: BlockStore, K: PurgeSink>(
     sink: &mut K,
 ) -> Result<Room, AllocError>
     requires idle { IsIdle K.told K.waits sink.old }
-    ensures made { IfOk result (λ r. IsMade sparing (S.zone store.old) (S.rest store.old) r.place (S.zone store.new)
-        (S.rest store.new)) }
+    ensures made { IfOk result (λ r. IsMade sparing (S.zone store.old) (S.rest store.old) r.place
+        (S.zone store.new) (S.rest store.new)) }
     ensures nonrelocatable { KeepsNonrelocatable (S.zone store.old) (S.zone store.new) }
     ensures kept { OnErr result (HasMore (S.rest store.old) (S.rest store.new)) }
-    ensures searches { IfOk result (λ r. r.searches ≡ base_searches MASTERS_SIZE sparing (S.zone store.old)) }
+    ensures searches { IfOk result (λ r. r.searches
+        ≡ base_searches MASTERS_SIZE sparing (S.zone store.old)) }
     ensures few { IfOk result (λ r. r.searches ≤ GREATEST_ZONE + 1) }
     ensures moves { PacksNone (S.rest store.old) (S.rest store.new) }
-    ensures hears { Hears K.told K.waits K.listens (IsOk result) (base_gone names.now MASTERS_SIZE sparing (S.zone
-        store.old)) sink.old sink.new }
-    ensures halts { OnErr result (Halts S.TAKES_HOST K.told K.listens (S.zone store.old) (S.rest store.old)
-        (S.zone store.new) (S.rest store.new) sink.old sink.new) }
+    ensures hears { Hears K.told K.waits K.listens (IsOk result)
+        (base_gone names.now MASTERS_SIZE sparing (S.zone store.old)) sink.old sink.new }
+    ensures halts { OnErr result (Halts S.TAKES_HOST K.told K.listens (S.zone store.old)
+        (S.rest store.old) (S.zone store.new) (S.rest store.new) sink.old sink.new) }
 {
     let room = make_base(store, names, MASTERS_SIZE, sparing, sink)?;
     if let Some(place) = room.place {
@@ -117,8 +120,8 @@ pub struct Taken {
     pub searches: u32,
 }
 
-/// Takes an unused slot for a new handle; where all slots are used, a master pointer block with 64 more is made first,
-/// and the blocks that are purged for it are reported to a sink, if it listens.
+/// Takes an unused slot for a new handle; where all slots are used, a master pointer block with 64
+/// more is made first, and the blocks that are purged for it are reported to a sink, if it listens.
 pub fn make_slot<S: BlockStore, K: PurgeSink>(
     store: &mut S,
     names: &[Anchor],
@@ -126,18 +129,18 @@ pub fn make_slot<S: BlockStore, K: PurgeSink>(
     sink: &mut K,
 ) -> Result<Taken, AllocError>
     requires idle { IsIdle K.told K.waits sink.old }
-    ensures hears { Hears K.told K.waits K.listens (IsOk result) (zone_slot_gone names.now sparing (S.rest
-        store.old).unused (S.zone store.old)) sink.old sink.new }
-    ensures slot { IfOk result (λ r. TakesSlot sparing (S.zone store.old) (S.rest store.old) r.slot (S.zone store.new)
-        (S.rest store.new)) }
+    ensures hears { Hears K.told K.waits K.listens (IsOk result) (zone_slot_gone names.now sparing
+        (S.rest store.old).unused (S.zone store.old)) sink.old sink.new }
+    ensures slot { IfOk result (λ r. TakesSlot sparing (S.zone store.old) (S.rest store.old) r.slot
+        (S.zone store.new) (S.rest store.new)) }
     ensures nonrelocatable { KeepsNonrelocatable (S.zone store.old) (S.zone store.new) }
     ensures kept { OnErr result (HasMore (S.rest store.old) (S.rest store.new)) }
-    ensures searches { IfOk result (λ r. r.searches ≡ zone_searches sparing (S.rest store.old).unused
-        (S.zone store.old)) }
+    ensures searches { IfOk result (λ r. r.searches
+        ≡ zone_searches sparing (S.rest store.old).unused (S.zone store.old)) }
     ensures few { IfOk result (λ r. r.searches ≤ GREATEST_ZONE + 1) }
     ensures moves { PacksNone (S.rest store.old) (S.rest store.new) }
-    ensures halts { OnErr result (Halts S.TAKES_HOST K.told K.listens (S.zone store.old) (S.rest store.old)
-        (S.zone store.new) (S.rest store.new) sink.old sink.new) }
+    ensures halts { OnErr result (Halts S.TAKES_HOST K.told K.listens (S.zone store.old)
+        (S.rest store.old) (S.zone store.new) (S.rest store.new) sink.old sink.new) }
 {
     if let Some(slot) = store.take_slot() {
         return Ok(Taken {

@@ -3,7 +3,8 @@
 ghost use Rattle.std.specs.Prelude.{◌≡◌, Err, is_ok, if◌then◌else◌};
 ghost use Rattle.heap_calls.specs.Answer.{look_up};
 ghost use Rattle.heap_calls.specs.Busy.{is_busy, busied, eased, with_busy, keep_code};
-ghost use Rattle.heap_calls.specs.Busy.{barred, change_barred, pointer_barred, either_barred, both_barred};
+ghost use Rattle.heap_calls.specs.Busy.{barred, change_barred, pointer_barred, either_barred};
+ghost use Rattle.heap_calls.specs.Busy.{both_barred};
 
 use crate::anchor::{slot_of, target_of};
 use crate::heap::{Heap, find_block};
@@ -11,9 +12,10 @@ use block_store::BlockStore;
 use mac_words::OsErr;
 
 impl<S: BlockStore> Heap<S> {
-    /// Makes the handle or the pointer of a number busy, or idle again: a call on a busy one returns -117
-    /// (memLockedErr) and changes nothing but the code that `MemError` returns. At most three numbers are busy; a
-    /// fourth is not kept. A number that was made busy twice is idle once it is made idle.
+    /// Makes the handle or the pointer of a number busy, or idle again: a call on a busy one
+    /// returns -117 (memLockedErr) and changes nothing but the code that `MemError` returns. At
+    /// most three numbers are busy; a fourth is not kept. A number that was made busy twice is idle
+    /// once it is made idle.
     ///
     /// *Inside Macintosh: Memory*, chapter 1, "Low-Memory Conditions".
     pub fn set_busy(&mut self, number: usize, busy: bool)
@@ -37,8 +39,8 @@ impl<S: BlockStore> Heap<S> {
         self.log.code = code;
     }
 
-    /// Returns the code with which the handle that a name is bound to bars a call: -117 (memLockedErr) where the
-    /// handle is busy; `None` where it is not, or the name is no handle's.
+    /// Returns the code with which the handle that a name is bound to bars a call: -117
+    /// (memLockedErr) where the handle is busy; `None` where it is not, or the name is no handle's.
     pub(crate) fn barred(&self, handle: Option<usize>) -> Option<OsErr>
         ensures { result ≡ barred handle self.now.memory }
     {
@@ -48,9 +50,9 @@ impl<S: BlockStore> Heap<S> {
         }
     }
 
-    /// Returns the code with which the handle that a name is bound to bars a call that changes the block's bytes or
-    /// size: -117 (memLockedErr) where the handle is busy, else -30001 (profileErr) where the handle is a System
-    /// resource's.
+    /// Returns the code with which the handle that a name is bound to bars a call that changes the
+    /// block's bytes or size: -117 (memLockedErr) where the handle is busy, else -30001
+    /// (profileErr) where the handle is a System resource's.
     pub(crate) fn change_barred(&self, handle: Option<usize>) -> Option<OsErr>
         ensures { result ≡ change_barred handle self.now.memory }
     {
@@ -61,8 +63,9 @@ impl<S: BlockStore> Heap<S> {
         }
     }
 
-    /// Returns the code with which the pointer that a name is bound to bars a call: -117 (memLockedErr) where the
-    /// pointer is busy; `None` where it is not, or the name is no pointer's.
+    /// Returns the code with which the pointer that a name is bound to bars a call: -117
+    /// (memLockedErr) where the pointer is busy; `None` where it is not, or the name is no
+    /// pointer's.
     pub(crate) fn pointer_barred(&self, pointer: Option<usize>) -> Option<OsErr>
         ensures { result ≡ pointer_barred pointer self.now.memory }
     {
@@ -72,8 +75,8 @@ impl<S: BlockStore> Heap<S> {
         self.log.bar(target.number)
     }
 
-    /// Returns the code with which the handle or the pointer that a name is bound to bars a call: -117 (memLockedErr)
-    /// where it is busy.
+    /// Returns the code with which the handle or the pointer that a name is bound to bars a call:
+    /// -117 (memLockedErr) where it is busy.
     pub(crate) fn either_barred(&self, name: Option<usize>) -> Option<OsErr>
         ensures { result ≡ either_barred name self.now.memory }
     {
@@ -83,8 +86,9 @@ impl<S: BlockStore> Heap<S> {
         }
     }
 
-    /// Returns the code with which one of two handles bars a call that appends the bytes of `from` to `to`. The handle
-    /// `to`, whose block is changed, is looked up only where `from` has a block.
+    /// Returns the code with which one of two handles bars a call that appends the bytes of `from`
+    /// to `to`. The handle `to`, whose block is changed, is looked up only where `from` has a
+    /// block.
     pub(crate) fn both_barred(&self, from: Option<usize>, to: Option<usize>) -> Option<OsErr>
         ensures { result ≡ both_barred from to self.now.memory }
     {

@@ -17,24 +17,27 @@ use block_store::{BlockStore, HEADER_SIZE, Seen};
 use mac_words::{OsErr, phys};
 
 impl<S: BlockStore> Heap<S> {
-    /// `MaxBlock`: returns the logical size in bytes of the largest block that could be allocated if all runs of
-    /// movable blocks were compacted; nothing is moved.
+    /// `MaxBlock`: returns the logical size in bytes of the largest block that could be allocated
+    /// if all runs of movable blocks were compacted; nothing is moved.
     pub fn max_block(&mut self) -> u32
         ensures answer { noting max_block self.old.memory ≡ (Ok result, self.new.memory) }
-        ensures room { 0 < result → IfSome (physical_size result) (λ p. IsSome (place p self.old.memory.heap.zone)) }
-        ensures no_more { IfSome (physical_size (result + 1)) (λ p. place p self.old.memory.heap.zone ≡ None) }
+        ensures room { 0 < result
+            → IfSome (physical_size result) (λ p. IsSome (place p self.old.memory.heap.zone)) }
+        ensures no_more { IfSome (physical_size (result + 1)) (λ p.
+            place p self.old.memory.heap.zone ≡ None) }
         ensures lies { self.new.memory.window ≡ self.old.memory.window }
     {
         self.log.code = OsErr::NO_ERR;
         self.store.largest_run().saturating_sub(HEADER_SIZE)
     }
 
-    /// `CompactMem`: compacts runs of movable blocks, lowest first, until a free block of `size` bytes of content
-    /// stands or all runs are compacted, and returns the logical size in bytes of the largest block that can then be
-    /// allocated without moving another. Blocks move by packing alone: none is raised, hoisted, moved to a free block or
-    /// made.
+    /// `CompactMem`: compacts runs of movable blocks, lowest first, until a free block of `size`
+    /// bytes of content stands or all runs are compacted, and returns the logical size in bytes of
+    /// the largest block that can then be allocated without moving another. Blocks move by packing
+    /// alone: none is raised, hoisted, moved to a free block or made.
     pub fn compact_mem(&mut self, size: u32) -> u32
-        ensures answer { packing (compact_mem_moves size) (compact_mem_searches size) (compact_mem size) self.old.memory
+        ensures answer { packing (compact_mem_moves size) (compact_mem_searches size)
+            (compact_mem size) self.old.memory
             ≡ (Ok result, self.new.memory) }
         ensures placed { self.new.placings ≡ self.old.placings }
         ensures lies { self.new.memory.window ≡ self.old.memory.window }
@@ -47,9 +50,10 @@ impl<S: BlockStore> Heap<S> {
     }
 }
 
-/// Compacts runs of movable blocks, lowest first, until a free block of `bytes` bytes stands or all runs are
-/// compacted, and returns how many of the runs had a block. Where `bytes` is `None`, all runs are compacted. Blocks move
-/// by packing alone: none is raised, hoisted, moved to a free block or made, by the store's own count.
+/// Compacts runs of movable blocks, lowest first, until a free block of `bytes` bytes stands or all
+/// runs are compacted, and returns how many of the runs had a block. Where `bytes` is `None`, all
+/// runs are compacted. Blocks move by packing alone: none is raised, hoisted, moved to a free block
+/// or made, by the store's own count.
 ///
 /// *Inside Macintosh: Memory*, chapter 1, "Heap Compaction".
 pub fn compact<S: BlockStore>(store: &mut S, bytes: Option<u32>) -> u32
@@ -58,7 +62,8 @@ pub fn compact<S: BlockStore>(store: &mut S, bytes: Option<u32>) -> u32
         (lowered_in_runs (runs_settled bytes (S.zone store.old)) (runs (S.zone store.old))) }
     ensures placed { (S.rest store.new).placed ≡ (S.rest store.old).placed }
     ensures rest { KeepsSlots (S.rest store.old) (S.rest store.new) }
-    ensures runs { result ≡ stretches (runs_settled bytes (S.zone store.old)) (runs (S.zone store.old)) }
+    ensures runs { result
+        ≡ stretches (runs_settled bytes (S.zone store.old)) (runs (S.zone store.old)) }
 {
     let mut run = 0;
     let mut stretches = 0;
@@ -74,8 +79,8 @@ pub fn compact<S: BlockStore>(store: &mut S, bytes: Option<u32>) -> u32
     stretches
 }
 
-/// Reports whether a block, as it is seen, belongs to a run of movable blocks: a free block or an unlocked
-/// relocatable block.
+/// Reports whether a block, as it is seen, belongs to a run of movable blocks: a free block or an
+/// unlocked relocatable block.
 fn in_run(seen: Option<Seen>) -> bool
     ensures { result ≡ seen_in_run seen }
 {

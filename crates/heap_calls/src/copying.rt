@@ -1,6 +1,7 @@
 //! Copying blocks.
 
-ghost use Rattle.std.specs.Prelude.{◌≡◌, ◌≢◌, ◌⊎◌, ◌≤◌, length, true, Err, IfOk, OnOk, OnErr, IsErr, IsTrue, IsSomeAnd};
+ghost use Rattle.std.specs.Prelude.{◌≡◌, ◌≢◌, ◌⊎◌, ◌≤◌, length, true, Err, IfOk, OnOk, OnErr};
+ghost use Rattle.std.specs.Prelude.{IsErr, IsTrue, IsSomeAnd};
 ghost use Rattle.block_store.specs.Block.{content_of, is_relocatable};
 ghost use Rattle.block_store.specs.Room.{spot};
 ghost use Rattle.block_store.specs.Slot.{is_used};
@@ -10,7 +11,8 @@ ghost use Rattle.heap_calls.specs.Inner.Given.{IsAnswer, KeepsNames};
 ghost use Rattle.heap_calls.specs.Inner.Copied.{IsCopy};
 ghost use Rattle.heap_calls.specs.Gone.{IsIdle, gone_unless};
 ghost use Rattle.heap_calls.specs.Answer.{nothing};
-ghost use Rattle.heap_calls.specs.Rows.{hand_to_hand, pointer_to_hand, doing, doing_silently, purges_made};
+ghost use Rattle.heap_calls.specs.Rows.{hand_to_hand, pointer_to_hand, doing, doing_silently};
+ghost use Rattle.heap_calls.specs.Rows.{purges_made};
 ghost use Rattle.heap_calls.specs.Refused.{LeavesCopying};
 ghost use Rattle.heap_calls.specs.Inner.Telling.{new_gone, LeavesSlot};
 ghost use Rattle.heap_calls.specs.Inner.NewBlock.{new_searches};
@@ -32,25 +34,29 @@ use mac_words::OsErr;
 use std::alloc::AllocError;
 
 impl<S: BlockStore> Heap<S> {
-    /// `HandToHand`: allocates a relocatable block with a copy of the bytes of another handle's block, and returns a
-    /// handle to the copy. The block that is copied is not purged for the copy. Returns -108 (memFullErr) where the
-    /// zone has no room for the block, or where all master pointers are used and there is no room for a block of more.
-    /// The blocks that are purged for that, and then those for the copy, are reported to the sink, if it listens. Where
-    /// the host is out of memory, all but the zone and the count of moves stays as it was; over a store that takes no
-    /// host memory the whole heap and the sink stay so too, except where the sink found the host out of memory after a
-    /// new master pointer block was made, which then stays.
+    /// `HandToHand`: allocates a relocatable block with a copy of the bytes of another handle's
+    /// block, and returns a handle to the copy. The block that is copied is not purged for the
+    /// copy. Returns -108 (memFullErr) where the zone has no room for the block, or where all
+    /// master pointers are used and there is no room for a block of more. The blocks that are
+    /// purged for that, and then those for the copy, are reported to the sink, if it listens. Where
+    /// the host is out of memory, all but the zone and the count of moves stays as it was; over a
+    /// store that takes no host memory the whole heap and the sink stay so too, except where the
+    /// sink found the host out of memory after a new master pointer block was made, which then
+    /// stays.
     pub fn hand_to_hand<K: PurgeSink>(
         &mut self,
         handle: Option<usize>,
         sink: &mut K,
     ) -> Result<usize, Refusal>
         requires idle { IsIdle K.told K.waits sink.old }
-        ensures hears { Hears K.told K.waits K.listens (result ≢ Err Refusal.HostMemory) (gone_unless (barred handle
-            self.old.memory) (purges_made (hand_to_hand handle) self.old.memory.heap)) sink.old sink.new }
-        ensures stops { result ≡ Err Refusal.HostMemory → Stops S.TAKES_HOST K.told K.listens KeepsNames (Unreserved
-            self.old.memory) (Some (copy_step handle self.old.memory.heap)) self.old self.new sink.old sink.new }
-        ensures answer { IsAnswer (unless (barred handle self.old.memory) (doing (hand_to_hand handle)) self.old.memory)
-            result self.new.memory }
+        ensures hears { Hears K.told K.waits K.listens (result ≢ Err Refusal.HostMemory)
+            (gone_unless (barred handle self.old.memory)
+            (purges_made (hand_to_hand handle) self.old.memory.heap)) sink.old sink.new }
+        ensures stops { result ≡ Err Refusal.HostMemory
+            → Stops S.TAKES_HOST K.told K.listens KeepsNames (Unreserved self.old.memory)
+            (Some (copy_step handle self.old.memory.heap)) self.old self.new sink.old sink.new }
+        ensures answer { IsAnswer (unless (barred handle self.old.memory)
+            (doing (hand_to_hand handle)) self.old.memory) result self.new.memory }
         ensures lies { self.new.memory.window ≡ self.old.memory.window }
     {
         if let Some(code) = self.barred(handle) {
@@ -60,10 +66,11 @@ impl<S: BlockStore> Heap<S> {
         self.note_refusal(answer)
     }
 
-    /// `PtrToHand`: allocates a relocatable block with a copy of bytes, and returns a handle to the block. It is refused
-    /// where `NewHandle` is refused, for as many bytes, and purges what `NewHandle` then purges. Where the host is out of
-    /// memory, all but the zone and the count of moves stays as it was; over a store that takes no host memory the whole
-    /// heap and the sink stay so too, except where the sink found the host out of memory after a new master pointer
+    /// `PtrToHand`: allocates a relocatable block with a copy of bytes, and returns a handle to the
+    /// block. It is refused where `NewHandle` is refused, for as many bytes, and purges what
+    /// `NewHandle` then purges. Where the host is out of memory, all but the zone and the count of
+    /// moves stays as it was; over a store that takes no host memory the whole heap and the sink
+    /// stay so too, except where the sink found the host out of memory after a new master pointer
     /// block was made, which then stays.
     pub fn pointer_to_hand<K: PurgeSink>(
         &mut self,
@@ -71,44 +78,50 @@ impl<S: BlockStore> Heap<S> {
         sink: &mut K,
     ) -> Result<usize, Refusal>
         requires idle { IsIdle K.told K.waits sink.old }
-        ensures hears { Hears K.told K.waits K.listens (result ≢ Err Refusal.HostMemory) (purges_made (pointer_to_hand
-            bytes.now) self.old.memory.heap) sink.old sink.new }
-        ensures stops { result ≡ Err Refusal.HostMemory → Stops S.TAKES_HOST K.told K.listens KeepsNames (Unreserved
-            self.old.memory) (Some (slot_step nothing self.old.memory.heap)) self.old self.new sink.old sink.new }
-        ensures answer { IsAnswer (doing (pointer_to_hand bytes.now) self.old.memory) result self.new.memory }
+        ensures hears { Hears K.told K.waits K.listens (result ≢ Err Refusal.HostMemory)
+            (purges_made (pointer_to_hand bytes.now) self.old.memory.heap) sink.old sink.new }
+        ensures stops { result ≡ Err Refusal.HostMemory
+            → Stops S.TAKES_HOST K.told K.listens KeepsNames (Unreserved self.old.memory)
+            (Some (slot_step nothing self.old.memory.heap)) self.old self.new sink.old sink.new }
+        ensures answer { IsAnswer (doing (pointer_to_hand bytes.now) self.old.memory) result
+            self.new.memory }
         ensures lies { self.new.memory.window ≡ self.old.memory.window }
     {
         let answer = self.copy_bytes(bytes, sink);
         self.note_refusal(answer)
     }
 
-    /// Makes a new handle with a copy of bytes, counts the searches for room, and reports the blocks that are purged to
-    /// a sink, if it listens.
+    /// Makes a new handle with a copy of bytes, counts the searches for room, and reports the
+    /// blocks that are purged to a sink, if it listens.
     fn copy_bytes<K: PurgeSink>(&mut self, bytes: &[u8], sink: &mut K) -> Result<usize, Refusal>
         requires idle { IsIdle K.told K.waits sink.old }
-        ensures hears { Hears K.told K.waits K.listens (result ≢ Err Refusal.HostMemory) (purges_made (pointer_to_hand
-            bytes.now) self.old.memory.heap) sink.old sink.new }
-        ensures stops { result ≡ Err Refusal.HostMemory → Stops S.TAKES_HOST K.told K.listens KeepsNames (Unreserved
-            self.old.memory) (Some (slot_step nothing self.old.memory.heap)) self.old self.new sink.old sink.new }
-        ensures answer { IsAnswer (doing_silently (pointer_to_hand bytes.now) self.old.memory) result self.new.memory }
+        ensures hears { Hears K.told K.waits K.listens (result ≢ Err Refusal.HostMemory)
+            (purges_made (pointer_to_hand bytes.now) self.old.memory.heap) sink.old sink.new }
+        ensures stops { result ≡ Err Refusal.HostMemory
+            → Stops S.TAKES_HOST K.told K.listens KeepsNames (Unreserved self.old.memory)
+            (Some (slot_step nothing self.old.memory.heap)) self.old self.new sink.old sink.new }
+        ensures answer { IsAnswer (doing_silently (pointer_to_hand bytes.now) self.old.memory)
+            result self.new.memory }
         ensures lies { self.new.memory.window ≡ self.old.memory.window }
     {
         self.fill_handle(bytes, Flags::NONE, sink)
     }
 
-    /// Makes a new handle with a copy of the bytes of another handle's block, counts the searches for room, and reports
-    /// the blocks that are purged to a sink, if it listens.
+    /// Makes a new handle with a copy of the bytes of another handle's block, counts the searches
+    /// for room, and reports the blocks that are purged to a sink, if it listens.
     fn copy_handle<K: PurgeSink>(
         &mut self,
         handle: Option<usize>,
         sink: &mut K,
     ) -> Result<usize, Refusal>
         requires idle { IsIdle K.told K.waits sink.old }
-        ensures hears { Hears K.told K.waits K.listens (result ≢ Err Refusal.HostMemory) (purges_made (hand_to_hand
-            handle) self.old.memory.heap) sink.old sink.new }
-        ensures stops { result ≡ Err Refusal.HostMemory → Stops S.TAKES_HOST K.told K.listens KeepsNames (Unreserved
-            self.old.memory) (Some (copy_step handle self.old.memory.heap)) self.old self.new sink.old sink.new }
-        ensures answer { IsAnswer (doing_silently (hand_to_hand handle) self.old.memory) result self.new.memory }
+        ensures hears { Hears K.told K.waits K.listens (result ≢ Err Refusal.HostMemory)
+            (purges_made (hand_to_hand handle) self.old.memory.heap) sink.old sink.new }
+        ensures stops { result ≡ Err Refusal.HostMemory
+            → Stops S.TAKES_HOST K.told K.listens KeepsNames (Unreserved self.old.memory)
+            (Some (copy_step handle self.old.memory.heap)) self.old self.new sink.old sink.new }
+        ensures answer { IsAnswer (doing_silently (hand_to_hand handle) self.old.memory) result
+            self.new.memory }
         ensures lies { self.new.memory.window ≡ self.old.memory.window }
     {
         let found = slot_of(&self.names, handle)?;
@@ -123,9 +136,10 @@ impl<S: BlockStore> Heap<S> {
     }
 }
 
-/// Puts a copy of the block of `source`, which has `size` bytes of content, where there is room, under a new slot, and
-/// returns that slot; `None` where there is no unused slot and no room for more, or no room for the block. The blocks
-/// that are purged for it are reported to a sink, if it listens.
+/// Puts a copy of the block of `source`, which has `size` bytes of content, where there is room,
+/// under a new slot, and returns that slot; `None` where there is no unused slot and no room for
+/// more, or no room for the block. The blocks that are purged for it are reported to a sink, if it
+/// listens.
 fn copy_block<S: BlockStore, K: PurgeSink>(
     store: &mut S,
     names: &[Anchor],
@@ -137,17 +151,18 @@ fn copy_block<S: BlockStore, K: PurgeSink>(
     requires used { IsTrue (is_used ((S.rest store.old).slots source)) }
     requires size { IsSomeAnd (spot (is_relocatable source) (S.zone store.old))
         (λ s. length (content_of s.here) ≡ size) }
-    ensures answer { IfOk result (λ r. IsCopy source size (S.zone store.old) (S.rest store.old) r.slot
-        (S.zone store.new) (S.rest store.new)) }
+    ensures answer { IfOk result (λ r. IsCopy source size (S.zone store.old)
+        (S.rest store.old) r.slot (S.zone store.new) (S.rest store.new)) }
     ensures nonrelocatable { KeepsNonrelocatable (S.zone store.old) (S.zone store.new) }
     ensures kept { OnErr result (HasMore (S.rest store.old) (S.rest store.new)) }
-    ensures searches { IfOk result (λ r. r.searches ≡ new_searches (One source) size (S.rest store.old).unused
-        (S.zone store.old)) }
-    ensures moves { IfOk result (λ _. Packs (new_moves (One source) size (S.rest store.old).unused (S.zone store.old))
-        (S.rest store.old) (S.rest store.new)) }
-    ensures hears { Hears K.told K.waits K.listens (IsOk result) (new_gone names.now (One source) size (S.rest
-        store.old).unused (S.zone store.old)) sink.old sink.new }
-    ensures left { OnErr result (IsTrue S.TAKES_HOST ⊎ LeavesSlot K.told names.now (One source) (S.zone store.old)
+    ensures searches { IfOk result (λ r. r.searches
+        ≡ new_searches (One source) size (S.rest store.old).unused (S.zone store.old)) }
+    ensures moves { IfOk result (λ _. Packs (new_moves (One source) size (S.rest store.old).unused
+        (S.zone store.old)) (S.rest store.old) (S.rest store.new)) }
+    ensures hears { Hears K.told K.waits K.listens (IsOk result) (new_gone names.now
+        (One source) size (S.rest store.old).unused (S.zone store.old)) sink.old sink.new }
+    ensures left { OnErr result (IsTrue S.TAKES_HOST
+        ⊎ LeavesSlot K.told names.now (One source) (S.zone store.old)
         (S.rest store.old) (S.zone store.new) (S.rest store.new) sink.old sink.new) }
     ensures host { IsErr result → IsTrue S.TAKES_HOST ⊎ (K.listens sink.old ≡ true) }
 {

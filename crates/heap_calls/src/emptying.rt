@@ -1,6 +1,7 @@
 //! Empty handles.
 
-ghost use Rattle.std.specs.Prelude.{◌≡◌, ◌≢◌, ◌⊎◌, true, Err, IsTrue, IsErr, OnOk, OnErr, IsOk, None};
+ghost use Rattle.std.specs.Prelude.{◌≡◌, ◌≢◌, ◌⊎◌, true, Err, IsTrue, IsErr, OnOk, OnErr, IsOk};
+ghost use Rattle.std.specs.Prelude.{None};
 ghost use Rattle.heap_calls.specs.Busy.{barred, change_barred, unless};
 ghost use Rattle.heap_calls.specs.Gone.{IsIdle, gone_unless, Hears};
 ghost use Rattle.heap_calls.specs.Rows.{reallocate_handle, doing, doing_silently, purges_made};
@@ -27,10 +28,11 @@ use mac_words::{OsErr, phys};
 use std::alloc::AllocError;
 
 impl<S: BlockStore> Heap<S> {
-    /// `EmptyHandle`: frees the block of a handle, and leaves the handle empty. An empty handle stays as it is.
-    /// Returns -112 (memPurErr) where the block is locked.
+    /// `EmptyHandle`: frees the block of a handle, and leaves the handle empty. An empty handle
+    /// stays as it is. Returns -112 (memPurErr) where the block is locked.
     pub fn empty_handle(&mut self, handle: Option<usize>) -> Result<(), OsErr>
-        ensures answer { unless (barred handle self.old.memory) (noting (empty_handle handle)) self.old.memory
+        ensures answer { unless (barred handle self.old.memory)
+            (noting (empty_handle handle)) self.old.memory
             ≡ (result, self.new.memory) }
         ensures lies { self.new.memory.window ≡ self.old.memory.window }
     {
@@ -41,12 +43,13 @@ impl<S: BlockStore> Heap<S> {
         self.note(answer)
     }
 
-    /// `ReallocateHandle`: allocates a new block of `size` bytes, all 0, for a handle, whose old block, if it has one,
-    /// becomes free first. Returns -112 (memPurErr) where the old block is locked, -108 (memFullErr) where there is no
-    /// room for the new block, and -30001 (profileErr) where the handle is a System resource's. The blocks that are
-    /// purged for the new one are reported to the sink, if it listens. Where the host is out of memory, all but the
-    /// zone and the count of moves stays as it was; over a store that takes no host memory that can be only where the
-    /// sink listens, and the whole heap and the sink stay as they were.
+    /// `ReallocateHandle`: allocates a new block of `size` bytes, all 0, for a handle, whose old
+    /// block, if it has one, becomes free first. Returns -112 (memPurErr) where the old block is
+    /// locked, -108 (memFullErr) where there is no room for the new block, and -30001 (profileErr)
+    /// where the handle is a System resource's. The blocks that are purged for the new one are
+    /// reported to the sink, if it listens. Where the host is out of memory, all but the zone and
+    /// the count of moves stays as it was; over a store that takes no host memory that can be only
+    /// where the sink listens, and the whole heap and the sink stay as they were.
     pub fn reallocate_handle<K: PurgeSink>(
         &mut self,
         handle: Option<usize>,
@@ -54,13 +57,13 @@ impl<S: BlockStore> Heap<S> {
         sink: &mut K,
     ) -> Result<(), Refusal>
         requires idle { IsIdle K.told K.waits sink.old }
-        ensures answer { IsAnswer (unless (change_barred handle self.old.memory) (doing (reallocate_handle handle size))
-            self.old.memory) result self.new.memory }
-        ensures hears { Hears K.told K.waits K.listens (result ≢ Err Refusal.HostMemory) (gone_unless (change_barred
-            handle self.old.memory) (purges_made (reallocate_handle handle size) self.old.memory.heap)) sink.old
-            sink.new }
-        ensures stops { result ≡ Err Refusal.HostMemory → Stops S.TAKES_HOST K.told K.listens KeepsNames ⊥ None self.old
-            self.new sink.old sink.new }
+        ensures answer { IsAnswer (unless (change_barred handle self.old.memory)
+            (doing (reallocate_handle handle size)) self.old.memory) result self.new.memory }
+        ensures hears { Hears K.told K.waits K.listens (result ≢ Err Refusal.HostMemory)
+            (gone_unless (change_barred handle self.old.memory)
+            (purges_made (reallocate_handle handle size) self.old.memory.heap)) sink.old sink.new }
+        ensures stops { result ≡ Err Refusal.HostMemory → Stops S.TAKES_HOST K.told K.listens
+            KeepsNames ⊥ None self.old self.new sink.old sink.new }
         ensures lies { self.new.memory.window ≡ self.old.memory.window }
     {
         if let Some(code) = self.change_barred(handle) {
@@ -80,8 +83,8 @@ impl<S: BlockStore> Heap<S> {
         Ok(())
     }
 
-    /// Allocates a new block for a handle, counts the searches for room, and reports the blocks that are purged to a
-    /// sink, if it listens.
+    /// Allocates a new block for a handle, counts the searches for room, and reports the blocks
+    /// that are purged to a sink, if it listens.
     fn reallocate<K: PurgeSink>(
         &mut self,
         handle: Option<usize>,
@@ -89,12 +92,12 @@ impl<S: BlockStore> Heap<S> {
         sink: &mut K,
     ) -> Result<(), Refusal>
         requires idle { IsIdle K.told K.waits sink.old }
-        ensures answer { IsAnswer (doing_silently (reallocate_handle handle size) self.old.memory) result
-            self.new.memory }
-        ensures hears { Hears K.told K.waits K.listens (result ≢ Err Refusal.HostMemory) (purges_made (reallocate_handle
-            handle size) self.old.memory.heap) sink.old sink.new }
-        ensures stops { result ≡ Err Refusal.HostMemory → Stops S.TAKES_HOST K.told K.listens KeepsNames ⊥ None self.old
-            self.new sink.old sink.new }
+        ensures answer { IsAnswer (doing_silently (reallocate_handle handle size) self.old.memory)
+            result self.new.memory }
+        ensures hears { Hears K.told K.waits K.listens (result ≢ Err Refusal.HostMemory)
+            (purges_made (reallocate_handle handle size) self.old.memory.heap) sink.old sink.new }
+        ensures stops { result ≡ Err Refusal.HostMemory → Stops S.TAKES_HOST K.told K.listens
+            KeepsNames ⊥ None self.old self.new sink.old sink.new }
         ensures lies { self.new.memory.window ≡ self.old.memory.window }
     {
         let slot = loose_slot(&self.store, &self.names, handle)?;
@@ -126,9 +129,9 @@ fn loose_slot<S: BlockStore>(
     Ok(found.slot)
 }
 
-/// Allocates a new block of `size` bytes, all 0, for `slot`, where there is room once the old block of `slot`, if
-/// there is one, is free. Nothing changes where there is no room. The blocks that are purged for it are reported to a
-/// sink, if it listens.
+/// Allocates a new block of `size` bytes, all 0, for `slot`, where there is room once the old block
+/// of `slot`, if there is one, is free. Nothing changes where there is no room. The blocks that are
+/// purged for it are reported to a sink, if it listens.
 pub fn renew_block<S: BlockStore, K: PurgeSink>(
     store: &mut S,
     names: &[Anchor],
@@ -138,14 +141,15 @@ pub fn renew_block<S: BlockStore, K: PurgeSink>(
 ) -> Result<Room, AllocError>
     requires used { IsTrue (is_used ((S.rest store.old).slots slot)) }
     requires idle { IsIdle K.told K.waits sink.old }
-    ensures answer { IsRenewed slot size (S.zone store.old) (S.rest store.old) result (S.zone store.new)
-        (S.rest store.new) }
+    ensures answer { IsRenewed slot size (S.zone store.old) (S.rest store.old) result
+        (S.zone store.new) (S.rest store.new) }
     ensures nonrelocatable { KeepsNonrelocatable (S.zone store.old) (S.zone store.new) }
-    ensures moves { OnOk result (Packs (renewed_moves slot size (S.zone store.old)) (S.rest store.old) (S.rest
-        store.new)) }
-    ensures hears { Hears K.told K.waits K.listens (IsOk result) (renewed_gone names.now slot size (S.zone store.old)) sink.old sink.new }
-    ensures halts { OnErr result (Halts S.TAKES_HOST K.told K.listens (S.zone store.old) (S.rest store.old)
-        (S.zone store.new) (S.rest store.new) sink.old sink.new) }
+    ensures moves { OnOk result
+        (Packs (renewed_moves slot size (S.zone store.old)) (S.rest store.old) (S.rest store.new)) }
+    ensures hears { Hears K.told K.waits K.listens (IsOk result)
+        (renewed_gone names.now slot size (S.zone store.old)) sink.old sink.new }
+    ensures halts { OnErr result (Halts S.TAKES_HOST K.told K.listens (S.zone store.old)
+        (S.rest store.old) (S.zone store.new) (S.rest store.new) sink.old sink.new) }
 {
     let Some(bytes) = phys(size) else {
         return Ok(Room {

@@ -1,19 +1,21 @@
 //! New blocks with given properties and bytes.
 
-ghost use Rattle.std.specs.Prelude.{◌≡◌, ◌≢◌, ◌⊎◌, ◌+◌, ◌<◌, ◌≤◌, true, false, Err, [], map, length, IfOk, OnOk, OnErr, IsErr};
-ghost use Rattle.std.specs.Prelude.{IsTrue, IsOk, Some, None};
+ghost use Rattle.std.specs.Prelude.{◌≡◌, ◌≢◌, ◌⊎◌, ◌+◌, ◌<◌, ◌≤◌, true, false, Err, [], map};
+ghost use Rattle.std.specs.Prelude.{length, IfOk, OnOk, OnErr, IsErr, IsTrue, IsOk, Some, None};
 ghost use Rattle.std.specs.Prelude.{vec_len, vec_capacity};
 ghost use Rattle.heap_calls.specs.State.{Plain};
-ghost use Rattle.heap_calls.specs.Inside.{inside, has_block, new_inside, new_empty_inside, refill_inside};
-ghost use Rattle.heap_calls.specs.Inside.{resource_role, new_all};
+ghost use Rattle.heap_calls.specs.Inside.{inside, has_block, new_inside, new_empty_inside};
+ghost use Rattle.heap_calls.specs.Inside.{refill_inside, resource_role, new_all};
 ghost use Rattle.heap_calls.specs.Answer.{nothing};
 ghost use Rattle.heap_calls.specs.Refused.{LeavesMasters};
-ghost use Rattle.heap_calls.specs.Gone.{Tells, TellsNothing, IsIdle, slot_gone, made_gone, all_gone, refill_gone};
+ghost use Rattle.heap_calls.specs.Gone.{Tells, TellsNothing, IsIdle, slot_gone, made_gone};
+ghost use Rattle.heap_calls.specs.Gone.{all_gone, refill_gone};
 ghost use Rattle.heap_calls.specs.Preloaded.{LeavesUnmade, MadeSome};
 ghost use Rattle.heap_calls.specs.Inner.Telling.{new_gone, renewed_gone, LeavesSlot};
 ghost use Rattle.heap_calls.specs.Inner.Given.{IsAnswer, KeepsMoves, KeepsNames};
-ghost use Rattle.heap_calls.specs.Inner.Filling.{IsSizeOf, IsFresh, IsReplaced, IsFilling, IsRefilled, refilled_moves};
-ghost use Rattle.heap_calls.specs.Inner.Filling.{owned_by, wanted_as, IsNext};
+ghost use Rattle.heap_calls.specs.Inner.Filling.{IsSizeOf, IsFresh, IsReplaced, IsFilling};
+ghost use Rattle.heap_calls.specs.Inner.Filling.{IsRefilled, refilled_moves, owned_by, wanted_as};
+ghost use Rattle.heap_calls.specs.Inner.Filling.{IsNext};
 ghost use Rattle.heap_calls.specs.Inner.Loose.{IsRenewed, renewed_moves};
 ghost use Rattle.heap_calls.specs.Inner.NewBlock.{IsNewBlock, new_searches};
 ghost use Rattle.heap_calls.specs.Inner.NewSlot.{HasMore};
@@ -49,12 +51,14 @@ pub struct Filling<'a> {
 }
 
 impl<S: BlockStore> Heap<S> {
-    /// Makes a new handle of a resource, with a block of these bytes and properties, and returns the handle's number.
-    /// Returns -108 (memFullErr) where the zone has no room for the block, or where all master pointers are used and
-    /// there is no room for a block of more. The blocks that are purged for that, and then those for the block, are
-    /// reported to the sink, if it listens. Where the host is out of memory, all but the zone and the count of moves
-    /// stays as it was; over a store that takes no host memory the whole heap and the sink stay so too, except where
-    /// the sink found the host out of memory after a new master pointer block was made, which then stays.
+    /// Makes a new handle of a resource, with a block of these bytes and properties, and returns
+    /// the handle's number. Returns -108 (memFullErr) where the zone has no room for the block, or
+    /// where all master pointers are used and there is no room for a block of more. The blocks that
+    /// are purged for that, and then those for the block, are reported to the sink, if it listens.
+    /// Where the host is out of memory, all but the zone and the count of moves stays as it was;
+    /// over a store that takes no host memory the whole heap and the sink stay so too, except where
+    /// the sink found the host out of memory after a new master pointer block was made, which then
+    /// stays.
     ///
     /// *More Macintosh Toolbox*, chapter 1, "Using the Resource Manager".
     pub fn new_resource<K: PurgeSink>(
@@ -65,45 +69,49 @@ impl<S: BlockStore> Heap<S> {
         sink: &mut K,
     ) -> Result<usize, Refusal>
         requires idle { IsIdle K.told K.waits sink.old }
-        ensures answer { IsAnswer (new_inside (resource_role guarded) flags bytes.now self.old.memory) result
-            self.new.memory }
-        ensures hears { Hears K.told K.waits K.listens (result ≢ Err Refusal.HostMemory) (made_gone nothing bytes.now
-            self.old.memory.heap) sink.old sink.new }
-        ensures stops { result ≡ Err Refusal.HostMemory → Stops S.TAKES_HOST K.told K.listens KeepsNames (Unreserved
-            self.old.memory) (Some (slot_step nothing self.old.memory.heap)) self.old self.new sink.old sink.new }
+        ensures answer { IsAnswer (new_inside (resource_role guarded) flags bytes.now
+            self.old.memory) result self.new.memory }
+        ensures hears { Hears K.told K.waits K.listens (result ≢ Err Refusal.HostMemory)
+            (made_gone nothing bytes.now self.old.memory.heap) sink.old sink.new }
+        ensures stops { result ≡ Err Refusal.HostMemory
+            → Stops S.TAKES_HOST K.told K.listens KeepsNames (Unreserved self.old.memory)
+            (Some (slot_step nothing self.old.memory.heap)) self.old self.new sink.old sink.new }
         ensures lies { self.new.memory.window ≡ self.old.memory.window }
     {
         let answer = self.fill_handle(bytes, flags, sink);
         self.own(answer, guarded)
     }
 
-    /// Makes a new handle of a resource, with no block, and returns the handle's number. Returns -108 (memFullErr)
-    /// where all master pointers are used and there is no room for a block of more. The blocks that are purged for it
-    /// are reported to the sink, if it listens. Where the host is out of memory, all but the zone stays as it was, and
-    /// the whole heap and the sink stay so over a store that takes no host memory.
+    /// Makes a new handle of a resource, with no block, and returns the handle's number. Returns
+    /// -108 (memFullErr) where all master pointers are used and there is no room for a block of
+    /// more. The blocks that are purged for it are reported to the sink, if it listens. Where the
+    /// host is out of memory, all but the zone stays as it was, and the whole heap and the sink
+    /// stay so over a store that takes no host memory.
     pub fn new_empty_resource<K: PurgeSink>(
         &mut self,
         guarded: bool,
         sink: &mut K,
     ) -> Result<usize, Refusal>
         requires idle { IsIdle K.told K.waits sink.old }
-        ensures answer { IsAnswer (new_empty_inside (resource_role guarded) self.old.memory) result self.new.memory }
-        ensures hears { Hears K.told K.waits K.listens (result ≢ Err Refusal.HostMemory) (slot_gone nothing
-            self.old.memory.heap) sink.old sink.new }
-        ensures stops { result ≡ Err Refusal.HostMemory → Stops S.TAKES_HOST K.told K.listens KeepsMoves (Unreserved
-            self.old.memory) None self.old self.new sink.old sink.new }
+        ensures answer { IsAnswer (new_empty_inside (resource_role guarded) self.old.memory) result
+            self.new.memory }
+        ensures hears { Hears K.told K.waits K.listens (result ≢ Err Refusal.HostMemory)
+            (slot_gone nothing self.old.memory.heap) sink.old sink.new }
+        ensures stops { result ≡ Err Refusal.HostMemory → Stops S.TAKES_HOST K.told K.listens
+            KeepsMoves (Unreserved self.old.memory) None self.old self.new sink.old sink.new }
         ensures lies { self.new.memory.window ≡ self.old.memory.window }
     {
         let answer = self.make_empty_handle(sink);
         self.own(answer, guarded)
     }
 
-    /// Makes new handles of resources, one after another and none of them guarded, and puts the number of each into
-    /// `numbers`, in place of what was there: `None` for each whose block finds no room. The blocks that are purged for
-    /// each in turn are reported to the sink, if it listens. Host memory for the numbers and for the answer is
-    /// allocated before the first handle is made; the answer takes some also where the numbers are reserved. Over a
-    /// store that takes no host memory, nothing changes where it cannot be had; and where the sink finds the host out
-    /// of memory, the handles that were made stay, and `numbers` has the number of each.
+    /// Makes new handles of resources, one after another and none of them guarded, and puts the
+    /// number of each into `numbers`, in place of what was there: `None` for each whose block finds
+    /// no room. The blocks that are purged for each in turn are reported to the sink, if it
+    /// listens. Host memory for the numbers and for the answer is allocated before the first handle
+    /// is made; the answer takes some also where the numbers are reserved. Over a store that takes
+    /// no host memory, nothing changes where it cannot be had; and where the sink finds the host
+    /// out of memory, the handles that were made stay, and `numbers` has the number of each.
     pub fn new_resources<K: PurgeSink>(
         &mut self,
         wanted: &[Filling<'_>],
@@ -113,11 +121,11 @@ impl<S: BlockStore> Heap<S> {
         requires idle { IsIdle K.told K.waits sink.old }
         ensures answer { OnOk result (new_all (map wanted_as wanted.now) self.old.memory
             ≡ (numbers.new.items, self.new.memory)) }
-        ensures hears { Hears K.told K.waits K.listens (IsOk result) (all_gone (map wanted_as wanted.now)
-            self.old.memory) sink.old sink.new }
+        ensures hears { Hears K.told K.waits K.listens (IsOk result)
+            (all_gone (map wanted_as wanted.now) self.old.memory) sink.old sink.new }
         ensures untold { OnErr result (IsTrue S.TAKES_HOST
-            ⊎ MadeSome K.told (map wanted_as wanted.now) self.old.memory numbers.new.items self.new.memory sink.old
-            sink.new) }
+            ⊎ MadeSome K.told (map wanted_as wanted.now) self.old.memory numbers.new.items
+            self.new.memory sink.old sink.new) }
         ensures host { IsErr result
             → IsTrue S.TAKES_HOST ⊎ ((self.new ≡ self.old) ⊎ (K.listens sink.old ≡ true)) }
         ensures lies { self.new.memory.window ≡ self.old.memory.window }
@@ -138,10 +146,11 @@ impl<S: BlockStore> Heap<S> {
         )
     }
 
-    /// Gives an empty handle a block of these bytes and properties. Returns -108 (memFullErr) where there is no room
-    /// for the block. The blocks that are purged for it are reported to the sink, if it listens. Where the host is out
-    /// of memory, all but the zone and the count of moves stays as it was; over a store that takes no host memory that
-    /// can be only where the sink listens, and the whole heap and the sink stay as they were.
+    /// Gives an empty handle a block of these bytes and properties. Returns -108 (memFullErr) where
+    /// there is no room for the block. The blocks that are purged for it are reported to the sink,
+    /// if it listens. Where the host is out of memory, all but the zone and the count of moves
+    /// stays as it was; over a store that takes no host memory that can be only where the sink
+    /// listens, and the whole heap and the sink stay as they were.
     pub fn refill<K: PurgeSink>(
         &mut self,
         number: usize,
@@ -151,11 +160,12 @@ impl<S: BlockStore> Heap<S> {
     ) -> Result<(), Refusal>
         requires emptied { has_block number self.old.memory.heap ≡ false }
         requires idle { IsIdle K.told K.waits sink.old }
-        ensures answer { IsAnswer (refill_inside number flags bytes.now self.old.memory) result self.new.memory }
-        ensures hears { Hears K.told K.waits K.listens (result ≢ Err Refusal.HostMemory) (refill_gone number (length
-            bytes.now) self.old.memory.heap) sink.old sink.new }
-        ensures stops { result ≡ Err Refusal.HostMemory → Stops S.TAKES_HOST K.told K.listens KeepsNames ⊥ None self.old
-            self.new sink.old sink.new }
+        ensures answer { IsAnswer (refill_inside number flags bytes.now self.old.memory) result
+            self.new.memory }
+        ensures hears { Hears K.told K.waits K.listens (result ≢ Err Refusal.HostMemory)
+            (refill_gone number (length bytes.now) self.old.memory.heap) sink.old sink.new }
+        ensures stops { result ≡ Err Refusal.HostMemory → Stops S.TAKES_HOST K.told K.listens
+            KeepsNames ⊥ None self.old self.new sink.old sink.new }
         ensures lies { self.new.memory.window ≡ self.old.memory.window }
     {
         let found = slot_of(&self.names, Some(number))?;
@@ -167,8 +177,8 @@ impl<S: BlockStore> Heap<S> {
         Ok(self.account(grown)?)
     }
 
-    /// Makes a new handle, an application's own, with a block of these bytes and properties, counts the searches for
-    /// room, and reports the blocks that are purged to a sink, if it listens.
+    /// Makes a new handle, an application's own, with a block of these bytes and properties, counts
+    /// the searches for room, and reports the blocks that are purged to a sink, if it listens.
     pub(crate) fn fill_handle<K: PurgeSink>(
         &mut self,
         bytes: &[u8],
@@ -176,11 +186,13 @@ impl<S: BlockStore> Heap<S> {
         sink: &mut K,
     ) -> Result<usize, Refusal>
         requires idle { IsIdle K.told K.waits sink.old }
-        ensures answer { IsAnswer (new_inside Plain flags bytes.now self.old.memory) result self.new.memory }
-        ensures hears { Hears K.told K.waits K.listens (result ≢ Err Refusal.HostMemory) (made_gone nothing bytes.now
-            self.old.memory.heap) sink.old sink.new }
-        ensures stops { result ≡ Err Refusal.HostMemory → Stops S.TAKES_HOST K.told K.listens KeepsNames (Unreserved
-            self.old.memory) (Some (slot_step nothing self.old.memory.heap)) self.old self.new sink.old sink.new }
+        ensures answer { IsAnswer (new_inside Plain flags bytes.now self.old.memory) result
+            self.new.memory }
+        ensures hears { Hears K.told K.waits K.listens (result ≢ Err Refusal.HostMemory)
+            (made_gone nothing bytes.now self.old.memory.heap) sink.old sink.new }
+        ensures stops { result ≡ Err Refusal.HostMemory
+            → Stops S.TAKES_HOST K.told K.listens KeepsNames (Unreserved self.old.memory)
+            (Some (slot_step nothing self.old.memory.heap)) self.old self.new sink.old sink.new }
         ensures lies { self.new.memory.window ≡ self.old.memory.window }
     {
         self.names.reserve(1)?;
@@ -203,15 +215,16 @@ impl<S: BlockStore> Heap<S> {
     }
 }
 
-/// Returns the size of a block for some bytes; where there are too many bytes for any block, a size that no block
-/// has.
-fn size_of(bytes: &[u8]) -> u32
+/// Returns the size of a block for some bytes; where there are too many bytes for any block, a size
+/// that no block has.
+pub(crate) fn size_of(bytes: &[u8]) -> u32
     ensures { IsSizeOf (length bytes.now) result }
 {
     u32::try_from(bytes.len()).unwrap_or(u32::MAX)
 }
 
-/// Writes bytes into the new block of `slot`, whose size is their number, and sets the block's properties.
+/// Writes bytes into the new block of `slot`, whose size is their number, and sets the block's
+/// properties.
 fn fill_new<S: BlockStore>(store: &mut S, slot: u32, bytes: &[u8], flags: Flags)
     requires { IsFresh slot (length bytes.now) (S.zone store.old) }
     ensures zone { IsReplaced slot flags bytes.now (S.zone store.old) (S.zone store.new) }
@@ -225,10 +238,10 @@ fn fill_new<S: BlockStore>(store: &mut S, slot: u32, bytes: &[u8], flags: Flags)
     store.set_flags(place, flags);
 }
 
-/// Puts a new block of as many bytes as `bytes` has, all 0, where there is room, under a new slot, and returns that
-/// slot; `None` where there is no unused slot and no room for more, where the block would be too large, or where there
-/// is no room for the block. The blocks that are purged for the slot, and then those for the block, are reported to a
-/// sink, if it listens.
+/// Puts a new block of as many bytes as `bytes` has, all 0, where there is room, under a new slot,
+/// and returns that slot; `None` where there is no unused slot and no room for more, where the
+/// block would be too large, or where there is no room for the block. The blocks that are purged
+/// for the slot, and then those for the block, are reported to a sink, if it listens.
 fn new_block_for<S: BlockStore, K: PurgeSink>(
     store: &mut S,
     names: &[Anchor],
@@ -236,28 +249,29 @@ fn new_block_for<S: BlockStore, K: PurgeSink>(
     sink: &mut K,
 ) -> Result<Taken, AllocError>
     requires idle { IsIdle K.told K.waits sink.old }
-    ensures hears { Hears K.told K.waits K.listens (IsOk result) (new_gone names.now Nothing (length bytes.now) (S.rest
-        store.old).unused (S.zone store.old)) sink.old sink.new }
-    ensures left { OnErr result (IsTrue S.TAKES_HOST ⊎ LeavesSlot K.told names.now Nothing (S.zone store.old)
+    ensures hears { Hears K.told K.waits K.listens (IsOk result) (new_gone names.now Nothing
+        (length bytes.now) (S.rest store.old).unused (S.zone store.old)) sink.old sink.new }
+    ensures left { OnErr result (IsTrue S.TAKES_HOST
+        ⊎ LeavesSlot K.told names.now Nothing (S.zone store.old)
         (S.rest store.old) (S.zone store.new) (S.rest store.new) sink.old sink.new) }
-    ensures answer { IfOk result (λ r. IsNewBlock Nothing (length bytes.now) (S.zone store.old) (S.rest store.old)
-        r.slot (S.zone store.new) (S.rest store.new)) }
+    ensures answer { IfOk result (λ r. IsNewBlock Nothing (length bytes.now) (S.zone store.old)
+        (S.rest store.old) r.slot (S.zone store.new) (S.rest store.new)) }
     ensures kept { OnErr result (HasMore (S.rest store.old) (S.rest store.new)) }
     ensures nonrelocatable { KeepsNonrelocatable (S.zone store.old) (S.zone store.new) }
     ensures searches { IfOk result (λ r. r.searches ≡ new_searches Nothing (length bytes.now)
         (S.rest store.old).unused (S.zone store.old)) }
-    ensures moves { IfOk result (λ _. Packs (new_moves Nothing (length bytes.now) (S.rest store.old).unused
-        (S.zone store.old)) (S.rest store.old) (S.rest store.new)) }
+    ensures moves { IfOk result (λ _. Packs (new_moves Nothing (length bytes.now)
+        (S.rest store.old).unused (S.zone store.old)) (S.rest store.old) (S.rest store.new)) }
     ensures host { IsErr result → IsTrue S.TAKES_HOST ⊎ (K.listens sink.old ≡ true) }
 {
     let size = size_of(bytes);
     new_block(store, names, size, Sparing::Nothing, sink)
 }
 
-/// Puts a new block of these bytes and properties where there is room, under a new slot, and returns that slot; `None`
-/// where there is no unused slot and no room for more, where the block would be too large, or where there is no room
-/// for the block. The blocks that are purged for the slot, and then those for the block, are reported to a sink, if it
-/// listens.
+/// Puts a new block of these bytes and properties where there is room, under a new slot, and
+/// returns that slot; `None` where there is no unused slot and no room for more, where the block
+/// would be too large, or where there is no room for the block. The blocks that are purged for the
+/// slot, and then those for the block, are reported to a sink, if it listens.
 pub fn fill_block<S: BlockStore, K: PurgeSink>(
     store: &mut S,
     names: &[Anchor],
@@ -266,18 +280,19 @@ pub fn fill_block<S: BlockStore, K: PurgeSink>(
     sink: &mut K,
 ) -> Result<Taken, AllocError>
     requires idle { IsIdle K.told K.waits sink.old }
-    ensures hears { Hears K.told K.waits K.listens (IsOk result) (new_gone names.now Nothing (length bytes.now) (S.rest
-        store.old).unused (S.zone store.old)) sink.old sink.new }
-    ensures left { OnErr result (IsTrue S.TAKES_HOST ⊎ LeavesSlot K.told names.now Nothing (S.zone store.old)
+    ensures hears { Hears K.told K.waits K.listens (IsOk result) (new_gone names.now Nothing
+        (length bytes.now) (S.rest store.old).unused (S.zone store.old)) sink.old sink.new }
+    ensures left { OnErr result (IsTrue S.TAKES_HOST
+        ⊎ LeavesSlot K.told names.now Nothing (S.zone store.old)
         (S.rest store.old) (S.zone store.new) (S.rest store.new) sink.old sink.new) }
-    ensures answer { IfOk result (λ r. IsFilling flags bytes.now (S.zone store.old) (S.rest store.old) r.slot
-        (S.zone store.new) (S.rest store.new)) }
+    ensures answer { IfOk result (λ r. IsFilling flags bytes.now (S.zone store.old)
+        (S.rest store.old) r.slot (S.zone store.new) (S.rest store.new)) }
     ensures kept { OnErr result (HasMore (S.rest store.old) (S.rest store.new)) }
     ensures nonrelocatable { KeepsNonrelocatable (S.zone store.old) (S.zone store.new) }
     ensures searches { IfOk result (λ r. r.searches ≡ new_searches Nothing (length bytes.now)
         (S.rest store.old).unused (S.zone store.old)) }
-    ensures moves { IfOk result (λ _. Packs (new_moves Nothing (length bytes.now) (S.rest store.old).unused
-        (S.zone store.old)) (S.rest store.old) (S.rest store.new)) }
+    ensures moves { IfOk result (λ _. Packs (new_moves Nothing (length bytes.now)
+        (S.rest store.old).unused (S.zone store.old)) (S.rest store.old) (S.rest store.new)) }
     ensures host { IsErr result → IsTrue S.TAKES_HOST ⊎ (K.listens sink.old ≡ true) }
 {
     let made = new_block_for(store, names, bytes, sink)?;
@@ -288,9 +303,9 @@ pub fn fill_block<S: BlockStore, K: PurgeSink>(
     Ok(made)
 }
 
-/// Puts a new block of as many bytes as `bytes` has, all 0, for `slot`, where there is room once the old block of
-/// `slot`, if there is one, is free. Nothing changes where there is no room. The blocks that are purged for it are
-/// reported to a sink, if it listens.
+/// Puts a new block of as many bytes as `bytes` has, all 0, for `slot`, where there is room once
+/// the old block of `slot`, if there is one, is free. Nothing changes where there is no room. The
+/// blocks that are purged for it are reported to a sink, if it listens.
 fn renew_block_for<S: BlockStore, K: PurgeSink>(
     store: &mut S,
     names: &[Anchor],
@@ -303,19 +318,20 @@ fn renew_block_for<S: BlockStore, K: PurgeSink>(
     ensures answer { IsRenewed slot (length bytes.now) (S.zone store.old) (S.rest store.old) result
         (S.zone store.new) (S.rest store.new) }
     ensures nonrelocatable { KeepsNonrelocatable (S.zone store.old) (S.zone store.new) }
-    ensures moves { OnOk result (Packs (renewed_moves slot (length bytes.now) (S.zone store.old)) (S.rest store.old)
-        (S.rest store.new)) }
-    ensures hears { Hears K.told K.waits K.listens (IsOk result) (renewed_gone names.now slot (length bytes.now)
-        (S.zone store.old)) sink.old sink.new }
-    ensures halts { OnErr result (Halts S.TAKES_HOST K.told K.listens (S.zone store.old) (S.rest store.old)
-        (S.zone store.new) (S.rest store.new) sink.old sink.new) }
+    ensures moves { OnOk result (Packs (renewed_moves slot (length bytes.now) (S.zone store.old))
+        (S.rest store.old) (S.rest store.new)) }
+    ensures hears { Hears K.told K.waits K.listens (IsOk result)
+        (renewed_gone names.now slot (length bytes.now) (S.zone store.old)) sink.old sink.new }
+    ensures halts { OnErr result (Halts S.TAKES_HOST K.told K.listens (S.zone store.old)
+        (S.rest store.old) (S.zone store.new) (S.rest store.new) sink.old sink.new) }
 {
     let size = size_of(bytes);
     renew_block(store, names, slot, size, sink)
 }
 
-/// Puts a new block of these bytes and properties, where there is room, for `slot`, which has none. Nothing changes
-/// where there is no room. The blocks that are purged for it are reported to a sink, if it listens.
+/// Puts a new block of these bytes and properties, where there is room, for `slot`, which has none.
+/// Nothing changes where there is no room. The blocks that are purged for it are reported to a
+/// sink, if it listens.
 fn refill_block<S: BlockStore, K: PurgeSink>(
     store: &mut S,
     names: &[Anchor],
@@ -327,15 +343,15 @@ fn refill_block<S: BlockStore, K: PurgeSink>(
     requires idle { IsIdle K.told K.waits sink.old }
     requires used { IsTrue (is_used ((S.rest store.old).slots slot)) }
     requires none { has (is_relocatable slot) (S.zone store.old) ≡ false }
-    ensures answer { IsRefilled slot flags bytes.now (S.zone store.old) (S.rest store.old) result (S.zone store.new)
-        (S.rest store.new) }
+    ensures answer { IsRefilled slot flags bytes.now (S.zone store.old) (S.rest store.old) result
+        (S.zone store.new) (S.rest store.new) }
     ensures nonrelocatable { KeepsNonrelocatable (S.zone store.old) (S.zone store.new) }
-    ensures moves { OnOk result (Packs (refilled_moves slot (length bytes.now) (S.zone store.old)) (S.rest store.old)
-        (S.rest store.new)) }
-    ensures hears { Hears K.told K.waits K.listens (IsOk result) (renewed_gone names.now slot (length bytes.now)
-        (S.zone store.old)) sink.old sink.new }
-    ensures halts { OnErr result (Halts S.TAKES_HOST K.told K.listens (S.zone store.old) (S.rest store.old)
-        (S.zone store.new) (S.rest store.new) sink.old sink.new) }
+    ensures moves { OnOk result (Packs (refilled_moves slot (length bytes.now) (S.zone store.old))
+        (S.rest store.old) (S.rest store.new)) }
+    ensures hears { Hears K.told K.waits K.listens (IsOk result)
+        (renewed_gone names.now slot (length bytes.now) (S.zone store.old)) sink.old sink.new }
+    ensures halts { OnErr result (Halts S.TAKES_HOST K.told K.listens (S.zone store.old)
+        (S.rest store.old) (S.zone store.new) (S.rest store.new) sink.old sink.new) }
 {
     let room = renew_block_for(store, names, slot, bytes, sink)?;
     let Some(_) = room.place else {
@@ -345,9 +361,9 @@ fn refill_block<S: BlockStore, K: PurgeSink>(
     Ok(room)
 }
 
-/// Makes a new handle of a resource, unguarded, under the next number, for which `names` has room, and returns the
-/// number; `None` where the block finds no room. The blocks that are purged for it are reported to a sink, if it
-/// listens.
+/// Makes a new handle of a resource, unguarded, under the next number, for which `names` has room,
+/// and returns the number; `None` where the block finds no room. The blocks that are purged for it
+/// are reported to a sink, if it listens.
 fn add_resource<S: BlockStore, K: PurgeSink>(
     store: &mut S,
     names: &mut Vec<Anchor>,
@@ -359,12 +375,13 @@ fn add_resource<S: BlockStore, K: PurgeSink>(
     requires agrees { Agrees (S.zone store.old) (S.rest store.old) names.old.items }
     requires room { vec_len names.old < vec_capacity names.old }
     requires idle { IsIdle K.told K.waits sink.old }
-    ensures told { OnOk result (K.listens sink.old ≡ true → Tells K.told (made_gone nothing bytes.now
-        (memory_of (S.zone store.old) (S.rest store.old) names.old.items log.old).heap) sink.old sink.new) }
+    ensures told { OnOk result (K.listens sink.old ≡ true
+        → Tells K.told (made_gone nothing bytes.now (memory_of (S.zone store.old)
+        (S.rest store.old) names.old.items log.old).heap) sink.old sink.new) }
     ensures rests { Rests K.told K.waits K.listens sink.old sink.new }
     ensures left { OnErr result (IsTrue S.TAKES_HOST ⊎ LeavesUnmade K.told
-        (memory_of (S.zone store.old) (S.rest store.old) names.old.items log.old)
-        (memory_of (S.zone store.new) (S.rest store.new) names.new.items log.new) sink.old sink.new) }
+        (memory_of (S.zone store.old) (S.rest store.old) names.old.items log.old) (memory_of
+        (S.zone store.new) (S.rest store.new) names.new.items log.new) sink.old sink.new) }
     ensures agrees { Agrees (S.zone store.new) (S.rest store.new) names.new.items }
     ensures next { IfOk result (λ number. IsNext flags bytes.now
         (memory_of (S.zone store.old) (S.rest store.old) names.old.items log.old) number
@@ -389,8 +406,9 @@ fn add_resource<S: BlockStore, K: PurgeSink>(
     Ok(Some(number))
 }
 
-/// Makes new handles of resources in order, and adds the number of each, or `None`, to `numbers`; `names` and `numbers`
-/// have room for all. The blocks that are purged for each in turn are reported to a sink, if it listens.
+/// Makes new handles of resources in order, and adds the number of each, or `None`, to `numbers`;
+/// `names` and `numbers` have room for all. The blocks that are purged for each in turn are
+/// reported to a sink, if it listens.
 fn add_resources<S: BlockStore, K: PurgeSink>(
     store: &mut S,
     names: &mut Vec<Anchor>,
@@ -404,16 +422,21 @@ fn add_resources<S: BlockStore, K: PurgeSink>(
     requires numbers { vec_len numbers.old + length wanted.now ≤ vec_capacity numbers.old }
     requires first { numbers.old.items ≡ [] }
     requires idle { IsIdle K.told K.waits sink.old }
-    ensures told { OnOk result (K.listens sink.old ≡ true → Tells K.told (all_gone (map wanted_as wanted.now)
-        (memory_of (S.zone store.old) (S.rest store.old) names.old.items log.old)) sink.old sink.new) }
+    ensures told { OnOk result (K.listens sink.old ≡ true
+        → Tells K.told (all_gone (map wanted_as wanted.now) (memory_of (S.zone store.old)
+        (S.rest store.old) names.old.items log.old)) sink.old sink.new) }
     ensures rests { Rests K.told K.waits K.listens sink.old sink.new }
     ensures left { OnErr result (IsTrue S.TAKES_HOST ⊎ MadeSome K.told (map wanted_as wanted.now)
         (memory_of (S.zone store.old) (S.rest store.old) names.old.items log.old) numbers.new.items
-        (memory_of (S.zone store.new) (S.rest store.new) names.new.items log.new) sink.old sink.new) }
+        (memory_of (S.zone store.new) (S.rest store.new) names.new.items log.new)
+        sink.old sink.new) }
     ensures agrees { Agrees (S.zone store.new) (S.rest store.new) names.new.items }
     ensures answer { OnOk result (new_all (map wanted_as wanted.now)
         (memory_of (S.zone store.old) (S.rest store.old) names.old.items log.old)
-        ≡ (numbers.new.items, memory_of (S.zone store.new) (S.rest store.new) names.new.items log.new)) }
+        ≡ (
+          numbers.new.items,
+          memory_of (S.zone store.new) (S.rest store.new) names.new.items log.new,
+        )) }
     ensures lies { (S.rest store.new).window ≡ (S.rest store.old).window }
     ensures capacity { vec_capacity names.new ≡ vec_capacity names.old }
     ensures reserved { log.new.reserved ≡ log.old.reserved }

@@ -12,9 +12,11 @@ use block_store::{BlockStore, Flags, Seen};
 use mac_words::OsErr;
 
 impl<S: BlockStore> Heap<S> {
-    /// `HPurge`: makes the block of a handle purgeable, so that the block may be purged while unlocked.
+    /// `HPurge`: makes the block of a handle purgeable, so that the block may be purged while
+    /// unlocked.
     pub fn h_purge(&mut self, handle: Option<usize>) -> Result<(), OsErr>
-        ensures answer { unless (barred handle self.old.memory) (noting (h_purge handle)) self.old.memory
+        ensures answer { unless (barred handle self.old.memory)
+            (noting (h_purge handle)) self.old.memory
             ≡ (result, self.new.memory) }
         ensures lies { self.new.memory.window ≡ self.old.memory.window }
     {
@@ -27,7 +29,8 @@ impl<S: BlockStore> Heap<S> {
 
     /// `HNoPurge`: makes the block of a handle unpurgeable, so that the block is not purged.
     pub fn h_no_purge(&mut self, handle: Option<usize>) -> Result<(), OsErr>
-        ensures answer { unless (barred handle self.old.memory) (noting (h_no_purge handle)) self.old.memory
+        ensures answer { unless (barred handle self.old.memory)
+            (noting (h_no_purge handle)) self.old.memory
             ≡ (result, self.new.memory) }
         ensures lies { self.new.memory.window ≡ self.old.memory.window }
     {
@@ -38,10 +41,11 @@ impl<S: BlockStore> Heap<S> {
         self.note(answer)
     }
 
-    /// `HGetState`: returns the properties of a handle's block as bits of a byte: 128 where the block is locked, 64
-    /// where it is purgeable, 32 where the handle is a resource's.
+    /// `HGetState`: returns the properties of a handle's block as bits of a byte: 128 where the
+    /// block is locked, 64 where it is purgeable, 32 where the handle is a resource's.
     pub fn h_get_state(&mut self, handle: Option<usize>) -> Result<u8, OsErr>
-        ensures answer { unless (barred handle self.old.memory) (noting (h_get_state handle)) self.old.memory
+        ensures answer { unless (barred handle self.old.memory)
+            (noting (h_get_state handle)) self.old.memory
             ≡ (result, self.new.memory) }
         ensures lies { self.new.memory.window ≡ self.old.memory.window }
     {
@@ -52,11 +56,12 @@ impl<S: BlockStore> Heap<S> {
         self.note(answer)
     }
 
-    /// `HSetState`: locks or unlocks the block of a handle by bit 128 of `byte`, and makes the block purgeable or
-    /// unpurgeable by bit 64, as `HGetState` returns them. The other bits have no effect: a resource's handle stays a
-    /// resource's.
+    /// `HSetState`: locks or unlocks the block of a handle by bit 128 of `byte`, and makes the
+    /// block purgeable or unpurgeable by bit 64, as `HGetState` returns them. The other bits have
+    /// no effect: a resource's handle stays a resource's.
     pub fn h_set_state(&mut self, handle: Option<usize>, byte: u8) -> Result<(), OsErr>
-        ensures answer { unless (barred handle self.old.memory) (noting (h_set_state handle byte)) self.old.memory
+        ensures answer { unless (barred handle self.old.memory)
+            (noting (h_set_state handle byte)) self.old.memory
             ≡ (result, self.new.memory) }
         ensures lies { self.new.memory.window ≡ self.old.memory.window }
     {

@@ -1,15 +1,15 @@
 //! The growth of a block that may move.
 
-ghost use Rattle.std.specs.Prelude.{◌≡◌, ◌+◌, ◌-◌, ◌≤◌, ◌<◌, Some, None, IsSome, IfSome, IsSomeAnd, IsTrue};
-ghost use Rattle.std.specs.Prelude.{IsErr, IsOk, OnOk, OnErr, IfOk, is_some, true, false};
+ghost use Rattle.std.specs.Prelude.{◌≡◌, ◌+◌, ◌-◌, ◌≤◌, ◌<◌, Some, None, IsSome, IfSome, IsSomeAnd};
+ghost use Rattle.std.specs.Prelude.{IsTrue, IsErr, IsOk, OnOk, OnErr, IfOk, is_some, true, false};
 ghost use Rattle.mac_words.specs.Size.{phys as physical_size};
 ghost use Rattle.block_store.specs.Block.{is_relocatable, resized, is_mover, size as size_of};
 ghost use Rattle.block_store.specs.Room.{spot, room};
 ghost use Rattle.block_store.specs.Grow.{growth, grow_mover};
 ghost use Rattle.block_store.specs.Sparing.{purged, spared};
 ghost use Rattle.block_store.specs.Rest.{IsRest, KeepsSlots};
-ghost use Rattle.heap_calls.specs.Inner.Growing.{FindsGrowth, growing, growing_searches, Spares, Stays, grown};
-ghost use Rattle.heap_calls.specs.Inner.Growing.{IsToGrow, CanGrowUp, GrewUp};
+ghost use Rattle.heap_calls.specs.Inner.Growing.{FindsGrowth, growing, growing_searches, Spares};
+ghost use Rattle.heap_calls.specs.Inner.Growing.{Stays, grown, IsToGrow, CanGrowUp, GrewUp};
 ghost use Rattle.heap_calls.specs.Inner.GrowingInPlace.{made_zone};
 ghost use Rattle.heap_calls.specs.Moves.{grow_moves, room_moves};
 ghost use Rattle.block_store.specs.Fewest.{smaller};
@@ -31,8 +31,8 @@ use block_store::{BlockStore, Sparing};
 use mac_words::phys;
 use std::alloc::AllocError;
 
-/// How an unlocked relocatable block grows: into the free block above it, at a place of its own, or as the last of
-/// its run.
+/// How an unlocked relocatable block grows: into the free block above it, at a place of its own, or
+/// as the last of its run.
 #[derive(Clone, Copy)]
 pub enum Growth {
     Up,
@@ -40,8 +40,8 @@ pub enum Growth {
     Last(u32),
 }
 
-/// Finds how the block of the slot `number` grows by `more` bytes to the physical size `bytes`, and to `size` bytes of
-/// content, in the zone as it stands.
+/// Finds how the block of the slot `number` grows by `more` bytes to the physical size `bytes`, and
+/// to `size` bytes of content, in the zone as it stands.
 fn growth_now<S: BlockStore>(
     store: &S,
     number: u32,
@@ -49,11 +49,12 @@ fn growth_now<S: BlockStore>(
     bytes: u32,
     more: u32,
 ) -> Option<Growth>
-    requires takes { size_of (grown size (spot (is_relocatable number) (S.zone store.now))) ≡ bytes }
+    requires takes { size_of (grown size (spot (is_relocatable number) (S.zone store.now)))
+        ≡ bytes }
     requires more { IsSomeAnd (spot (is_relocatable number) (S.zone store.now))
         (λ s. growth (grown size (spot (is_relocatable number) (S.zone store.now))) s ≡ more) }
-    ensures { FindsGrowth (is_relocatable number) (grown size (spot (is_relocatable number) (S.zone store.now)))
-        (S.zone store.now) result }
+    ensures { FindsGrowth (is_relocatable number)
+        (grown size (spot (is_relocatable number) (S.zone store.now))) (S.zone store.now) result }
 {
     if store.room_above(number, more) {
         return Some(Growth::Up);
@@ -67,7 +68,8 @@ fn growth_now<S: BlockStore>(
     Some(Growth::Last(run))
 }
 
-/// Returns the fewer of two numbers of purges that serve, where each is `None` where no number serves.
+/// Returns the fewer of two numbers of purges that serve, where each is `None` where no number
+/// serves.
 fn fewer_purges(one: Option<u32>, other: Option<u32>) -> Option<u32>
     ensures { result ≡ smaller one other }
 {
@@ -80,10 +82,11 @@ fn fewer_purges(one: Option<u32>, other: Option<u32>) -> Option<u32>
     Some(first.min(second))
 }
 
-/// Counts the purges after which the block of the slot `number`, which may move, grows by `more` bytes to the physical
-/// size `bytes`, and to `size` bytes of content: the least number that serves, or all that there can be where none
-/// serves. The block grows where it has a place of its own, and where its run has `more` free bytes; the run has them
-/// where there is room above the block.
+/// Counts the purges after which the block of the slot `number`, which may move, grows by `more`
+/// bytes to the physical size `bytes`, and to `size` bytes of content: the least number that
+/// serves, or all that there can be where none serves. The block grows where it has a place of its
+/// own, and where its run has `more` free bytes; the run has them where there is room above the
+/// block.
 fn count_for_growth<S: BlockStore>(
     store: &S,
     number: u32,
@@ -92,18 +95,21 @@ fn count_for_growth<S: BlockStore>(
     more: u32,
     sparing: Sparing,
 ) -> Searched
-    requires takes { size_of (grown size (spot (is_relocatable number) (S.zone store.now))) ≡ bytes }
+    requires takes { size_of (grown size (spot (is_relocatable number) (S.zone store.now)))
+        ≡ bytes }
     requires positive { 0 < bytes }
     requires spared { Spares sparing (is_relocatable number) }
     requires stays { Stays sparing (is_relocatable number) }
     requires more { IsSomeAnd (spot (is_relocatable number) (S.zone store.now))
         (λ s. growth (grown size (spot (is_relocatable number) (S.zone store.now))) s ≡ more) }
-    requires mover { IsSomeAnd (spot (is_relocatable number) (S.zone store.now)) (λ s. IsTrue (is_mover s.here)) }
+    requires mover { IsSomeAnd (spot (is_relocatable number) (S.zone store.now)) (λ s.
+        IsTrue (is_mover s.here)) }
     ensures there { result.there ≡ is_some (grow_mover (is_relocatable number)
         (grown size (spot (is_relocatable number) (S.zone store.now)))
         (purged result.purges sparing (S.zone store.now))) }
-    ensures least { growing (is_relocatable number) (grown size (spot (is_relocatable number) (S.zone store.now)))
-        sparing (S.zone store.now) ≡ grow_mover (is_relocatable number)
+    ensures least { growing (is_relocatable number)
+        (grown size (spot (is_relocatable number) (S.zone store.now))) sparing (S.zone store.now)
+        ≡ grow_mover (is_relocatable number)
         (grown size (spot (is_relocatable number) (S.zone store.now)))
         (purged result.purges sparing (S.zone store.now)) }
     ensures searches { result.purges + 1 ≡ growing_searches (is_relocatable number)
@@ -127,7 +133,8 @@ fn count_for_growth<S: BlockStore>(
 /// Grows the block of the slot `number` into the free block above it.
 fn grow_up<S: BlockStore>(store: &mut S, number: u32, size: u32) -> Result<(), AllocError>
     requires { CanGrowUp (is_relocatable number) size (S.zone store.old) }
-    ensures ok { OnOk result (GrewUp (is_relocatable number) size (S.zone store.old) (S.zone store.new)) }
+    ensures ok { OnOk result
+        (GrewUp (is_relocatable number) size (S.zone store.old) (S.zone store.new)) }
     ensures nonrelocatable { KeepsNonrelocatable (S.zone store.old) (S.zone store.new) }
     ensures rest { IsRest (S.rest store.old) (S.rest store.new) }
     ensures host { IsErr result → IsTrue S.TAKES_HOST }
@@ -138,7 +145,8 @@ fn grow_up<S: BlockStore>(store: &mut S, number: u32, size: u32) -> Result<(), A
     store.resize(place, size)
 }
 
-/// Moves the block of the slot `number`, whose physical size at its new size is `bytes`, to a place of its own.
+/// Moves the block of the slot `number`, whose physical size at its new size is `bytes`, to a place
+/// of its own.
 fn grow_away<S: BlockStore>(
     store: &mut S,
     number: u32,
@@ -146,23 +154,28 @@ fn grow_away<S: BlockStore>(
     bytes: u32,
     placement: Placement,
 ) -> Result<(), AllocError>
-    requires takes { size_of (grown size (spot (is_relocatable number) (S.zone store.old))) ≡ bytes }
+    requires takes { size_of (grown size (spot (is_relocatable number) (S.zone store.old)))
+        ≡ bytes }
     requires positive { 0 < bytes }
-    requires found { FindsGrowth (is_relocatable number) (grown size (spot (is_relocatable number) (S.zone store.old)))
+    requires found { FindsGrowth (is_relocatable number)
+        (grown size (spot (is_relocatable number) (S.zone store.old)))
         (S.zone store.old) (Some (Growth.Away placement)) }
     ensures ok { OnOk result (grow_mover (is_relocatable number)
-        (grown size (spot (is_relocatable number) (S.zone store.old))) (S.zone store.old) ≡ Some (S.zone store.new)) }
+        (grown size (spot (is_relocatable number) (S.zone store.old))) (S.zone store.old)
+        ≡ Some (S.zone store.new)) }
     ensures nonrelocatable { KeepsNonrelocatable (S.zone store.old) (S.zone store.new) }
     ensures rest { KeepsSlots (S.rest store.old) (S.rest store.new) }
-    ensures moves { Packs (grow_moves (is_relocatable number) (grown size
-        (spot (is_relocatable number) (S.zone store.old))) (S.zone store.old)) (S.rest store.old) (S.rest store.new) }
+    ensures moves { Packs (grow_moves (is_relocatable number)
+        (grown size (spot (is_relocatable number) (S.zone store.old))) (S.zone store.old))
+        (S.rest store.old) (S.rest store.new) }
     ensures host { IsErr result → IsTrue S.TAKES_HOST }
 {
     let place = pack_placement(store, bytes, placement);
     store.move_to(place, number, size)
 }
 
-/// Makes the block of the slot `number` the last of its run, and grows the block into the free block above it.
+/// Makes the block of the slot `number` the last of its run, and grows the block into the free
+/// block above it.
 fn grow_as_last<S: BlockStore>(
     store: &mut S,
     number: u32,
@@ -170,14 +183,17 @@ fn grow_as_last<S: BlockStore>(
     run: u32,
 ) -> Result<(), AllocError>
     requires block { IsToGrow (is_relocatable number) size (S.zone store.old) }
-    requires found { FindsGrowth (is_relocatable number) (grown size (spot (is_relocatable number) (S.zone store.old)))
+    requires found { FindsGrowth (is_relocatable number)
+        (grown size (spot (is_relocatable number) (S.zone store.old)))
         (S.zone store.old) (Some (Growth.Last run)) }
     ensures ok { OnOk result (grow_mover (is_relocatable number)
-        (grown size (spot (is_relocatable number) (S.zone store.old))) (S.zone store.old) ≡ Some (S.zone store.new)) }
+        (grown size (spot (is_relocatable number) (S.zone store.old))) (S.zone store.old)
+        ≡ Some (S.zone store.new)) }
     ensures nonrelocatable { KeepsNonrelocatable (S.zone store.old) (S.zone store.new) }
     ensures rest { KeepsSlots (S.rest store.old) (S.rest store.new) }
-    ensures moves { Packs (grow_moves (is_relocatable number) (grown size
-        (spot (is_relocatable number) (S.zone store.old))) (S.zone store.old)) (S.rest store.old) (S.rest store.new) }
+    ensures moves { Packs (grow_moves (is_relocatable number)
+        (grown size (spot (is_relocatable number) (S.zone store.old))) (S.zone store.old))
+        (S.rest store.old) (S.rest store.new) }
     ensures host { IsErr result → IsTrue S.TAKES_HOST }
 {
     store.hoist(run, number);
@@ -185,7 +201,8 @@ fn grow_as_last<S: BlockStore>(
     grow_up(store, number, size)
 }
 
-/// Grows the block of the slot `number`, whose physical size at its new size is `bytes`, in the way that was found.
+/// Grows the block of the slot `number`, whose physical size at its new size is `bytes`, in the way
+/// that was found.
 fn carry_out<S: BlockStore>(
     store: &mut S,
     number: u32,
@@ -194,16 +211,19 @@ fn carry_out<S: BlockStore>(
     growth: Growth,
 ) -> Result<(), AllocError>
     requires block { IsToGrow (is_relocatable number) size (S.zone store.old) }
-    requires takes { size_of (grown size (spot (is_relocatable number) (S.zone store.old))) ≡ bytes }
+    requires takes { size_of (grown size (spot (is_relocatable number) (S.zone store.old)))
+        ≡ bytes }
     requires positive { 0 < bytes }
-    requires found { FindsGrowth (is_relocatable number) (grown size (spot (is_relocatable number) (S.zone store.old)))
-        (S.zone store.old) (Some growth) }
+    requires found { FindsGrowth (is_relocatable number) (grown size
+        (spot (is_relocatable number) (S.zone store.old))) (S.zone store.old) (Some growth) }
     ensures ok { OnOk result (grow_mover (is_relocatable number)
-        (grown size (spot (is_relocatable number) (S.zone store.old))) (S.zone store.old) ≡ Some (S.zone store.new)) }
+        (grown size (spot (is_relocatable number) (S.zone store.old))) (S.zone store.old)
+        ≡ Some (S.zone store.new)) }
     ensures nonrelocatable { KeepsNonrelocatable (S.zone store.old) (S.zone store.new) }
     ensures rest { KeepsSlots (S.rest store.old) (S.rest store.new) }
-    ensures moves { Packs (grow_moves (is_relocatable number) (grown size
-        (spot (is_relocatable number) (S.zone store.old))) (S.zone store.old)) (S.rest store.old) (S.rest store.new) }
+    ensures moves { Packs (grow_moves (is_relocatable number)
+        (grown size (spot (is_relocatable number) (S.zone store.old))) (S.zone store.old))
+        (S.rest store.old) (S.rest store.new) }
     ensures host { IsErr result → IsTrue S.TAKES_HOST }
 {
     match growth {
@@ -216,7 +236,8 @@ fn carry_out<S: BlockStore>(
 /// Returns the physical size of the block of the slot `number`.
 pub fn bytes_of<S: BlockStore>(store: &S, number: u32) -> u32
     requires { IsSome (spot (is_relocatable number) (S.zone store.now)) }
-    ensures { IfSome (spot (is_relocatable number) (S.zone store.now)) (λ s. result ≡ size_of s.here) }
+    ensures { IfSome (spot (is_relocatable number) (S.zone store.now)) (λ s. result
+        ≡ size_of s.here) }
 {
     let Some(place) = store.place_of(number) else {
         unreachable!()
@@ -224,9 +245,9 @@ pub fn bytes_of<S: BlockStore>(store: &S, number: u32) -> u32
     bytes_at(store, place)
 }
 
-/// Grows the unlocked block of `slot` to `bytes` bytes of content, new bytes 0, after as few purges as serve: into the
-/// free block above it, else at a place of its own, else as the last of its run. The blocks that are purged for it are
-/// reported to a sink, if it listens.
+/// Grows the unlocked block of `slot` to `bytes` bytes of content, new bytes 0, after as few purges
+/// as serve: into the free block above it, else at a place of its own, else as the last of its run.
+/// The blocks that are purged for it are reported to a sink, if it listens.
 pub fn grow_movable<S: BlockStore, K: PurgeSink>(
     store: &mut S,
     names: &[Anchor],
@@ -238,26 +259,28 @@ pub fn grow_movable<S: BlockStore, K: PurgeSink>(
     requires idle { IsIdle K.told K.waits sink.old }
     requires spared { Spares sparing (is_relocatable slot) }
     requires stays { Stays sparing (is_relocatable slot) }
-    requires mover { IsSomeAnd (spot (is_relocatable slot) (S.zone store.old)) (λ s. IsTrue (is_mover s.here)) }
+    requires mover { IsSomeAnd (spot (is_relocatable slot) (S.zone store.old)) (λ s.
+        IsTrue (is_mover s.here)) }
     requires more { IsToGrow (is_relocatable slot) bytes (S.zone store.old) }
     requires fits { IsSome (physical_size bytes) }
-    ensures zone { IfOk result (λ grown. IfSome (spot (is_relocatable slot) (S.zone store.old)) (λ s.
-        room (grow_mover (is_relocatable slot) (resized bytes s.here)) (spared sparing) (S.zone store.old)
-        ≡ made_zone grown.done (S.zone store.new))) }
+    ensures zone { IfOk result (λ grown. IfSome (spot (is_relocatable slot) (S.zone store.old))
+        (λ s. room (grow_mover (is_relocatable slot) (resized bytes s.here)) (spared sparing)
+        (S.zone store.old) ≡ made_zone grown.done (S.zone store.new))) }
     ensures full { IfOk result (λ grown. grown.done ≡ false → S.zone store.new ≡ S.zone store.old) }
-    ensures searches { IfOk result (λ grown. IfSome (spot (is_relocatable slot) (S.zone store.old)) (λ s.
-        grown.searches ≡ room_searches (grow_mover (is_relocatable slot) (resized bytes s.here)) (spared sparing)
-        (S.zone store.old))) }
+    ensures searches { IfOk result (λ grown. IfSome (spot (is_relocatable slot) (S.zone store.old))
+        (λ s. grown.searches ≡ room_searches (grow_mover (is_relocatable slot)
+        (resized bytes s.here)) (spared sparing) (S.zone store.old))) }
     ensures nonrelocatable { KeepsNonrelocatable (S.zone store.old) (S.zone store.new) }
     ensures rest { KeepsSlots (S.rest store.old) (S.rest store.new) }
     ensures moves { OnOk result (IfSome (spot (is_relocatable slot) (S.zone store.old)) (λ s.
         Packs (room_moves (grow_mover (is_relocatable slot) (resized bytes s.here))
-        (grow_moves (is_relocatable slot) (resized bytes s.here)) (spared sparing) (S.zone store.old))
-        (S.rest store.old) (S.rest store.new))) }
-    ensures hears { Hears K.told K.waits K.listens (IsOk result) (try_gone names.now (grow_mover (is_relocatable slot)
-        (grown bytes (spot (is_relocatable slot) (S.zone store.old)))) sparing (S.zone store.old)) sink.old sink.new }
-    ensures halts { OnErr result (Halts S.TAKES_HOST K.told K.listens (S.zone store.old) (S.rest store.old)
-        (S.zone store.new) (S.rest store.new) sink.old sink.new) }
+        (grow_moves (is_relocatable slot) (resized bytes s.here)) (spared sparing)
+        (S.zone store.old)) (S.rest store.old) (S.rest store.new))) }
+    ensures hears { Hears K.told K.waits K.listens (IsOk result)
+        (try_gone names.now (grow_mover (is_relocatable slot) (grown bytes (spot
+        (is_relocatable slot) (S.zone store.old)))) sparing (S.zone store.old)) sink.old sink.new }
+    ensures halts { OnErr result (Halts S.TAKES_HOST K.told K.listens (S.zone store.old)
+        (S.rest store.old) (S.zone store.new) (S.rest store.new) sink.old sink.new) }
 {
     let Some(takes) = phys(bytes) else {
         unreachable!()

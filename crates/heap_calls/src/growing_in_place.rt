@@ -1,7 +1,8 @@
 //! Growth of a block where it stands.
 
-ghost use Rattle.std.specs.Prelude.{◌≡◌, ◌≤◌, ◌<◌, ◌-◌, ◌+◌, ◌%◌, ◌++◌, ◌∷◌, true, false, Some, IsSome, IfSome};
-ghost use Rattle.std.specs.Prelude.{IsSomeAnd, IfOk, OnOk, OnErr, IsErr, IsOk, IsTrue};
+ghost use Rattle.std.specs.Prelude.{◌≡◌, ◌≤◌, ◌<◌, ◌-◌, ◌+◌, ◌%◌, ◌++◌, ◌∷◌, true, false, Some};
+ghost use Rattle.std.specs.Prelude.{IsSome, IfSome, IsSomeAnd, IfOk, OnOk, OnErr, IsErr, IsOk};
+ghost use Rattle.std.specs.Prelude.{IsTrue};
 ghost use Rattle.mac_words.specs.Size.{padded, phys as physical_size};
 ghost use Rattle.block_store.specs.Block.{size, resized};
 ghost use Rattle.block_store.specs.Find.{IsEdge};
@@ -9,7 +10,8 @@ ghost use Rattle.block_store.specs.Run.{in_run, has_free, segments};
 ghost use Rattle.block_store.specs.Room.{spot_at, purge, count_of};
 ghost use Rattle.block_store.specs.Grow.{grow_nonrelocatable};
 ghost use Rattle.block_store.specs.Sparing.{spared};
-ghost use Rattle.heap_calls.specs.Inner.GrowingInPlace.{made_zone, enough, seen_size, room_at, FindsPurges, pushed_up};
+ghost use Rattle.heap_calls.specs.Inner.GrowingInPlace.{made_zone, enough, seen_size, room_at};
+ghost use Rattle.heap_calls.specs.Inner.GrowingInPlace.{FindsPurges, pushed_up};
 ghost use Rattle.heap_calls.specs.Inner.SearchLaws.{above-rises, above-ends};
 ghost use Rattle.heap_calls.specs.Inner.Least.{IsMost, enough_above};
 ghost use Rattle.heap_calls.specs.Inner.Numbered.{KeepsNonrelocatable};
@@ -35,19 +37,21 @@ pub struct Grown {
     pub searches: u32,
 }
 
-/// The least number of purges that gives room, if there is one, and how many searches were made to find that number.
+/// The least number of purges that gives room, if there is one, and how many searches were made to
+/// find that number.
 #[derive(Clone, Copy)]
 struct Fewest {
     purges: Option<u32>,
     searches: u32,
 }
 
-/// Grows a nonrelocatable or locked block at `place` to `bytes` bytes of content where the block stands; nothing
-/// changes where there is no room. The block grows into the free block right above it where that is large enough; else
-/// the run above the block is packed upward, after as few purges as serve. The blocks that are purged for it are
-/// reported to a sink, if it listens.
+/// Grows a nonrelocatable or locked block at `place` to `bytes` bytes of content where the block
+/// stands; nothing changes where there is no room. The block grows into the free block right above
+/// it where that is large enough; else the run above the block is packed upward, after as few
+/// purges as serve. The blocks that are purged for it are reported to a sink, if it listens.
 ///
-/// *Inside Macintosh: Memory*, chapter 2, "Changing the Sizes of Relocatable and Nonrelocatable Blocks".
+/// *Inside Macintosh: Memory*, chapter 2, "Changing the Sizes of Relocatable and Nonrelocatable
+/// Blocks".
 pub fn grow_in_place<S: BlockStore, K: PurgeSink>(
     store: &mut S,
     names: &[Anchor],
@@ -57,21 +61,23 @@ pub fn grow_in_place<S: BlockStore, K: PurgeSink>(
     sink: &mut K,
 ) -> Result<Grown, AllocError>
     requires still { IsSomeAnd (spot_at place (S.zone store.old)) (λ s. in_run s.here ≡ false) }
-    requires grows { IsSomeAnd (spot_at place (S.zone store.old)) (λ s. size s.here < size (resized bytes s.here)) }
+    requires grows { IsSomeAnd (spot_at place (S.zone store.old)) (λ s. size s.here
+        < size (resized bytes s.here)) }
     requires fits { IsSome (physical_size bytes) }
     requires whole { OpensNone sparing }
     requires idle { IsIdle K.told K.waits sink.old }
     ensures zone { IfOk result (λ grown. IfSome (spot_at place (S.zone store.old))
-        (λ s. grow_nonrelocatable (spared sparing) (resized bytes s.here) s ≡ made_zone grown.done (S.zone store.new))) }
+        (λ s. grow_nonrelocatable (spared sparing) (resized bytes s.here) s
+        ≡ made_zone grown.done (S.zone store.new))) }
     ensures none { IfOk result (λ grown. grown.done ≡ false → S.zone store.new ≡ S.zone store.old) }
     ensures searches { IfOk result (λ grown. IfSome (spot_at place (S.zone store.old))
         (λ s. grown.searches ≡ in_place_searches (spared sparing) (resized bytes s.here) s)) }
     ensures nonrelocatable { KeepsNonrelocatable (S.zone store.old) (S.zone store.new) }
     ensures rest { KeepsAllButPlaced (S.rest store.old) (S.rest store.new) }
-    ensures hears { IfSome (spot_at place (S.zone store.old)) (λ s. Hears K.told K.waits K.listens (IsOk result)
-        (still_gone names.now sparing (resized bytes s.here) s) sink.old sink.new) }
-    ensures halts { OnErr result (Halts S.TAKES_HOST K.told K.listens (S.zone store.old) (S.rest store.old)
-        (S.zone store.new) (S.rest store.new) sink.old sink.new) }
+    ensures hears { IfSome (spot_at place (S.zone store.old)) (λ s. Hears K.told K.waits K.listens
+        (IsOk result) (still_gone names.now sparing (resized bytes s.here) s) sink.old sink.new) }
+    ensures halts { OnErr result (Halts S.TAKES_HOST K.told K.listens (S.zone store.old)
+        (S.rest store.old) (S.zone store.new) (S.rest store.new) sink.old sink.new) }
 {
     let taken = bytes_at(store, place);
     let wanted = padded_size(bytes);
@@ -144,8 +150,8 @@ fn has_room_at<S: BlockStore>(store: &S, place: u32, bytes: u32) -> bool
     }
 }
 
-/// The search for `bytes` free bytes in the run above the block at `place`, from which at most `most` blocks may be
-/// purged.
+/// The search for `bytes` free bytes in the run above the block at `place`, from which at most
+/// `most` blocks may be purged.
 #[derive(Clone, Copy)]
 struct RunAbove {
     place: u32,
@@ -157,7 +163,8 @@ struct RunAbove {
 impl Sought for RunAbove {
     ghost Allows = { λ sought zone. IsMost sought.most sought.sparing (spot_at sought.place zone) };
 
-    ghost is_there = { λ sought zone k. enough_above sought.bytes k sought.sparing (spot_at sought.place zone) };
+    ghost is_there = { λ sought zone k.
+        enough_above sought.bytes k sought.sparing (spot_at sought.place zone) };
 
     ghost most = { λ sought zone. sought.most };
 
@@ -173,21 +180,22 @@ impl Sought for RunAbove {
         self.most
     }
 
-    ghost rises = { λ sought zone k m allows. above-rises sought.bytes sought.sparing (spot_at sought.place zone) k m };
+    ghost rises = { λ sought zone k m allows.
+        above-rises sought.bytes sought.sparing (spot_at sought.place zone) k m };
 
     ghost ends = { λ sought zone k allows. above-ends sought.bytes sought.most sought.sparing
         (spot_at sought.place zone) k
         allows };
 }
 
-/// Finds the least number of blocks to purge from the run above the block at `place` so that the run has `bytes` free
-/// bytes.
+/// Finds the least number of blocks to purge from the run above the block at `place` so that the
+/// run has `bytes` free bytes.
 fn least_purges<S: BlockStore>(store: &S, place: u32, bytes: u32, sparing: Sparing) -> Fewest
     requires { IsSome (spot_at place (S.zone store.now)) }
-    ensures found { IfSome (spot_at place (S.zone store.now)) (λ s. FindsPurges bytes (spared sparing)
-        (segments s.above).first result.purges) }
-    ensures searches { IfSome (spot_at place (S.zone store.now))
-        (λ s. result.searches ≡ room_searches (enough bytes) (spared sparing) (segments s.above).first) }
+    ensures found { IfSome (spot_at place (S.zone store.now)) (λ s.
+        FindsPurges bytes (spared sparing) (segments s.above).first result.purges) }
+    ensures searches { IfSome (spot_at place (S.zone store.now)) (λ s. result.searches
+        ≡ room_searches (enough bytes) (spared sparing) (segments s.above).first) }
     ensures counted { IfSome result.purges (λ k. k + 1 ≡ result.searches) }
 {
     let most = store.purgeable_after(place, sparing);
@@ -211,9 +219,9 @@ fn least_purges<S: BlockStore>(store: &S, place: u32, bytes: u32, sparing: Spari
     }
 }
 
-/// Packs the run above the block at `place` upward, after the given number of purges in the run, so that `bytes` free
-/// bytes stand at its bottom; `taken` is the physical size of the block. The blocks that are purged are reported to a
-/// sink, if it listens.
+/// Packs the run above the block at `place` upward, after the given number of purges in the run, so
+/// that `bytes` free bytes stand at its bottom; `taken` is the physical size of the block. The
+/// blocks that are purged are reported to a sink, if it listens.
 fn push_up<S: BlockStore, K: PurgeSink>(
     store: &mut S,
     names: &[Anchor],
@@ -232,14 +240,14 @@ fn push_up<S: BlockStore, K: PurgeSink>(
     requires even { bytes % 16 ≡ 0 }
     requires some { 0 < bytes }
     requires idle { IsIdle K.told K.waits sink.old }
-    ensures zone { OnOk result (IfSome (spot_at place (S.zone store.old))
-        (λ s. S.zone store.new ≡ s.below ++ s.here ∷ pushed_up bytes purges (spared sparing) s.above)) }
+    ensures zone { OnOk result (IfSome (spot_at place (S.zone store.old)) (λ s. S.zone store.new
+        ≡ s.below ++ s.here ∷ pushed_up bytes purges (spared sparing) s.above)) }
     ensures nonrelocatable { KeepsNonrelocatable (S.zone store.old) (S.zone store.new) }
     ensures rest { KeepsAllButPlaced (S.rest store.old) (S.rest store.new) }
-    ensures hears { IfSome (spot_at place (S.zone store.old)) (λ s. Hears K.told K.waits K.listens (IsOk result)
-        (gone_from names.now sparing purges s.above) sink.old sink.new) }
-    ensures halts { OnErr result (Halts S.TAKES_HOST K.told K.listens (S.zone store.old) (S.rest store.old)
-        (S.zone store.new) (S.rest store.new) sink.old sink.new) }
+    ensures hears { IfSome (spot_at place (S.zone store.old)) (λ s. Hears K.told K.waits K.listens
+        (IsOk result) (gone_from names.now sparing purges s.above) sink.old sink.new) }
+    ensures halts { OnErr result (Halts S.TAKES_HOST K.told K.listens (S.zone store.old)
+        (S.rest store.old) (S.zone store.new) (S.rest store.new) sink.old sink.new) }
 {
     purge_above_telling(store, names, place, taken, purges, sparing, sink)?;
     store.raise(place + taken, bytes)

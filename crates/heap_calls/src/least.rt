@@ -41,20 +41,21 @@ pub trait Sought: Copy {
         → is_there sought zone k ≡ true → is_there sought zone m ≡ true };
 
     /// Once every block that may be purged is purged, a further purge changes nothing.
-    ghost ends: { (sought : Self) (zone : List Block) (k : ℕ) → Allows sought zone → most sought zone ≤ k
+    ghost ends: { (sought : Self) (zone : List Block) (k : ℕ) → Allows sought zone
+        → most sought zone ≤ k
         → is_there sought zone k ≡ is_there sought zone (most sought zone) };
 }
 
-/// Whether what is searched for is there after some number of purges, and the least such number, or the number of all
-/// purges that there can be.
+/// Whether what is searched for is there after some number of purges, and the least such number, or
+/// the number of all purges that there can be.
 #[derive(Clone, Copy)]
 pub struct Searched {
     pub there: bool,
     pub purges: u32,
 }
 
-/// Finds the least number of purges after which what is searched for is there, or all that there can be where none
-/// serve.
+/// Finds the least number of purges after which what is searched for is there, or all that there
+/// can be where none serve.
 pub fn least_search<S: BlockStore, L: Sought>(store: &S, sought: &L) -> Searched
     requires { L.Allows sought.now (S.zone store.now) }
     ensures least { result.purges ≡ least_or_last (L.is_there sought.now (S.zone store.now))
@@ -88,8 +89,9 @@ pub fn least_search<S: BlockStore, L: Sought>(store: &S, sought: &L) -> Searched
     }
 }
 
-/// Finds the least number of purges after which what is searched for is there, where it is there after `enough`, and not
-/// before any purge. The numbers double until it is there; then what lies between the last two is halved.
+/// Finds the least number of purges after which what is searched for is there, where it is there
+/// after `enough`, and not before any purge. The numbers double until it is there; then what lies
+/// between the last two is halved.
 fn fewest_within<S: BlockStore, L: Sought>(store: &S, sought: &L, enough: u32) -> u32
     requires allows { L.Allows sought.now (S.zone store.now) }
     requires after_none { L.is_there sought.now (S.zone store.now) 0 ≡ false }
@@ -118,8 +120,8 @@ pub fn any_goes<S: BlockStore>(store: &S, sparing: Sparing) -> bool
     store.next_purgeable(sparing).is_some()
 }
 
-/// Counts the purges after which a run has at least `bytes` free bytes: the least number that serves, or all that there
-/// can be where none serves.
+/// Counts the purges after which a run has at least `bytes` free bytes: the least number that
+/// serves, or all that there can be where none serves.
 pub fn count_for_run<S: BlockStore>(store: &S, bytes: u32, sparing: Sparing) -> Searched
     ensures least { result.purges ≡ least_or_last (serves bytes sparing (S.zone store.now))
         (most_purges sparing (S.zone store.now)) }

@@ -1,5 +1,5 @@
-//! The calls of the Memory Manager over any store of blocks. Handles and pointers are numbers, and each call returns
-//! exactly what its definition says.
+//! The calls of the Memory Manager over any store of blocks. Handles and pointers are numbers, and
+//! each call returns exactly what its definition says.
 #![tactic(auto)]
 
 mod anchor;
@@ -25,6 +25,7 @@ mod pointers;
 mod purging;
 mod reaching;
 mod refusal;
+mod replacing;
 mod roles;
 mod search;
 mod segments;

@@ -13,7 +13,8 @@ use mac_words::OsErr;
 impl<S: BlockStore> Heap<S> {
     /// `HLock`: locks the block of a handle, so that the block is neither moved nor purged.
     pub fn h_lock(&mut self, handle: Option<usize>) -> Result<(), OsErr>
-        ensures answer { unless (barred handle self.old.memory) (noting (h_lock handle)) self.old.memory
+        ensures answer { unless (barred handle self.old.memory)
+            (noting (h_lock handle)) self.old.memory
             ≡ (result, self.new.memory) }
         ensures lies { self.new.memory.window ≡ self.old.memory.window }
     {
@@ -26,7 +27,8 @@ impl<S: BlockStore> Heap<S> {
 
     /// `HUnlock`: unlocks the block of a handle, so that the block may be moved.
     pub fn h_unlock(&mut self, handle: Option<usize>) -> Result<(), OsErr>
-        ensures answer { unless (barred handle self.old.memory) (noting (h_unlock handle)) self.old.memory
+        ensures answer { unless (barred handle self.old.memory)
+            (noting (h_unlock handle)) self.old.memory
             ≡ (result, self.new.memory) }
         ensures lies { self.new.memory.window ≡ self.old.memory.window }
     {
@@ -37,10 +39,11 @@ impl<S: BlockStore> Heap<S> {
         self.note(answer)
     }
 
-    /// `MoveHHi`: moves the block of a handle to the top of its run of movable blocks. Returns -117 (memLockedErr)
-    /// where the block is locked.
+    /// `MoveHHi`: moves the block of a handle to the top of its run of movable blocks. Returns -117
+    /// (memLockedErr) where the block is locked.
     pub fn move_h_hi(&mut self, handle: Option<usize>) -> Result<(), OsErr>
-        ensures answer { unless (barred handle self.old.memory) (noting (move_h_hi handle)) self.old.memory
+        ensures answer { unless (barred handle self.old.memory)
+            (noting (move_h_hi handle)) self.old.memory
             ≡ (result, self.new.memory) }
         ensures lies { self.new.memory.window ≡ self.old.memory.window }
     {
@@ -51,10 +54,12 @@ impl<S: BlockStore> Heap<S> {
         self.note(answer)
     }
 
-    /// `HLockHi`: moves the block of a handle to the top of its run of movable blocks, as `MoveHHi` does, and locks
-    /// the block there. Returns -117 (memLockedErr) where the block is locked already.
+    /// `HLockHi`: moves the block of a handle to the top of its run of movable blocks, as `MoveHHi`
+    /// does, and locks the block there. Returns -117 (memLockedErr) where the block is locked
+    /// already.
     pub fn h_lock_hi(&mut self, handle: Option<usize>) -> Result<(), OsErr>
-        ensures answer { unless (barred handle self.old.memory) (noting (h_lock_hi handle)) self.old.memory
+        ensures answer { unless (barred handle self.old.memory)
+            (noting (h_lock_hi handle)) self.old.memory
             ≡ (result, self.new.memory) }
         ensures lies { self.new.memory.window ≡ self.old.memory.window }
     {

@@ -6,9 +6,9 @@ ghost use Rattle.heap_calls.specs.Busy.{bar, holds, is_busy, busied, eased, ease
 
 use mac_words::OsErr;
 
-/// What a heap keeps beside its zone and its names: the code that `MemError` returns, the number of searches for room
-/// that its calls made, the handles and pointers that are busy, at most three, and how many numbers in all, those
-/// given already among them, are to take no host memory.
+/// What a heap keeps beside its zone and its names: the code that `MemError` returns, the number of
+/// searches for room that its calls made, the handles and pointers that are busy, at most three,
+/// and how many numbers in all, those given already among them, are to take no host memory.
 #[derive(Clone, Copy, Debug, PartialEq, Eq)]
 pub struct Log {
     pub code: OsErr,
@@ -18,7 +18,8 @@ pub struct Log {
 }
 
 impl Log {
-    /// Adds the searches for room of a call to the count, which stays at its greatest value once it is there.
+    /// Adds the searches for room of a call to the count, which stays at its greatest value once it
+    /// is there.
     pub(crate) fn count(&mut self, searches: u32)
         ensures { self.new ≡ record self.old { searches = counted self.old.searches searches } }
     {
@@ -33,7 +34,8 @@ impl Log {
         holds(number, first) || holds(number, second) || holds(number, third)
     }
 
-    /// Returns the code that a call on a number is refused with where the number is busy: -117 (memLockedErr).
+    /// Returns the code that a call on a number is refused with where the number is busy: -117
+    /// (memLockedErr).
     pub(crate) fn bar(&self, number: usize) -> Option<OsErr>
         ensures { result ≡ bar (is_busy number self.now.busy) }
     {

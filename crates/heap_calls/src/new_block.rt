@@ -1,7 +1,8 @@
 //! New relocatable blocks.
 
 ghost use Rattle.heap_calls.specs.Inner.Numbered.{KeepsNonrelocatable};
-ghost use Rattle.std.specs.Prelude.{◌≡◌, ◌⊎◌, ◌≤◌, ◌+◌, true, false, IfOk, OnOk, OnErr, IsErr, IsTrue, IsOk};
+ghost use Rattle.std.specs.Prelude.{◌≡◌, ◌⊎◌, ◌≤◌, ◌+◌, true, false, IfOk, OnOk, OnErr, IsErr};
+ghost use Rattle.std.specs.Prelude.{IsTrue, IsOk};
 ghost use Rattle.heap_calls.specs.Gone.{IsIdle, Hears};
 ghost use Rattle.heap_calls.specs.Inner.Halting.{Halts};
 ghost use Rattle.heap_calls.specs.Inner.Telling.{fresh_gone, new_gone, LeavesSlot};
@@ -10,7 +11,8 @@ ghost use Rattle.block_store.specs.Rest.{KeepsSlots};
 ghost use Rattle.block_store.specs.Run.{has};
 ghost use Rattle.block_store.specs.Slot.{is_used};
 ghost use Rattle.block_store.specs.declared.measures.TheConstants.{GREATEST_ZONE};
-ghost use Rattle.heap_calls.specs.Inner.NewBlock.{IsAdded, IsNewBlock, given_back, new_searches, place_searches};
+ghost use Rattle.heap_calls.specs.Inner.NewBlock.{IsAdded, IsNewBlock, given_back, new_searches};
+ghost use Rattle.heap_calls.specs.Inner.NewBlock.{place_searches};
 ghost use Rattle.heap_calls.specs.Inner.NewSlot.{HasMore};
 ghost use Rattle.heap_calls.specs.Inner.Packed.{Packs, content_moves, new_moves};
 
@@ -22,9 +24,9 @@ use block_store::{BlockStore, Sparing};
 use mac_words::phys;
 use std::alloc::AllocError;
 
-/// Puts a new block of `size` bytes, all 0, for `slot` where there is room, and returns the place of the block;
-/// `None` where the block would be too large or there is no room. The slot is then unused again. The blocks that are
-/// purged for it are reported to a sink, if it listens.
+/// Puts a new block of `size` bytes, all 0, for `slot` where there is room, and returns the place
+/// of the block; `None` where the block would be too large or there is no room. The slot is then
+/// unused again. The blocks that are purged for it are reported to a sink, if it listens.
 ///
 /// *Inside Macintosh: Memory*, chapter 1, "Allocating Blocks of Memory".
 fn add_block<S: BlockStore, K: PurgeSink>(
@@ -38,17 +40,21 @@ fn add_block<S: BlockStore, K: PurgeSink>(
     requires idle { IsIdle K.told K.waits sink.old }
     requires used { IsTrue (is_used ((S.rest store.old).slots slot)) }
     requires none { has (is_relocatable slot) (S.zone store.old) ≡ false }
-    ensures added { IfOk result (λ r. IsAdded sparing slot size (S.zone store.old) (S.rest store.old) r.place
-        (S.zone store.new) (S.rest store.new)) }
-    ensures kept { OnErr result (KeepsSlots (given_back slot (S.rest store.old)) (S.rest store.new)) }
-    ensures searches { IfOk result (λ r. r.searches ≡ place_searches sparing size (S.zone store.old)) }
+    ensures added { IfOk result (λ r. IsAdded sparing slot size (S.zone store.old)
+        (S.rest store.old) r.place (S.zone store.new) (S.rest store.new)) }
+    ensures kept { OnErr result
+        (KeepsSlots (given_back slot (S.rest store.old)) (S.rest store.new)) }
+    ensures searches { IfOk result (λ r. r.searches
+        ≡ place_searches sparing size (S.zone store.old)) }
     ensures nonrelocatable { KeepsNonrelocatable (S.zone store.old) (S.zone store.new) }
     ensures few { IfOk result (λ r. r.searches ≤ GREATEST_ZONE + 1) }
-    ensures moves { OnOk result (Packs (content_moves sparing size (S.zone store.old)) (S.rest store.old) (S.rest
-        store.new)) }
-    ensures hears { Hears K.told K.waits K.listens (IsOk result) (fresh_gone names.now sparing size (S.zone store.old)) sink.old sink.new }
-    ensures halts { OnErr result (Halts S.TAKES_HOST K.told K.listens (S.zone store.old)
-        (given_back slot (S.rest store.old)) (S.zone store.new) (S.rest store.new) sink.old sink.new) }
+    ensures moves { OnOk result (Packs (content_moves sparing size (S.zone store.old))
+        (S.rest store.old) (S.rest store.new)) }
+    ensures hears { Hears K.told K.waits K.listens (IsOk result)
+        (fresh_gone names.now sparing size (S.zone store.old)) sink.old sink.new }
+    ensures halts { OnErr result
+        (Halts S.TAKES_HOST K.told K.listens (S.zone store.old) (given_back slot (S.rest store.old))
+        (S.zone store.new) (S.rest store.new) sink.old sink.new) }
 {
     let Some(bytes) = phys(size) else {
         store.give_slot(slot);
@@ -77,9 +83,10 @@ fn add_block<S: BlockStore, K: PurgeSink>(
     }
 }
 
-/// Puts a new block of `size` bytes, all 0, where there is room, under a new slot, and returns that slot; `None` where
-/// there is no unused slot and no room for more, where the block would be too large, or where there is no room for the
-/// block. The blocks that are purged for the slot, and then those for the block, are reported to a sink, if it listens.
+/// Puts a new block of `size` bytes, all 0, where there is room, under a new slot, and returns that
+/// slot; `None` where there is no unused slot and no room for more, where the block would be too
+/// large, or where there is no room for the block. The blocks that are purged for the slot, and
+/// then those for the block, are reported to a sink, if it listens.
 pub fn new_block<S: BlockStore, K: PurgeSink>(
     store: &mut S,
     names: &[Anchor],
@@ -88,18 +95,19 @@ pub fn new_block<S: BlockStore, K: PurgeSink>(
     sink: &mut K,
 ) -> Result<Taken, AllocError>
     requires idle { IsIdle K.told K.waits sink.old }
-    ensures hears { Hears K.told K.waits K.listens (IsOk result) (new_gone names.now sparing size (S.rest
-        store.old).unused (S.zone store.old)) sink.old sink.new }
-    ensures left { OnErr result (IsTrue S.TAKES_HOST ⊎ LeavesSlot K.told names.now sparing (S.zone store.old)
+    ensures hears { Hears K.told K.waits K.listens (IsOk result) (new_gone names.now sparing size
+        (S.rest store.old).unused (S.zone store.old)) sink.old sink.new }
+    ensures left { OnErr result (IsTrue S.TAKES_HOST
+        ⊎ LeavesSlot K.told names.now sparing (S.zone store.old)
         (S.rest store.old) (S.zone store.new) (S.rest store.new) sink.old sink.new) }
-    ensures answer { IfOk result (λ r. IsNewBlock sparing size (S.zone store.old) (S.rest store.old) r.slot
-        (S.zone store.new) (S.rest store.new)) }
+    ensures answer { IfOk result (λ r. IsNewBlock sparing size (S.zone store.old)
+        (S.rest store.old) r.slot (S.zone store.new) (S.rest store.new)) }
     ensures kept { OnErr result (HasMore (S.rest store.old) (S.rest store.new)) }
     ensures nonrelocatable { KeepsNonrelocatable (S.zone store.old) (S.zone store.new) }
-    ensures searches { IfOk result (λ r. r.searches ≡ new_searches sparing size (S.rest store.old).unused
-        (S.zone store.old)) }
-    ensures moves { IfOk result (λ _. Packs (new_moves sparing size (S.rest store.old).unused (S.zone store.old))
-        (S.rest store.old) (S.rest store.new)) }
+    ensures searches { IfOk result (λ r. r.searches
+        ≡ new_searches sparing size (S.rest store.old).unused (S.zone store.old)) }
+    ensures moves { IfOk result (λ _. Packs (new_moves sparing size (S.rest store.old).unused
+        (S.zone store.old)) (S.rest store.old) (S.rest store.new)) }
     ensures host { IsErr result → IsTrue S.TAKES_HOST ⊎ (K.listens sink.old ≡ true) }
 {
     let taken = make_slot(store, names, sparing, sink)?;

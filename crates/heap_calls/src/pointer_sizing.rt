@@ -1,6 +1,7 @@
 //! The size of a pointer's block.
 
-ghost use Rattle.std.specs.Prelude.{◌≡◌, ◌≢◌, ◌⊎◌, Some, Err, true, false, IfOk, OnOk, OnErr, IsErr, IsTrue};
+ghost use Rattle.std.specs.Prelude.{◌≡◌, ◌≢◌, ◌⊎◌, Some, Err, true, false, IfOk, OnOk, OnErr};
+ghost use Rattle.std.specs.Prelude.{IsErr, IsTrue};
 ghost use Rattle.block_store.specs.Block.{is_nonrelocatable};
 ghost use Rattle.block_store.specs.Find.{FindsLowest};
 ghost use Rattle.heap_calls.specs.Busy.{pointer_barred, unless};
@@ -28,12 +29,14 @@ use mac_words::phys;
 use std::alloc::AllocError;
 
 impl<S: BlockStore> Heap<S> {
-    /// `SetPtrSize`: changes the logical size of a pointer's block to `size` bytes; new bytes are 0, and the block does
-    /// not move. Returns -108 (memFullErr) where there is no room. The blocks that are purged for it are reported to
-    /// the sink, if it listens. Where the host is out of memory, all but the zone stays as it was; over a store that
-    /// takes no host memory that can be only where the sink listens, and the whole heap stays as it was.
+    /// `SetPtrSize`: changes the logical size of a pointer's block to `size` bytes; new bytes are
+    /// 0, and the block does not move. Returns -108 (memFullErr) where there is no room. The blocks
+    /// that are purged for it are reported to the sink, if it listens. Where the host is out of
+    /// memory, all but the zone stays as it was; over a store that takes no host memory that can be
+    /// only where the sink listens, and the whole heap stays as it was.
     ///
-    /// *Inside Macintosh: Memory*, chapter 2, "Changing the Sizes of Relocatable and Nonrelocatable Blocks".
+    /// *Inside Macintosh: Memory*, chapter 2, "Changing the Sizes of Relocatable and Nonrelocatable
+    /// Blocks".
     pub fn set_pointer_size<K: PurgeSink>(
         &mut self,
         pointer: Option<usize>,
@@ -41,13 +44,13 @@ impl<S: BlockStore> Heap<S> {
         sink: &mut K,
     ) -> Result<(), Refusal>
         requires idle { IsIdle K.told K.waits sink.old }
-        ensures answer { IsAnswer (unless (pointer_barred pointer self.old.memory) (doing (set_pointer_size pointer
-            size)) self.old.memory) result self.new.memory }
-        ensures hears { Hears K.told K.waits K.listens (result ≢ Err Refusal.HostMemory) (gone_unless (pointer_barred
-            pointer self.old.memory) (purges_made (set_pointer_size pointer size) self.old.memory.heap)) sink.old
-            sink.new }
-        ensures stops { result ≡ Err Refusal.HostMemory → Stops S.TAKES_HOST K.told K.listens KeepsMoves ⊥ None self.old
-            self.new sink.old sink.new }
+        ensures answer { IsAnswer (unless (pointer_barred pointer self.old.memory)
+            (doing (set_pointer_size pointer size)) self.old.memory) result self.new.memory }
+        ensures hears { Hears K.told K.waits K.listens (result ≢ Err Refusal.HostMemory)
+            (gone_unless (pointer_barred pointer self.old.memory)
+            (purges_made (set_pointer_size pointer size) self.old.memory.heap)) sink.old sink.new }
+        ensures stops { result ≡ Err Refusal.HostMemory → Stops S.TAKES_HOST K.told K.listens
+            KeepsMoves ⊥ None self.old self.new sink.old sink.new }
         ensures lies { self.new.memory.window ≡ self.old.memory.window }
     {
         if let Some(code) = self.pointer_barred(pointer) {
@@ -57,8 +60,8 @@ impl<S: BlockStore> Heap<S> {
         self.note_refusal(answer)
     }
 
-    /// Changes the logical size of a pointer's block, counts the searches for room, and reports the blocks that are
-    /// purged to a sink, if it listens.
+    /// Changes the logical size of a pointer's block, counts the searches for room, and reports the
+    /// blocks that are purged to a sink, if it listens.
     fn fit_pointer<K: PurgeSink>(
         &mut self,
         pointer: Option<usize>,
@@ -66,12 +69,12 @@ impl<S: BlockStore> Heap<S> {
         sink: &mut K,
     ) -> Result<(), Refusal>
         requires idle { IsIdle K.told K.waits sink.old }
-        ensures answer { IsAnswer (doing_silently (set_pointer_size pointer size) self.old.memory) result
-            self.new.memory }
-        ensures hears { Hears K.told K.waits K.listens (result ≢ Err Refusal.HostMemory) (purges_made (set_pointer_size
-            pointer size) self.old.memory.heap) sink.old sink.new }
-        ensures stops { result ≡ Err Refusal.HostMemory → Stops S.TAKES_HOST K.told K.listens KeepsMoves ⊥ None self.old
-            self.new sink.old sink.new }
+        ensures answer { IsAnswer (doing_silently (set_pointer_size pointer size) self.old.memory)
+            result self.new.memory }
+        ensures hears { Hears K.told K.waits K.listens (result ≢ Err Refusal.HostMemory)
+            (purges_made (set_pointer_size pointer size) self.old.memory.heap) sink.old sink.new }
+        ensures stops { result ≡ Err Refusal.HostMemory → Stops S.TAKES_HOST K.told K.listens
+            KeepsMoves ⊥ None self.old self.new sink.old sink.new }
         ensures lies { self.new.memory.window ≡ self.old.memory.window }
     {
         let target = target_of(&self.names, pointer)?;
@@ -80,8 +83,9 @@ impl<S: BlockStore> Heap<S> {
     }
 }
 
-/// Changes the logical size of the nonrelocatable block at `place` to `size` bytes: the block is cut, or grows, where
-/// it stands. The blocks that are purged for it are reported to a sink, if it listens.
+/// Changes the logical size of the nonrelocatable block at `place` to `size` bytes: the block is
+/// cut, or grows, where it stands. The blocks that are purged for it are reported to a sink, if it
+/// listens.
 fn fit_nonrelocatable<S: BlockStore, K: PurgeSink>(
     store: &mut S,
     names: &[Anchor],
@@ -91,17 +95,18 @@ fn fit_nonrelocatable<S: BlockStore, K: PurgeSink>(
 ) -> Result<Grown, AllocError>
     requires found { FindsLowest (is_nonrelocatable place) (S.zone store.old) (Some place) }
     requires idle { IsIdle K.told K.waits sink.old }
-    ensures zone { IfOk result (λ grown. fitted (is_nonrelocatable place) nothing size (S.zone store.old)
+    ensures zone { IfOk result (λ grown.
+        fitted (is_nonrelocatable place) nothing size (S.zone store.old)
         ≡ made_zone grown.done (S.zone store.new)) }
     ensures full { IfOk result (λ grown. grown.done ≡ false → S.zone store.new ≡ S.zone store.old) }
-    ensures searches { IfOk result (λ grown. grown.searches ≡ size_searches (is_nonrelocatable place) nothing size
-        (S.zone store.old)) }
+    ensures searches { IfOk result (λ grown. grown.searches
+        ≡ size_searches (is_nonrelocatable place) nothing size (S.zone store.old)) }
     ensures nonrelocatable { KeepsNonrelocatable (S.zone store.old) (S.zone store.new) }
     ensures rest { KeepsAllButPlaced (S.rest store.old) (S.rest store.new) }
-    ensures hears { Hears K.told K.waits K.listens (IsOk result) (fitted_gone names.now (is_nonrelocatable place)
-        Sparing.Nothing size (S.zone store.old)) sink.old sink.new }
-    ensures halts { OnErr result (Halts S.TAKES_HOST K.told K.listens (S.zone store.old) (S.rest store.old)
-        (S.zone store.new) (S.rest store.new) sink.old sink.new) }
+    ensures hears { Hears K.told K.waits K.listens (IsOk result) (fitted_gone names.now
+        (is_nonrelocatable place) Sparing.Nothing size (S.zone store.old)) sink.old sink.new }
+    ensures halts { OnErr result (Halts S.TAKES_HOST K.told K.listens (S.zone store.old)
+        (S.rest store.old) (S.zone store.new) (S.rest store.new) sink.old sink.new) }
 {
     let Some(bytes) = phys(size) else {
         return Ok(Grown {

@@ -1,6 +1,7 @@
 //! Pointers, and the nonrelocatable blocks that they lead to.
 
-ghost use Rattle.std.specs.Prelude.{◌≡◌, ◌≢◌, ◌⊎◌, ◌≤◌, length, true, Err, IfOk, OnOk, OnErr, IsErr, IsTrue};
+ghost use Rattle.std.specs.Prelude.{◌≡◌, ◌≢◌, ◌⊎◌, ◌≤◌, length, true, Err, IfOk, OnOk, OnErr};
+ghost use Rattle.std.specs.Prelude.{IsErr, IsTrue};
 ghost use Rattle.heap_calls.specs.Busy.{pointer_barred, unless, unless_silent};
 ghost use Rattle.heap_calls.specs.Inner.Halting.{Halts};
 ghost use Rattle.heap_calls.specs.Inner.Given.{IsAnswer, IsShown, KeepsMoves};
@@ -9,9 +10,8 @@ ghost use Rattle.heap_calls.specs.Inner.NewPointer.{IsNewNonrelocatable, nonrelo
 ghost use Rattle.heap_calls.specs.Gone.{IsIdle, Hears};
 ghost use Rattle.heap_calls.specs.Rows.{new_pointer, doing, doing_silently, purges_made};
 ghost use Rattle.heap_calls.specs.Inner.Telling.{pointer_gone};
-ghost use Rattle.heap_calls.specs.Pointers.{dispose_pointer, get_pointer_size, pointer_zone, show_pointer};
-ghost use Rattle.heap_calls.specs.Pointers.{put_pointer};
-ghost use Rattle.heap_calls.specs.Pointers.{block_named};
+ghost use Rattle.heap_calls.specs.Pointers.{dispose_pointer, get_pointer_size, pointer_zone};
+ghost use Rattle.heap_calls.specs.Pointers.{show_pointer, put_pointer, block_named};
 ghost use Rattle.heap_calls.specs.Inner.Pointing.{FindsHeld};
 ghost use Rattle.heap_calls.specs.Inner.Numbered.{Agrees, KeepsNonrelocatable, state_of};
 ghost use Rattle.heap_calls.specs.Inner.Packed.{KeepsAllButPlaced};
@@ -29,17 +29,19 @@ use mac_words::{OsErr, phys};
 use std::alloc::AllocError;
 
 impl<S: BlockStore> Heap<S> {
-    /// `NewPtr`: allocates a nonrelocatable block of `size` bytes, all 0, at the base of a run, and returns a pointer
-    /// to the block. Returns -108 (memFullErr) where the zone has no room for the block. The blocks that are purged for
-    /// it are reported to the sink, if it listens. Where the host is out of memory, all but the zone stays as it was,
-    /// and the whole heap and the sink stay so over a store that takes no host memory.
+    /// `NewPtr`: allocates a nonrelocatable block of `size` bytes, all 0, at the base of a run, and
+    /// returns a pointer to the block. Returns -108 (memFullErr) where the zone has no room for the
+    /// block. The blocks that are purged for it are reported to the sink, if it listens. Where the
+    /// host is out of memory, all but the zone stays as it was, and the whole heap and the sink
+    /// stay so over a store that takes no host memory.
     pub fn new_pointer<K: PurgeSink>(&mut self, size: u32, sink: &mut K) -> Result<usize, Refusal>
         requires idle { IsIdle K.told K.waits sink.old }
-        ensures answer { IsAnswer (doing (new_pointer size) self.old.memory) result self.new.memory }
-        ensures hears { Hears K.told K.waits K.listens (result ≢ Err Refusal.HostMemory) (purges_made (new_pointer size)
-            self.old.memory.heap) sink.old sink.new }
-        ensures stops { result ≡ Err Refusal.HostMemory → Stops S.TAKES_HOST K.told K.listens KeepsMoves (Unreserved
-            self.old.memory) None self.old self.new sink.old sink.new }
+        ensures answer { IsAnswer (doing (new_pointer size) self.old.memory) result
+            self.new.memory }
+        ensures hears { Hears K.told K.waits K.listens (result ≢ Err Refusal.HostMemory)
+            (purges_made (new_pointer size) self.old.memory.heap) sink.old sink.new }
+        ensures stops { result ≡ Err Refusal.HostMemory → Stops S.TAKES_HOST K.told K.listens
+            KeepsMoves (Unreserved self.old.memory) None self.old self.new sink.old sink.new }
         ensures lies { self.new.memory.window ≡ self.old.memory.window }
     {
         let answer = self.make_pointer(size, sink);
@@ -48,8 +50,8 @@ impl<S: BlockStore> Heap<S> {
 
     /// `DisposePtr`: disposes of a pointer. Its block becomes free.
     pub fn dispose_pointer(&mut self, pointer: Option<usize>) -> Result<(), OsErr>
-        ensures answer { unless (pointer_barred pointer self.old.memory) (noting (dispose_pointer pointer))
-            self.old.memory ≡ (result, self.new.memory) }
+        ensures answer { unless (pointer_barred pointer self.old.memory)
+            (noting (dispose_pointer pointer)) self.old.memory ≡ (result, self.new.memory) }
         ensures lies { self.new.memory.window ≡ self.old.memory.window }
     {
         if let Some(code) = self.pointer_barred(pointer) {
@@ -61,8 +63,8 @@ impl<S: BlockStore> Heap<S> {
 
     /// `GetPtrSize`: returns the logical size in bytes of the block of a pointer.
     pub fn get_pointer_size(&mut self, pointer: Option<usize>) -> Result<u32, OsErr>
-        ensures answer { unless (pointer_barred pointer self.old.memory) (noting (get_pointer_size pointer))
-            self.old.memory ≡ (result, self.new.memory) }
+        ensures answer { unless (pointer_barred pointer self.old.memory)
+            (noting (get_pointer_size pointer)) self.old.memory ≡ (result, self.new.memory) }
         ensures lies { self.new.memory.window ≡ self.old.memory.window }
     {
         if let Some(code) = self.pointer_barred(pointer) {
@@ -72,10 +74,11 @@ impl<S: BlockStore> Heap<S> {
         self.note(answer)
     }
 
-    /// `PtrZone`: returns the place of the zone of the block of a pointer: its offset from its own start, 0.
+    /// `PtrZone`: returns the place of the zone of the block of a pointer: its offset from its own
+    /// start, 0.
     pub fn pointer_zone(&mut self, pointer: Option<usize>) -> Result<u32, OsErr>
-        ensures answer { unless (pointer_barred pointer self.old.memory) (noting (pointer_zone pointer))
-            self.old.memory ≡ (result, self.new.memory) }
+        ensures answer { unless (pointer_barred pointer self.old.memory)
+            (noting (pointer_zone pointer)) self.old.memory ≡ (result, self.new.memory) }
         ensures lies { self.new.memory.window ≡ self.old.memory.window }
     {
         if let Some(code) = self.pointer_barred(pointer) {
@@ -85,8 +88,9 @@ impl<S: BlockStore> Heap<S> {
         self.note(answer)
     }
 
-    /// `PutPtr`: writes bytes into the block of a pointer, from the offset `from` on. Returns -30001 (profileErr)
-    /// where the bytes would end past the block's content. The call does not set the code that `MemError` returns.
+    /// `PutPtr`: writes bytes into the block of a pointer, from the offset `from` on. Returns
+    /// -30001 (profileErr) where the bytes would end past the block's content. The call does not
+    /// set the code that `MemError` returns.
     pub fn put_pointer(
         &mut self,
         pointer: Option<usize>,
@@ -94,7 +98,8 @@ impl<S: BlockStore> Heap<S> {
         bytes: &[u8],
     ) -> Result<(), OsErr>
         ensures answer { unless_silent (pointer_barred pointer self.old.memory)
-            (silent (put_pointer pointer from bytes.now)) self.old.memory ≡ (result, self.new.memory) }
+            (silent (put_pointer pointer from bytes.now)) self.old.memory
+            ≡ (result, self.new.memory) }
         ensures lies { self.new.memory.window ≡ self.old.memory.window }
     {
         if let Some(code) = self.pointer_barred(pointer) {
@@ -103,11 +108,11 @@ impl<S: BlockStore> Heap<S> {
         self.write_pointer(pointer, from, bytes)
     }
 
-    /// `ShowPtr`: returns the bytes of the block of a pointer. The call does not set the code that `MemError`
-    /// returns.
+    /// `ShowPtr`: returns the bytes of the block of a pointer. The call does not set the code that
+    /// `MemError` returns.
     pub fn show_pointer(&self, pointer: Option<usize>) -> Result<&[u8], OsErr>
-        ensures { IsShown (unless_silent (pointer_barred pointer self.now.memory) (silent (show_pointer pointer))
-            self.now.memory) result self.now.memory }
+        ensures { IsShown (unless_silent (pointer_barred pointer self.now.memory)
+            (silent (show_pointer pointer)) self.now.memory) result self.now.memory }
     {
         if let Some(code) = self.pointer_barred(pointer) {
             return Err(code);
@@ -115,15 +120,16 @@ impl<S: BlockStore> Heap<S> {
         self.pointer_bytes(pointer)
     }
 
-    /// Makes a new pointer to a block of `size` bytes, all 0, counts the searches for room, and reports the blocks that
-    /// are purged to a sink, if it listens.
+    /// Makes a new pointer to a block of `size` bytes, all 0, counts the searches for room, and
+    /// reports the blocks that are purged to a sink, if it listens.
     fn make_pointer<K: PurgeSink>(&mut self, size: u32, sink: &mut K) -> Result<usize, Refusal>
         requires idle { IsIdle K.told K.waits sink.old }
-        ensures answer { IsAnswer (doing_silently (new_pointer size) self.old.memory) result self.new.memory }
-        ensures hears { Hears K.told K.waits K.listens (result ≢ Err Refusal.HostMemory) (purges_made (new_pointer size)
-            self.old.memory.heap) sink.old sink.new }
-        ensures stops { result ≡ Err Refusal.HostMemory → Stops S.TAKES_HOST K.told K.listens KeepsMoves (Unreserved
-            self.old.memory) None self.old self.new sink.old sink.new }
+        ensures answer { IsAnswer (doing_silently (new_pointer size) self.old.memory) result
+            self.new.memory }
+        ensures hears { Hears K.told K.waits K.listens (result ≢ Err Refusal.HostMemory)
+            (purges_made (new_pointer size) self.old.memory.heap) sink.old sink.new }
+        ensures stops { result ≡ Err Refusal.HostMemory → Stops S.TAKES_HOST K.told K.listens
+            KeepsMoves (Unreserved self.old.memory) None self.old self.new sink.old sink.new }
         ensures lies { self.new.memory.window ≡ self.old.memory.window }
     {
         self.names.reserve(1)?;
@@ -139,7 +145,8 @@ impl<S: BlockStore> Heap<S> {
 
     /// Disposes of a pointer and its block.
     fn free_block(&mut self, pointer: Option<usize>) -> Result<(), OsErr>
-        ensures answer { silent (dispose_pointer pointer) self.old.memory ≡ (result, self.new.memory) }
+        ensures answer { silent (dispose_pointer pointer) self.old.memory
+            ≡ (result, self.new.memory) }
         ensures lies { self.new.memory.window ≡ self.old.memory.window }
     {
         let target = target_of(&self.names, pointer)?;
@@ -155,7 +162,8 @@ impl<S: BlockStore> Heap<S> {
         from: u32,
         bytes: &[u8],
     ) -> Result<(), OsErr>
-        ensures answer { silent (put_pointer pointer from bytes.now) self.old.memory ≡ (result, self.new.memory) }
+        ensures answer { silent (put_pointer pointer from bytes.now) self.old.memory
+            ≡ (result, self.new.memory) }
         ensures lies { self.new.memory.window ≡ self.old.memory.window }
     {
         let target = target_of(&self.names, pointer)?;
@@ -202,8 +210,8 @@ pub(crate) fn find_named<S: BlockStore>(
     name: Option<usize>,
 ) -> Result<u32, OsErr>
     requires { Agrees (S.zone store.now) (S.rest store.now) names.now }
-    ensures { FindsHeld (block_named name (state_of (S.zone store.now) (S.rest store.now).slots names.now))
-        (S.zone store.now) names.now result }
+    ensures { FindsHeld (block_named name (state_of (S.zone store.now)
+        (S.rest store.now).slots names.now)) (S.zone store.now) names.now result }
 {
     match target_of(names, name) {
         Ok(target) => Ok(target.place),
@@ -211,8 +219,9 @@ pub(crate) fn find_named<S: BlockStore>(
     }
 }
 
-/// Puts a new nonrelocatable block of `size` bytes, all 0, at the base of a run, where there is room, and returns the
-/// place of the block. The blocks that are purged for it are reported to a sink, if it listens.
+/// Puts a new nonrelocatable block of `size` bytes, all 0, at the base of a run, where there is
+/// room, and returns the place of the block. The blocks that are purged for it are reported to a
+/// sink, if it listens.
 ///
 /// *Inside Macintosh: Memory*, chapter 1, "Memory Reservation".
 fn add_nonrelocatable<S: BlockStore, K: PurgeSink>(
@@ -222,13 +231,17 @@ fn add_nonrelocatable<S: BlockStore, K: PurgeSink>(
     sink: &mut K,
 ) -> Result<Room, AllocError>
     requires idle { IsIdle K.told K.waits sink.old }
-    ensures put { IfOk result (λ r. IsNewNonrelocatable size (S.zone store.old) r.place (S.zone store.new)) }
-    ensures searches { IfOk result (λ r. r.searches ≡ nonrelocatable_searches size (S.zone store.old)) }
-    ensures nonrelocatable { OnErr result (KeepsNonrelocatable (S.zone store.old) (S.zone store.new)) }
+    ensures put { IfOk result (λ r.
+        IsNewNonrelocatable size (S.zone store.old) r.place (S.zone store.new)) }
+    ensures searches { IfOk result (λ r. r.searches
+        ≡ nonrelocatable_searches size (S.zone store.old)) }
+    ensures nonrelocatable { OnErr result
+        (KeepsNonrelocatable (S.zone store.old) (S.zone store.new)) }
     ensures rest { KeepsAllButPlaced (S.rest store.old) (S.rest store.new) }
-    ensures hears { Hears K.told K.waits K.listens (IsOk result) (pointer_gone names.now size (S.zone store.old)) sink.old sink.new }
-    ensures halts { OnErr result (Halts S.TAKES_HOST K.told K.listens (S.zone store.old) (S.rest store.old)
-        (S.zone store.new) (S.rest store.new) sink.old sink.new) }
+    ensures hears { Hears K.told K.waits K.listens (IsOk result)
+        (pointer_gone names.now size (S.zone store.old)) sink.old sink.new }
+    ensures halts { OnErr result (Halts S.TAKES_HOST K.told K.listens (S.zone store.old)
+        (S.rest store.old) (S.zone store.new) (S.rest store.new) sink.old sink.new) }
 {
     let Some(bytes) = phys(size) else {
         return Ok(Room {

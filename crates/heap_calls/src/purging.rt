@@ -1,6 +1,7 @@
 //! Purging.
 
-ghost use Rattle.std.specs.Prelude.{false, ◌≡◌, ◌≢◌, ◌<◌, true, Err, OnOk, OnErr, IsErr, IfSome, IsOk, None};
+ghost use Rattle.std.specs.Prelude.{false, ◌≡◌, ◌≢◌, ◌<◌, true, Err, OnOk, OnErr, IsErr, IfSome};
+ghost use Rattle.std.specs.Prelude.{IsOk, None};
 ghost use Rattle.block_store.specs.Block.{free_sum};
 ghost use Rattle.block_store.specs.Compact.{has_room};
 ghost use Rattle.block_store.specs.Sparing.{purged, most_purges};
@@ -9,8 +10,10 @@ ghost use Rattle.heap_calls.specs.Inner.SearchLaws.{room-ends};
 ghost use Rattle.block_store.proofs.Purged.Rising.{has_room-rises};
 ghost use Rattle.heap_calls.specs.Inner.Given.{IsAnswer, KeepsNames};
 ghost use Rattle.heap_calls.specs.Answer.{noting, silent, searching, moving};
-ghost use Rattle.heap_calls.specs.Purging.{blocks_purged, purged_all, purge_mem, purge_space, max_mem};
-ghost use Rattle.heap_calls.specs.Gone.{Tells, TellsNothing, IsIdle, purge_mem_gone, max_mem_gone, Hears};
+ghost use Rattle.heap_calls.specs.Purging.{blocks_purged, purged_all, purge_mem, purge_space};
+ghost use Rattle.heap_calls.specs.Purging.{max_mem};
+ghost use Rattle.heap_calls.specs.Gone.{Tells, TellsNothing, IsIdle, purge_mem_gone, max_mem_gone};
+ghost use Rattle.heap_calls.specs.Gone.{Hears};
 ghost use Rattle.heap_calls.specs.Moves.{max_mem_moves};
 ghost use Rattle.heap_calls.specs.Searches.{purge_mem_searches};
 ghost use Rattle.heap_calls.specs.Left.{Stops};
@@ -31,33 +34,36 @@ use std::alloc::AllocError;
 pub struct Space {
     /// The number of free bytes of the zone, the headers of the free blocks included.
     pub total: u32,
-    /// The logical size in bytes of the largest block that could be allocated without moving another.
+    /// The logical size in bytes of the largest block that could be allocated without moving
+    /// another.
     pub contiguous: u32,
 }
 
 impl<S: BlockStore> Heap<S> {
-    /// `PurgeMem`: purges blocks, lowest first, until a block of `size` bytes of content has room. Nothing is moved.
-    /// Returns -108 (memFullErr) where every block that may be purged is purged and there is still no room; what was
-    /// purged stays purged. The blocks are reported to the sink, if it listens, before they are purged; where it finds
-    /// the host out of memory, nothing is purged.
+    /// `PurgeMem`: purges blocks, lowest first, until a block of `size` bytes of content has room.
+    /// Nothing is moved. Returns -108 (memFullErr) where every block that may be purged is purged
+    /// and there is still no room; what was purged stays purged. The blocks are reported to the
+    /// sink, if it listens, before they are purged; where it finds the host out of memory, nothing
+    /// is purged.
     pub fn purge_mem<K: PurgeSink>(&mut self, size: u32, sink: &mut K) -> Result<(), Refusal>
         requires idle { IsIdle K.told K.waits sink.old }
-        ensures answer { IsAnswer (searching (purge_mem_searches size self.old.memory.heap) (noting (purge_mem size)
-            self.old.memory)) result self.new.memory }
-        ensures hears { Hears K.told K.waits K.listens (result ≢ Err Refusal.HostMemory) (purge_mem_gone size
-            self.old.memory.heap) sink.old sink.new }
-        ensures stops { result ≡ Err Refusal.HostMemory → Stops false K.told K.listens KeepsNames ⊥ None self.old
-            self.new sink.old sink.new }
+        ensures answer { IsAnswer (searching (purge_mem_searches size self.old.memory.heap)
+            (noting (purge_mem size) self.old.memory)) result self.new.memory }
+        ensures hears { Hears K.told K.waits K.listens (result ≢ Err Refusal.HostMemory)
+            (purge_mem_gone size self.old.memory.heap) sink.old sink.new }
+        ensures stops { result ≡ Err Refusal.HostMemory
+            → Stops false K.told K.listens KeepsNames ⊥ None self.old self.new sink.old sink.new }
         ensures lies { self.new.memory.window ≡ self.old.memory.window }
     {
         let answer = self.purge_for(size, sink);
         self.note_refusal(answer)
     }
 
-    /// `PurgeSpace`: returns what could be allocated if every block that may be purged were purged; nothing is
-    /// purged.
+    /// `PurgeSpace`: returns what could be allocated if every block that may be purged were purged;
+    /// nothing is purged.
     pub fn purge_space(&mut self) -> Space
-        ensures { noting purge_space self.old.memory ≡ (Ok (result.total, result.contiguous), self.new.memory) }
+        ensures { noting purge_space self.old.memory
+            ≡ (Ok (result.total, result.contiguous), self.new.memory) }
     {
         self.log.code = OsErr::NO_ERR;
         Space {
@@ -76,18 +82,19 @@ impl<S: BlockStore> Heap<S> {
         self.store.free_if_purged()
     }
 
-    /// `MaxMem`: purges every block that may be purged, compacts all runs of movable blocks, and returns the logical
-    /// size in bytes of the largest block that can then be allocated. The blocks are reported to the sink, if it
-    /// listens, before they are purged; where it finds the host out of memory, nothing happens. Blocks move by packing
-    /// alone: none is raised, hoisted, moved to a free block or made.
+    /// `MaxMem`: purges every block that may be purged, compacts all runs of movable blocks, and
+    /// returns the logical size in bytes of the largest block that can then be allocated. The
+    /// blocks are reported to the sink, if it listens, before they are purged; where it finds the
+    /// host out of memory, nothing happens. Blocks move by packing alone: none is raised, hoisted,
+    /// moved to a free block or made.
     pub fn max_mem<K: PurgeSink>(&mut self, sink: &mut K) -> Result<u32, Refusal>
         requires idle { IsIdle K.told K.waits sink.old }
-        ensures answer { IsAnswer (moving (max_mem_moves self.old.memory.heap) (noting max_mem self.old.memory)) result
-            self.new.memory }
-        ensures hears { Hears K.told K.waits K.listens (result ≢ Err Refusal.HostMemory) (max_mem_gone
-            self.old.memory.heap) sink.old sink.new }
-        ensures stops { result ≡ Err Refusal.HostMemory → Stops false K.told K.listens KeepsNames ⊥ None self.old
-            self.new sink.old sink.new }
+        ensures answer { IsAnswer (moving (max_mem_moves self.old.memory.heap)
+            (noting max_mem self.old.memory)) result self.new.memory }
+        ensures hears { Hears K.told K.waits K.listens (result ≢ Err Refusal.HostMemory)
+            (max_mem_gone self.old.memory.heap) sink.old sink.new }
+        ensures stops { result ≡ Err Refusal.HostMemory
+            → Stops false K.told K.listens KeepsNames ⊥ None self.old self.new sink.old sink.new }
         ensures placed { self.new.placings ≡ self.old.placings }
         ensures lies { self.new.memory.window ≡ self.old.memory.window }
     {
@@ -98,16 +105,16 @@ impl<S: BlockStore> Heap<S> {
         Ok(self.store.largest_free().saturating_sub(HEADER_SIZE))
     }
 
-    /// Purges blocks, lowest first, until a block of `size` bytes of content has room, counts the searches for room, and
-    /// reports the blocks to a sink, if it listens.
+    /// Purges blocks, lowest first, until a block of `size` bytes of content has room, counts the
+    /// searches for room, and reports the blocks to a sink, if it listens.
     fn purge_for<K: PurgeSink>(&mut self, size: u32, sink: &mut K) -> Result<(), Refusal>
         requires idle { IsIdle K.told K.waits sink.old }
-        ensures answer { IsAnswer (searching (purge_mem_searches size self.old.memory.heap) (silent (purge_mem size)
-            self.old.memory)) result self.new.memory }
-        ensures hears { Hears K.told K.waits K.listens (result ≢ Err Refusal.HostMemory) (purge_mem_gone size
-            self.old.memory.heap) sink.old sink.new }
-        ensures stops { result ≡ Err Refusal.HostMemory → Stops false K.told K.listens KeepsNames ⊥ None self.old
-            self.new sink.old sink.new }
+        ensures answer { IsAnswer (searching (purge_mem_searches size self.old.memory.heap)
+            (silent (purge_mem size) self.old.memory)) result self.new.memory }
+        ensures hears { Hears K.told K.waits K.listens (result ≢ Err Refusal.HostMemory)
+            (purge_mem_gone size self.old.memory.heap) sink.old sink.new }
+        ensures stops { result ≡ Err Refusal.HostMemory
+            → Stops false K.told K.listens KeepsNames ⊥ None self.old self.new sink.old sink.new }
         ensures lies { self.new.memory.window ≡ self.old.memory.window }
     {
         let bytes = phys(size);
@@ -154,8 +161,9 @@ impl Sought for FreeBlock {
     ghost ends = { λ sought zone k allows. room-ends sought.bytes Nothing zone k };
 }
 
-/// Returns how many blocks are purged, lowest first, until a free block of `bytes` bytes stands; the number of all
-/// that may be purged where no such block stands even then, or where `bytes` is `None`.
+/// Returns how many blocks are purged, lowest first, until a free block of `bytes` bytes stands;
+/// the number of all that may be purged where no such block stands even then, or where `bytes` is
+/// `None`.
 ///
 /// *Inside Macintosh: Memory*, chapter 1, "Purging and Reallocating Relocatable Blocks".
 fn purges_for<S: BlockStore>(store: &S, bytes: Option<u32>) -> u32

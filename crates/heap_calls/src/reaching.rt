@@ -7,7 +7,8 @@ use crate::anchor::{Anchor, slot_of};
 use block_store::BlockStore;
 use mac_words::OsErr;
 
-/// A handle with a block: the handle's number, the slot that leads to the block, and the block's place.
+/// A handle with a block: the handle's number, the slot that leads to the block, and the block's
+/// place.
 #[derive(Clone, Copy)]
 pub struct Reached {
     pub number: usize,
@@ -15,8 +16,9 @@ pub struct Reached {
     pub place: u32,
 }
 
-/// Returns the block of the handle that a name is bound to: -109 (nilHandleErr) where the name is unbound, the number
-/// was never given or the handle is empty, -111 (memWZErr) where the number is a pointer's or was disposed of.
+/// Returns the block of the handle that a name is bound to: -109 (nilHandleErr) where the name is
+/// unbound, the number was never given or the handle is empty, -111 (memWZErr) where the number is
+/// a pointer's or was disposed of.
 pub fn reach<S: BlockStore>(
     store: &S,
     names: &[Anchor],

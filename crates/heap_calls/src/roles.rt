@@ -3,7 +3,8 @@
 ghost use Rattle.std.specs.Prelude.{◌≡◌, is_ok, option_map};
 ghost use Rattle.heap_calls.specs.Answer.{handle_at};
 ghost use Rattle.heap_calls.specs.Contents.{bytes_of};
-ghost use Rattle.heap_calls.specs.Inside.{inside, cast, owned_as, guarded_as, is_owned, has_block, released};
+ghost use Rattle.heap_calls.specs.Inside.{inside, cast, owned_as, guarded_as, is_owned, has_block};
+ghost use Rattle.heap_calls.specs.Inside.{released};
 ghost use Rattle.heap_calls.specs.Inner.Roles.{is_system};
 
 use crate::anchor::{Anchor, slot_of};
@@ -44,8 +45,8 @@ impl<S: BlockStore> Heap<S> {
         };
     }
 
-    /// Makes the handle of a resource a System resource's, whose bytes and size cannot be changed, or an ordinary
-    /// resource's. An application's own handle stays as it is.
+    /// Makes the handle of a resource a System resource's, whose bytes and size cannot be changed,
+    /// or an ordinary resource's. An application's own handle stays as it is.
     pub fn set_guard(&mut self, number: usize, guarded: bool)
         ensures { self.new.memory ≡ inside (cast (guarded_as guarded) number) self.old.memory }
     {
@@ -68,8 +69,8 @@ impl<S: BlockStore> Heap<S> {
         self.store.place_of(found.slot).is_some()
     }
 
-    /// Returns the bytes of the block of a number's handle, whether the handle is busy or not; `None` where it has no
-    /// block.
+    /// Returns the bytes of the block of a number's handle, whether the handle is busy or not;
+    /// `None` where it has no block.
     pub fn bytes(&self, number: usize) -> Option<&[u8]>
         ensures { option_map (λ b. b.now) result ≡ bytes_of number self.now.memory.heap }
     {
@@ -79,8 +80,8 @@ impl<S: BlockStore> Heap<S> {
         }
     }
 
-    /// Disposes of the handle of a number, of whatever role, and of its block, locked or not; the slot is unused
-    /// again.
+    /// Disposes of the handle of a number, of whatever role, and of its block, locked or not; the
+    /// slot is unused again.
     pub fn release(&mut self, number: usize)
         ensures { self.new.memory ≡ inside (released number) self.old.memory }
     {

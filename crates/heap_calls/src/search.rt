@@ -1,7 +1,7 @@
 //! The search for room.
 
-ghost use Rattle.std.specs.Prelude.{◌≡◌, ◌+◌, ◌≤◌, ◌<◌, ℕ, false, true, List, MatchOption, Some, is_some, OnOk, OnErr};
-ghost use Rattle.std.specs.Prelude.{IfOk, IfSome, IsOk};
+ghost use Rattle.std.specs.Prelude.{◌≡◌, ◌+◌, ◌≤◌, ◌<◌, ℕ, false, true, List, MatchOption, Some};
+ghost use Rattle.std.specs.Prelude.{is_some, OnOk, OnErr, IfOk, IfSome, IsOk};
 ghost use Rattle.block_store.specs.Block.{Block, is_relocatable};
 ghost use Rattle.block_store.specs.Run.{has};
 ghost use Rattle.block_store.specs.Room.{place};
@@ -14,7 +14,8 @@ ghost use Rattle.heap_calls.specs.Inner.Growing.{SameBlocks};
 ghost use Rattle.heap_calls.specs.Inner.Numbered.{KeepsNonrelocatable};
 ghost use Rattle.heap_calls.specs.Inner.Packed.{Packs, placement_moves};
 ghost use Rattle.heap_calls.specs.Inner.Telling.{placement_gone};
-ghost use Rattle.heap_calls.specs.Inner.Search.{FindsPlacement, IsAt, placement, placement_searches};
+ghost use Rattle.heap_calls.specs.Inner.Search.{FindsPlacement, IsAt, placement};
+ghost use Rattle.heap_calls.specs.Inner.Search.{placement_searches};
 ghost use Rattle.block_store.specs.declared.measures.TheConstants.{GREATEST_ZONE};
 
 use crate::anchor::Anchor;
@@ -24,7 +25,8 @@ use crate::telling::purge_telling;
 use block_store::{BlockStore, Sparing};
 use std::alloc::AllocError;
 
-/// Where a relocatable block is put: into the free block at a place, or into a run once the run is packed.
+/// Where a relocatable block is put: into the free block at a place, or into a run once the run is
+/// packed.
 #[derive(Clone, Copy)]
 pub enum Placement {
     Free(u32),
@@ -49,7 +51,8 @@ pub fn placement_now<S: BlockStore>(store: &S, bytes: u32) -> Option<Placement>
     Some(Placement::Run(run))
 }
 
-/// Returns the place that a placement stands for, once the run of the placement, if it is a run, is packed.
+/// Returns the place that a placement stands for, once the run of the placement, if it is a run, is
+/// packed.
 pub fn pack_placement<S: BlockStore>(store: &mut S, bytes: u32, placement: Placement) -> u32
     requires positive { 0 < bytes }
     requires found { FindsPlacement bytes (S.zone store.old) (Some placement) }
@@ -59,7 +62,8 @@ pub fn pack_placement<S: BlockStore>(store: &mut S, bytes: u32, placement: Place
         → has (is_relocatable number) (S.zone store.new) ≡ false }
     ensures nonrelocatable { KeepsNonrelocatable (S.zone store.old) (S.zone store.new) }
     ensures rest { KeepsSlots (S.rest store.old) (S.rest store.new) }
-    ensures moves { Packs (place_moves bytes (S.zone store.old)) (S.rest store.old) (S.rest store.new) }
+    ensures moves { Packs (place_moves bytes (S.zone store.old)) (S.rest store.old)
+        (S.rest store.new) }
 {
     let run = match placement {
         Placement::Free(place) => return place,
@@ -82,13 +86,15 @@ fn counts_as_free(sparing: Sparing) -> bool
     }
 }
 
-/// Finds where a relocatable block of `bytes` bytes is put without any purge. Where a block counts as free that isn't
-/// freed yet, no placement is found so.
+/// Finds where a relocatable block of `bytes` bytes is put without any purge. Where a block counts
+/// as free that isn't freed yet, no placement is found so.
 fn placement_at_once<S: BlockStore>(store: &S, bytes: u32, sparing: Sparing) -> Option<Placement>
     requires { 0 < bytes }
     ensures found { IfSome result (λ p. FindsPlacement bytes (S.zone store.now) (Some p)) }
-    ensures least { IfSome result (λ p. placement bytes sparing (S.zone store.now) ≡ place bytes (S.zone store.now)) }
-    ensures searches { IfSome result (λ p. 1 ≡ placement_searches bytes sparing (S.zone store.now)) }
+    ensures least { IfSome result (λ p. placement bytes sparing (S.zone store.now)
+        ≡ place bytes (S.zone store.now)) }
+    ensures searches { IfSome result (λ p. 1
+        ≡ placement_searches bytes sparing (S.zone store.now)) }
     ensures moves { IfSome result (λ p. placement_moves bytes sparing (S.zone store.now)
         ≡ place_moves bytes (S.zone store.now)) }
 {
@@ -98,11 +104,13 @@ fn placement_at_once<S: BlockStore>(store: &S, bytes: u32, sparing: Sparing) -> 
     placement_now(store, bytes)
 }
 
-/// Counts the purges after which a relocatable block of `bytes` bytes has a place: the least number that serves, or all
-/// that there can be where none serves. A block has a place where a run has its bytes.
+/// Counts the purges after which a relocatable block of `bytes` bytes has a place: the least number
+/// that serves, or all that there can be where none serves. A block has a place where a run has its
+/// bytes.
 fn count_for_placement<S: BlockStore>(store: &S, bytes: u32, sparing: Sparing) -> Searched
     requires { 0 < bytes }
-    ensures there { result.there ≡ is_some (place bytes (purged result.purges sparing (S.zone store.now))) }
+    ensures there { result.there
+        ≡ is_some (place bytes (purged result.purges sparing (S.zone store.now))) }
     ensures least { placement bytes sparing (S.zone store.now) ≡ place bytes
         (purged result.purges sparing (S.zone store.now)) }
     ensures searches { result.purges + 1 ≡ placement_searches bytes sparing (S.zone store.now) }
@@ -111,9 +119,9 @@ fn count_for_placement<S: BlockStore>(store: &S, bytes: u32, sparing: Sparing) -
     count_for_run(store, bytes, sparing)
 }
 
-/// Makes room for a relocatable block of `bytes` bytes, where there is any, and returns its place; nothing changes
-/// where there is none. The blocks that are purged for it are reported to a sink, if it listens. If the sink finds the
-/// host out of memory, nothing changes, and none is reported.
+/// Makes room for a relocatable block of `bytes` bytes, where there is any, and returns its place;
+/// nothing changes where there is none. The blocks that are purged for it are reported to a sink,
+/// if it listens. If the sink finds the host out of memory, nothing changes, and none is reported.
 pub fn make_room<S: BlockStore, K: PurgeSink>(
     store: &mut S,
     names: &[Anchor],
@@ -123,20 +131,23 @@ pub fn make_room<S: BlockStore, K: PurgeSink>(
 ) -> Result<Room, AllocError>
     requires positive { 0 < bytes }
     requires idle { IsIdle K.told K.waits sink.old }
-    ensures place { IfOk result (λ r. IsAt (placement bytes sparing (S.zone store.old)) (S.zone store.new) r.place) }
-    ensures none { IfOk result (λ r. MatchOption r.place (S.zone store.new ≡ S.zone store.old) (λ _. Unit {0})) }
+    ensures place { IfOk result (λ r.
+        IsAt (placement bytes sparing (S.zone store.old)) (S.zone store.new) r.place) }
+    ensures none { IfOk result (λ r.
+        MatchOption r.place (S.zone store.new ≡ S.zone store.old) (λ _. Unit {0})) }
     ensures kept { (number : ℕ) → has (is_relocatable number) (S.zone store.old) ≡ false
         → has (is_relocatable number) (S.zone store.new) ≡ false }
     ensures nonrelocatable { KeepsNonrelocatable (S.zone store.old) (S.zone store.new) }
-    ensures searches { IfOk result (λ r. r.searches ≡ placement_searches bytes sparing (S.zone store.old)) }
+    ensures searches { IfOk result (λ r. r.searches
+        ≡ placement_searches bytes sparing (S.zone store.old)) }
     ensures few { IfOk result (λ r. r.searches ≤ GREATEST_ZONE + 1) }
     ensures rest { KeepsSlots (S.rest store.old) (S.rest store.new) }
-    ensures moves { OnOk result (Packs (placement_moves bytes sparing (S.zone store.old)) (S.rest store.old)
-        (S.rest store.new)) }
-    ensures hears { Hears K.told K.waits K.listens (IsOk result) (placement_gone names.now bytes sparing
-        (S.zone store.old)) sink.old sink.new }
-    ensures halts { OnErr result (Unheard K.told K.listens (S.zone store.old) (S.rest store.old) (S.zone store.new)
-        (S.rest store.new) sink.old sink.new) }
+    ensures moves { OnOk result (Packs (placement_moves bytes sparing (S.zone store.old))
+        (S.rest store.old) (S.rest store.new)) }
+    ensures hears { Hears K.told K.waits K.listens (IsOk result)
+        (placement_gone names.now bytes sparing (S.zone store.old)) sink.old sink.new }
+    ensures halts { OnErr result (Unheard K.told K.listens (S.zone store.old) (S.rest store.old)
+        (S.zone store.new) (S.rest store.new) sink.old sink.new) }
 {
     if let Some(placement) = placement_at_once(store, bytes, sparing) {
         let place = pack_placement(store, bytes, placement);

@@ -1,7 +1,8 @@
 //! What the Segment Manager does with the blocks of segments.
 //!
-//! *Inside Macintosh: Processes*, chapter 7, "Loading and Unloading Segments". None of these steps sets the code that
-//! `MemError` returns, none is barred by a busy name, and none makes a search for room or takes host memory.
+//! *Inside Macintosh: Processes*, chapter 7, "Loading and Unloading Segments". None of these steps
+//! sets the code that `MemError` returns, none is barred by a busy name, and none makes a search
+//! for room or takes host memory.
 
 ghost use Rattle.std.specs.Prelude.{◌≡◌, Some};
 ghost use Rattle.heap_calls.specs.Answer.{change_flags};
@@ -12,8 +13,8 @@ use crate::heap::Heap;
 use block_store::BlockStore;
 
 impl<S: BlockStore> Heap<S> {
-    /// Moves the block of a number's handle to the top of its run of movable blocks, and locks the block there. A
-    /// block that is locked stays as it is, and so does an empty handle.
+    /// Moves the block of a number's handle to the top of its run of movable blocks, and locks the
+    /// block there. A block that is locked stays as it is, and so does an empty handle.
     ///
     /// *Inside Macintosh: Processes*, chapter 7, "Loading and Unloading Segments".
     pub fn hold_high(&mut self, handle: usize)
@@ -24,7 +25,8 @@ impl<S: BlockStore> Heap<S> {
         }
     }
 
-    /// Unlocks the block of a number's handle, and makes the block purgeable. An empty handle stays as it is.
+    /// Unlocks the block of a number's handle, and makes the block purgeable. An empty handle stays
+    /// as it is.
     ///
     /// *Inside Macintosh: Processes*, chapter 7, "Loading and Unloading Segments".
     pub fn loosen(&mut self, handle: usize)
@@ -34,11 +36,11 @@ impl<S: BlockStore> Heap<S> {
         self.put_flags(handle, None, Some(true));
     }
 
-    /// Sets those properties of the block of a number's handle that are given; the others stay as they are, and so
-    /// does an empty handle.
+    /// Sets those properties of the block of a number's handle that are given; the others stay as
+    /// they are, and so does an empty handle.
     fn put_flags(&mut self, handle: usize, locked: Option<bool>, purgeable: Option<bool>)
-        ensures { self.new.memory ≡ inside (λ s. (change_flags (flags_with locked purgeable) (Some handle) s).1)
-            self.old.memory }
+        ensures { self.new.memory ≡ inside
+            (λ s. (change_flags (flags_with locked purgeable) (Some handle) s).1) self.old.memory }
     {
         match self.set_flags(Some(handle), locked, purgeable) {
             Ok(()) | Err(_) => {}

@@ -1,6 +1,7 @@
 //! The size of a handle's block.
 
-ghost use Rattle.std.specs.Prelude.{◌≡◌, ◌≢◌, ◌⊎◌, Some, Err, true, false, IsSome, IsTrue, IsErr, IfOk, OnOk, OnErr};
+ghost use Rattle.std.specs.Prelude.{◌≡◌, ◌≢◌, ◌⊎◌, Some, Err, true, false, IsSome, IsTrue, IsErr};
+ghost use Rattle.std.specs.Prelude.{IfOk, OnOk, OnErr};
 ghost use Rattle.mac_words.specs.Size.{phys as physical_size};
 ghost use Rattle.block_store.specs.Block.{is_relocatable};
 ghost use Rattle.block_store.specs.Find.{FindsLowest};
@@ -36,13 +37,15 @@ use mac_words::{OsErr, phys};
 use std::alloc::AllocError;
 
 impl<S: BlockStore> Heap<S> {
-    /// `SetHandleSize`: changes the logical size of a handle's block to `size` bytes; new bytes are 0. Returns -108
-    /// (memFullErr) where there is no room, and -30001 (profileErr) where the handle is a System resource's. The blocks
-    /// that are purged for it are reported to the sink, if it listens. Where the host is out of memory, all but the
-    /// zone and the count of moves stays as it was; over a store that takes no host memory that can be only where the
-    /// sink listens, and the whole heap stays as it was.
+    /// `SetHandleSize`: changes the logical size of a handle's block to `size` bytes; new bytes
+    /// are 0. Returns -108 (memFullErr) where there is no room, and -30001 (profileErr) where the
+    /// handle is a System resource's. The blocks that are purged for it are reported to the sink,
+    /// if it listens. Where the host is out of memory, all but the zone and the count of moves
+    /// stays as it was; over a store that takes no host memory that can be only where the sink
+    /// listens, and the whole heap stays as it was.
     ///
-    /// *Inside Macintosh: Memory*, chapter 2, "Changing the Sizes of Relocatable and Nonrelocatable Blocks".
+    /// *Inside Macintosh: Memory*, chapter 2, "Changing the Sizes of Relocatable and Nonrelocatable
+    /// Blocks".
     pub fn set_handle_size<K: PurgeSink>(
         &mut self,
         handle: Option<usize>,
@@ -50,13 +53,13 @@ impl<S: BlockStore> Heap<S> {
         sink: &mut K,
     ) -> Result<(), Refusal>
         requires idle { IsIdle K.told K.waits sink.old }
-        ensures answer { IsAnswer (unless (change_barred handle self.old.memory) (doing (set_handle_size handle size))
-            self.old.memory) result self.new.memory }
-        ensures hears { Hears K.told K.waits K.listens (result ≢ Err Refusal.HostMemory) (gone_unless (change_barred
-            handle self.old.memory) (purges_made (set_handle_size handle size) self.old.memory.heap)) sink.old
-            sink.new }
-        ensures stops { result ≡ Err Refusal.HostMemory → Stops S.TAKES_HOST K.told K.listens KeepsNames ⊥ None self.old
-            self.new sink.old sink.new }
+        ensures answer { IsAnswer (unless (change_barred handle self.old.memory)
+            (doing (set_handle_size handle size)) self.old.memory) result self.new.memory }
+        ensures hears { Hears K.told K.waits K.listens (result ≢ Err Refusal.HostMemory)
+            (gone_unless (change_barred handle self.old.memory)
+            (purges_made (set_handle_size handle size) self.old.memory.heap)) sink.old sink.new }
+        ensures stops { result ≡ Err Refusal.HostMemory → Stops S.TAKES_HOST K.told K.listens
+            KeepsNames ⊥ None self.old self.new sink.old sink.new }
         ensures lies { self.new.memory.window ≡ self.old.memory.window }
     {
         if let Some(code) = self.change_barred(handle) {
@@ -66,21 +69,21 @@ impl<S: BlockStore> Heap<S> {
         self.note_refusal(answer)
     }
 
-    /// Changes the logical size of a handle's block, counts the searches for room, and reports the blocks that are
-    /// purged to a sink, if it listens.
-    fn give_size<K: PurgeSink>(
+    /// Changes the logical size of a handle's block, counts the searches for room, and reports the
+    /// blocks that are purged to a sink, if it listens.
+    pub(crate) fn give_size<K: PurgeSink>(
         &mut self,
         handle: Option<usize>,
         size: u32,
         sink: &mut K,
     ) -> Result<(), Refusal>
         requires idle { IsIdle K.told K.waits sink.old }
-        ensures answer { IsAnswer (doing_silently (set_handle_size handle size) self.old.memory) result
-            self.new.memory }
-        ensures hears { Hears K.told K.waits K.listens (result ≢ Err Refusal.HostMemory) (purges_made (set_handle_size
-            handle size) self.old.memory.heap) sink.old sink.new }
-        ensures stops { result ≡ Err Refusal.HostMemory → Stops S.TAKES_HOST K.told K.listens KeepsNames ⊥ None self.old
-            self.new sink.old sink.new }
+        ensures answer { IsAnswer (doing_silently (set_handle_size handle size) self.old.memory)
+            result self.new.memory }
+        ensures hears { Hears K.told K.waits K.listens (result ≢ Err Refusal.HostMemory)
+            (purges_made (set_handle_size handle size) self.old.memory.heap) sink.old sink.new }
+        ensures stops { result ≡ Err Refusal.HostMemory → Stops S.TAKES_HOST K.told K.listens
+            KeepsNames ⊥ None self.old self.new sink.old sink.new }
         ensures lies { self.new.memory.window ≡ self.old.memory.window }
     {
         let held = reach(&self.store, &self.names, handle)?;
@@ -97,8 +100,8 @@ impl<S: BlockStore> Heap<S> {
         Ok(self.account(grown)?)
     }
 
-    /// Counts the searches for room that were made for a block, and returns -108 (memFullErr) where there was no
-    /// room.
+    /// Counts the searches for room that were made for a block, and returns -108 (memFullErr) where
+    /// there was no room.
     pub(crate) fn account(&mut self, grown: Grown) -> Result<(), OsErr>
         ensures reply { result ≡ sized_reply grown.done }
         ensures counted { self.new.memory ≡ record self.old.memory {
@@ -115,8 +118,9 @@ impl<S: BlockStore> Heap<S> {
     }
 }
 
-/// Changes the logical size of the block of `slot`, which stands at `place`, to `size` bytes, if a block can have
-/// that size and there is room. The blocks that are purged for it are reported to a sink, if it listens.
+/// Changes the logical size of the block of `slot`, which stands at `place`, to `size` bytes, if a
+/// block can have that size and there is room. The blocks that are purged for it are reported to a
+/// sink, if it listens.
 pub fn fit_block<S: BlockStore, K: PurgeSink>(
     store: &mut S,
     names: &[Anchor],
@@ -130,19 +134,20 @@ pub fn fit_block<S: BlockStore, K: PurgeSink>(
     requires stays { Stays sparing (is_relocatable slot) }
     requires found { FindsLowest (is_relocatable slot) (S.zone store.old) (Some place) }
     requires idle { IsIdle K.told K.waits sink.old }
-    ensures zone { IfOk result (λ grown. fitted (is_relocatable slot) (spared sparing) size (S.zone store.old)
+    ensures zone { IfOk result (λ grown.
+        fitted (is_relocatable slot) (spared sparing) size (S.zone store.old)
         ≡ made_zone grown.done (S.zone store.new)) }
     ensures full { IfOk result (λ grown. grown.done ≡ false → S.zone store.new ≡ S.zone store.old) }
-    ensures searches { IfOk result (λ grown. grown.searches ≡ size_searches (is_relocatable slot) (spared sparing) size
-        (S.zone store.old)) }
+    ensures searches { IfOk result (λ grown. grown.searches
+        ≡ size_searches (is_relocatable slot) (spared sparing) size (S.zone store.old)) }
     ensures nonrelocatable { KeepsNonrelocatable (S.zone store.old) (S.zone store.new) }
     ensures rest { KeepsSlots (S.rest store.old) (S.rest store.new) }
-    ensures moves { OnOk result (Packs (size_moves (is_relocatable slot) (spared sparing) size (S.zone store.old))
-        (S.rest store.old) (S.rest store.new)) }
-    ensures hears { Hears K.told K.waits K.listens (IsOk result) (fitted_gone names.now (is_relocatable slot) sparing size
-        (S.zone store.old)) sink.old sink.new }
-    ensures halts { OnErr result (Halts S.TAKES_HOST K.told K.listens (S.zone store.old) (S.rest store.old)
-        (S.zone store.new) (S.rest store.new) sink.old sink.new) }
+    ensures moves { OnOk result (Packs (size_moves (is_relocatable slot) (spared sparing) size
+        (S.zone store.old)) (S.rest store.old) (S.rest store.new)) }
+    ensures hears { Hears K.told K.waits K.listens (IsOk result) (fitted_gone names.now
+        (is_relocatable slot) sparing size (S.zone store.old)) sink.old sink.new }
+    ensures halts { OnErr result (Halts S.TAKES_HOST K.told K.listens (S.zone store.old)
+        (S.rest store.old) (S.zone store.new) (S.rest store.new) sink.old sink.new) }
 {
     if phys(size).is_none() {
         return Ok(Grown {
@@ -153,9 +158,9 @@ pub fn fit_block<S: BlockStore, K: PurgeSink>(
     resize_block(store, names, slot, place, size, sparing, sink)
 }
 
-/// Changes the logical size of the block of `slot`, which stands at `place`, to `size` bytes: the block is cut where
-/// it stands, or grows, and a locked block grows where it stands. The blocks that are purged for it are reported to a
-/// sink, if it listens.
+/// Changes the logical size of the block of `slot`, which stands at `place`, to `size` bytes: the
+/// block is cut where it stands, or grows, and a locked block grows where it stands. The blocks
+/// that are purged for it are reported to a sink, if it listens.
 fn resize_block<S: BlockStore, K: PurgeSink>(
     store: &mut S,
     names: &[Anchor],
@@ -170,19 +175,20 @@ fn resize_block<S: BlockStore, K: PurgeSink>(
     requires stays { Stays sparing (is_relocatable slot) }
     requires found { FindsLowest (is_relocatable slot) (S.zone store.old) (Some place) }
     requires idle { IsIdle K.told K.waits sink.old }
-    ensures zone { IfOk result (λ grown. grow (is_relocatable slot) (spared sparing) size (S.zone store.old)
+    ensures zone { IfOk result (λ grown.
+        grow (is_relocatable slot) (spared sparing) size (S.zone store.old)
         ≡ made_zone grown.done (S.zone store.new)) }
     ensures full { IfOk result (λ grown. grown.done ≡ false → S.zone store.new ≡ S.zone store.old) }
-    ensures searches { IfOk result (λ grown. grown.searches ≡ size_searches (is_relocatable slot) (spared sparing) size
-        (S.zone store.old)) }
+    ensures searches { IfOk result (λ grown. grown.searches
+        ≡ size_searches (is_relocatable slot) (spared sparing) size (S.zone store.old)) }
     ensures nonrelocatable { KeepsNonrelocatable (S.zone store.old) (S.zone store.new) }
     ensures rest { KeepsSlots (S.rest store.old) (S.rest store.new) }
-    ensures moves { OnOk result (Packs (size_moves (is_relocatable slot) (spared sparing) size (S.zone store.old))
-        (S.rest store.old) (S.rest store.new)) }
-    ensures hears { Hears K.told K.waits K.listens (IsOk result) (fitted_gone names.now (is_relocatable slot) sparing size
-        (S.zone store.old)) sink.old sink.new }
-    ensures halts { OnErr result (Halts S.TAKES_HOST K.told K.listens (S.zone store.old) (S.rest store.old)
-        (S.zone store.new) (S.rest store.new) sink.old sink.new) }
+    ensures moves { OnOk result (Packs (size_moves (is_relocatable slot) (spared sparing) size
+        (S.zone store.old)) (S.rest store.old) (S.rest store.new)) }
+    ensures hears { Hears K.told K.waits K.listens (IsOk result) (fitted_gone names.now
+        (is_relocatable slot) sparing size (S.zone store.old)) sink.old sink.new }
+    ensures halts { OnErr result (Halts S.TAKES_HOST K.told K.listens (S.zone store.old)
+        (S.rest store.old) (S.zone store.new) (S.rest store.new) sink.old sink.new) }
 {
     let Some(bytes) = phys(size) else {
         unreachable!()

@@ -1,6 +1,7 @@
 //! Purges for room, of which a sink is told first.
 
-ghost use Rattle.std.specs.Prelude.{◌≡◌, ◌++◌, ◌∷◌, true, List, OnOk, OnErr, IsErr, IsOk, IfSome, IsSome, IsSomeAnd};
+ghost use Rattle.std.specs.Prelude.{◌≡◌, ◌++◌, ◌∷◌, true, List, OnOk, OnErr, IsErr, IsOk, IfSome};
+ghost use Rattle.std.specs.Prelude.{IsSome, IsSomeAnd};
 ghost use Rattle.block_store.specs.Block.{size, tidy};
 ghost use Rattle.block_store.specs.Find.{IsEdge};
 ghost use Rattle.block_store.specs.Rest.{IsRest};
@@ -49,7 +50,8 @@ fn offer_block<S: BlockStore, K: PurgeSink>(
 ) -> Result<(), AllocError>
     requires { IsSome (spot_at place (S.zone store.now)) }
     ensures waits { OnOk result ((gone : List Gone) → K.waits sink.old gone
-        → IfSome (spot_at place (S.zone store.now)) (λ s. K.waits sink.new (gone ++ gone_named names.now s.here))) }
+        → IfSome (spot_at place (S.zone store.now)) (λ s.
+        K.waits sink.new (gone ++ gone_named names.now s.here))) }
     ensures told { (gone : List Gone) → K.told sink.old gone → K.told sink.new gone }
     ensures listens { K.listens sink.new ≡ K.listens sink.old }
     ensures host { IsErr result → K.listens sink.old ≡ true }
@@ -94,8 +96,8 @@ fn offer_blocks<S: BlockStore, K: PurgeSink>(
     Ok(())
 }
 
-/// Reports to a sink, if it listens, the lowest blocks from a place on that so many purges purge, the lowest first. If
-/// the sink finds the host out of memory, none is reported.
+/// Reports to a sink, if it listens, the lowest blocks from a place on that so many purges purge,
+/// the lowest first. If the sink finds the host out of memory, none is reported.
 fn tell<S: BlockStore, K: PurgeSink>(
     store: &S,
     names: &[Anchor],
@@ -122,9 +124,9 @@ fn tell<S: BlockStore, K: PurgeSink>(
     offered
 }
 
-/// Purges the `purges` lowest blocks that may be purged, which are reported to a sink first, if it listens, and makes
-/// the block that counts as free a free block. If the sink finds the host out of memory, nothing changes, and none is
-/// reported.
+/// Purges the `purges` lowest blocks that may be purged, which are reported to a sink first, if it
+/// listens, and makes the block that counts as free a free block. If the sink finds the host out of
+/// memory, nothing changes, and none is reported.
 pub fn purge_telling<S: BlockStore, K: PurgeSink>(
     store: &mut S,
     names: &[Anchor],
@@ -137,17 +139,17 @@ pub fn purge_telling<S: BlockStore, K: PurgeSink>(
     ensures rest { IsRest (S.rest store.old) (S.rest store.new) }
     ensures hears { Hears K.told K.waits K.listens (IsOk result) (gone_from names.now sparing purges
         (S.zone store.old)) sink.old sink.new }
-    ensures halts { OnErr result (Unheard K.told K.listens (S.zone store.old) (S.rest store.old) (S.zone store.new)
-        (S.rest store.new) sink.old sink.new) }
+    ensures halts { OnErr result (Unheard K.told K.listens (S.zone store.old) (S.rest store.old)
+        (S.zone store.new) (S.rest store.new) sink.old sink.new) }
 {
     tell(store, names, 0, purges, sparing, sink)?;
     store.purge(purges, sparing);
     Ok(())
 }
 
-/// Purges the `purges` lowest blocks that may be purged above the block at a place, whose physical size is `taken`.
-/// They are reported to a sink first, if it listens. If the sink finds the host out of memory, nothing changes, and
-/// none is reported.
+/// Purges the `purges` lowest blocks that may be purged above the block at a place, whose physical
+/// size is `taken`. They are reported to a sink first, if it listens. If the sink finds the host
+/// out of memory, nothing changes, and none is reported.
 pub fn purge_above_telling<S: BlockStore, K: PurgeSink>(
     store: &mut S,
     names: &[Anchor],
@@ -159,13 +161,13 @@ pub fn purge_above_telling<S: BlockStore, K: PurgeSink>(
 ) -> Result<(), AllocError>
     requires here { IsSomeAnd (spot_at place (S.zone store.old)) (λ s. taken ≡ size s.here) }
     requires idle { IsIdle K.told K.waits sink.old }
-    ensures zone { OnOk result (IfSome (spot_at place (S.zone store.old)) (λ s.
-        S.zone store.new ≡ tidy (s.below ++ s.here ∷ lowest_purged purges (spared sparing) s.above))) }
+    ensures zone { OnOk result (IfSome (spot_at place (S.zone store.old)) (λ s. S.zone store.new
+        ≡ tidy (s.below ++ s.here ∷ lowest_purged purges (spared sparing) s.above))) }
     ensures rest { IsRest (S.rest store.old) (S.rest store.new) }
-    ensures hears { IfSome (spot_at place (S.zone store.old)) (λ s. Hears K.told K.waits K.listens (IsOk result)
-        (gone_from names.now sparing purges s.above) sink.old sink.new) }
-    ensures halts { OnErr result (Unheard K.told K.listens (S.zone store.old) (S.rest store.old) (S.zone store.new)
-        (S.rest store.new) sink.old sink.new) }
+    ensures hears { IfSome (spot_at place (S.zone store.old)) (λ s. Hears K.told K.waits K.listens
+        (IsOk result) (gone_from names.now sparing purges s.above) sink.old sink.new) }
+    ensures halts { OnErr result (Unheard K.told K.listens (S.zone store.old) (S.rest store.old)
+        (S.zone store.new) (S.rest store.new) sink.old sink.new) }
 {
     tell(store, names, place + taken, purges, sparing, sink)?;
     store.purge_after(place, purges, sparing);

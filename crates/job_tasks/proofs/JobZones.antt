@@ -80,17 +80,6 @@ named_so name apps message i l number is =
     subst (λ (o : Option ℕ). launched_with o message ≡ Some (i, l)) number
     (ap (λ (o : Option Launched). option_map (λ (l : Launched). (i, l)) o) (sym is))
 
--- there is none of that name, or it was not launched
-pub unnamed_so : (name : List ℕ) (apps : List App) (message : List AppResult)
-    → (let none : Option ℕ = None in none) ≡ number_of name apps → launched_as name apps message ≡ None
-unnamed_so name apps message none = subst (λ (o : Option ℕ). launched_with o message ≡ None) none refl
-
-pub unlaunched_so : (name : List ℕ) (apps : List App) (message : List AppResult) (i : ℕ) → Some i ≡ number_of name apps
-    → (let none : Option Launched = None in none) ≡ launched_at i message → launched_as name apps message ≡ None
-unlaunched_so name apps message i number none =
-    subst (λ (o : Option ℕ). launched_with o message ≡ None) number
-    (ap (λ (o : Option Launched). option_map (λ (l : Launched). (i, l)) o) (sym none))
-
 -- the job's text was read, and then what its lines name
 pub ungathered_zone : (asked : JobZone) (stated : Stated) (texts : List (List (List ℕ))) (a b d : Option (List Access))
     (message : Message) → b ≡ and_then a (Read asked.job.now stated.text ∷ [])

@@ -7,15 +7,6 @@ use Rattle.job_tasks.specs.Loading.{AppFork, Given, path_of, with_found, with_pa
 use Rattle.job_tasks.proofs.Stops.{stop_then}
 use Rattle.job_tasks.proofs.Forks.{fork_stop}
 
--- the fork of a part was found
-pub part_added : (given after : Given) (p : AppFork) (path bytes copy : List ℕ) (found : Found (List ℕ)) → path ≡ path_of p
-    → copy ≡ bytes → fork_told path copy (fork_in copy) ≡ Ok found → after ≡ with_found p found given
-    → with_part given p bytes ≡ Ok after
-part_added given after p path bytes copy found at same told is =
-    subst (λ q. given_then (fork_told q bytes (fork_in bytes)) (λ found. Ok (with_found p found given)) ≡ Ok after) at
-    (subst (λ b. given_then (fork_told path b (fork_in b)) (λ found. Ok (with_found p found given)) ≡ Ok after) same
-    (ap (λ r. given_then r (λ found. Ok (with_found p found given))) told ∙ ap Ok (sym is)))
-
 -- it was not
 pub part_stopped : (given : Given) (p : AppFork) (path bytes copy : List ℕ) (message : Message) → path ≡ path_of p
     → copy ≡ bytes → IsForkFault path (fork_in copy) message → IsStop (with_part given p bytes) message

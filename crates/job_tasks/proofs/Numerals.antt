@@ -3,15 +3,13 @@ use Rattle.std.proofs.Common.{rules, arith}
 use Rattle.std.specs.List.{list_all}
 use Rattle.std.specs.Char.{is_ascii_digit}
 use Rattle.std.specs.Str.Parse.{ParsesUnsigned}
-use Rattle.std.proofs.lemmas.Str.Parse.{IsNumeralModel, numerals_by_fold, parse_digits}
+use Rattle.std.proofs.lemmas.Str.Parse.{parse_digits}
 use Rattle.script_text.specs.Argument.{number_from}
 use Rattle.script_text.specs.Job.{greatest_memory}
+use Rattle.script_text.proofs.Numerals.{numerals}
 use Rattle.job_tasks.specs.Size.{within_limits, partition_size}
 
 -- Texts of digits, as they are parsed.
-
-numerals : IsNumeralModel (λ ds. list_all is_ascii_digit ds ≡ true) (number_from 0)
-numerals = numerals_by_fold _ (search rules) number_from (search rules)
 
 -- a number that is no size
 outside : (n : ℕ) → (512 ≤ n → n ≤ greatest_memory → ⊥) → None ≡ within_limits n

@@ -8,20 +8,6 @@ use Rattle.script_text.specs.JobFacts.{all_follow}
 use Rattle.desk.specs.declared.job.App as desk
 use Rattle.job_tasks.specs.Gathering.{GivenFile, GivenApp, owner_is_in, with_file}
 
--- a file that may follow has its application among those above
-owner_of : (above : List Input) (i : Input) → may_follow above i ≡ true
-    → owner_is_in (length (app_names above)) i ≡ true
-owner_of above (System path) may = refl
-owner_of above (App name fork script) may = refl
-owner_of above (File app name path) may =
-    (and_parts (nat_lt app (length (app_names above)))
-    (nat_lt (length (given_names app above)) 255 && not (has_name name (file_names app above))) may).0
-
-pub owner_above : (above more : List Input) (i : Input) → all_follow above (i ∷ more) ≡ true
-    → owner_is_in (length (app_names above)) i ≡ true
-owner_above above more i order =
-    owner_of above i (and_parts (may_follow above i) (all_follow (above ++ i ∷ []) more) order).0
-
 -- those after it may follow it
 pub order_after : (above more : List Input) (i : Input) → all_follow above (i ∷ more) ≡ true
     → all_follow (above ++ i ∷ []) more ≡ true

@@ -19,7 +19,7 @@ use Rattle.fork_tasks.specs.declared.delivering.Target.TheVariants.{Printed}
 use Rattle.job_tasks.specs.declared.playing.Playing.{Playing}
 use Rattle.job_tasks.specs.declared.playing.PlayWork.{PlayWork}
 use Rattle.job_tasks.specs.declared.playing.PlayWork.TheVariants as work
-use Rattle.fork_tasks.specs.Accesses.{Access, Folder, and_then, StopsReading, StopsAmong}
+use Rattle.fork_tasks.specs.Accesses.{Access, Folder, StopsAmong}
 use Rattle.fork_tasks.specs.Delivering.{IsUndelivered}
 use Rattle.fork_tasks.specs.Fault.{Message, Fork, HostMemory, IsQuiet}
 use Rattle.job_tasks.specs.Gathering.{GivenSource, app_given}
@@ -28,19 +28,7 @@ use Rattle.job_tasks.specs.Playing.{player_name, paths_read, IsTaken, IsUntaken,
 use Rattle.job_tasks.specs.Playing.{DoesPlay, IsPlayUndone, Plays, IsUnplayed, Unlaunched, Undone}
 use Rattle.fork_tasks.proofs.Accesses.{none}
 use Rattle.fork_tasks.proofs.Faults.{loud_write, quiet_silent}
-use Rattle.fork_tasks.proofs.Packed.{no_memory}
 use Rattle.fork_tasks.proofs.Prints.{nothing}
-
--- there is no memory for the paths, and no file was read
-pub none_read : (paths : List (List ℕ)) (a : Option (List Access)) → StopsReading paths a a HostMemory
-none_read paths a = record {
-  first = [];
-  rest = paths;
-  split = refl;
-  texts = [];
-  count = refl;
-  stops = no_memory paths (and_then a []) a (none a);
-}
 
 -- the first of what was read, and the others
 pub first_of : {A : Type 0} (f : A → List ℕ) (xs : List A) (x d : A) (text : List ℕ) → 1 ≤ length xs → x ≡ get_or xs 0 d
@@ -157,7 +145,3 @@ pub not_opened : (play : Playing) (parts : List AppFork) (texts : List (List ℕ
     → Takes play texts job app sources old new → IsLaunchFault parts job app message → IsUnplayed play p q old new message
 not_opened play parts texts job app sources p q old new message same silent taken fault =
     Unlaunched texts job app sources silent taken (subst (λ l. IsLaunchFault l job app message) same fault)
-
--- nothing was printed
-pub quiet_from : (p mid q : Option (List ℕ)) (message : Message) → mid ≡ p → IsQuiet mid q message → IsQuiet p q message
-quiet_from p mid q message silent h = subst (λ x. IsQuiet x q message) silent h

@@ -7,8 +7,7 @@ use Rattle.desk.specs.declared.job.App.{App}
 use Rattle.desk.specs.declared.job.Job.{Job}
 use Rattle.desk.specs.Outcome.{Launched, AppResult, Outcome}
 use Rattle.desk.specs.Whole.{system_of, start_with, LeftByRun}
-use Rattle.zone_view.specs.Behind.{zone_behind, steps_at}
-use Rattle.job_tasks.specs.ZoneForms.{shown_as}
+use Rattle.zone_replay.specs.Behind.{zone_behind, steps_at}
 use Rattle.fork_tasks.specs.declared.delivering.Target.TheVariants.{Printed}
 use Rattle.job_tasks.specs.declared.job_zones.JobZone.{JobZone}
 use Rattle.fork_tasks.specs.Accesses.{Access, Read, and_then, IsUnread, Stops}
@@ -48,7 +47,7 @@ steps_shown line script taken =
 -- same size, with the resources with which it was launched.
 abbrev pub IsShown : JobZone → Job → App → Launched → List ℕ → Type 0
 IsShown asked job app l out = (resources : Resources) × (start_with (system_of job) app ≡ Ok resources)
-    × (out ≡ zone_behind (shown_as asked.form) resources l.size app.script (steps_shown asked.line app.script l.steps))
+    × (out ≡ zone_behind asked.form resources l.size app.script (steps_shown asked.line app.script l.steps))
 
 -- The zone of the application of that name, by what a run leaves.
 pub record IsZoneLeft (asked : JobZone) (job : Job) (outcome : Outcome) (out : List ℕ) : Type 0 where

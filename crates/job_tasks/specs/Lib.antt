@@ -10,4 +10,3 @@ pub mod Running
 pub mod Loading
 pub mod JobZones
 pub mod Playing
-pub mod ZoneForms

@@ -8,8 +8,8 @@ use Rattle.desk.specs.declared.job.App.{App}
 use Rattle.desk.specs.declared.job.Job.{Job}
 use Rattle.desk.specs.Whole.{system_of, start_with}
 use Rattle.fork_commands.specs.declared.fault.FileFault.TheVariants.{Code}
-use Rattle.zone_view.specs.Sight.{sight_text}
-use Rattle.zone_view.specs.Words.{telling_text}
+use Rattle.zone_replay.specs.Sight.{sight_text}
+use Rattle.zone_replay.specs.Words.{telling_text}
 use Rattle.fork_tasks.specs.declared.delivering.Target.TheVariants.{Printed}
 use Rattle.job_tasks.specs.declared.playing.Playing.{Playing}
 use Rattle.job_tasks.specs.declared.playing.PlayWork.{PlayWork}

@@ -8,7 +8,7 @@ use Rattle.desk.specs.declared.job.App.{App}
 use Rattle.desk.specs.declared.job.Job.{Job}
 use Rattle.desk.specs.Outcome.{Launched, AppResult, Outcome}
 use Rattle.desk.specs.Whole.{system_of, start_with}
-use Rattle.zone_view.specs.Words.{told_alone}
+use Rattle.zone_replay.specs.Words.{told_alone}
 
 -- What a run leaves, with its transcripts in words. `system` is the System file's content, and `text` the text of an
 -- application's script.

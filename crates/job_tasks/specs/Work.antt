@@ -9,12 +9,12 @@ use Rattle.fork_commands.specs.Reading.{content_of_fork, fork_in, content_in}
 use Rattle.fork_commands.specs.States.{state_words}
 use Rattle.fork_commands.specs.declared.fault.FileFault.{FileFault}
 use Rattle.script_text.specs.declared.script.Line.{Line}
-use Rattle.zone_view.specs.Behind.{steps_at}
-use Rattle.zone_view.specs.Sight.{sight_text}
-use Rattle.zone_view.specs.declared.sight.Sight.{Sight}
-use Rattle.zone_view.specs.declared.sight.Sight.TheVariants as sight
-use Rattle.zone_view.specs.declared.words.Telling.{Telling}
-use Rattle.zone_view.specs.declared.words.Telling.TheVariants as telling
+use Rattle.zone_replay.specs.Behind.{steps_at}
+use Rattle.zone_replay.specs.Sight.{sight_text}
+use Rattle.zone_replay.specs.declared.sight.Sight.{Sight}
+use Rattle.zone_replay.specs.declared.sight.Sight.TheVariants as sight
+use Rattle.zone_replay.specs.declared.words.Telling.{Telling}
+use Rattle.zone_replay.specs.declared.words.Telling.TheVariants as telling
 use Rattle.fork_tasks.specs.Listing.{listing}
 use Rattle.fork_tasks.specs.declared.listing.Spelling.{Spelling}
 use Rattle.job_tasks.specs.declared.work.Form.{Form}
@@ -24,7 +24,6 @@ use Rattle.job_tasks.specs.declared.work.ToldLines.{ToldLines}
 use Rattle.job_tasks.specs.declared.work.ToldLines.TheVariants as told
 use Rattle.job_tasks.specs.declared.work.ZoneView.{ZoneView}
 use Rattle.job_tasks.specs.declared.work.Form.TheVariants.{Canonical, Accepted}
-use Rattle.job_tasks.specs.ZoneForms.{shown_as}
 
 -- The transcript of a script's text in a fresh partition of `n` bytes: that of the steps and the grow-zone scripts
 -- which the text spells.
@@ -35,7 +34,7 @@ IsTranscriptOf n text out =
 -- What is shown of an application with these steps: its zone after the steps up to a line, in a form; or after those up
 -- to one line and after each further step up to another line, as a picture.
 abbrev pub sight_of : Lines → List Line → Sight
-sight_of (lines.One line form) steps = sight.Zone (steps_at line steps) (shown_as form)
+sight_of (lines.One line form) steps = sight.Zone (steps_at line steps) form
 sight_of (lines.Each from to strips) steps = sight.Moments (steps_at (Some from) steps) (steps_at (Some to) steps) strips
 
 -- How much of the transcript of an application with these steps is told in words: all of it, to the end of the script; or the

@@ -6,7 +6,7 @@ ghost use Rattle.script_text.specs.JobFacts.{IsMemory};
 ghost use Rattle.desk.specs.Live.{leaves_seen};
 ghost use Rattle.desk.specs.View.{outcome_seen};
 ghost use Rattle.desk.specs.Whole.{system_of, start_with, EachLaunched, IsAlone};
-ghost use Rattle.zone_view.specs.Behind.{zone_behind};
+ghost use Rattle.zone_replay.specs.Behind.{zone_behind};
 ghost use Rattle.fork_tasks.specs.declared.ending.Ending.TheVariants.{Done};
 ghost use Rattle.fork_tasks.specs.Fault.{message_of, IsQuiet};
 ghost use Rattle.job_tasks.specs.Gathering.{name_of};
@@ -19,7 +19,6 @@ use crate::running::{job_text, outcome_of};
 use crate::showing::show_in_region;
 use crate::size::PartitionSize;
 use crate::sizing::not_launched;
-use crate::zone_form::ZoneForm;
 use applications::Unwatched;
 use desk::{App, Job, Launched, Outcome, open_resources};
 use fork_tasks::{Ending, Host, Target, ToolFault, deliver, read_input};
@@ -28,7 +27,7 @@ use raw_region::Region;
 use res_calls::Resources;
 use script_text::Script;
 use std::alloc::{AllocError, Global};
-use zone_view::{Form, Sight, steps_at};
+use zone_replay::{Form, Sight, steps_at};
 
 /// A request for the zone of an application of a job.
 #[derive(Clone, Copy)]
@@ -40,7 +39,7 @@ pub struct JobZone<'a> {
     /// The line of the application's script after which the zone is shown; `None` for the last step
     /// that it took.
     pub line: Option<usize>,
-    pub form: ZoneForm,
+    pub form: Form,
 }
 
 /// Reports whether an application has this name.
@@ -149,7 +148,7 @@ fn show_app(
         resources,
         &app.script,
         steps,
-        asked.form.shown_as(),
+        asked.form,
     )
 }
 

@@ -15,7 +15,6 @@ mod sizing;
 mod speaking;
 mod tasks;
 mod work;
-mod zone_form;
 
 pub use gathering::{GatheredJob, Source, gather};
 pub use job_zones::{JobZone, show_in_job};
@@ -28,4 +27,3 @@ pub use size::PartitionSize;
 pub use sizing::AskedSize;
 pub use tasks::{Task, Work, do_task};
 pub use work::{Lines, ToldLines, ZoneView};
-pub use zone_form::ZoneForm;

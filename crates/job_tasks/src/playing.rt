@@ -6,8 +6,8 @@ ghost use Rattle.block_store.specs.declared.measures.TheConstants.{GREATEST_ZONE
 ghost use Rattle.script_text.specs.Script.{script_of, spelled};
 ghost use Rattle.applications.specs.Alone.{to_its_end};
 ghost use Rattle.desk.specs.Whole.{system_of, system_in, start_with};
-ghost use Rattle.zone_view.specs.Sight.{sight_text};
-ghost use Rattle.zone_view.specs.Words.{telling_text};
+ghost use Rattle.zone_replay.specs.Sight.{sight_text};
+ghost use Rattle.zone_replay.specs.Words.{telling_text};
 ghost use Rattle.fork_tasks.specs.declared.ending.Ending.TheVariants.{Done};
 ghost use Rattle.fork_tasks.specs.Accesses.{and_then, reads_at, StopsAt, StopsAmong, StopsReading};
 ghost use Rattle.fork_tasks.specs.declared.delivering.Target.TheVariants.{Printed};
@@ -44,7 +44,7 @@ use raw_region::Region;
 use res_calls::Resources;
 use script_text::{Script, read_script};
 use std::alloc::{AllocError, Global};
-use zone_view::Telling;
+use zone_replay::Telling;
 
 /// What is asked for of a script that is run with files.
 #[derive(Clone, Copy)]

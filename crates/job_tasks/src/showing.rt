@@ -3,8 +3,8 @@
 ghost use Rattle.std.specs.Prelude.{◌≡◌, ◌%◌, ◌≤◌, [], length, IfOk};
 ghost use Rattle.block_store.specs.declared.measures.TheConstants.{GREATEST_ZONE, LEAST_ZONE};
 ghost use Rattle.applications.specs.Trying.{own_resources as own};
-ghost use Rattle.zone_view.specs.Sight.{sight_text};
-ghost use Rattle.zone_view.specs.Words.{telling_text};
+ghost use Rattle.zone_replay.specs.Sight.{sight_text};
+ghost use Rattle.zone_replay.specs.Words.{telling_text};
 
 use applications::own_resources;
 use raw_region::Region;
@@ -12,7 +12,7 @@ use raw_zone::RawZone;
 use res_calls::Resources;
 use script_text::Script;
 use std::alloc::{AllocError, Global};
-use zone_view::{Sight, Telling, show, tell};
+use zone_replay::{Sight, Telling, show, tell};
 
 /// Runs a script as far as is to be shown, as `show` does, in a partition that fills a region,
 /// whatever the region's bytes were. Returns what is shown, and the region. `text` is the text of

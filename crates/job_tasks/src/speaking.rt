@@ -12,7 +12,7 @@ use crate::playing::told;
 use desk::{App, AppOutcome, Job, Launched, Outcome, open_resources};
 use heap_calls::Refusal;
 use std::alloc::{AllocError, Global};
-use zone_view::Telling;
+use zone_replay::Telling;
 
 /// Puts the transcript of an application that was launched into words. `text` is the text of its
 /// script.

@@ -13,7 +13,6 @@ ghost use Rattle.job_tasks.specs.Work.{text_of, sight_of, telling_of};
 
 use crate::showing::show_script;
 use crate::size::PartitionSize;
-use crate::zone_form::ZoneForm;
 use applications::Watch;
 use desk::run_script;
 use fork_commands::{OpenFile, WorkFault, content_of_fork, fork_in, open_file};
@@ -21,7 +20,7 @@ use fork_format::{Content, WriteFault, write_fork};
 use raw_region::Region;
 use script_text::{FaultKind, Script, ScriptFault, read_script};
 use std::alloc::{AllocError, Global};
-use zone_view::{Sight, Strips, Telling, steps_at};
+use zone_replay::{Sight, Strips, Telling, steps_at};
 
 /// The form of a resource fork: what its bytes are to its content.
 #[derive(Clone, Copy)]
@@ -80,7 +79,7 @@ pub fn transcript_of<W: Watch>(
 #[derive(Clone, Copy)]
 pub enum Lines {
     /// After this line, or after the last step where no line is given, in a form.
-    One(Option<usize>, ZoneForm),
+    One(Option<usize>, zone_replay::Form),
     /// After the first line, and after each further step up to the second line, as a picture that
     /// is drawn so.
     Each(usize, usize, Strips),
@@ -120,7 +119,7 @@ pub(crate) fn sight_of(lines: Lines, script: &Script) -> Sight
     ensures { result ≡ sight_of lines script.now.steps }
 {
     match lines {
-        Lines::One(line, form) => Sight::Zone(steps_at(line, script), form.shown_as()),
+        Lines::One(line, form) => Sight::Zone(steps_at(line, script), form),
         Lines::Each(from, to, strips) => {
             Sight::Moments(
                 steps_at(Some(from), script),

@@ -35,10 +35,6 @@ said_so kind halt.HostMemory read says fails = tt
 said_so kind (halt.Wrong found) read says fails =
     wrong_fails found.wrong read (subst (λ k. Fails k read) (sym says) fails)
 
-pub bad_so : {Y : Type 0} (h : Halt) (read : Result Y FaultKind) → Says BadArgument h → read ≡ Err BadArgument
-    → Halts h read
-bad_so h read says fails = said_so BadArgument h read says fails
-
 -- so it is where more is read after it
 pub said_on : {Y Z : Type 0} (kind : FaultKind) (h : Halt) (read : Result Y FaultKind) (go_on : Y → Result Z FaultKind)
     → Says kind h → Fails kind read → Halts h (read >>= go_on)
@@ -80,33 +76,6 @@ pub left_so : (X Y : Type 0) (holds : Type 0) (kind : FaultKind) (h : Halt) → 
 left_so X Y holds kind halt.HostMemory says kept = tt
 left_so X Y holds kind (halt.Wrong found) says kept =
     wrong_faults X holds found.wrong (subst (λ k. OnFault {X = X} (Err k) holds) (sym says) kept)
-
--- a line that is read
-pub ok_line : (n : ℕ) (above new : Above) (line : List ℕ) (front : List (ℕ × FaultKind))
-    → read_at n above line ≡ Ok new → (more : List (List ℕ))
-    → front ++ faults_from (n + 1) new more ≡ front ++ faults_from n above (line ∷ more)
-ok_line n above new line front read more = rw read refl
-
--- a faulty line
-pub err_line : (n : ℕ) (above : Above) (line : List ℕ) (kind : FaultKind) (front new : List (ℕ × FaultKind))
-    → read_at n above line ≡ Err kind → new ≡ front ++ (n, kind) ∷ [] → (more : List (List ℕ))
-    → new ++ faults_from (n + 1) above more ≡ front ++ faults_from n above (line ∷ more)
-err_line n above line kind front new read made more =
-    rw (read, made) (append_assoc front ((n, kind) ∷ []) (faults_from (n + 1) above more))
-
--- one more fault
-pub said_more : (front new rest : List (ℕ × FaultKind)) (f : ℕ × FaultKind) → new ≡ front ++ f ∷ []
-    → new ++ rest ≡ front ++ f ∷ rest
-said_more front new rest f made = rw made (append_assoc front (f ∷ []) rest)
-
--- a grow-zone script that is begun, and none
-pub begun_there : (begun : Option Begun) (n : ℕ) → Some n ≡ option_map (λ b. b.line) begun → begun_lines begun ≡ n ∷ []
-begun_there None n is = absurd (cc)
-begun_there (Some b) n is = let same : b.line ≡ n = cc in ap (λ m. m ∷ []) same
-
-pub begun_not : (begun : Option Begun) → None ≡ option_map (λ b. b.line) begun → begun_lines begun ≡ []
-begun_not None is = refl
-begun_not (Some b) is = absurd (cc)
 
 -- no lines
 pub at_end : (n : ℕ) (above : Above) (rest : List ℕ) → (length rest == 0) ≡ true

@@ -11,12 +11,12 @@ const NO_ADDRESS: &str = "an address is an offset, and has no flags: leave the l
 
 const NO_STACK: &str = "a partition has no stack: leave the line out";
 
-const NO_ATTRIBUTES: &str = "an update writes each file that was touched: leave the line out";
+const NO_TEMPORARY: &str = "there is no temporary memory: leave the line out";
 
 const ONE_ZONE: &str = "the partition is the one zone: leave the line out";
 
 /// The calls that are not here.
-const ABSENT: [AbsentCall; 22] = [
+const ABSENT: [AbsentCall; 26] = [
     AbsentCall {
         word: "ApplicationZone",
         instead: ONE_ZONE,
@@ -30,20 +30,12 @@ const ABSENT: [AbsentCall; 22] = [
         instead: "use Put or PutPtr with the bytes",
     },
     AbsentCall {
-        word: "CountTypes",
-        instead: "use Count1Types, of the current file",
+        word: "GZSaveHnd",
+        instead: "what the waiting call works on is busy: leave the line out",
     },
     AbsentCall {
         word: "GetApplLimit",
         instead: ONE_ZONE,
-    },
-    AbsentCall {
-        word: "GetIndType",
-        instead: "use Get1IndType, of the current file",
-    },
-    AbsentCall {
-        word: "GetResFileAttrs",
-        instead: NO_ATTRIBUTES,
     },
     AbsentCall {
         word: "GetZone",
@@ -52,6 +44,14 @@ const ABSENT: [AbsentCall; 22] = [
     AbsentCall {
         word: "HClrRBit",
         instead: "a handle has the resource bit while it is a resource's: use DetachResource",
+    },
+    AbsentCall {
+        word: "HCreateResFile",
+        instead: "a file is known by its name: use CreateResFile",
+    },
+    AbsentCall {
+        word: "HOpenResFile",
+        instead: "a file is known by its name: use OpenResFile",
     },
     AbsentCall {
         word: "HSetRBit",
@@ -70,8 +70,20 @@ const ABSENT: [AbsentCall; 22] = [
         instead: "use SetHandleSize, and Put with the bytes",
     },
     AbsentCall {
-        word: "PtrToXHand",
-        instead: "use SetHandleSize, and Put with the bytes",
+        word: "NewHandleSys",
+        instead: "the partition is the one zone: use NewHandle",
+    },
+    AbsentCall {
+        word: "NewPtrSys",
+        instead: "the partition is the one zone: use NewPtr",
+    },
+    AbsentCall {
+        word: "OpenRFPerm",
+        instead: "a file is known by its name: use OpenResFile",
+    },
+    AbsentCall {
+        word: "RGetResource",
+        instead: "the System file is searched last: use GetResource",
     },
     AbsentCall {
         word: "RecoverHandle",
@@ -80,10 +92,6 @@ const ABSENT: [AbsentCall; 22] = [
     AbsentCall {
         word: "SetApplLimit",
         instead: ONE_ZONE,
-    },
-    AbsentCall {
-        word: "SetResFileAttrs",
-        instead: NO_ATTRIBUTES,
     },
     AbsentCall {
         word: "SetZone",
@@ -100,6 +108,14 @@ const ABSENT: [AbsentCall; 22] = [
     AbsentCall {
         word: "SystemZone",
         instead: ONE_ZONE,
+    },
+    AbsentCall {
+        word: "TempFreeMem",
+        instead: NO_TEMPORARY,
+    },
+    AbsentCall {
+        word: "TempMaxMem",
+        instead: NO_TEMPORARY,
     },
     AbsentCall {
         word: "TempNewHandle",

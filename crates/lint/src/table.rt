@@ -47,7 +47,10 @@ pub fn roles_of(word: CallWord) -> &'static [Role]
         CallWord::HSetState | CallWord::SetResAttrs => &[Role::Handle, Role::Byte],
         CallWord::HandToHand => &[Role::Target, Role::Source],
         CallWord::HandAndHand => &[Role::Source, Role::Target],
-        CallWord::PtrToHand | CallWord::PtrAndHand => &[Role::Handle, Role::Bytes],
+        CallWord::PtrToHand | CallWord::PtrAndHand | CallWord::PtrToXHand => &[
+            Role::Handle,
+            Role::Bytes,
+        ],
         CallWord::NewPtr | CallWord::NewPtrClear | CallWord::SetPtrSize => &[
             Role::Pointer,
             Role::Size,
@@ -62,6 +65,7 @@ pub fn roles_of(word: CallWord) -> &'static [Role]
         | CallWord::MoreMasters
         | CallWord::MemError
         | CallWord::CurResFile
+        | CallWord::CountTypes
         | CallWord::Count1Types
         | CallWord::ResError
         | CallWord::WaitNextEvent
@@ -69,9 +73,12 @@ pub fn roles_of(word: CallWord) -> &'static [Role]
         CallWord::CompactMem | CallWord::PurgeMem | CallWord::ReserveMem => &[Role::Size],
         CallWord::SetGrowZone => &[Role::GrowZone],
         CallWord::OpenResFile | CallWord::CreateResFile => &[Role::File],
+        CallWord::SetResFileAttrs => &[Role::Number, Role::Byte],
         CallWord::CloseResFile
         | CallWord::UpdateResFile
         | CallWord::UseResFile
+        | CallWord::GetResFileAttrs
+        | CallWord::GetIndType
         | CallWord::Get1IndType
         | CallWord::CallEntry
         | CallWord::ShowEntry => &[Role::Number],

@@ -1,8 +1,9 @@
 //! Bytes copied from one block of a list into another, or within a block.
 
-ghost use Rattle.std.specs.Prelude.{◌≡◌, ◌+◌, ◌≤◌, ◌<◌, ◌^◌, ◌++◌, ◌∷◌, take, length, vec_len, IfSome, IsSomeAnd};
+ghost use Rattle.std.specs.Prelude.{◌≡◌, ◌+◌, ◌≤◌, ◌<◌, ◌^◌, ◌++◌, ◌∷◌, take, length, vec_len};
+ghost use Rattle.std.specs.Prelude.{IfSome, IsSomeAnd};
 ghost use Rattle.block_store.specs.Block.{sizes, content_of, with_content};
-ghost use Rattle.windows.specs.Writes.{written};
+ghost use Rattle.memory_windows.specs.Writes.{written};
 ghost use Rattle.block_store.specs.Room.{spot_at};
 ghost use Rattle.list_store.specs.Lists.{block_of, blocks_of, nth_spot};
 
@@ -19,7 +20,8 @@ fn content(entry: &StoredBlock) -> &[u8]
     }
 }
 
-/// Writes the first `bytes` bytes of a content over other bytes of the same content, from the offset `from` on.
+/// Writes the first `bytes` bytes of a content over other bytes of the same content, from the
+/// offset `from` on.
 fn repeat(content: &mut Vec<u8>, bytes: usize, from: usize)
     requires { from + bytes ≤ vec_len content.old }
     ensures { content.new.items ≡ written from (take bytes content.old.items) content.old.items }
@@ -27,11 +29,12 @@ fn repeat(content: &mut Vec<u8>, bytes: usize, from: usize)
     content.copy_within(0..bytes, from);
 }
 
-/// Returns the entry with the first `bytes` bytes of its content written into its content, from the offset `from` on.
+/// Returns the entry with the first `bytes` bytes of its content written into its content, from the
+/// offset `from` on.
 fn repeated_entry(entry: StoredBlock, bytes: usize, from: usize) -> StoredBlock
     requires { from + bytes ≤ length (content_of (block_of entry)) }
-    ensures { block_of result ≡ with_content
-        (written from (take bytes (content_of (block_of entry))) (content_of (block_of entry))) (block_of entry) }
+    ensures { block_of result ≡ with_content (written from
+        (take bytes (content_of (block_of entry))) (content_of (block_of entry))) (block_of entry) }
 {
     match entry {
         StoredBlock::Nonrelocatable(place, mut content) => {
@@ -46,50 +49,53 @@ fn repeated_entry(entry: StoredBlock, bytes: usize, from: usize) -> StoredBlock
     }
 }
 
-/// Writes the first `bytes` bytes of the entry at the index `i` into the same entry, from the offset `from` on.
+/// Writes the first `bytes` bytes of the entry at the index `i` into the same entry, from the
+/// offset `from` on.
 fn copy_inside(entries: &mut Vec<StoredBlock>, i: usize, bytes: usize, from: usize)
     requires index { i < vec_len entries.old }
     requires within { IsSomeAnd (nth_spot i (blocks_of entries.old.items)) (λ s.
         from + bytes ≤ length (content_of s.here)) }
     ensures { IfSome (nth_spot i (blocks_of entries.old.items)) (λ s.
         blocks_of entries.new.items ≡ s.below
-        ++ with_content (written from (take bytes (content_of s.here)) (content_of s.here)) s.here ∷ s.above) }
+        ++ with_content (written from (take bytes (content_of s.here)) (content_of s.here)) s.here
+        ∷ s.above) }
 {
     let entry = std::mem::replace(&mut entries[i], StoredBlock::Masters);
     entries[i] = repeated_entry(entry, bytes, from);
 }
 
-/// Writes the first `bytes` bytes of the entry at the index `i` into the entry at the index `j`, from the offset `from`
-/// on.
+/// Writes the first `bytes` bytes of the entry at the index `i` into the entry at the index `j`,
+/// from the offset `from` on.
 fn copy_between(entries: &mut Vec<StoredBlock>, i: usize, bytes: usize, j: usize, from: usize)
     requires first { i < vec_len entries.old }
     requires second { j < vec_len entries.old }
     requires two { (i ≡ j) → ⊥ }
-    requires source { IsSomeAnd (nth_spot i (blocks_of entries.old.items)) (λ s. bytes ≤ length (content_of s.here)) }
+    requires source { IsSomeAnd (nth_spot i (blocks_of entries.old.items)) (λ s. bytes
+        ≤ length (content_of s.here)) }
     requires within { IsSomeAnd (nth_spot j (blocks_of entries.old.items)) (λ s.
         from + bytes ≤ length (content_of s.here)) }
-    ensures { IfSome (nth_spot i (blocks_of entries.old.items)) (λ t.
-        IfSome (nth_spot j (blocks_of entries.old.items)) (λ s.
-        blocks_of entries.new.items ≡ s.below
-        ++ with_content (written from (take bytes (content_of t.here)) (content_of s.here)) s.here ∷ s.above)) }
+    ensures { IfSome (nth_spot i (blocks_of entries.old.items)) (λ t. IfSome
+        (nth_spot j (blocks_of entries.old.items)) (λ s. blocks_of entries.new.items ≡ s.below
+        ++ with_content (written from (take bytes (content_of t.here)) (content_of s.here)) s.here
+        ∷ s.above)) }
 {
     let entry = std::mem::replace(&mut entries[j], StoredBlock::Masters);
     let source = content(&entries[i]);
     entries[j] = written_entry(entry, from, &source[..bytes]);
 }
 
-/// Writes the first `bytes` bytes of the entry at the place `source` into the entry at the place `place`, from the
-/// offset `from` on.
+/// Writes the first `bytes` bytes of the entry at the place `source` into the entry at the place
+/// `place`, from the offset `from` on.
 pub fn copy_at(entries: &mut Vec<StoredBlock>, source: u32, bytes: u32, place: u32, from: u32)
     requires fits { sizes (blocks_of entries.old.items) < 2 ^ 32 }
     requires source { IsSomeAnd (spot_at source (blocks_of entries.old.items)) (λ s.
         bytes ≤ length (content_of s.here)) }
     requires within { IsSomeAnd (spot_at place (blocks_of entries.old.items)) (λ s.
         from + bytes ≤ length (content_of s.here)) }
-    ensures { IfSome (spot_at source (blocks_of entries.old.items)) (λ t.
-        IfSome (spot_at place (blocks_of entries.old.items)) (λ s.
-        blocks_of entries.new.items ≡ s.below
-        ++ with_content (written from (take bytes (content_of t.here)) (content_of s.here)) s.here ∷ s.above)) }
+    ensures { IfSome (spot_at source (blocks_of entries.old.items)) (λ t. IfSome
+        (spot_at place (blocks_of entries.old.items)) (λ s. blocks_of entries.new.items ≡ s.below
+        ++ with_content (written from (take bytes (content_of t.here)) (content_of s.here)) s.here
+        ∷ s.above)) }
 {
     let Some(i) = index_at(entries, source) else {
         unreachable!()

@@ -1,12 +1,12 @@
 //! The list of a store's blocks.
 
-ghost use Rattle.std.specs.Prelude.{◌≡◌, ◌+◌, ◌≤◌, ◌<◌, ◌^◌, ◌++◌, length, take, drop, MatchOption, IfOk, OnOk, OnErr};
-ghost use Rattle.std.specs.Prelude.{IfSome, IsSomeAnd, ◌∷◌, replicate, vec_len};
+ghost use Rattle.std.specs.Prelude.{◌≡◌, ◌+◌, ◌≤◌, ◌<◌, ◌^◌, ◌++◌, length, take, drop, MatchOption};
+ghost use Rattle.std.specs.Prelude.{IfOk, OnOk, OnErr, IfSome, IsSomeAnd, ◌∷◌, replicate, vec_len};
 ghost use Rattle.std.specs.Option.{option_map};
 ghost use Rattle.mac_words.specs.Size.{padded};
-ghost use Rattle.block_store.specs.Block.{size, sizes, free_sum, tidy, tidy_top, is_relocatable, content_of};
-ghost use Rattle.block_store.specs.Block.{with_content};
-ghost use Rattle.windows.specs.Writes.{written};
+ghost use Rattle.block_store.specs.Block.{size, sizes, free_sum, tidy, tidy_top, is_relocatable};
+ghost use Rattle.block_store.specs.Block.{content_of, with_content};
+ghost use Rattle.memory_windows.specs.Writes.{written};
 ghost use Rattle.block_store.specs.Room.{spot, spot_at, filled};
 ghost use Rattle.block_store.specs.Grow.{freed};
 ghost use Rattle.list_store.specs.Lists.{block_of, blocks_of, nth_spot, freed_first};
@@ -14,8 +14,8 @@ ghost use Rattle.list_store.specs.Lists.{block_of, blocks_of, nth_spot, freed_fi
 use block_store::{Flags, HEADER_SIZE, MASTERS_SIZE, UNIT, padded_size};
 use std::alloc::{AllocError, Global};
 
-/// An entry of the list: a block with its content. A nonrelocatable block has its place as well, and a relocatable
-/// block its master pointer and its flags.
+/// An entry of the list: a block with its content. A nonrelocatable block has its place as well,
+/// and a relocatable block its master pointer and its flags.
 #[derive(Drop)]
 pub enum StoredBlock {
     Free(u32),
@@ -51,7 +51,8 @@ pub fn is_of_slot(entry: &StoredBlock, number: u32) -> bool
 pub fn index_at(entries: &[StoredBlock], place: u32) -> Option<usize>
     requires { sizes (blocks_of entries.now) < 2 ^ 32 }
     ensures { MatchOption result (spot_at place (blocks_of entries.now) ≡ None)
-        (λ i. (i < length entries.now) × (spot_at place (blocks_of entries.now) ≡ nth_spot i (blocks_of entries.now))) }
+        (λ i. (i < length entries.now)
+        × (spot_at place (blocks_of entries.now) ≡ nth_spot i (blocks_of entries.now))) }
 {
     let mut rest = place;
     for (i, entry) in entries.iter().enumerate() {
@@ -81,7 +82,8 @@ pub fn free_total(entries: &[StoredBlock]) -> u32
     total
 }
 
-/// Joins the entry at an index with the next one where both are free blocks, and removes it where it has no bytes.
+/// Joins the entry at an index with the next one where both are free blocks, and removes it where
+/// it has no bytes.
 fn join_at(entries: &mut Vec<StoredBlock>, i: usize)
     requires within { i < vec_len entries.old }
     requires fits { sizes (blocks_of entries.old.items) < 2 ^ 32 }
@@ -132,17 +134,20 @@ fn free_if(entries: &mut Vec<StoredBlock>, i: usize, number: u32)
 /// Makes the entries of a master pointer free blocks.
 pub fn free_slot(entries: &mut Vec<StoredBlock>, number: u32)
     requires { sizes (blocks_of entries.old.items) < 2 ^ 32 }
-    ensures { blocks_of entries.new.items ≡ freed (is_relocatable number) (blocks_of entries.old.items) }
+    ensures { blocks_of entries.new.items
+        ≡ freed (is_relocatable number) (blocks_of entries.old.items) }
 {
     for i in 0..entries.len() {
         free_if(entries, i, number);
     }
 }
 
-/// Puts an entry at the lower end of the one at a place; the bytes that are left above the entry become free.
+/// Puts an entry at the lower end of the one at a place; the bytes that are left above the entry
+/// become free.
 pub fn fill(entries: &mut Vec<StoredBlock>, place: u32, new: StoredBlock) -> Result<(), AllocError>
     requires fits { sizes (blocks_of entries.old.items) < 2 ^ 32 }
-    requires room { IsSomeAnd (spot_at place (blocks_of entries.old.items)) (λ s. size (block_of new) ≤ size s.here) }
+    requires room { IsSomeAnd (spot_at place (blocks_of entries.old.items)) (λ s.
+        size (block_of new) ≤ size s.here) }
     ensures ok { OnOk result (IfSome (spot_at place (blocks_of entries.old.items)) (λ s.
         blocks_of entries.new.items ≡ filled (block_of new) s)) }
     ensures err { OnErr result (entries.new.items ≡ entries.old.items) }
@@ -168,7 +173,8 @@ fn overwrite(content: &mut Vec<u8>, from: usize, bytes: &[u8])
 /// Returns the entry with bytes written into its content, from an offset on.
 pub fn written_entry(entry: StoredBlock, from: usize, bytes: &[u8]) -> StoredBlock
     requires { from + length bytes.now ≤ length (content_of (block_of entry)) }
-    ensures { block_of result ≡ with_content (written from bytes.now (content_of (block_of entry))) (block_of entry) }
+    ensures { block_of result
+        ≡ with_content (written from bytes.now (content_of (block_of entry))) (block_of entry) }
 {
     match entry {
         StoredBlock::Free(n) => StoredBlock::Free(n),

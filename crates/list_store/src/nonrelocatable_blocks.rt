@@ -1,7 +1,7 @@
 //! Nonrelocatable blocks of a list, and new master pointer blocks.
 
-ghost use Rattle.std.specs.Prelude.{◌≡◌, ◌+◌, ◌<◌, ◌^◌, ◌++◌, take, drop, ◌≤◌, vec_len, replicate, IsTrue, IfSome};
-ghost use Rattle.std.specs.Prelude.{IsSomeAnd, OnOk, OnErr};
+ghost use Rattle.std.specs.Prelude.{◌≡◌, ◌+◌, ◌<◌, ◌^◌, ◌++◌, take, drop, ◌≤◌, vec_len, replicate};
+ghost use Rattle.std.specs.Prelude.{IsTrue, IfSome, IsSomeAnd, OnOk, OnErr};
 ghost use Rattle.std.specs.Vec.{vec_capacity};
 ghost use Rattle.block_store.specs.Block.{Masters, sizes, is_nonrelocatable, is_room, tidy};
 ghost use Rattle.block_store.specs.Room.{spot_at, filled};
@@ -29,7 +29,8 @@ fn free_if(entries: &mut Vec<StoredBlock>, i: usize, place: u32)
     requires within { i < vec_len entries.old }
     requires fits { sizes (blocks_of entries.old.items) < 2 ^ 32 }
     ensures { blocks_of entries.new.items
-        ≡ take i (blocks_of entries.old.items) ++ freed_first (is_nonrelocatable place) (drop i (blocks_of entries.old.items)) }
+        ≡ take i (blocks_of entries.old.items)
+        ++ freed_first (is_nonrelocatable place) (drop i (blocks_of entries.old.items)) }
 {
     let entry = &entries[i];
     if is_nonrelocatable_at(entry, place) {
@@ -41,7 +42,8 @@ fn free_if(entries: &mut Vec<StoredBlock>, i: usize, place: u32)
 /// Makes the nonrelocatable blocks of a place free blocks.
 fn free_nonrelocatable(entries: &mut Vec<StoredBlock>, place: u32)
     requires { sizes (blocks_of entries.old.items) < 2 ^ 32 }
-    ensures { blocks_of entries.new.items ≡ freed (is_nonrelocatable place) (blocks_of entries.old.items) }
+    ensures { blocks_of entries.new.items
+        ≡ freed (is_nonrelocatable place) (blocks_of entries.old.items) }
 {
     for i in 0..entries.len() {
         free_if(entries, i, place);
@@ -51,7 +53,8 @@ fn free_nonrelocatable(entries: &mut Vec<StoredBlock>, place: u32)
 /// Makes the nonrelocatable block at a place a free block, and joins it with its free neighbours.
 pub fn free_place(entries: &mut Vec<StoredBlock>, place: u32)
     requires { sizes (blocks_of entries.old.items) < 2 ^ 32 }
-    ensures { blocks_of entries.new.items ≡ tidy (freed (is_nonrelocatable place) (blocks_of entries.old.items)) }
+    ensures { blocks_of entries.new.items
+        ≡ tidy (freed (is_nonrelocatable place) (blocks_of entries.old.items)) }
 {
     free_nonrelocatable(entries, place);
     tidy_entries(entries);
@@ -68,7 +71,8 @@ fn add_slots(slots: &mut Vec<SlotEntry>)
     }
 }
 
-/// Puts a master pointer block at the lower end of the free block at a place, and adds its master pointers to the list.
+/// Puts a master pointer block at the lower end of the free block at a place, and adds its master
+/// pointers to the list.
 pub fn put_masters(
     entries: &mut Vec<StoredBlock>,
     slots: &mut Vec<SlotEntry>,
@@ -77,9 +81,10 @@ pub fn put_masters(
     requires fits { sizes (blocks_of entries.old.items) < 2 ^ 32 }
     requires room { IsSomeAnd (spot_at place (blocks_of entries.old.items)) (λ s.
         IsTrue (is_room MASTERS_SIZE s.here)) }
-    ensures ok { OnOk result
-        (IfSome (spot_at place (blocks_of entries.old.items)) (λ s. blocks_of entries.new.items ≡ filled Masters s)) }
-    ensures more { OnOk result (slots.new.items ≡ slots.old.items ++ replicate SLOTS_A_BLOCK Unused) }
+    ensures ok { OnOk result (IfSome (spot_at place (blocks_of entries.old.items)) (λ s.
+        blocks_of entries.new.items ≡ filled Masters s)) }
+    ensures more { OnOk result (slots.new.items
+        ≡ slots.old.items ++ replicate SLOTS_A_BLOCK Unused) }
     ensures err { OnErr result (entries.new.items ≡ entries.old.items) }
     ensures same { OnErr result (slots.new.items ≡ slots.old.items) }
 {

@@ -1,16 +1,19 @@
 //! The runs of a list of blocks, and how they are compacted.
 
-ghost use Rattle.std.specs.Prelude.{◌≡◌, ℕ, ◌+◌, ◌-◌, ◌≤◌, ◌<◌, ◌^◌, ◌++◌, ◌∷◌, List, [], Bool, true, false, IsTrue};
-ghost use Rattle.std.specs.Prelude.{length, take, drop, map, slice_index, MatchOption, IsSome, IfSome, IsSomeAnd, OnOk};
-ghost use Rattle.std.specs.Prelude.{OnErr, vec_len};
+ghost use Rattle.std.specs.Prelude.{◌≡◌, ℕ, ◌+◌, ◌-◌, ◌≤◌, ◌<◌, ◌^◌, ◌++◌, ◌∷◌, List, [], Bool};
+ghost use Rattle.std.specs.Prelude.{true, false, IsTrue, length, take, drop, map, slice_index};
+ghost use Rattle.std.specs.Prelude.{MatchOption, IsSome, IfSome, IsSomeAnd, OnOk, OnErr, vec_len};
 ghost use Rattle.std.specs.Option.{option_map};
-ghost use Rattle.block_store.specs.Block.{Block, Free, sizes, free_sum, is_relocatable, count, free, tidy};
-ghost use Rattle.block_store.specs.Run.{run_at, in_run, has, has_free, segments, movers, settle, low, high, with_run};
+ghost use Rattle.block_store.specs.Block.{Block, Free, sizes, free_sum, is_relocatable, count};
+ghost use Rattle.block_store.specs.Block.{free, tidy};
+ghost use Rattle.block_store.specs.Run.{run_at, in_run, has, has_free, segments, movers, settle};
+ghost use Rattle.block_store.specs.Run.{low, high, with_run};
 ghost use Rattle.block_store.specs.Compact.{beyond};
 ghost use Rattle.block_store.specs.Rest.{lowered_in_run};
 ghost use Rattle.block_store.specs.Inner.Stretch.{is_free};
 ghost use Rattle.list_store.specs.Lists.{block_of, blocks_of, nth_spot};
-ghost use Rattle.block_store.specs.Inner.Packing.{Loose, cleared, cleared_first, packed, run_of_index, run_between};
+ghost use Rattle.block_store.specs.Inner.Packing.{Loose, cleared, cleared_first, packed};
+ghost use Rattle.block_store.specs.Inner.Packing.{run_of_index, run_between};
 
 use crate::entries::{StoredBlock, entry_size, free_total, is_of_slot, tidy_entries};
 use std::alloc::AllocError;
@@ -64,7 +67,8 @@ pub fn run_start(entries: &[StoredBlock], place: u32) -> Option<usize>
 fn run_length(entries: &[StoredBlock]) -> usize
     ensures within { result ≤ length entries.now }
     ensures run { (segments (blocks_of entries.now)).first ≡ take result (blocks_of entries.now) }
-    ensures above { beyond (segments (blocks_of entries.now)).rest ≡ drop result (blocks_of entries.now) }
+    ensures above { beyond (segments (blocks_of entries.now)).rest
+        ≡ drop result (blocks_of entries.now) }
 {
     for (i, entry) in entries.iter().enumerate() {
         if !is_loose(entry) {
@@ -80,7 +84,8 @@ fn run_bounds(entries: &[StoredBlock], place: u32) -> (usize, usize)
     requires run { IsSome (run_at place (blocks_of entries.now)) }
     ensures order { result.0 ≤ result.1 }
     ensures within { result.1 ≤ length entries.now }
-    ensures run { run_at place (blocks_of entries.now) ≡ Some (run_between result.0 result.1 (blocks_of entries.now)) }
+    ensures run { run_at place (blocks_of entries.now)
+        ≡ Some (run_between result.0 result.1 (blocks_of entries.now)) }
 {
     let Some(i) = run_start(entries, place) else {
         unreachable!()
@@ -144,7 +149,8 @@ fn move_last(entries: &mut [StoredBlock], i: usize)
 /// Takes all bytes from the entry at an index, where it is a free block.
 fn clear_if(run: &mut [StoredBlock], i: usize)
     requires { i < length run.old }
-    ensures { blocks_of run.new ≡ take i (blocks_of run.old) ++ cleared_first (drop i (blocks_of run.old)) }
+    ensures { blocks_of run.new
+        ≡ take i (blocks_of run.old) ++ cleared_first (drop i (blocks_of run.old)) }
 {
     if is_free_entry(&run[i]) {
         run[i] = StoredBlock::Free(0);
@@ -160,8 +166,8 @@ fn clear(run: &mut [StoredBlock])
     }
 }
 
-/// Compacts a run, of whose free bytes `less` are left out: its relocatable blocks stand in order, then a free block,
-/// and free blocks of no bytes are among them.
+/// Compacts a run, of whose free bytes `less` are left out: its relocatable blocks stand in order,
+/// then a free block, and free blocks of no bytes are among them.
 fn pack(run: &mut [StoredBlock], less: u32)
     requires loose { Loose (blocks_of run.old) }
     requires fits { sizes (blocks_of run.old) < 2 ^ 32 }
@@ -186,7 +192,8 @@ fn pack_below(run: &mut [StoredBlock], number: u32)
     requires has { has (is_relocatable number) (blocks_of run.old) ≡ true }
     requires once { count (is_relocatable number) (blocks_of run.old) ≤ 1 }
     ensures { (above : List Block)
-        → tidy (blocks_of run.new ++ above) ≡ tidy (high (is_relocatable number) (blocks_of run.old) ++ above) }
+        → tidy (blocks_of run.new ++ above)
+        ≡ tidy (high (is_relocatable number) (blocks_of run.old) ++ above) }
 {
     let Some(i) = index_of(run, number) else {
         unreachable!()
@@ -216,7 +223,8 @@ pub fn settle_run(entries: &mut Vec<StoredBlock>, place: u32) -> u64
     requires run { IsSome (run_at place (blocks_of entries.old.items)) }
     ensures zone { IfSome (run_at place (blocks_of entries.old.items)) (λ r.
         blocks_of entries.new.items ≡ tidy (with_run settle r)) }
-    ensures lowered { IfSome (run_at place (blocks_of entries.old.items)) (λ r. result ≡ lowered_in_run r.run) }
+    ensures lowered { IfSome (run_at place (blocks_of entries.old.items)) (λ r. result
+        ≡ lowered_in_run r.run) }
 {
     let (start, end) = run_bounds(entries, place);
     let lowered = count_lowered(&entries[start..end]);
@@ -230,10 +238,12 @@ fn hoist_between(entries: &mut Vec<StoredBlock>, start: usize, end: usize, numbe
     requires within { end ≤ vec_len entries.old }
     requires fits { sizes (blocks_of entries.old.items) < 2 ^ 32 }
     requires loose { Loose (run_between start end (blocks_of entries.old.items)).run }
-    requires has { has (is_relocatable number) (run_between start end (blocks_of entries.old.items)).run ≡ true }
+    requires has { has (is_relocatable number)
+        (run_between start end (blocks_of entries.old.items)).run ≡ true }
     requires once { count (is_relocatable number) (blocks_of entries.old.items) ≤ 1 }
     ensures { blocks_of entries.new.items
-        ≡ tidy (with_run (high (is_relocatable number)) (run_between start end (blocks_of entries.old.items))) }
+        ≡ tidy (with_run (high (is_relocatable number))
+        (run_between start end (blocks_of entries.old.items))) }
 {
     pack_below(&mut entries[start..end], number);
     tidy_entries(entries);
@@ -255,7 +265,8 @@ pub fn hoist_slot(entries: &mut Vec<StoredBlock>, place: u32, number: u32)
 /// Compacts the run at a place upward, with `bytes` free bytes at its bottom.
 pub fn raise_run(entries: &mut Vec<StoredBlock>, place: u32, bytes: u32) -> Result<(), AllocError>
     requires fits { sizes (blocks_of entries.old.items) < 2 ^ 31 }
-    requires run { IsSomeAnd (run_at place (blocks_of entries.old.items)) (λ r. IsTrue (has_free bytes r.run)) }
+    requires run { IsSomeAnd (run_at place (blocks_of entries.old.items)) (λ r.
+        IsTrue (has_free bytes r.run)) }
     ensures ok { OnOk result (IfSome (run_at place (blocks_of entries.old.items)) (λ r.
         blocks_of entries.new.items ≡ tidy (with_run (low (Free bytes)) r))) }
     ensures err { OnErr result (entries.new.items ≡ entries.old.items) }

@@ -1,6 +1,7 @@
 //! Blocks of a list that are purged, and their flags.
 
-ghost use Rattle.std.specs.Prelude.{◌≡◌, ◌+◌, ◌≤◌, ◌<◌, ◌^◌, ◌∷◌, ◌++◌, take, drop, length, vec_len, IsSome, IfSome};
+ghost use Rattle.std.specs.Prelude.{◌≡◌, ◌+◌, ◌≤◌, ◌<◌, ◌^◌, ◌∷◌, ◌++◌, take, drop, length};
+ghost use Rattle.std.specs.Prelude.{vec_len, IsSome, IfSome};
 ghost use Rattle.block_store.specs.Block.{sizes, tidy};
 ghost use Rattle.block_store.specs.Room.{spot_at, may_be_purged, lowest_purged};
 ghost use Rattle.block_store.specs.Sparing.{spared, opened, purged};
@@ -22,8 +23,8 @@ fn may_purge_at(entry: &StoredBlock, sparing: Sparing) -> bool
     }
 }
 
-/// Makes the entry at an index a free block, where purges are left and the block may be purged; returns the purges left
-/// above it.
+/// Makes the entry at an index a free block, where purges are left and the block may be purged;
+/// returns the purges left above it.
 fn empty_at(entries: &mut Vec<StoredBlock>, i: usize, left: u32, sparing: Sparing) -> u32
     requires within { i < vec_len entries.old }
     requires fits { sizes (blocks_of entries.old.items) < 2 ^ 32 }
@@ -44,7 +45,8 @@ fn empty_at(entries: &mut Vec<StoredBlock>, i: usize, left: u32, sparing: Sparin
     }
 }
 
-/// Makes the `purges` lowest blocks that may be purged, among the entries from an index on, free blocks.
+/// Makes the `purges` lowest blocks that may be purged, among the entries from an index on, free
+/// blocks.
 fn empty_from(entries: &mut Vec<StoredBlock>, from: usize, purges: u32, sparing: Sparing)
     requires within { from ≤ vec_len entries.old }
     requires fits { sizes (blocks_of entries.old.items) < 2 ^ 32 }
@@ -68,7 +70,8 @@ fn open_entries(entries: &mut Vec<StoredBlock>, sparing: Sparing)
     }
 }
 
-/// Purges the `purges` lowest blocks that may be purged, and makes the block that counts as free a free block.
+/// Purges the `purges` lowest blocks that may be purged, and makes the block that counts as free a
+/// free block.
 pub fn purge_entries(entries: &mut Vec<StoredBlock>, purges: u32, sparing: Sparing)
     requires { sizes (blocks_of entries.old.items) < 2 ^ 32 }
     ensures { blocks_of entries.new.items ≡ purged purges sparing (blocks_of entries.old.items) }
@@ -82,8 +85,8 @@ pub fn purge_entries(entries: &mut Vec<StoredBlock>, purges: u32, sparing: Spari
 pub fn purge_above(entries: &mut Vec<StoredBlock>, place: u32, purges: u32, sparing: Sparing)
     requires fits { sizes (blocks_of entries.old.items) < 2 ^ 32 }
     requires spot { IsSome (spot_at place (blocks_of entries.old.items)) }
-    ensures { IfSome (spot_at place (blocks_of entries.old.items)) (λ s.
-        blocks_of entries.new.items ≡ tidy (s.below ++ s.here ∷ lowest_purged purges (spared sparing) s.above)) }
+    ensures { IfSome (spot_at place (blocks_of entries.old.items)) (λ s. blocks_of entries.new.items
+        ≡ tidy (s.below ++ s.here ∷ lowest_purged purges (spared sparing) s.above)) }
 {
     let Some(i) = index_at(entries, place) else {
         unreachable!()

@@ -1,9 +1,10 @@
 //! Blocks at another size, where they stand or at another place.
 
-ghost use Rattle.std.specs.Prelude.{◌≡◌, ◌≤◌, ◌<◌, ◌^◌, ◌++◌, ◌⊎◌, take, drop, IfOk, OnOk, OnErr, IfSome, IsSome};
-ghost use Rattle.std.specs.Prelude.{IsSomeAnd, IsTrue};
+ghost use Rattle.std.specs.Prelude.{◌≡◌, ◌≤◌, ◌<◌, ◌^◌, ◌++◌, ◌⊎◌, take, drop, IfOk, OnOk, OnErr};
+ghost use Rattle.std.specs.Prelude.{IfSome, IsSome, IsSomeAnd, IsTrue};
 ghost use Rattle.mac_words.specs.Size.{padded};
-ghost use Rattle.block_store.specs.Block.{size, sizes, is_room, is_relocatable, resized, resized_content};
+ghost use Rattle.block_store.specs.Block.{size, sizes, is_room, is_relocatable, resized};
+ghost use Rattle.block_store.specs.Block.{resized_content};
 ghost use Rattle.block_store.specs.Room.{spot, spot_at, filled};
 ghost use Rattle.block_store.specs.Grow.{grow_up, taken};
 ghost use Rattle.block_store.specs.Seen.{moved_away};
@@ -55,8 +56,8 @@ fn resized_slot(
     bytes: usize,
 ) -> Result<StoredBlock, AllocError>
     requires { IsSome (spot (is_relocatable number) (blocks_of entries.now)) }
-    ensures { IfOk result (λ e.
-        IfSome (spot (is_relocatable number) (blocks_of entries.now)) (λ from. block_of e ≡ resized bytes from.here)) }
+    ensures { IfOk result (λ e. IfSome (spot (is_relocatable number) (blocks_of entries.now))
+        (λ from. block_of e ≡ resized bytes from.here)) }
 {
     for entry in entries {
         if is_of_slot(entry, number) {
@@ -81,11 +82,14 @@ fn take_bytes(entries: &mut Vec<StoredBlock>, i: usize, bytes: u32)
     }
 }
 
-/// Puts an entry in place of a smaller one, and takes the bytes that it needs from the free block that follows.
+/// Puts an entry in place of a smaller one, and takes the bytes that it needs from the free block
+/// that follows.
 fn grow(entries: &mut Vec<StoredBlock>, place: u32, new: StoredBlock)
     requires fits { sizes (blocks_of entries.old.items) < 2 ^ 31 }
-    requires more { IsSomeAnd (spot_at place (blocks_of entries.old.items)) (λ s. size s.here < size (block_of new)) }
-    requires room { IsSomeAnd (spot_at place (blocks_of entries.old.items)) (λ s. IsSome (grow_up (block_of new) s)) }
+    requires more { IsSomeAnd (spot_at place (blocks_of entries.old.items)) (λ s. size s.here
+        < size (block_of new)) }
+    requires room { IsSomeAnd (spot_at place (blocks_of entries.old.items)) (λ s.
+        IsSome (grow_up (block_of new) s)) }
     ensures { IfSome (spot_at place (blocks_of entries.old.items)) (λ s.
         IfSome (grow_up (block_of new) s) (λ after. blocks_of entries.new.items ≡ after)) }
 {
@@ -98,14 +102,15 @@ fn grow(entries: &mut Vec<StoredBlock>, place: u32, new: StoredBlock)
     entries[i] = new;
 }
 
-/// Puts an entry in place of the one at a place: bytes that are left become free, and bytes that are needed are taken
-/// from the free block that follows.
+/// Puts an entry in place of the one at a place: bytes that are left become free, and bytes that
+/// are needed are taken from the free block that follows.
 fn replace(entries: &mut Vec<StoredBlock>, place: u32, new: StoredBlock) -> Result<(), AllocError>
     requires fits { sizes (blocks_of entries.old.items) < 2 ^ 31 }
     requires room { IsSomeAnd (spot_at place (blocks_of entries.old.items)) (λ s.
         (size (block_of new) ≤ size s.here) ⊎ IsSome (grow_up (block_of new) s)) }
     ensures cut { OnOk result (IfSome (spot_at place (blocks_of entries.old.items)) (λ s.
-        size (block_of new) ≤ size s.here → blocks_of entries.new.items ≡ filled (block_of new) s)) }
+        size (block_of new) ≤ size s.here
+        → blocks_of entries.new.items ≡ filled (block_of new) s)) }
     ensures grown { OnOk result (IfSome (spot_at place (blocks_of entries.old.items)) (λ s.
         size s.here < size (block_of new) →
         IfSome (grow_up (block_of new) s) (λ after. blocks_of entries.new.items ≡ after))) }
@@ -122,8 +127,8 @@ fn replace(entries: &mut Vec<StoredBlock>, place: u32, new: StoredBlock) -> Resu
     Ok(())
 }
 
-/// Changes the logical size of the entry at a place: bytes that are left become free, and bytes that are needed are
-/// taken from the free block that follows.
+/// Changes the logical size of the entry at a place: bytes that are left become free, and bytes
+/// that are needed are taken from the free block that follows.
 pub fn resize_at(
     alloc: Global,
     entries: &mut Vec<StoredBlock>,
@@ -134,7 +139,8 @@ pub fn resize_at(
     requires room { IsSomeAnd (spot_at place (blocks_of entries.old.items)) (λ s.
         (size (resized bytes s.here) ≤ size s.here) ⊎ IsSome (grow_up (resized bytes s.here) s)) }
     ensures cut { OnOk result (IfSome (spot_at place (blocks_of entries.old.items)) (λ s.
-        size (resized bytes s.here) ≤ size s.here → blocks_of entries.new.items ≡ filled (resized bytes s.here) s)) }
+        size (resized bytes s.here) ≤ size s.here
+        → blocks_of entries.new.items ≡ filled (resized bytes s.here) s)) }
     ensures grown { OnOk result (IfSome (spot_at place (blocks_of entries.old.items)) (λ s.
         size s.here < size (resized bytes s.here) →
         IfSome (grow_up (resized bytes s.here) s) (λ after. blocks_of entries.new.items ≡ after))) }
@@ -147,8 +153,8 @@ pub fn resize_at(
     replace(entries, place, new)
 }
 
-/// Makes the block of a master pointer a free block, and puts another entry at the lower end of the free block at a
-/// place.
+/// Makes the block of a master pointer a free block, and puts another entry at the lower end of the
+/// free block at a place.
 fn put_away(
     entries: &mut Vec<StoredBlock>,
     place: u32,
@@ -158,8 +164,9 @@ fn put_away(
     requires fits { sizes (blocks_of entries.old.items) < 2 ^ 31 }
     requires room { IsSomeAnd (spot_at place (blocks_of entries.old.items)) (λ s.
         IsTrue (is_room (size (block_of new)) s.here)) }
-    ensures ok { OnOk result (IfSome (spot_at place (blocks_of entries.old.items)) (λ s.
-        blocks_of entries.new.items ≡ filled (block_of new) (moved_away (is_relocatable number) s))) }
+    ensures ok { OnOk result
+        (IfSome (spot_at place (blocks_of entries.old.items)) (λ s. blocks_of entries.new.items
+        ≡ filled (block_of new) (moved_away (is_relocatable number) s))) }
     ensures err { OnErr result (entries.new.items ≡ entries.old.items) }
 {
     let Some(i) = index_at(entries, place) else {
@@ -173,7 +180,8 @@ fn put_away(
     Ok(())
 }
 
-/// Moves the block of a master pointer, at another logical size, to the lower end of the free block at a place.
+/// Moves the block of a master pointer, at another logical size, to the lower end of the free block
+/// at a place.
 pub fn move_slot(
     alloc: Global,
     entries: &mut Vec<StoredBlock>,
@@ -187,7 +195,8 @@ pub fn move_slot(
     requires block { IsSome (spot (is_relocatable number) (blocks_of entries.old.items)) }
     ensures ok { OnOk result (IfSome (spot_at place (blocks_of entries.old.items)) (λ s.
         IfSome (spot (is_relocatable number) (blocks_of entries.old.items)) (λ from.
-        blocks_of entries.new.items ≡ filled (resized bytes from.here) (moved_away (is_relocatable number) s)))) }
+        blocks_of entries.new.items
+        ≡ filled (resized bytes from.here) (moved_away (is_relocatable number) s)))) }
     ensures err { OnErr result (entries.new.items ≡ entries.old.items) }
 {
     let new = resized_slot(alloc, entries, number, bytes)?;

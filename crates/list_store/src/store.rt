@@ -3,7 +3,8 @@
 ghost use Rattle.std.specs.Prelude.{◌≡◌, ℕ, ◌*◌, ◌≤◌, ◌<◌, ◌%◌, length, false, IfOk, IsTrue};
 ghost use denote.RawPtr.{null_ptr};
 ghost use Rattle.std.specs.Option.{option_map};
-ghost use Rattle.block_store.specs.Block.{sizes, free_sum, count, is_masters, is_relocatable, tidy, fresh};
+ghost use Rattle.block_store.specs.Block.{sizes, free_sum, count, is_masters, is_relocatable, tidy};
+ghost use Rattle.block_store.specs.Block.{fresh};
 ghost use Rattle.block_store.specs.Run.{has, run_at};
 ghost use Rattle.block_store.specs.Find.{IsEdge};
 ghost use Rattle.block_store.specs.Slot.{is_used};
@@ -30,8 +31,8 @@ use block_store::{
 };
 use std::alloc::{AllocError, Global};
 
-/// A store that keeps its blocks in a list, from bottom to top, and its master pointers in another list, in which a
-/// master pointer's number is its index.
+/// A store that keeps its blocks in a list, from bottom to top, and its master pointers in another
+/// list, in which a master pointer's number is its index.
 #[derive(Drop)]
 pub struct ListStore {
     alloc: Global,
@@ -42,18 +43,21 @@ pub struct ListStore {
     slots: Vec<SlotEntry>,
     ghost covered: { sizes (blocks_of blocks.items) ≡ bytes },
     ghost small: { bytes ≤ GREATEST_ZONE },
-    ghost masters: { length slots.items ≡ SLOTS_A_BLOCK * count is_masters (blocks_of blocks.items) },
+    ghost masters: { length slots.items
+        ≡ SLOTS_A_BLOCK * count is_masters (blocks_of blocks.items) },
     ghost no_block: { (number : ℕ) → is_used (slots_of slots.items number) ≡ false
         → has (is_relocatable number) (blocks_of blocks.items) ≡ false },
     ghost once: { (number : ℕ) → count (is_relocatable number) (blocks_of blocks.items) ≤ 1 },
     ghost tidied: { tidy (blocks_of blocks.items) ≡ blocks_of blocks.items },
-    ghost aligned: { Aligned (blocks_of blocks.items) } by { Aligned-prop (blocks_of blocks.items) },
-    ghost placed: { Placed 0 (blocks_of blocks.items) } by { Placed-prop 0 (blocks_of blocks.items) },
+    ghost aligned: { Aligned
+        (blocks_of blocks.items) } by { Aligned-prop (blocks_of blocks.items) },
+    ghost placed: { Placed 0
+        (blocks_of blocks.items) } by { Placed-prop 0 (blocks_of blocks.items) },
 }
 
 impl ListStore {
-    /// Makes a fresh zone of `len` bytes: a master pointer block of 64 master pointers, and one free block of the other
-    /// bytes.
+    /// Makes a fresh zone of `len` bytes: a master pointer block of 64 master pointers, and one
+    /// free block of the other bytes.
     ///
     /// *Inside Macintosh: Memory*, chapter 2, "Heap Zones".
     pub fn new(alloc: Global, len: u32) -> Result<ListStore, AllocError>
@@ -63,7 +67,8 @@ impl ListStore {
         ensures zone { IfOk result (λ s. ⟦<ListStore as BlockStore>⟧.zone s ≡ fresh len) }
         ensures no_handle { IfOk result (λ s.
             (number : ℕ) → is_used ((⟦<ListStore as BlockStore>⟧.rest s).slots number) ≡ false) }
-        ensures unused { IfOk result (λ s. (⟦<ListStore as BlockStore>⟧.rest s).unused ≡ SLOTS_A_BLOCK) }
+        ensures unused { IfOk result (λ s. (⟦<ListStore as BlockStore>⟧.rest s).unused
+            ≡ SLOTS_A_BLOCK) }
         ensures all { IfOk result (λ s. (⟦<ListStore as BlockStore>⟧.rest s).all ≡ SLOTS_A_BLOCK) }
         ensures moves { IfOk result (λ s. (⟦<ListStore as BlockStore>⟧.rest s).moves ≡ 0) }
         ensures placed { IfOk result (λ s. (⟦<ListStore as BlockStore>⟧.rest s).placed ≡ 0) }

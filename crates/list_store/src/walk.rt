@@ -71,11 +71,12 @@ pub fn look_at(entries: &[StoredBlock], place: u32) -> Option<Seen>
     Some(look(&entries[i]))
 }
 
-/// Returns the least number of purges after which a run has at least `bytes` free bytes; `None` where no purges serve.
+/// Returns the least number of purges after which a run has at least `bytes` free bytes; `None`
+/// where no purges serve.
 pub fn fewest_over(entries: &[StoredBlock], bytes: u32, sparing: Sparing) -> Option<u32>
     requires { sizes (blocks_of entries.now) < 2 ^ 32 }
-    ensures { MatchOption result ((purges : ℕ) → serves bytes sparing (blocks_of entries.now) purges ≡ false)
-        (λ fewest. IsFewest (serves bytes sparing (blocks_of entries.now)) fewest) }
+    ensures { MatchOption result ((purges : ℕ) → serves bytes sparing (blocks_of entries.now) purges
+        ≡ false) (λ fewest. IsFewest (serves bytes sparing (blocks_of entries.now)) fewest) }
 {
     let most = purgeable_in(&mut walk_over(entries), sparing);
     for purges in 0..=most {
@@ -86,8 +87,8 @@ pub fn fewest_over(entries: &[StoredBlock], bytes: u32, sparing: Sparing) -> Opt
     None
 }
 
-/// Returns the least number of purges after which the run of a master pointer's block has at least `bytes` free bytes;
-/// `None` where no purges serve.
+/// Returns the least number of purges after which the run of a master pointer's block has at least
+/// `bytes` free bytes; `None` where no purges serve.
 pub fn fewest_over_block(
     entries: &[StoredBlock],
     number: u32,
@@ -123,7 +124,8 @@ pub fn run_above(entries: &[StoredBlock], run: u32) -> Option<u32>
     Some(run + above)
 }
 
-/// Reports whether the run above the block at a place has `bytes` free bytes, after `purges` purges in the run.
+/// Reports whether the run above the block at a place has `bytes` free bytes, after `purges` purges
+/// in the run.
 pub fn has_free_above(
     entries: &[StoredBlock],
     place: u32,

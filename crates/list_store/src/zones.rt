@@ -1,16 +1,16 @@
 //! A memory whose zones are kept in lists.
 
 ghost use Rattle.std.specs.Prelude.{◌≡◌, ◌≤◌, ◌%◌, [], IfOk, vec_capacity};
-ghost use Rattle.windows.specs.declared.list.TheConstants.{MOST_WINDOWS};
+ghost use Rattle.memory_windows.specs.declared.list.TheConstants.{MOST_WINDOWS};
 ghost use Rattle.block_store.specs.declared.measures.TheConstants.{GREATEST_ZONE};
 
 use crate::store::ListStore;
 use block_store::{GREATEST_ZONE, UNIT, ZoneMaker};
+use memory_windows::{MOST_WINDOWS, Window, put_window, take_window};
 use std::alloc::{AllocError, Global};
-use windows::{MOST_WINDOWS, Window, put_window, take_window};
 
-/// A memory of which only the length and the open windows are noted: each zone is a `ListStore`, which keeps its bytes
-/// elsewhere.
+/// A memory of which only the length and the open windows are noted: each zone is a `ListStore`,
+/// which keeps its bytes elsewhere.
 #[derive(Drop)]
 pub struct ListZones {
     alloc: Global,
@@ -21,7 +21,8 @@ pub struct ListZones {
 }
 
 impl ListZones {
-    /// Makes a memory of `len` bytes with no zone in it. The room for the list of open windows is taken here.
+    /// Makes a memory of `len` bytes with no zone in it. The room for the list of open windows is
+    /// taken here.
     ///
     /// # Errors
     ///

@@ -1,14 +1,14 @@
 use Rattle.std.proofs.Common.{◌≡◌, ℕ, ◌+◌, ◌-◌, ◌<◌, Bool, true, false, cond, List, [], ◌∷◌, ◌++◌, map, Some, None, refl, sym}
-use Rattle.std.proofs.Common.{◌∙◌, ap, arith, append-nil, append_assoc, get_or, drop, length}
-use Rattle.std.specs.Prelude.{Result, Ok, Err, chars, encode_utf8_all, nat_lt, ◌&&◌}
-use Rattle.std.specs.List.{list_all, AllByRecursion}
+use Rattle.std.proofs.Common.{◌∙◌, ap, append-nil, append_assoc, get_or, drop, length}
+use Rattle.std.specs.Prelude.{Result, Ok, Err, chars, encode_utf8_all, ◌&&◌}
+use Rattle.std.specs.List.{AllByRecursion}
 use Rattle.std.specs.Str.{IsUtf8, is_utf8, all_scalars}
-use Rattle.std.proofs.lemmas.Bool.Decides.{nat_tests}
 use Rattle.std.proofs.lemmas.List.{drop_more}
 use Rattle.std.proofs.lemmas.Str.{is_utf8-from_IsUtf8, IsUtf8-from_is_utf8, chars-encodes}
-use Rattle.mac_roman.specs.Table.{high, char_of, byte_of}
+use Rattle.std.proofs.lemmas.Bool.{agree_below_at}
+use Rattle.mac_roman.specs.Table.{char_of, byte_of}
 use Rattle.mac_roman.specs.Roman.{before, bytes_of, to_roman, from_roman}
-use Rattle.mac_roman.proofs.Lookups.{byte_again, passes_at}
+use Rattle.mac_roman.proofs.Lookups.{byte_again}
 
 -- Characters written byte by byte, and read again.
 
@@ -59,17 +59,8 @@ bytes_again : (bytes : List ℕ) → AllByRecursion (λ b. b < 256) bytes → by
 bytes_again [] small = refl
 bytes_again (b ∷ bytes) small = rw (byte_again b small.0, bytes_again bytes small.1) refl
 
-scalars_high : list_all (λ c. all_scalars (c ∷ [])) high ≡ true
-scalars_high = refl
-
-scalar_one : (b : ℕ) → b < 256 → all_scalars (char_of b ∷ []) ≡ true
-scalar_one b small = cases (nat_lt b 128) refl
-  where
-    cases : (t : Bool) → nat_lt b 128 ≡ t → all_scalars (cond t b (get_or high (b - 128) 0) ∷ []) ≡ true
-    cases true h = grind (arith, nat_tests)
-    cases false h =
-        let large : 128 < b + 1 = grind (arith, nat_tests) in
-        passes_at (λ (c : ℕ). all_scalars (c ∷ [])) high (b - 128) scalars_high (omega arith)
+pub scalar_one : (b : ℕ) → b < 256 → all_scalars (char_of b ∷ []) ≡ true
+scalar_one b small = agree_below_at (λ n. all_scalars (char_of n ∷ [])) (λ _. true) 256 b refl small
 
 scalars_all : (bytes : List ℕ) → AllByRecursion (λ b. b < 256) bytes → all_scalars (map char_of bytes) ≡ true
 scalars_all [] small = refl

@@ -2,7 +2,7 @@ use Rattle.std.proofs.Common.{◌≡◌, ℕ, ◌+◌, ◌-◌, ◌<◌, Bool, t
 use Rattle.std.proofs.Common.{◌∙◌, ap, arith, suc, zero, get_or}
 use Rattle.std.specs.Prelude.{◌==◌, ◌&&◌, not, nat_lt, option_map}
 use Rattle.std.specs.List.{list_all, position, position_from}
-use Rattle.std.proofs.lemmas.Bool.{eqb-true, eq-eqb}
+use Rattle.std.proofs.lemmas.Bool.{eqb-true, eq-eqb, and_parts, not-true}
 use Rattle.std.proofs.lemmas.Bool.Decides.{nat_tests}
 use Rattle.std.proofs.lemmas.Iterator.Adapters.{position_from-zero}
 use Rattle.std.proofs.lemmas.List.Quantifiers.{position-Some}
@@ -10,19 +10,11 @@ use Rattle.mac_roman.specs.Table.{high, char_of, byte_of}
 
 -- The characters of Mac OS Roman, looked up by byte and by character.
 
-both : (s t : Bool) → (s && t) ≡ true → (s ≡ true) × (t ≡ true)
-both true t h = (refl, h)
-both false t h = cc
-
-opposite : (t : Bool) → not t ≡ true → t ≡ false
-opposite true h = cc
-opposite false h = refl
-
 -- what passes of all passes of one
 pub passes_at : (p : ℕ → Bool) (xs : List ℕ) (i : ℕ) → list_all p xs ≡ true → i < length xs → p (get_or xs i 0) ≡ true
 passes_at p [] i all inside = absurd (omega arith)
-passes_at p (x ∷ xs) zero all inside = (both (p x) (list_all p xs) all).0
-passes_at p (x ∷ xs) (suc i) all inside = passes_at p xs i (both (p x) (list_all p xs) all).1 (omega arith)
+passes_at p (x ∷ xs) zero all inside = (and_parts (p x) (list_all p xs) all).0
+passes_at p (x ∷ xs) (suc i) all inside = passes_at p xs i (and_parts (p x) (list_all p xs) all).1 (omega arith)
 
 -- no number stands twice
 abbrev is_distinct : List ℕ → Bool
@@ -34,8 +26,8 @@ found_from : (n i : ℕ) (xs : List ℕ) → is_distinct xs ≡ true → i < len
 found_from n i [] distinct inside = absurd (omega arith)
 found_from n zero (x ∷ xs) distinct inside = rw (eq-eqb x x refl) (ap Some (omega arith))
 found_from n (suc i) (x ∷ xs) distinct inside =
-    let apart = both (list_all (λ (y : ℕ). not (x == y)) xs) (is_distinct xs) distinct in
-    rw (opposite (x == get_or xs i 0) (passes_at (λ (y : ℕ). not (x == y)) xs i apart.0 (omega arith)))
+    let apart = and_parts (list_all (λ (y : ℕ). not (x == y)) xs) (is_distinct xs) distinct in
+    rw (not-true (x == get_or xs i 0) (passes_at (λ (y : ℕ). not (x == y)) xs i apart.0 (omega arith)))
     (found_from (n + 1) i xs apart.1 (omega arith) ∙ ap Some (omega arith))
 
 found_at : (i : ℕ) (xs : List ℕ) → is_distinct xs ≡ true → i < length xs
@@ -57,7 +49,7 @@ byte_again b small = cases (nat_lt b 128) refl
     cases true h = rw h refl
     cases false h =
         let large : 128 < b + 1 = grind (arith, nat_tests) in
-        rw (opposite (nat_lt (get_or high (b - 128) 0) 128)
+        rw (not-true (nat_lt (get_or high (b - 128) 0) 128)
         (passes_at (λ (c : ℕ). not (nat_lt c 128)) high (b - 128) above_high (omega arith)))
         (ap (option_map (λ (i : ℕ). i + 128)) (found_at (b - 128) high distinct_high (omega arith)) ∙ ap Some (omega arith))
 

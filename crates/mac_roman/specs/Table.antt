@@ -3,8 +3,8 @@ use Rattle.std.specs.Prelude.{if◌then◌else◌}
 use Rattle.std.specs.List.{position}
 
 -- The characters of Mac OS Roman, as numbers of Unicode.
--- Inside Macintosh: Text, appendix A, "Built-in Script Support and Character Encoding"; Apple's table ROMAN.TXT of 1998 for Unicode, in which 0xDB is the
--- euro sign.
+-- Inside Macintosh: Text, appendix A, "Built-in Script Support and Character Encoding"; Apple's table ROMAN.TXT of 1998 for Unicode, in
+-- which 0xDB is the euro sign.
 
 -- From 0x80 on.
 abbrev row_80 : List ℕ

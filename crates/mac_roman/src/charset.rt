@@ -23,8 +23,8 @@ fn is_printable(byte: u8) -> bool
 }
 
 impl Charset {
-    /// Reports whether a byte is printed as the character that it stands for: a printable one of ASCII, and, in UTF-8, each
-    /// byte from 0x80.
+    /// Reports whether a byte is printed as the character that it stands for: a printable one of
+    /// ASCII, and, in UTF-8, each byte from 0x80.
     pub fn prints(self, byte: u8) -> bool
         ensures { result ≡ prints self byte }
     {
@@ -43,7 +43,8 @@ fn append_char(text: &mut Vec<u8>, byte: u8) -> Result<(), AllocError>
     text.extend_from_slice(character_of(byte).encode_utf8(&mut bytes).as_bytes())
 }
 
-/// Appends the character that a byte stands for, in UTF-8. Where the host is out of memory, the text may have got a part of it.
+/// Appends the character that a byte stands for, in UTF-8. Where the host is out of memory, the
+/// text may have got a part of it.
 pub fn append_character(text: &mut Vec<u8>, byte: u8) -> Result<(), AllocError>
     ensures { OnOk result (text.new.items ≡ text.old.items ++ character byte) }
 {

@@ -15,10 +15,12 @@ pub fn characters_are_one_to_one()
 
 /// States that any bytes are read again from what is written of them in UTF-8.
 pub fn roman_text_is_read_again()
-    ensures { (bytes : List ℕ) → AllByRecursion (λ b. b < 256) bytes → to_roman (from_roman bytes) ≡ Ok bytes }
+    ensures { (bytes : List ℕ) → AllByRecursion (λ b. b < 256) bytes
+        → to_roman (from_roman bytes) ≡ Ok bytes }
 {}
 
-/// States that a text of ASCII is taken as it is, and printed as it is; and that a text is printed character by character.
+/// States that a text of ASCII is taken as it is, and printed as it is; and that a text is printed
+/// character by character.
 pub fn ascii_text_is_taken_as_it_is()
     ensures taken { (text : List ℕ) → AllByRecursion (λ b. b < 128) text → to_roman text ≡ Ok text }
     ensures printed { (b : ℕ) → b < 128 → character b ≡ b ∷ [] }

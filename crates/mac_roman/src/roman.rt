@@ -77,12 +77,13 @@ fn copied(alloc: Global, bytes: &[u8]) -> Result<Vec<u8>, AllocError>
     Ok(copy)
 }
 
-/// Returns a text in Mac OS Roman, a byte for each character. Bytes that are not UTF-8 are taken as they are, all of them.
+/// Returns a text in Mac OS Roman, a byte for each character. Bytes that are not UTF-8 are taken as
+/// they are, all of them.
 ///
 /// # Errors
 ///
-/// `NoCharacter` with the first character that Mac OS Roman has not; where the host is out of memory nothing is said of the
-/// text.
+/// `NoCharacter` with the first character that Mac OS Roman has not; where the host is out of
+/// memory nothing is said of the text.
 pub fn to_roman(alloc: Global, text: &[u8]) -> Result<Vec<u8>, RomanFault>
     ensures made { IfOk result (λ out. to_roman text.now ≡ Ok out.items) }
     ensures fault { IfErr result (λ fault. Stops fault (to_roman text.now)) }

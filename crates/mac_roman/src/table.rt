@@ -6,7 +6,8 @@ ghost use Rattle.mac_roman.specs.Table.{high, char_of, byte_of};
 
 /// The characters of the bytes from 0x80 to 0xFF.
 ///
-/// *Inside Macintosh: Text*, appendix A, "Built-in Script Support and Character Encoding"; Apple's table of 1998 for Unicode.
+/// *Inside Macintosh: Text*, appendix A, "Built-in Script Support and Character Encoding"; Apple's
+/// table of 1998 for Unicode.
 const HIGH: [char; 128] = [
     '\u{c4}', '\u{c5}', '\u{c7}', '\u{c9}', '\u{d1}', '\u{d6}', '\u{dc}', '\u{e1}', '\u{e0}',
     '\u{e2}', '\u{e4}', '\u{e3}', '\u{e5}', '\u{e7}', '\u{e9}', '\u{e8}', '\u{ea}', '\u{eb}',

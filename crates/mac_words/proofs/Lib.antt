@@ -1,1 +1,3 @@
+pub mod Appending
 pub mod Plain
+mod Same

@@ -1,9 +1,10 @@
-use Rattle.std.proofs.Common.{◌≡◌, ◌∙◌, ◌+◌, ◌<◌, ℕ, true, false, refl, sym, ap, List, ◌∷◌, length, drop, get_or}
+use Rattle.std.proofs.Common.{◌≡◌, ◌∙◌, ◌+◌, ◌<◌, ℕ, true, false, refl, sym, ap, List, ◌∷◌, length, drop, get_or, Result, Ok, Err}
 use Rattle.std.proofs.Common.{Option, Some, None, is_some}
 use Rattle.std.proofs.lemmas.List.{drop_more}
 use Rattle.std.specs.Option.{option_map}
+use Rattle.std.specs.Result.{OnErr}
 
--- Plain lemmas, on lists and on whether there is a value.
+-- Plain lemmas, on lists, on whether there is a value, and on results.
 
 -- what is left of a list, behind its next element
 pub rest-next : {X : Type 0} (xs : List X) (i : ℕ) (x : X) → i < length xs → x ≡ get_or xs i x
@@ -19,3 +20,8 @@ is_some-map f (Some x) = refl
 pub not_some : {A : Type 0} (o : Option A) → is_some o ≡ false → o ≡ None
 not_some None e = refl
 not_some (Some x) e = let f : true ≡ false = e in cc
+
+-- what holds in any case holds where there is an error
+pub on_err : {T E : Type 0} (result : Result T E) (P : Type 0) → P → OnErr result P
+on_err (Ok value) P so = tt
+on_err (Err fault) P so = so

@@ -19,8 +19,9 @@ pub enum Call {
 
 /// A call of the Memory Manager. Sizes and offsets are in bytes.
 ///
-/// *Inside Macintosh: Memory*, chapter 2, "Memory Manager Routines". `Put`, `Show`, `PutPtr`, `ShowPtr` and `Where`
-/// stand for what an application does with a pointer, or with the master pointer to which a handle leads.
+/// *Inside Macintosh: Memory*, chapter 2, "Memory Manager Routines". `Put`, `Show`, `PutPtr`,
+/// `ShowPtr` and `Where` stand for what an application does with a pointer, or with the master
+/// pointer to which a handle leads.
 #[derive(Debug, Drop)]
 pub enum HeapCall {
     /// Binds the name to a new handle, whose block has the given number of bytes 0.
@@ -33,8 +34,8 @@ pub enum HeapCall {
     GetHandleSize(Label),
     /// Changes the logical size of a handle's block; new bytes are 0.
     SetHandleSize(Label, u32),
-    /// Allocates a new block with the given number of bytes 0 for a handle, and releases the handle's old block, if
-    /// there is one.
+    /// Allocates a new block with the given number of bytes 0 for a handle, and releases the
+    /// handle's old block, if there is one.
     ReallocateHandle(Label, u32),
     /// Purges the block of a handle; the handle becomes an empty handle.
     EmptyHandle(Label),
@@ -48,7 +49,8 @@ pub enum HeapCall {
     HNoPurge(Label),
     /// Returns the flags of a handle as a sum: locked 128, purgeable 64, resource 32.
     HGetState(Label),
-    /// Sets whether a handle's block is locked and whether it is purgeable, from the bits 128 and 64 of the byte.
+    /// Sets whether a handle's block is locked and whether it is purgeable, from the bits 128 and
+    /// 64 of the byte.
     HSetState(Label, u8),
     /// Returns the place of the heap zone that a handle is of, as the offset from its start.
     HandleZone(Label),
@@ -64,6 +66,8 @@ pub enum HeapCall {
     HandAndHand(Label, Box<Label>),
     /// Appends bytes to a handle's block.
     PtrAndHand(Label, Vec<u8>),
+    /// Replaces the bytes of a handle's block with other bytes; the block gets their size.
+    PtrToXHand(Label, Vec<u8>),
     /// Binds the name to a pointer to a new nonrelocatable block with the given number of bytes 0.
     NewPtr(Label, u32),
     /// Disposes of a nonrelocatable block.
@@ -72,28 +76,31 @@ pub enum HeapCall {
     GetPtrSize(Label),
     /// Changes the logical size of a nonrelocatable block; new bytes are 0.
     SetPtrSize(Label, u32),
-    /// Returns the place of the heap zone that a nonrelocatable block is in, as the offset from its start.
+    /// Returns the place of the heap zone that a nonrelocatable block is in, as the offset from its
+    /// start.
     PtrZone(Label),
     /// Returns the total size in bytes of the free blocks, headers included.
     FreeMem,
-    /// Returns the size of the largest block that could be allocated after compaction, without purging.
+    /// Returns the size of the largest block that could be allocated after compaction, without
+    /// purging.
     MaxBlock,
-    /// Returns the total size in bytes of the free and the purgeable blocks, and the size of the largest block that
-    /// could be allocated if these were purged and no block were moved.
+    /// Returns the total size in bytes of the free and the purgeable blocks, and the size of the
+    /// largest block that could be allocated if these were purged and no block were moved.
     PurgeSpace,
-    /// Compacts the zone run by run until a block of the given size fits, and returns the size of the largest block
-    /// that then could be allocated without another move.
+    /// Compacts the zone run by run until a block of the given size fits, and returns the size of
+    /// the largest block that then could be allocated without another move.
     CompactMem(u32),
     /// Purges blocks until a block of the given size fits.
     PurgeMem(u32),
-    /// Purges all purgeable blocks, compacts the zone, and returns the size of the largest block that then could be
-    /// allocated.
+    /// Purges all purgeable blocks, compacts the zone, and returns the size of the largest block
+    /// that then could be allocated.
     MaxMem,
     /// Makes room for a block of the given size as low in the zone as possible.
     ReserveMem(u32),
     /// Allocates a new master pointer block.
     MoreMasters,
-    /// Returns the result code of the last Memory Manager call; this call and those below it in this table set none.
+    /// Returns the result code of the last Memory Manager call; this call and those below it in
+    /// this table set none.
     MemError,
     /// Writes bytes into a handle's block, from an offset on.
     Put(Label, u32, Vec<u8>),
@@ -107,11 +114,12 @@ pub enum HeapCall {
     Where(Label),
 }
 
-/// A call by which an application says how it is run: which grow-zone script is run when there is no room, and when its
-/// turn or its run ends.
+/// A call by which an application says how it is run: which grow-zone script is run when there is
+/// no room, and when its turn or its run ends.
 ///
-/// *Inside Macintosh: Memory*, chapter 2, "Memory Manager Routines"; *Inside Macintosh: Processes*, chapter 2, "Process
-/// Manager Routines"; *Inside Macintosh: Macintosh Toolbox Essentials*, chapter 2, "Event Manager Routines".
+/// *Inside Macintosh: Memory*, chapter 2, "Memory Manager Routines"; *Inside Macintosh: Processes*,
+/// chapter 2, "Process Manager Routines"; *Inside Macintosh: Macintosh Toolbox Essentials*, chapter
+/// 2, "Event Manager Routines".
 #[derive(Debug, Drop)]
 pub enum ControlCall {
     /// Sets the grow-zone script; the name `none` removes it.

@@ -1,12 +1,18 @@
 //! The numbers of the result codes, and the values of the attributes' bits.
 
 ghost use Rattle.std.specs.Prelude.{◌≡◌};
-ghost use Rattle.mac_words.specs.Codes.{noErr, dsLoadErr, dskFulErr, eofErr, fnfErr, dupFNErr, wrPermErr, memFullErr, nilHandleErr, memWZErr, memPurErr, memLockedErr, resourceInMemory, writingPastEnd, inputOutOfBounds, resNotFound, resFNotFound, addResFailed, rmvResFailed, resAttrErr, mapReadErr, profileErr, resSysHeap, resPurgeable, resLocked, resProtected, resPreload, resChanged};
+ghost use Rattle.mac_words.specs.Codes.{noErr, dsLoadErr, dskFulErr, eofErr, fnfErr, dupFNErr};
+ghost use Rattle.mac_words.specs.Codes.{wrPermErr, memFullErr, nilHandleErr, memWZErr, memPurErr};
+ghost use Rattle.mac_words.specs.Codes.{memLockedErr, resourceInMemory, writingPastEnd};
+ghost use Rattle.mac_words.specs.Codes.{inputOutOfBounds, resNotFound, resFNotFound, addResFailed};
+ghost use Rattle.mac_words.specs.Codes.{rmvResFailed, resAttrErr, mapReadErr, profileErr};
+ghost use Rattle.mac_words.specs.Codes.{resSysHeap, resPurgeable, resLocked, resProtected};
+ghost use Rattle.mac_words.specs.Codes.{resPreload, resChanged};
 ghost use Rattle.mac_words.specs.declared.code.TheConstants.OsErr as TheCodes;
 ghost use Rattle.mac_words.specs.declared.attributes.TheConstants.Attrs as TheBits;
 
-/// Each result code has the number that Apple's headers give it; this project's own code has the number that this
-/// project chose.
+/// Each result code has the number that Apple's headers give it; this project's own code has the
+/// number that this project chose.
 ///
 /// *Inside Macintosh: Memory*, "Result Codes"; *More Macintosh Toolbox*, chapter 1, "Result Codes".
 pub fn codes_are_the_manuals()

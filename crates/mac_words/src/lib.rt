@@ -1,5 +1,5 @@
-//! The Toolbox's words: result codes, names, types, attributes, calls and replies, and the physical size of a block. The
-//! crates that speak of blocks, resources or calls share these words.
+//! The Toolbox's words: result codes, names, types, attributes, calls and replies, and the physical
+//! size of a block. The crates that speak of blocks, resources or calls share these words.
 #![tactic(auto)]
 
 mod attributes;

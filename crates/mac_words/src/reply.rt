@@ -6,8 +6,9 @@ use crate::code::OsErr;
 use crate::name::{Name, OsType};
 use arrayvec::ArrayVec;
 
-/// The reply of a call: its result code and, after code 0, its values in the order of the fields. Bytes that a call
-/// shows are no part of the reply: they are written from the block in which they stand.
+/// The reply of a call: its result code and, after code 0, its values in the order of the fields.
+/// Bytes that a call shows are no part of the reply: they are written from the block in which they
+/// stand.
 #[derive(Debug, Drop)]
 pub struct Reply {
     pub code: OsErr,
@@ -128,7 +129,8 @@ impl Reply {
         }
     }
 
-    /// Returns a reply of code 0 and a resource's ID, type and name. A resource without a name is given an empty name.
+    /// Returns a reply of code 0 and a resource's ID, type and name. A resource without a name is
+    /// given an empty name.
     pub fn info(id: i16, ty: OsType, name: Box<Name>) -> Reply
         ensures code { result.code ≡ OsErr.NO_ERR }
         ensures numbers { result.numbers.items ≡ id ∷ [] }

@@ -12,10 +12,10 @@ use Rattle.lint.specs.Faults.{script_faults}
 use Rattle.rez_text.specs.Reading.{ReadFault, Wrong, Lacking, read}
 use Rattle.script_text.specs.Script.{ScriptParts, script_of, spelled}
 use Rattle.applications.specs.Trying.{own_resources}
-use Rattle.zone_view.specs.Behind.{steps_at}
-use Rattle.zone_view.specs.Words.{telling_text}
-use Rattle.zone_view.specs.declared.words.Telling.{Telling}
-use Rattle.zone_view.specs.declared.words.Telling.TheVariants as telling
+use Rattle.zone_replay.specs.Behind.{steps_at}
+use Rattle.zone_replay.specs.Words.{telling_text}
+use Rattle.zone_replay.specs.declared.words.Telling.{Telling}
+use Rattle.zone_replay.specs.declared.words.Telling.TheVariants as telling
 
 -- What C gets of files and scripts for people, in lines.
 

@@ -1,7 +1,7 @@
 use Rattle.std.specs.Prelude.{◌≡◌, ℕ, ℤ, pos, false, Some, List, Ok, Err}
-use Rattle.heap_view.specs.declared.choice.Choice.TheVariants.{All}
-use Rattle.heap_view.specs.declared.digits.Digits.TheVariants.{Decimal}
-use Rattle.heap_view.specs.declared.svg.Part.{Part}
+use Rattle.zone_drawing.specs.declared.choice.Choice.TheVariants.{All}
+use Rattle.zone_drawing.specs.declared.digits.Digits.TheVariants.{Decimal}
+use Rattle.zone_drawing.specs.declared.svg.Part.{Part}
 use Rattle.script_text.specs.Script.{ScriptParts, script_of, spelled}
 use Rattle.script_text.specs.Reading.{FailsAt}
 use Rattle.script_text.specs.declared.fault.FaultKind.{FaultKind}
@@ -9,13 +9,13 @@ use Rattle.script_text.specs.declared.fault.FaultKind.TheVariants as kind
 use Rattle.script_text.specs.declared.fault.ScriptFault.{ScriptFault}
 use Rattle.applications.specs.Alone.{script_alone}
 use Rattle.applications.specs.Trying.{own_resources}
-use Rattle.zone_view.specs.Behind.{steps_at}
-use Rattle.zone_view.specs.Sight.{sight_text}
-use Rattle.zone_view.specs.declared.form.Details.{Details}
-use Rattle.zone_view.specs.declared.form.Form.TheVariants.{Columns, Picture}
-use Rattle.zone_view.specs.declared.form.Only.TheVariants.{Blocks}
-use Rattle.zone_view.specs.declared.sight.Sight.{Sight}
-use Rattle.zone_view.specs.declared.sight.Sight.TheVariants as sight
+use Rattle.zone_replay.specs.Behind.{steps_at}
+use Rattle.zone_replay.specs.Sight.{sight_text}
+use Rattle.zone_replay.specs.declared.form.Details.{Details}
+use Rattle.zone_replay.specs.declared.form.Form.TheVariants.{Columns, Picture}
+use Rattle.zone_replay.specs.declared.form.Only.TheVariants.{Blocks}
+use Rattle.zone_replay.specs.declared.sight.Sight.{Sight}
+use Rattle.zone_replay.specs.declared.sight.Sight.TheVariants as sight
 use Rattle.macmem_c.specs.Codes.{host_memory}
 use Rattle.macmem_c.specs.Faults.{file_fault}
 use Rattle.macmem_c.specs.declared.faults.Fault.{Fault}
@@ -43,7 +43,8 @@ abbrev pub sight_of : Showing → ScriptParts → Sight
 sight_of (showing.List line) script = sight.Zone (steps_at (Some line) script.steps) (Columns listed)
 sight_of (showing.Picture line) script = sight.Zone (steps_at (Some line) script.steps) (Picture whole)
 sight_of (showing.Steps from to) script =
-    sight.Moments (steps_at (Some from) script.steps) (steps_at (Some to) script.steps) (record { part = whole; all = false })
+    sight.Moments (steps_at (Some from) script.steps) (steps_at (Some to) script.steps)
+    (record { part = whole; all = false; inside = false })
 
 -- What is shown of a script's application in a partition of so many bytes.
 pub record IsShowing (size : ℕ) (showing : Showing) (text out : List ℕ) : Type 0 where

@@ -3,18 +3,18 @@
 ghost use Rattle.std.specs.Prelude.{◌≡◌, ◌≤◌, ◌%◌, [], length, IfOk, IfErr};
 ghost use Rattle.block_store.specs.declared.measures.TheConstants.{LEAST_ZONE, GREATEST_ZONE};
 ghost use Rattle.applications.specs.Trying.{own_resources as own};
-ghost use Rattle.zone_view.specs.Sight.{sight_text};
+ghost use Rattle.zone_replay.specs.Sight.{sight_text};
 ghost use Rattle.macmem_c.specs.Replayed.{IsTranscript, IsShowing, IsUnread, sight_of};
 
 use applications::{Unwatched, own_resources};
 use desk::run_script;
-use heap_view::{Choice, Digits, Part};
 use raw_region::Region;
 use raw_zone::RawZone;
 use res_calls::Resources;
 use script_text::{FaultKind, Script, ScriptFault, read_script};
 use std::alloc::{AllocError, Global};
-use zone_view::{Details, Form, Only, Sight, Strips, show, steps_at};
+use zone_drawing::{Choice, Digits, Part};
+use zone_replay::{Details, Form, Only, Sight, Strips, show, steps_at};
 
 /// What C asks to be shown of a script.
 #[derive(Clone, Copy)]
@@ -58,6 +58,7 @@ fn sight_of(showing: Showing, script: &Script) -> Sight
             Strips {
                 part: WHOLE,
                 all: false,
+                inside: false,
             },
         ),
     }

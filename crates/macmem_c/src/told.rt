@@ -3,7 +3,7 @@
 ghost use Rattle.std.specs.Prelude.{◌≡◌, ◌≤◌, ◌%◌, [], length, IfOk, IfErr};
 ghost use Rattle.block_store.specs.declared.measures.TheConstants.{LEAST_ZONE, GREATEST_ZONE};
 ghost use Rattle.applications.specs.Trying.{own_resources as own};
-ghost use Rattle.zone_view.specs.Words.{telling_text};
+ghost use Rattle.zone_replay.specs.Words.{telling_text};
 ghost use Rattle.macmem_c.specs.Codes.{paramErr};
 ghost use Rattle.macmem_c.specs.Handed.{Hands};
 ghost use Rattle.macmem_c.specs.Made.{IsZoneSize, NoZoneSize};
@@ -21,7 +21,7 @@ use raw_zone::RawZone;
 use res_calls::Resources;
 use script_text::{Script, ScriptFault, read_script};
 use std::alloc::{AllocError, Global};
-use zone_view::{Telling, steps_at, tell};
+use zone_replay::{Telling, steps_at, tell};
 
 /// Returns how much of the transcript is told: the calls from a line to another.
 fn telling_of(from: usize, to: usize, script: &Script) -> Telling

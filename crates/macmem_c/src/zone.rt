@@ -1,7 +1,7 @@
 //! A zone that C may keep.
 
 ghost use Rattle.std.specs.Prelude.{◌≡◌, ◌≤◌, ◌%◌, [], IfOk};
-ghost use Rattle.windows.specs.Windows.{with_window};
+ghost use Rattle.memory_windows.specs.Windows.{with_window};
 ghost use Rattle.block_store.specs.declared.measures.TheConstants.{UNIT, LEAST_ZONE, GREATEST_ZONE};
 ghost use Rattle.macmem_c.specs.Made.{IsFresh};
 

@@ -3,7 +3,7 @@ use Rattle.std.proofs.Common.{cond, arith, Option, Some, None}
 use Rattle.std.specs.Option.{option_map, option_or}
 use Rattle.std.specs.Prelude.{unwrap_or, option_and_then}
 use Rattle.std.proofs.lemmas.Option.{option_and_then_some}
-use Rattle.windows.specs.Writes.{written}
+use Rattle.memory_windows.specs.Writes.{written}
 use Rattle.block_store.specs.Block.{Block, Free, Nonrelocatable, Masters, Relocatable, size, total, count, free, free_sum}
 use Rattle.block_store.specs.Block.{is_relocatable, content_of, with_content}
 use Rattle.block_store.specs.Run.{in_run, has_free, segments, joined, movers}

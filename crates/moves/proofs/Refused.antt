@@ -11,11 +11,11 @@ use Rattle.moves.specs.Seeking.{seek_resized, seek_size, around}
 
 -- Where no room is found a path only searches, and so many times wherever it begins.
 
-abbrev pub Only : (Block → Bool) → Sought → Type 0
-Only spared r = (n : ℕ) × ((zone : List Block) → did spared r.path zone ≡ record (untouched zone) { searches = n })
+abbrev pub Only : (Block → Bool) → List Move → Type 0
+Only spared path = (n : ℕ) × ((zone : List Block) → did spared path zone ≡ record (untouched zone) { searches = n })
 
 abbrev pub Refuses : (Block → Bool) → Sought → Type 0
-Refuses spared r = r.found ≡ false → Only spared r
+Refuses spared r = r.found ≡ false → Only spared r.path
 
 module _ (spared : Block → Bool)
   where
@@ -68,5 +68,5 @@ module _ (spared : Block → Bool)
     pub around-refused : (before later : List Move) (r : Sought) → Refuses spared r → Refuses spared (around before
         later r)
     around-refused before later r only none =
-        subst (λ (t : Bool). Only spared (record { found = t; path = cond t (before ++ r.path ++ later) r.path }))
+        subst (λ (t : Bool). Only spared (cond t (before ++ r.path ++ later) r.path))
         (sym none) (only none)

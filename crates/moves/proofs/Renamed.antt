@@ -4,7 +4,7 @@ use Rattle.std.proofs.lemmas.List.{map-append}
 use Rattle.std.specs.Option.{option_map}
 use Rattle.std.specs.Prelude.{unwrap_or, option_and_then}
 use Rattle.mac_words.proofs.Plain.{is_some-map}
-use Rattle.windows.specs.Writes.{written}
+use Rattle.memory_windows.specs.Writes.{written}
 use Rattle.block_store.specs.Block.{Block, Free, Nonrelocatable, Masters, Relocatable, size, free_of, free_sum, free, is_mover}
 use Rattle.block_store.specs.Block.{is_room, is_relocatable, content_of, with_content, tidy, rename, rename_block}
 use Rattle.block_store.specs.Run.{RunSpot, run_spot, change_run, has, has_free, high, low, movers, others, segments, joined}

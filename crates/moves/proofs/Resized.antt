@@ -5,7 +5,7 @@ use Rattle.std.specs.Option.{option_map}
 use Rattle.std.specs.Prelude.{unwrap_or, option_and_then}
 use Rattle.std.proofs.lemmas.Bool.{cond-true, leb-true, leb-false}
 use Rattle.std.proofs.lemmas.Option.{same_Some}
-use Rattle.block_store.specs.Block.{Block, Free, Nonrelocatable, Masters, Relocatable, size, total, free_sum, count, is_mover}
+use Rattle.block_store.specs.Block.{Block, Free, size, total, free_sum, count, is_mover}
 use Rattle.block_store.specs.Run.{in_run, has_free, segments}
 use Rattle.block_store.specs.Room.{Spot, spot, filled, purge, may_be_purged}
 use Rattle.block_store.specs.Grow.{growth, grow_up, grow_mover}
@@ -13,6 +13,7 @@ use Rattle.block_store.proofs.Zone.Keeping.{purged-le, counts-free, unless, unle
 use Rattle.block_store.proofs.Zone.Surviving.{whole}
 use Rattle.block_store.proofs.Zone.Tidy.{spot-is, spot-passes}
 use Rattle.block_store.proofs.Zone.Totals.{total-append}
+use Rattle.block_store.proofs.Regroup.Parts.{mover-in}
 use Rattle.moves.specs.Moves.{Move, Search, Purge, Grow, Extend, Push, Cut, is_same, run_above, pushed, did}
 use Rattle.moves.specs.Seeking.{Sought, at_hand, sought, purges_for, seek, seek_resized}
 use Rattle.moves.proofs.Paths.{Along, along-sought}
@@ -20,13 +21,6 @@ use Rattle.moves.proofs.Conserved.{AsNew, Weighs, PathWeighs, same-free, purged-
 use Rattle.moves.proofs.Steady.{Stays, PathStays}
 
 -- The path of a block that gets another size, to which the laws of paths apply.
-
--- a mover is in a run
-mover-in : (b : Block) → is_mover b ≡ true → in_run b ≡ true
-mover-in (Free n) e = refl
-mover-in (Nonrelocatable id content) e = e
-mover-in Masters e = e
-mover-in (Relocatable id flags content) e = e
 
 module _ (new : Block) (spared : Block → Bool) (zone : List Block) (s : Spot)
   where

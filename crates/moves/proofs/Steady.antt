@@ -4,7 +4,7 @@ use Rattle.std.specs.Option.{option_map}
 use Rattle.std.specs.Prelude.{unwrap_or, option_and_then}
 use Rattle.std.proofs.lemmas.Bool.{cond-false}
 use Rattle.std.proofs.lemmas.Option.{option_and_then_some}
-use Rattle.windows.specs.Writes.{written}
+use Rattle.memory_windows.specs.Writes.{written}
 use Rattle.block_store.specs.Block.{Block, Free, size, sizes, total, free, free_sum, count, is_mover, is_relocatable}
 use Rattle.block_store.specs.Block.{content_of, with_content}
 use Rattle.block_store.specs.Run.{in_run, segments, joined, movers}

@@ -1,7 +1,7 @@
 use Rattle.std.specs.Prelude.{ℕ, ◌+◌, ◌-◌, Bool, false, zero, suc, Option, Some, None, List, [], ◌∷◌, ◌++◌, unwrap_or}
 use Rattle.std.specs.Prelude.{is_some, ◌&&◌, option_and_then, if◌then◌else◌}
 use Rattle.std.specs.Option.{option_map}
-use Rattle.windows.specs.Writes.{written}
+use Rattle.memory_windows.specs.Writes.{written}
 use Rattle.block_store.specs.Block.{Block, Free, Nonrelocatable, Masters, Relocatable, size, free, free_sum, is_room}
 use Rattle.block_store.specs.Block.{is_relocatable, is_nonrelocatable, content_of, with_content, rename, rename_block}
 use Rattle.block_store.specs.Run.{RunSpot, run_spot, has_free, has, high, segments, joined, movers}

@@ -6,8 +6,8 @@ use Rattle.std.proofs.lemmas.List.Elements.{All-weaker}
 use Rattle.std.proofs.lemmas.Option.{IfSome_then}
 use Rattle.std.specs.List.{AllByRecursion, find}
 use Rattle.std.specs.Option.{option_map, option_or}
-use Rattle.windows.specs.declared.Window.{Window}
-use Rattle.windows.specs.Windows.{InOrder, IsApart, window}
+use Rattle.memory_windows.specs.declared.Window.{Window}
+use Rattle.memory_windows.specs.Windows.{InOrder, IsApart, window}
 use Rattle.partitions.specs.Grant.{holes, has_room, lower_end, largest, at_least, grant_of, grant}
 use Rattle.partitions.specs.Granted.{HoldsZone}
 use Rattle.partitions.proofs.Holes.{IsHole, are_holes, found, greatest, none_found}

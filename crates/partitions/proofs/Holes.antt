@@ -5,9 +5,9 @@ use Rattle.std.proofs.Math.Dec.{ltb}
 use Rattle.std.proofs.lemmas.Bool.{leb-true, leb-false, le-ltb}
 use Rattle.std.proofs.lemmas.List.Elements.{All-cons, All-nil, All-head, All-tail}
 use Rattle.std.specs.List.{AllByRecursion, find}
-use Rattle.windows.specs.declared.Window.{Window}
-use Rattle.windows.specs.Windows.{InOrder, IsApart, Misses, window}
-use Rattle.windows.proofs.Ordered.{apart-above, order-ends}
+use Rattle.memory_windows.specs.declared.Window.{Window}
+use Rattle.memory_windows.specs.Windows.{InOrder, IsApart, Misses, window}
+use Rattle.memory_windows.proofs.Ordered.{apart-above, order-ends}
 use Rattle.partitions.specs.Grant.{holes, has_room, larger_hole, largest}
 use Rattle.partitions.specs.Granted.{HoldsZone}
 

@@ -2,8 +2,8 @@
 use Rattle.std.proofs.Common.{◌≡◌, ℕ, ◌+◌, ◌-◌, ◌<◌, ◌≤◌, List, [], ◌∷◌, refl, sym, ap, ◌∙◌, arith}
 use Rattle.std.proofs.Common.{zero, suc, ◌⊎◌, inl, inr}
 use Rattle.std.proofs.lemmas.Bool.{cases_lt, le-ltb, lt-ltb}
-use Rattle.windows.specs.declared.Window.{Window}
-use Rattle.windows.specs.Windows.{window}
+use Rattle.memory_windows.specs.declared.Window.{Window}
+use Rattle.memory_windows.specs.Windows.{window}
 use Rattle.partitions.specs.Grant.{holes, larger_hole, largest}
 
 higher : (low high : Window) → low.len < high.len → larger_hole low high ≡ high

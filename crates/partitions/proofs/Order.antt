@@ -4,10 +4,10 @@ use Rattle.std.proofs.Math.Seq.{drop-cons}
 use Rattle.std.proofs.lemmas.List.Elements.{All-from_recursion}
 use Rattle.std.proofs.lemmas.List.Kept.{AllPairs-cons}
 use Rattle.std.specs.List.{All, AllPairs, AllByRecursion, Contains}
-use Rattle.windows.specs.declared.Window.{Window}
-use Rattle.windows.specs.Windows.{InOrder, IsApart, put_in, taken_out}
-use Rattle.windows.proofs.Ordered.{order-ends, order-put_in, order-taken_out, apart-taken_out}
-use Rattle.windows.proofs.Listed.{without_window-with_window, All-with_window, All-without_window}
+use Rattle.memory_windows.specs.declared.Window.{Window}
+use Rattle.memory_windows.specs.Windows.{InOrder, IsApart, put_in, taken_out}
+use Rattle.memory_windows.proofs.Ordered.{order-ends, order-put_in, order-taken_out, apart-taken_out}
+use Rattle.memory_windows.proofs.Listed.{without_window-with_window, All-with_window, All-without_window}
 use Rattle.partitions.specs.Granted.{Granted, HoldsZone, granted-order, LieInside, NeverOverlap}
 
 -- each window of a list in order ends by the end

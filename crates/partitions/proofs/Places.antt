@@ -7,8 +7,8 @@ use Rattle.std.proofs.lemmas.Bool.{leb-false, ltb-true, ltb-false}
 use Rattle.std.proofs.lemmas.List.Elements.{All-head, All-tail}
 use Rattle.std.specs.List.{find}
 use Rattle.std.specs.Option.{option_map, option_or}
-use Rattle.windows.specs.declared.Window.{Window}
-use Rattle.windows.specs.Windows.{IsApart, window}
+use Rattle.memory_windows.specs.declared.Window.{Window}
+use Rattle.memory_windows.specs.Windows.{IsApart, window}
 use Rattle.partitions.specs.Grant.{holes, has_room, lower_end, larger_hole, largest, at_least}
 use Rattle.partitions.specs.Fitting.{GivesPreferred, GivesLargest}
 

@@ -1,7 +1,7 @@
 -- What is granted, said of the places of a memory and not of its holes.
 use Rattle.std.specs.Prelude.{◌≡◌, ℕ, ◌+◌, ◌≤◌, ◌⊎◌, List, IsSomeAnd}
-use Rattle.windows.specs.declared.Window.{Window}
-use Rattle.windows.specs.Windows.{IsApart}
+use Rattle.memory_windows.specs.declared.Window.{Window}
+use Rattle.memory_windows.specs.Windows.{IsApart}
 use Rattle.partitions.specs.Grant.{grant}
 
 -- The n bytes from the place `at` on lie in the memory, and meet no granted window.

@@ -4,8 +4,8 @@
 use Rattle.std.specs.Prelude.{ℕ, ◌+◌, ◌-◌, nat_le, nat_lt, Bool, Option, Some, None, List, [], ◌∷◌, if◌then◌else◌}
 use Rattle.std.specs.List.{find}
 use Rattle.std.specs.Option.{option_map, option_or}
-use Rattle.windows.specs.declared.Window.{Window}
-use Rattle.windows.specs.Windows.{window}
+use Rattle.memory_windows.specs.declared.Window.{Window}
+use Rattle.memory_windows.specs.Windows.{window}
 
 -- The holes of a memory from a place on, lowest first: what lies below, between and above the granted windows, which
 -- stand in the order of their places. A hole may have no bytes.

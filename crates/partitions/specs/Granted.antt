@@ -4,8 +4,8 @@ use Rattle.std.specs.List.{All, AllPairs}
 use native.Mathlib.Bridge.{le_prop}
 use Rattle.std.proofs.Math.Logic.{∥∥₁_elim}
 use Rattle.std.proofs.Props.{props}
-use Rattle.windows.specs.declared.Window.{Window}
-use Rattle.windows.specs.Windows.{InOrder}
+use Rattle.memory_windows.specs.declared.Window.{Window}
+use Rattle.memory_windows.specs.Windows.{InOrder}
 
 -- A zone can be made in the window: its place and its length are multiples of 16, and it has 512 bytes or more.
 -- Inside Macintosh: Memory, chapter 2, "Heap Zones".

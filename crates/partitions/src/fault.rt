@@ -20,7 +20,8 @@ pub enum GrantFault {
 }
 
 impl GrantFault {
-    /// Returns the result code: -108 (memFullErr) for `NoRoom`, and none where the host is out of memory.
+    /// Returns the result code: -108 (memFullErr) for `NoRoom`, and none where the host is out of
+    /// memory.
     ///
     /// *Inside Macintosh: Processes*, chapter 2, "Result Codes".
     pub fn code(self) -> Option<OsErr>

@@ -3,11 +3,12 @@
 ghost use Rattle.std.specs.Prelude.{◌≡◌, ◌+◌, ◌-◌, ◌%◌, ◌≤◌, IfSome};
 ghost use Rattle.std.specs.List.{All, find};
 ghost use Rattle.std.specs.Option.{option_map};
-ghost use Rattle.windows.specs.Windows.{window, InOrder, IsApart};
-ghost use Rattle.partitions.specs.Grant.{holes, has_room, lower_end, larger_hole, largest, at_least, grant};
+ghost use Rattle.memory_windows.specs.Windows.{window, InOrder, IsApart};
+ghost use Rattle.partitions.specs.Grant.{holes, has_room, lower_end, larger_hole, largest};
+ghost use Rattle.partitions.specs.Grant.{at_least, grant};
 ghost use Rattle.partitions.specs.Granted.{HoldsZone};
 
-use windows::Window;
+use memory_windows::Window;
 
 // Returns the larger of two holes; the lower one where they are equally large.
 fn larger_hole(low: Window, high: Window) -> Window
@@ -20,7 +21,8 @@ fn larger_hole(low: Window, high: Window) -> Window
 #[tactic(auto, using(crate::proofs::Order::window_ends))]
 fn lowest(memory: u32, windows: &[Window], size: u32) -> Option<Window>
     requires { InOrder 0 windows.now memory }
-    ensures { result ≡ option_map (lower_end size) (find (has_room size) (holes memory 0 windows.now)) }
+    ensures { result
+        ≡ option_map (lower_end size) (find (has_room size) (holes memory 0 windows.now)) }
 {
     let mut from = 0;
     for window in windows {
@@ -87,7 +89,8 @@ fn given(memory: u32, windows: &[Window], preferred: u32, minimum: u32) -> Optio
     }
 }
 
-/// Returns the partition that is granted; the clauses say what holds of every partition that is granted.
+/// Returns the partition that is granted; the clauses say what holds of every partition that is
+/// granted.
 pub fn granted(memory: u32, windows: &[Window], preferred: u32, minimum: u32) -> Option<Window>
     requires whole { memory % 16 ≡ 0 }
     requires order { InOrder 0 windows.now memory }

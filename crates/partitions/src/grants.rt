@@ -2,15 +2,15 @@
 
 ghost use Rattle.std.specs.Prelude.{◌≡◌, ◌≤◌, ◌%◌, vec_capacity};
 ghost use Rattle.std.specs.List.{All};
-ghost use Rattle.windows.specs.declared.list.TheConstants.{MOST_WINDOWS};
-ghost use Rattle.windows.specs.Windows.{InOrder};
+ghost use Rattle.memory_windows.specs.declared.list.TheConstants.{MOST_WINDOWS};
+ghost use Rattle.memory_windows.specs.Windows.{InOrder};
 ghost use Rattle.partitions.specs.Granted.{HoldsZone, InOrder-prop};
 
 use crate::fault::GrantFault;
 use crate::finding::granted;
+use memory_windows::{MOST_WINDOWS, Window, put_window, take_window};
 use std::alloc::{AllocError, Global};
 use std::marker::Model;
-use windows::{MOST_WINDOWS, Window, put_window, take_window};
 
 /// A memory, and the partitions that are granted in it, as windows in the order of their places.
 #[derive(Drop)]
@@ -39,12 +39,12 @@ impl Grants {
     ghost use Rattle.std.specs.Prelude.{◌<◌, ◌+◌, [], length, IfOk, OnErr, IfErr};
     ghost use Rattle.std.specs.List.{Contains};
     ghost use Rattle.std.specs.Option.{ok_or};
-    ghost use Rattle.windows.specs.Windows.{put_in, taken_out, IsApart};
+    ghost use Rattle.memory_windows.specs.Windows.{put_in, taken_out, IsApart};
     ghost use Rattle.partitions.specs.Grant.{grant};
     ghost use Rattle.partitions.specs.declared.fault.GrantFault.TheVariants as grant_fault;
 
-    /// Makes a memory of `len` bytes in which no partition is granted. The room for 64 windows is taken here, so no
-    /// other call takes host memory.
+    /// Makes a memory of `len` bytes in which no partition is granted. The room for 64 windows is
+    /// taken here, so no other call takes host memory.
     ///
     /// # Errors
     ///
@@ -61,9 +61,9 @@ impl Grants {
         })
     }
 
-    /// Grants a launched application its partition: of the preferred size, at the lower end of the lowest hole that has
-    /// as many bytes; else the whole largest hole, the lowest of equals, if the hole has at least the minimum size. No
-    /// host memory is taken.
+    /// Grants a launched application its partition: of the preferred size, at the lower end of the
+    /// lowest hole that has as many bytes; else the whole largest hole, the lowest of equals, if
+    /// the hole has at least the minimum size. No host memory is taken.
     ///
     /// *Inside Macintosh: Processes*, chapter 2, "Launching Other Applications".
     ///
@@ -75,7 +75,8 @@ impl Grants {
         requires least { 512 ≤ minimum }
         requires sizes { minimum ≤ preferred }
         requires few { length self.old.windows < MOST_WINDOWS }
-        ensures answer { result ≡ ok_or (grant self.old.memory self.old.windows preferred minimum) grant_fault.NoRoom }
+        ensures answer { result
+            ≡ ok_or (grant self.old.memory self.old.windows preferred minimum) grant_fault.NoRoom }
         ensures memory { self.new.memory ≡ self.old.memory }
         ensures granted { IfOk result (λ w. self.new.windows ≡ put_in w self.old.windows) }
         ensures inside { IfOk result (λ w. w.at + w.len ≤ self.old.memory) }
@@ -95,7 +96,8 @@ impl Grants {
         }
     }
 
-    /// Takes back the partition of an application that has ended, and no other partition. No host memory is taken.
+    /// Takes back the partition of an application that has ended, and no other partition. No host
+    /// memory is taken.
     #[tactic(auto, using(crate::proofs::Order::free_given_back))]
     pub fn give_back(&mut self, window: Window)
         requires { Contains self.old.windows window }

@@ -5,9 +5,10 @@ use Rattle.std.proofs.lemmas.List.{length-map, length-drop, length-take-le}
 use Rattle.std.proofs.lemmas.List.Sums.{prefix_len-le-length}
 use Rattle.std.specs.List.{prefix_len, insert}
 use denote.RawPtr.{null_ptr, InBlock}
+use Rattle.plain_laws.proofs.Mapped.{prefix_len-map}
 use Rattle.raw_region.specs.Memory.{Whole}
-use Rattle.windows.specs.Windows.{window, IsApart, with_window}
-use Rattle.windows.specs.Writes.{written}
+use Rattle.memory_windows.specs.Windows.{window, IsApart, with_window}
+use Rattle.memory_windows.specs.Writes.{written}
 use Rattle.raw_region.specs.Gaps.{bytes_of, windows_of, window_of, gap_ends_by, IsLaid, IsStart, Fits, front, middle}
 use Rattle.raw_region.specs.Gaps.{back, EndsFit}
 use Rattle.raw_region.specs.Regions.{region_view, IsRegion}
@@ -16,7 +17,7 @@ use Rattle.raw_region.specs.declared.raw.OwnBytes.{OwnBytes}
 use Rattle.raw_region.specs.declared.gaps.Gap.{Gap}
 use Rattle.raw_region.proofs.GapBytes.{round, opened_laid, opened_length, opened_bytes, middle_bytes, middle_at}
 use Rattle.raw_region.proofs.GapBytes.{middle_home}
-use Rattle.raw_region.proofs.GapWindows.{prefix_len-map, opened_windows, fits_in, ends_fit}
+use Rattle.raw_region.proofs.GapWindows.{opened_windows, fits_in, ends_fit}
 
 -- any gap
 abbrev pub none : Gap

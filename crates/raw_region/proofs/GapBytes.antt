@@ -4,7 +4,7 @@ use Rattle.std.proofs.Common.{replicate, refl, sym, ap, ◌∙◌, subst, arith,
 use Rattle.std.proofs.Common.{drop_at, take-append-drop, add-zero}
 use Rattle.std.proofs.lemmas.List.{length-replicate, length-drop, length-take-le, drop_more}
 use denote.RawPtr.{Ptr}
-use Rattle.windows.specs.Writes.{written}
+use Rattle.memory_windows.specs.Writes.{written}
 use Rattle.raw_region.specs.Gaps.{bytes_of, IsLaid, Fits, front, middle, back, before, Beside, joined}
 use Rattle.raw_region.specs.declared.raw.OwnBytes.{OwnBytes}
 use Rattle.raw_region.specs.declared.gaps.Gap.{Gap}

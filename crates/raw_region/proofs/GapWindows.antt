@@ -9,20 +9,15 @@ use Rattle.std.proofs.lemmas.List.Elements.{All-head, All-tail}
 use Rattle.std.proofs.lemmas.List.Sums.{prefix_len_stops}
 use Rattle.std.specs.List.{prefix_len, position_or_len, insert, remove, Contains}
 use denote.RawPtr.{Ptr}
-use Rattle.windows.specs.declared.Window.{Window}
-use Rattle.windows.proofs.Ordered.{below_cond}
-use Rattle.windows.specs.Windows.{window, is_window, IsApart, InOrder}
+use Rattle.plain_laws.proofs.Mapped.{prefix_len-map}
+use Rattle.memory_windows.specs.declared.Window.{Window}
+use Rattle.memory_windows.proofs.Ordered.{below_cond}
+use Rattle.memory_windows.specs.Windows.{window, is_window, IsApart, InOrder}
 use Rattle.raw_region.specs.Gaps.{bytes_of, windows_of, window_of, gap_ends_by, gap_is, IsLaid, IsStart, Fits, front}
 use Rattle.raw_region.specs.Gaps.{back, joined, EndsFit}
 use Rattle.raw_region.specs.declared.raw.OwnBytes.{OwnBytes}
 use Rattle.raw_region.specs.declared.gaps.Gap.{Gap}
 use Rattle.raw_region.proofs.GapBytes.{ends_within, span}
-
--- a test of the images counts as the test of the elements
-pub prefix_len-map : {X Y : Type 0} (f : X → Y) (p : Y → Bool) (xs : List X)
-    → prefix_len p (map f xs) ≡ prefix_len (λ x. p (f x)) xs
-prefix_len-map f p [] = refl
-prefix_len-map f p (x ∷ xs) = ap (λ n. cond (p (f x)) (1 + n) 0) (prefix_len-map f p xs)
 
 -- `drop (n + 1)`, and what else computes at a `suc`
 one : (n : ℕ) → n + 1 ≡ suc n

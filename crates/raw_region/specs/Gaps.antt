@@ -2,8 +2,8 @@
 use Rattle.std.specs.Prelude.{◌≡◌, ℕ, ◌+◌, ◌-◌, ◌^◌, ◌<◌, ◌≤◌, Bool, List, [], ◌∷◌, ◌++◌, length, take, drop, map}
 use Rattle.std.specs.Prelude.{replicate}
 use denote.RawPtr.{Ptr}
-use Rattle.windows.specs.Windows.{window, ends_by, is_window}
-use Rattle.windows.specs.declared.Window.{Window}
+use Rattle.memory_windows.specs.Windows.{window, ends_by, is_window}
+use Rattle.memory_windows.specs.declared.Window.{Window}
 use Rattle.std.specs.List.{All}
 use Rattle.raw_region.specs.declared.raw.OwnBytes.{OwnBytes}
 use Rattle.raw_region.specs.declared.gaps.Gap.{Gap}

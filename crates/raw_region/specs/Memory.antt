@@ -1,7 +1,7 @@
 -- What a clause sees of a region and of its parts.
 use Rattle.std.specs.Prelude.{ℕ, List, ◌++◌, length, take, drop}
 use denote.RawPtr.{Ptr}
-use Rattle.windows.specs.declared.Window.{Window}
+use Rattle.memory_windows.specs.declared.Window.{Window}
 
 -- A part: the address of its region, its place in that region, and its bytes.
 pub record Bytes : Type 0 where

@@ -1,10 +1,12 @@
-//! The windows in use, in order of address, each with the free bytes that follow it up to the next window. The first
-//! entry stands for the start of the region and has a window of no bytes.
-ghost use Rattle.std.specs.Prelude.{◌≡◌, ℕ, ◌+◌, ◌-◌, ◌^◌, ◌<◌, ◌≤◌, List, [], ◌∷◌, ◌++◌, length, take, drop};
-ghost use Rattle.std.specs.Prelude.{slice_index_or, nat_le, nat_eq, ◌&&◌, not, vec_len, vec_capacity};
+//! The windows in use, in order of address, each with the free bytes that follow it up to the next
+//! window. The first entry stands for the start of the region and has a window of no bytes.
+ghost use Rattle.std.specs.Prelude.{◌≡◌, ℕ, ◌+◌, ◌-◌, ◌^◌, ◌<◌, ◌≤◌, List, [], ◌∷◌, ◌++◌, length};
+ghost use Rattle.std.specs.Prelude.{take, drop, slice_index_or, nat_le, nat_eq, ◌&&◌, not, vec_len};
+ghost use Rattle.std.specs.Prelude.{vec_capacity};
 ghost use Rattle.std.specs.List.{prefix_len, position_or_len};
 ghost use denote.RawPtr.{Ptr};
-ghost use Rattle.raw_region.specs.Gaps.{gap_ends_by, gap_is, EndsFit, Fits, front, middle, back, Beside, joined};
+ghost use Rattle.raw_region.specs.Gaps.{gap_ends_by, gap_is, EndsFit, Fits, front, middle, back};
+ghost use Rattle.raw_region.specs.Gaps.{Beside, joined};
 ghost use Rattle.raw_region.specs.declared.gaps.Gap.{Gap};
 
 use crate::raw::OwnBytes;
@@ -17,8 +19,8 @@ pub(crate) struct Gap {
     pub(crate) after: OwnBytes,
 }
 
-// Returns the index of the first window that ends above `at`, or the number of entries if every window ends at or
-// below `at`. The entry of the region's start is not considered.
+// Returns the index of the first window that ends above `at`, or the number of entries if every
+// window ends at or below `at`. The entry of the region's start is not considered.
 pub(crate) fn index_after(gaps: &[Gap], at: usize) -> usize
     requires start { 0 < length gaps.now }
     requires ends_fit { EndsFit gaps.now }
@@ -31,7 +33,8 @@ pub(crate) fn index_after(gaps: &[Gap], at: usize) -> usize
     i
 }
 
-// Returns the index of the window of `len` bytes at `at`, or the number of entries if there is no such window.
+// Returns the index of the window of `len` bytes at `at`, or the number of entries if there is no
+// such window.
 pub(crate) fn index_of(gaps: &[Gap], at: usize, len: usize) -> usize
     requires { 0 < length gaps.now }
     ensures { result ≡ 1 + position_or_len (gap_is at len) (drop 1 gaps.now) }
@@ -43,8 +46,8 @@ pub(crate) fn index_of(gaps: &[Gap], at: usize, len: usize) -> usize
     i
 }
 
-// Cuts a window of `len` bytes at `at` out of the free bytes after the `i`-th window, and returns the bytes of the new
-// window. The new window is entered after the `i`-th.
+// Cuts a window of `len` bytes at `at` out of the free bytes after the `i`-th window, and returns
+// the bytes of the new window. The new window is entered after the `i`-th.
 pub(crate) fn open(gaps: &mut Vec<Gap>, i: usize, at: usize, len: usize) -> OwnBytes
     requires there { i < vec_len gaps.old }
     requires room { vec_len gaps.old < vec_capacity gaps.old }
@@ -68,8 +71,8 @@ pub(crate) fn open(gaps: &mut Vec<Gap>, i: usize, at: usize, len: usize) -> OwnB
     }
 }
 
-// Returns the bytes of a window: removes the `i`-th entry and joins its bytes, and the free bytes on both sides of
-// them, in the entry below it.
+// Returns the bytes of a window: removes the `i`-th entry and joins its bytes, and the free bytes
+// on both sides of them, in the entry below it.
 pub(crate) fn shut(gaps: &mut Vec<Gap>, i: usize, run: OwnBytes)
     requires not_start { 0 < i }
     requires there { i < vec_len gaps.old }

@@ -1,13 +1,13 @@
-//! Moves of bytes within a slice, where source and destination may overlap. The bytes are moved in strides, each
-//! through a buffer.
+//! Moves of bytes within a slice, where source and destination may overlap. The bytes are moved in
+//! strides, each through a buffer.
 ghost use Rattle.std.specs.Prelude.{◌≡◌, ◌+◌, ◌≤◌, length, take, drop};
-ghost use Rattle.windows.specs.Writes.{written};
+ghost use Rattle.memory_windows.specs.Writes.{written};
 
 // The number of bytes in a stride. The buffer is small enough to stay in the nearest cache.
 const STRIDE: usize = 4096;
 
-// The greatest number of bytes that are moved in one stride, through a smaller buffer. A new buffer is filled with
-// zeros, and most blocks are small.
+// The greatest number of bytes that are moved in one stride, through a smaller buffer. A new buffer
+// is filled with zeros, and most blocks are small.
 pub(crate) const FEW: usize = 512;
 
 // Moves one stride: copies `count` bytes from `from` to `to` through `buffer`.

@@ -2,7 +2,7 @@
 ghost use Rattle.std.specs.Prelude.{◌≡◌, ◌+◌, ◌%◌, ◌≤◌, ◌++◌, length, take, drop, replicate};
 ghost use Rattle.std.specs.Borrow.{sem, Lends, Array, u8};
 ghost use Rattle.raw_region.specs.Memory.{with_bytes};
-ghost use Rattle.windows.specs.Writes.{written};
+ghost use Rattle.memory_windows.specs.Writes.{written};
 ghost use Rattle.raw_region.specs.declared.region.TheConstants.{UNIT};
 ghost use Rattle.raw_region.specs.contracts.part.Part.{the_row};
 
@@ -10,9 +10,9 @@ use crate::moves::{FEW, move_down, move_far_down, move_few, move_up};
 use std::marker::Model;
 use std_alloc::vec::Lodged;
 
-/// A stretch of a region's bytes that no other part shares, as a heap zone has its own memory (Inside Macintosh:
-/// Memory, chapter 1). Places are counted in bytes from the part's start. A part can't be dropped: it is returned to
-/// its region by `Region::join`.
+/// A stretch of a region's bytes that no other part shares, as a heap zone has its own memory
+/// (Inside Macintosh: Memory, chapter 1). Places are counted in bytes from the part's start. A part
+/// can't be dropped: it is returned to its region by `Region::join`.
 pub struct Part {
     pub(crate) bytes: Vec<u8, Lodged>,
     pub(crate) home: *mut u8,
@@ -49,7 +49,8 @@ impl Part {
 
     /// Returns all bytes of the part, to be written.
     pub fn bytes_mut(&mut self) -> &mut [u8]
-        ensures* writes_back { sem 𝓛 (Lends the_row (Array u8 0) self.entry result (with_bytes self.old)) }
+        ensures* writes_back { sem 𝓛
+            (Lends the_row (Array u8 0) self.entry result (with_bytes self.old)) }
         ensures value { result.now ≡ self.old.bytes }
     {
         let bytes = &mut self.bytes;
@@ -62,7 +63,7 @@ impl Part {
         requires inside { at + 4 ≤ length self.now.bytes }
         ensures { result ≡ take 4 (drop at self.now.bytes) }
     {
-        match self.bytes()[at..].split_first_chunk::<4>() {
+        match self.bytes()[at..at + 4].split_first_chunk::<4>() {
             Some((word, _)) => *word,
             None => [0; 4],
         }
@@ -80,15 +81,16 @@ impl Part {
         self.bytes.as_mut_slice()[at..at + 4].copy_from_slice(&word);
     }
 
-    /// Moves `count` bytes from `from` to `to`; source and destination may overlap. The bytes are moved in strides, at
-    /// about the speed of a plain copy, whatever the distance.
+    /// Moves `count` bytes from `from` to `to`; source and destination may overlap. The bytes are
+    /// moved in strides, at about the speed of a plain copy, whatever the distance.
     pub fn slide(&mut self, from: usize, to: usize, count: usize)
         requires from_inside { from + count ≤ length self.old.bytes }
         requires to_inside { to + count ≤ length self.old.bytes }
         ensures same_home { self.new.home ≡ self.old.home }
         ensures same_place { self.new.at ≡ self.old.at }
         ensures same_length { length self.new.bytes ≡ length self.old.bytes }
-        ensures bytes { self.new.bytes ≡ written to (take count (drop from self.old.bytes)) self.old.bytes }
+        ensures bytes { self.new.bytes
+            ≡ written to (take count (drop from self.old.bytes)) self.old.bytes }
     {
         let bytes = self.bytes.as_mut_slice();
         if to < from && count <= from - to {

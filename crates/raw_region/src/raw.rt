@@ -1,7 +1,9 @@
-//! The functions that take, give and split the ownership of raw memory; the memory's owner is ghost state, which takes
-//! no memory when the program runs. Four of them take the memory of a `Vec` or give it back (`detach`, `attach`,
-//! `house`, `vacate`), and the three of `OwnBytes` make, split and join runs.
-ghost use Rattle.std.specs.Prelude.{◌≡◌, ℕ, ◌+◌, ◌^◌, ◌<◌, ◌≤◌, List, [], ◌∷◌, ◌++◌, length, take, drop};
+//! The functions that take, give and split the ownership of raw memory; the memory's owner is ghost
+//! state, which takes no memory when the program runs. Four of them take the memory of a `Vec` or
+//! give it back (`detach`, `attach`, `house`, `vacate`), and the three of `OwnBytes` make, split
+//! and join runs.
+ghost use Rattle.std.specs.Prelude.{◌≡◌, ℕ, ◌+◌, ◌^◌, ◌<◌, ◌≤◌, List, [], ◌∷◌, ◌++◌, length, take};
+ghost use Rattle.std.specs.Prelude.{drop};
 ghost use Rattle.std.specs.Vec.{with_items};
 ghost use base.Fml.{ftrue, fex, fall, fwand, fsep, feq};
 ghost use denote.RawPtr.{Ptr, InBlock, ◌+ₚ◌};
@@ -38,8 +40,10 @@ impl Owns for Frame {
 impl Move for Frame {
     ghost own_val = { λ e vs.
         let Back = λ (xs : List ℕ). fsep (feq ℕ (length xs) e.len) (run_owns e.ptr xs) in
-        let Whole = λ (v : Inside) (xs : List ℕ). Fields.own_val (record { vec = with_items v.vec xs }) vs in
-        fex Inside (λ v. fsep (feq ℕ v.vec.len e.len) (fall (List ℕ) (λ xs. fwand (Back xs) (Whole v xs)))) };
+        let Whole = λ (v : Inside) (xs : List ℕ).
+        Fields.own_val (record { vec = with_items v.vec xs }) vs in
+        fex Inside (λ v.
+        fsep (feq ℕ v.vec.len e.len) (fall (List ℕ) (λ xs. fwand (Back xs) (Whole v xs)))) };
 }
 
 // Separates a `Vec` from its bytes.

@@ -1,15 +1,16 @@
 //! The region: one allocation, and the list of the windows in use.
-ghost use Rattle.std.specs.Prelude.{◌≡◌, ◌+◌, ◌%◌, ◌^◌, ◌<◌, ◌≤◌, [], length, take, drop, replicate, IfOk};
+ghost use Rattle.std.specs.Prelude.{◌≡◌, ◌+◌, ◌%◌, ◌^◌, ◌<◌, ◌≤◌, [], length, take, drop};
+ghost use Rattle.std.specs.Prelude.{replicate, IfOk};
 ghost use Rattle.std.specs.List.{Contains};
-ghost use Rattle.windows.specs.Windows.{window, InOrder, IsApart, with_window, without_window};
-ghost use Rattle.windows.specs.Writes.{written};
+ghost use Rattle.memory_windows.specs.Windows.{window, InOrder, IsApart, with_window, without_window};
+ghost use Rattle.memory_windows.specs.Writes.{written};
 
 use crate::gaps::{Gap, index_after, index_of, open, shut};
 use crate::part::Part;
 use crate::raw::{Frame, attach, detach, house, vacate};
+use memory_windows::GREATEST_MEMORY;
 use std::alloc::{AllocError, Global};
 use std::marker::Model;
-use windows::GREATEST_MEMORY;
 
 /// The length of a region, and the place and length of a part, are multiples of this.
 pub const UNIT: usize = 16;
@@ -20,8 +21,8 @@ pub const MOST_BYTES: usize = GREATEST_MEMORY as usize;
 /// The greatest number of windows in use at a time.
 pub const MOST_OUT: usize = 64;
 
-/// One block of host memory, from which parts are cut, and to which they are returned in any order. The region begins
-/// at place 0. The bytes of a window in use read as 0.
+/// One block of host memory, from which parts are cut, and to which they are returned in any order.
+/// The region begins at place 0. The bytes of a window in use read as 0.
 pub struct Region {
     frame: Frame,
     home: *mut u8,
@@ -42,8 +43,8 @@ impl Model for Region {
 }
 
 impl Region {
-    /// Makes a region of `len` bytes, all 0. The memory for the list of windows is taken here too, so no other call
-    /// takes host memory.
+    /// Makes a region of `len` bytes, all 0. The memory for the list of windows is taken here too,
+    /// so no other call takes host memory.
     ///
     /// # Errors
     ///
@@ -82,7 +83,8 @@ impl Region {
         self.len
     }
 
-    /// Cuts a part of `len` bytes at `at` from the region. After this, no byte belongs to two of the windows in use.
+    /// Cuts a part of `len` bytes at `at` from the region. After this, no byte belongs to two of
+    /// the windows in use.
     pub fn cut(&mut self, at: usize, len: usize) -> Part
         requires place { at % UNIT ≡ 0 }
         requires multiple { len % UNIT ≡ 0 }
@@ -108,8 +110,8 @@ impl Region {
         Part { bytes, home, at }
     }
 
-    /// Returns a part to the region; the part's bytes keep their values. The other windows stay in use. No two windows
-    /// have a byte in common, before or after.
+    /// Returns a part to the region; the part's bytes keep their values. The other windows stay in
+    /// use. No two windows have a byte in common, before or after.
     pub fn join(&mut self, part: Part)
         requires of_this { part.home ≡ self.old.home }
         requires out { Contains self.old.out (window part.at (length part.bytes)) }

@@ -1,6 +1,6 @@
 -- Windows of a region in which zones are opened.
 use Rattle.std.specs.Prelude.{◌≡◌}
-use Rattle.windows.specs.declared.Window.{Window}
+use Rattle.memory_windows.specs.declared.Window.{Window}
 use Rattle.block_store.specs.Rest.{Site}
 use Rattle.raw_region.specs.Memory.{Whole}
 

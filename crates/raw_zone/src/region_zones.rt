@@ -5,14 +5,15 @@ ghost use Rattle.block_store.specs.declared.measures.TheConstants.{GREATEST_ZONE
 
 use crate::zone::RawZone;
 use block_store::{GREATEST_ZONE, ZoneMaker};
+use memory_windows::Window;
 use raw_region::Region;
 use std::alloc::{AllocError, Global};
-use windows::Window;
 
-/// A region in whose parts zones are opened. The bytes that a zone leaves in its window when the zone is closed stay
-/// there until a window that overlaps it is opened.
+/// A region in whose parts zones are opened. The bytes that a zone leaves in its window when the
+/// zone is closed stay there until a window that overlaps it is opened.
 ///
-/// *Inside Macintosh: Processes*, chapter 1, and *Memory*, chapter 1, "Organization of Memory in an Application Partition".
+/// *Inside Macintosh: Processes*, chapter 1, and *Memory*, chapter 1, "Organization of Memory in an
+/// Application Partition".
 pub struct RegionZones {
     alloc: Global,
     region: Region,

@@ -25,9 +25,10 @@ use zone_marks::{
     purgeable_left, purgeable_with,
 };
 
-/// A zone in the bytes of a part: each block begins with its header, and the slots lie in the master pointer blocks.
-/// The slots of no handle are one list, threaded through their words. Beside the part stand the first slot of that
-/// list, the number of its slots, the number of free bytes, and the number of bytes that purges would free.
+/// A zone in the bytes of a part: each block begins with its header, and the slots lie in the
+/// master pointer blocks. The slots of no handle are one list, threaded through their words. Beside
+/// the part stand the first slot of that list, the number of its slots, the number of free bytes,
+/// and the number of bytes that purges would free.
 ///
 /// *Inside Macintosh: Memory*, chapter 2, "Organization of Memory".
 pub struct RawZone {
@@ -55,10 +56,11 @@ impl Model for RawZone {
     ghost invariant = { IsRawZone };
 }
 
-/// Reports whether a search considers the zone as it stands: after no purges, and with no block counted as free that
-/// is not free.
+/// Reports whether a search considers the zone as it stands: after no purges, and with no block
+/// counted as free that is not free.
 fn is_as_it_stands(purges: u32, sparing: Sparing) -> bool
-    ensures { result ≡ true → (zone : List Block) → tidy zone ≡ zone → purged purges sparing zone ≡ zone }
+    ensures { result ≡ true → (zone : List Block) → tidy zone ≡ zone
+        → purged purges sparing zone ≡ zone }
 {
     match sparing {
         Sparing::Freed(_) => false,
@@ -67,14 +69,15 @@ fn is_as_it_stands(purges: u32, sparing: Sparing) -> bool
 }
 
 impl RawZone {
-    ghost use Rattle.std.specs.Prelude.{◌≡◌, ◌≤◌, ◌%◌, ℕ, false, length, ◌+◌, IsSome, IfSome, ◌∷◌, ◌++◌, true, Some};
-    ghost use Rattle.std.specs.Prelude.{IsTrue, IsSomeAnd};
-    ghost use Rattle.block_store.specs.Block.{fresh, sizes, tidy, Relocatable, content_of, is_nonrelocatable, is_relocatable};
+    ghost use Rattle.std.specs.Prelude.{◌≡◌, ◌≤◌, ◌%◌, ℕ, false, length, ◌+◌, IsSome, IfSome, ◌∷◌};
+    ghost use Rattle.std.specs.Prelude.{◌++◌, true, Some, IsTrue, IsSomeAnd};
+    ghost use Rattle.block_store.specs.Block.{fresh, sizes, tidy, Relocatable, content_of};
+    ghost use Rattle.block_store.specs.Block.{is_nonrelocatable, is_relocatable};
     ghost use Rattle.block_store.specs.Slot.{is_used};
     ghost use Rattle.zone_bytes.specs.Laid.{LaysOut};
     ghost use Rattle.zone_bytes.specs.PurgeableBytes.{purgeable_at};
-    ghost use Rattle.block_store.specs.declared.measures.TheConstants.{GREATEST_ZONE, LEAST_ZONE, SLOTS_A_BLOCK};
-    ghost use Rattle.block_store.specs.declared.measures.TheConstants.{UNIT};
+    ghost use Rattle.block_store.specs.declared.measures.TheConstants.{GREATEST_ZONE, LEAST_ZONE};
+    ghost use Rattle.block_store.specs.declared.measures.TheConstants.{SLOTS_A_BLOCK, UNIT};
     ghost use Rattle.block_store.specs.Run.{movers, settle, run_at, with_run, has};
     ghost use Rattle.block_store.specs.Rest.{IsRest, lowered_in_run};
     ghost use Rattle.raw_zone.specs.Parted.{zone_of, rest_of};
@@ -84,7 +87,8 @@ impl RawZone {
     ghost use Rattle.block_store.specs.Seen.{seen};
     ghost use Rattle.block_store.specs.declared.sparing.Seen.TheVariants as see;
 
-    /// Makes a fresh zone, whatever the bytes were: a block of 64 master pointers, and one free block.
+    /// Makes a fresh zone, whatever the bytes were: a block of 64 master pointers, and one free
+    /// block.
     ///
     /// *Inside Macintosh: Memory*, chapter 2, "Heap Zones".
     pub fn new(alloc: Global, mut part: Part) -> RawZone
@@ -92,13 +96,17 @@ impl RawZone {
         requires low { LEAST_ZONE ≤ length part.bytes }
         requires high { length part.bytes ≤ GREATEST_ZONE }
         ensures zone { ⟦<RawZone as BlockStore>⟧.zone result ≡ fresh (length part.bytes) }
-        ensures no_handle { (number : ℕ) → is_used ((⟦<RawZone as BlockStore>⟧.rest result).slots number) ≡ false }
+        ensures no_handle { (number : ℕ)
+            → is_used ((⟦<RawZone as BlockStore>⟧.rest result).slots number) ≡ false }
         ensures unused { (⟦<RawZone as BlockStore>⟧.rest result).unused ≡ SLOTS_A_BLOCK }
         ensures all { (⟦<RawZone as BlockStore>⟧.rest result).all ≡ SLOTS_A_BLOCK }
         ensures moves { (⟦<RawZone as BlockStore>⟧.rest result).moves ≡ 0 }
         ensures placed { (⟦<RawZone as BlockStore>⟧.rest result).placed ≡ 0 }
         ensures window { (⟦<RawZone as BlockStore>⟧.rest result).window
-            ≡ record { home = part.home; window = record { at = part.at; len = length part.bytes } } }
+            ≡ record {
+              home = part.home;
+              window = record { at = part.at; len = length part.bytes };
+            } }
     {
         let end = part.len() as u32;
         make_fresh(&mut part, end);
@@ -117,7 +125,8 @@ impl RawZone {
         }
     }
 
-    /// Returns the part in which the zone lay, with its bytes as they are: headers, contents and master pointers.
+    /// Returns the part in which the zone lay, with its bytes as they are: headers, contents and
+    /// master pointers.
     ///
     /// *Inside Macintosh: Memory*, chapter 2, "Memory Blocks".
     pub fn into_part(self) -> Part
@@ -152,11 +161,15 @@ impl RawZone {
     /// Packs the run at a place, without counting the moves.
     fn pack(&mut self, run: u32) -> PackedRun
         requires { IsSome (run_at run (zone_of self.old)) }
-        ensures zone { IfSome (run_at run (zone_of self.old)) (λ r. zone_of self.new ≡ tidy (with_run settle r)) }
+        ensures zone { IfSome (run_at run (zone_of self.old)) (λ r. zone_of self.new
+            ≡ tidy (with_run settle r)) }
         ensures rest { IsRest (rest_of self.old) (rest_of self.new) }
-        ensures lowered { IfSome (run_at run (zone_of self.old)) (λ r. result.lowered ≡ lowered_in_run r.run) }
-        ensures top { IfSome (run_at run (zone_of self.old)) (λ r. result.top ≡ run + sizes (movers r.run)) }
-        ensures stop { IfSome (run_at run (zone_of self.old)) (λ r. result.stop ≡ run + sizes r.run) }
+        ensures lowered { IfSome (run_at run (zone_of self.old)) (λ r. result.lowered
+            ≡ lowered_in_run r.run) }
+        ensures top { IfSome (run_at run (zone_of self.old)) (λ r. result.top
+            ≡ run + sizes (movers r.run)) }
+        ensures stop { IfSome (run_at run (zone_of self.old)) (λ r. result.stop
+            ≡ run + sizes r.run) }
     {
         self.marks.await_edges(&self.part, &mut self.edges, run);
         let lowest = self.marks.lowest_packed(run, self.free);
@@ -166,8 +179,9 @@ impl RawZone {
         packed
     }
 
-    /// Purges the lowest blocks that may be purged, `purges` of them, and frees a block that counts as free, by one
-    /// pass from the lowest of these blocks to the last. Only the landmarks there are laid anew.
+    /// Purges the lowest blocks that may be purged, `purges` of them, and frees a block that counts
+    /// as free, by one pass from the lowest of these blocks to the last. Only the landmarks there
+    /// are laid anew.
     fn empty(&mut self, purges: u32, sparing: Sparing)
         ensures zone { zone_of self.new ≡ purged purges sparing (zone_of self.old) }
         ensures rest { IsRest (rest_of self.old) (rest_of self.new) }
@@ -199,7 +213,8 @@ impl RawZone {
         block_of_slot(&self.part, number)
     }
 
-    /// Returns the bytes that a handle's block would free if it were purged; 0 if the handle is empty.
+    /// Returns the bytes that a handle's block would free if it were purged; 0 if the handle is
+    /// empty.
     fn purgeable_of(&self, number: u32) -> u32
         requires { IsTrue (is_used ((rest_of self.now).slots number)) }
         ensures { result ≡ purgeable_at (spot (is_relocatable number) (zone_of self.now)) }
@@ -212,7 +227,8 @@ impl RawZone {
 
     /// Makes the nonrelocatable block at a place the block of an empty handle's slot.
     fn adopt(&mut self, place: u32, number: u32, flags: Flags)
-        requires block { IsSomeAnd (spot_at place (zone_of self.old)) (λ s. is_nonrelocatable place s.here ≡ true) }
+        requires block { IsSomeAnd (spot_at place (zone_of self.old)) (λ s.
+            is_nonrelocatable place s.here ≡ true) }
         requires used { IsTrue (is_used ((rest_of self.old).slots number)) }
         requires no_block { has (is_relocatable number) (zone_of self.old) ≡ false }
         ensures zone { IfSome (spot_at place (zone_of self.old)) (λ s.

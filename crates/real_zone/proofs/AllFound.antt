@@ -3,7 +3,7 @@ use Rattle.std.proofs.Common.{Option, Some, refl, sym, ◌∙◌, ap, append_ass
 use Rattle.std.specs.Prelude.{◌==◌}
 use Rattle.std.specs.List.{list_all, flat_map}
 use Rattle.std.specs.Option.{option_to_list}
-use Rattle.std.proofs.lemmas.Bool.{lt-leb, le-leb}
+use Rattle.std.proofs.lemmas.Bool.{lt-leb, le-leb, cond-false, cond-true}
 use Rattle.std.proofs.lemmas.List.{append-nil, map-append}
 use Rattle.real_zone.specs.Numbers.{number}
 use Rattle.real_zone.specs.Header.{tag_at}
@@ -16,7 +16,6 @@ use Rattle.real_zone.specs.declared.form.Form.{Form}
 use Rattle.real_zone.specs.declared.fault.Rule.{Rule}
 use Rattle.real_zone.specs.declared.fault.Rule.TheVariants as rule
 use Rattle.real_zone.specs.declared.fault.Damage.{Damage}
-use Rattle.real_zone.proofs.Tests.{here, past}
 use Rattle.real_zone.proofs.Walking.{next, rest_after, first_place, next_places, no_places}
 use Rattle.real_zone.proofs.Ruling.{damages_past}
 use Rattle.real_zone.proofs.Zones.{with_record}
@@ -37,7 +36,7 @@ unfolding block_damages block_rules
 rules_pushed f zone bytes at front h =
     three (option_to_list (length_rule f bytes at)) (option_to_list (kind_rule (tag_at bytes at) f bytes at))
     (option_to_list (owner_rule (tag_at bytes at) f zone bytes at))
-    ∙ ap (λ l. front ++ map (broken (zone + at)) l) (sym (past (not (has_room bytes at)) (rule.HeapLength ∷ [])
+    ∙ ap (λ l. front ++ map (broken (zone + at)) l) (sym (cond-false (not (has_room bytes at)) (rule.HeapLength ∷ [])
     (option_to_list (length_rule f bytes at) ++ option_to_list (kind_rule (tag_at bytes at) f bytes at)
     ++ option_to_list (owner_rule (tag_at bytes at) f zone bytes at)) (ap not (le-leb (at + 12) (length bytes) h))))
   where
@@ -56,7 +55,7 @@ pub no_room_pushed : (f : Form) (zone : ℕ) (bytes : List ℕ) (at : ℕ) (fron
     → front ++ with_address (zone + at) (Some rule.HeapLength) ≡ front ++ block_damages f zone bytes at
 unfolding block_damages block_rules
 no_room_pushed f zone bytes at front h =
-    ap (λ l. front ++ map (broken (zone + at)) l) (sym (here (not (has_room bytes at)) (rule.HeapLength ∷ [])
+    ap (λ l. front ++ map (broken (zone + at)) l) (sym (cond-true (not (has_room bytes at)) (rule.HeapLength ∷ [])
     (option_to_list (length_rule f bytes at) ++ option_to_list (kind_rule (tag_at bytes at) f bytes at)
     ++ option_to_list (owner_rule (tag_at bytes at) f zone bytes at)) (ap not (lt-leb (at + 12) (length bytes) h))))
 
@@ -73,7 +72,7 @@ pub last_place : (f : Form) (bytes : List ℕ) (at : ℕ) → at < length bytes 
     → places_from f bytes at ≡ at ∷ []
 last_place f bytes at h stuck =
     first_place f bytes at h
-    ∙ ap (λ l. at ∷ l) (past (is_passable f bytes at) (places f bytes (length bytes - at - 1) (next f bytes at)) [] stuck)
+    ∙ ap (λ l. at ∷ l) (cond-false (is_passable f bytes at) (places f bytes (length bytes - at - 1) (next f bytes at)) [] stuck)
 
 pub found_last : (f : Form) (zone : ℕ) (bytes : List ℕ) (at : ℕ) (front total : List Damage) → at < length bytes
     → is_passable f bytes at ≡ false → front ++ damages_past f zone bytes at ≡ total
@@ -148,7 +147,7 @@ unfolding damages_of_zone
 untiled_zone f zone bytes front h =
     ap (λ l. front ++ l) (sym (append-nil (damages_of_blocks f zone bytes)))
     ∙ ap (λ l. front ++ (damages_of_blocks f zone bytes ++ l))
-    (sym (past (is_tiled f bytes) (damages_of_list f zone bytes ++ damages_of_sum f zone bytes) [] h))
+    (sym (cond-false (is_tiled f bytes) (damages_of_list f zone bytes ++ damages_of_sum f zone bytes) [] h))
 
 pub tiled_zone : (f : Form) (zone : ℕ) (bytes : List ℕ) (front : List Damage) → is_tiled f bytes ≡ true
     → ((front ++ damages_of_blocks f zone bytes) ++ option_to_list (first (damages_of_list f zone bytes)))
@@ -161,19 +160,19 @@ tiled_zone f zone bytes front h =
     ∙ append_assoc (front ++ damages_of_blocks f zone bytes) (damages_of_list f zone bytes) (damages_of_sum f zone bytes)
     ∙ append_assoc front (damages_of_blocks f zone bytes) (damages_of_list f zone bytes ++ damages_of_sum f zone bytes)
     ∙ ap (λ l. front ++ (damages_of_blocks f zone bytes ++ l))
-    (sym (here (is_tiled f bytes) (damages_of_list f zone bytes ++ damages_of_sum f zone bytes) [] h))
+    (sym (cond-true (is_tiled f bytes) (damages_of_list f zone bytes ++ damages_of_sum f zone bytes) [] h))
 
 -- the zone record isn't in the dump, or bkLim isn't in its place
 pub only_record : (f : Form) (dump : List ℕ) (base zone : ℕ) → false ≡ has_record dump base zone
     → broken zone rule.ZonePointer ∷ [] ≡ damages f dump base zone
 unfolding damages
 only_record f dump base zone h =
-    sym (here (not (has_record dump base zone)) (broken zone rule.ZonePointer ∷ [])
+    sym (cond-true (not (has_record dump base zone)) (broken zone rule.ZonePointer ∷ [])
     (damages_from f zone (from_zone dump base zone)) (ap not (sym h)))
 
 pub only_limit : (f : Form) (dump : List ℕ) (base zone : ℕ) → true ≡ has_record dump base zone
     → false ≡ has_limit f zone (from_zone dump base zone) → broken zone rule.Limit ∷ [] ≡ damages f dump base zone
 only_limit f dump base zone h k =
     sym (with_record f dump base zone h
-    ∙ here (not (has_limit f zone (from_zone dump base zone))) (broken zone rule.Limit ∷ [])
+    ∙ cond-true (not (has_limit f zone (from_zone dump base zone))) (broken zone rule.Limit ∷ [])
     (damages_of_zone f zone (zone_part f zone (from_zone dump base zone))) (ap not (sym k)))

@@ -1,14 +1,13 @@
 use Rattle.std.proofs.Common.{◌≡◌, ℕ, zero, suc, ◌+◌, ◌-◌, ◌<◌, ◌≤◌, true, false, not, cond, List, [], ◌∷◌, Option, Some, None}
 use Rattle.std.proofs.Common.{sym, ◌∙◌, ap, arith}
 use Rattle.std.specs.Prelude.{◌==◌}
-use Rattle.std.proofs.lemmas.Bool.{eq-eqb, ne_eqb}
+use Rattle.std.proofs.lemmas.Bool.{eq-eqb, ne_eqb, cond-false, cond-true}
 use Rattle.real_zone.specs.Lists.{first}
 use Rattle.real_zone.specs.Rules.{broken, master_at}
 use Rattle.real_zone.specs.Masters.{may_be_free, list_damages}
 use Rattle.real_zone.specs.declared.form.Form.{Form}
 use Rattle.real_zone.specs.declared.fault.Rule.TheVariants as rule
 use Rattle.real_zone.specs.declared.fault.Damage.{Damage}
-use Rattle.real_zone.proofs.Tests.{here, past}
 
 -- The list of free master pointers, one after the other.
 
@@ -17,9 +16,9 @@ pub list_ends : (f : Form) (zone : ℕ) (bytes : List ℕ) (n address : ℕ) →
     → list_damages f zone bytes n address ≡ []
 unfolding list_damages
 list_ends f zone bytes zero address h =
-    here (address == 0) [] (broken address rule.EndlessList ∷ []) (eq-eqb address 0 h)
+    cond-true (address == 0) [] (broken address rule.EndlessList ∷ []) (eq-eqb address 0 h)
 list_ends f zone bytes (suc n) address h =
-    here (address == 0) [] (cond (not (may_be_free f bytes (address - zone))) (broken address rule.FreeMaster ∷ [])
+    cond-true (address == 0) [] (cond (not (may_be_free f bytes (address - zone))) (broken address rule.FreeMaster ∷ [])
     (list_damages f zone bytes n (master_at f bytes (address - zone)))) (eq-eqb address 0 h)
 
 pub list_done : (f : Form) (zone : ℕ) (bytes : List ℕ) (n address : ℕ) (total : Option Damage) → address ≡ 0
@@ -35,7 +34,7 @@ unfolding list_damages
 more f zone bytes n k address h some =
     let left : n - k ≡ suc (n - (k + 1)) = omega arith in
     ap (λ m. list_damages f zone bytes m address) left
-    ∙ past (address == 0) [] (cond (not (may_be_free f bytes (address - zone))) (broken address rule.FreeMaster ∷ [])
+    ∙ cond-false (address == 0) [] (cond (not (may_be_free f bytes (address - zone))) (broken address rule.FreeMaster ∷ [])
     (list_damages f zone bytes (n - (k + 1)) (master_at f bytes (address - zone)))) (ne_eqb address 0 some)
 
 pub list_goes_on : (f : Form) (zone : ℕ) (bytes : List ℕ) (n k address : ℕ) (total : Option Damage) → k < n
@@ -44,7 +43,7 @@ pub list_goes_on : (f : Form) (zone : ℕ) (bytes : List ℕ) (n k address : ℕ
     → first (list_damages f zone bytes (n - (k + 1)) (master_at f bytes (address - zone))) ≡ total
 list_goes_on f zone bytes n k address total h some free e =
     ap first (sym (more f zone bytes n k address h some
-    ∙ past (not (may_be_free f bytes (address - zone))) (broken address rule.FreeMaster ∷ [])
+    ∙ cond-false (not (may_be_free f bytes (address - zone))) (broken address rule.FreeMaster ∷ [])
     (list_damages f zone bytes (n - (k + 1)) (master_at f bytes (address - zone))) (ap not (sym free)))) ∙ e
 
 pub list_stops : (f : Form) (zone : ℕ) (bytes : List ℕ) (n k address : ℕ) (total : Option Damage) → k < n
@@ -52,7 +51,7 @@ pub list_stops : (f : Form) (zone : ℕ) (bytes : List ℕ) (n k address : ℕ) 
     → first (list_damages f zone bytes (n - k) address) ≡ total → Some (broken address rule.FreeMaster) ≡ total
 list_stops f zone bytes n k address total h some free e =
     ap first (sym (more f zone bytes n k address h some
-    ∙ here (not (may_be_free f bytes (address - zone))) (broken address rule.FreeMaster ∷ [])
+    ∙ cond-true (not (may_be_free f bytes (address - zone))) (broken address rule.FreeMaster ∷ [])
     (list_damages f zone bytes (n - (k + 1)) (master_at f bytes (address - zone))) (ap not (sym free)))) ∙ e
 
 -- more of them than there can be
@@ -63,4 +62,4 @@ unfolding list_damages
 list_circles f zone bytes n k address total h some e =
     let none : n - k ≡ zero = omega arith in
     ap first (sym (ap (λ m. list_damages f zone bytes m address) none
-    ∙ past (address == 0) [] (broken address rule.EndlessList ∷ []) (ne_eqb address 0 some))) ∙ e
+    ∙ cond-false (address == 0) [] (broken address rule.EndlessList ∷ []) (ne_eqb address 0 some))) ∙ e

@@ -11,7 +11,7 @@ use Rattle.real_zone.specs.Rules.{is_master_place}
 use Rattle.real_zone.specs.Masters.{covers, is_covered, may_be_free, marks, block_marks, zone_marks}
 use Rattle.real_zone.specs.declared.form.Form.{Form}
 use Rattle.real_zone.specs.declared.form.Form.TheVariants as form
-use Rattle.real_zone.proofs.Tests.{here, or-false_left, or-false_right}
+use Rattle.real_zone.proofs.Tests.{or-false_left, or-false_right}
 use Rattle.real_zone.proofs.Walking.{Passes, passes, next, next_places, no_places}
 
 -- The marks of even places: which of them are in nonrelocatable blocks.

@@ -1,4 +1,4 @@
-use Rattle.std.proofs.Common.{◌≡◌, ℕ, zero, suc, ◌+◌, ◌*◌, ◌-◌, ◌<◌, ◌≤◌, Bool, true, false, ◌&&◌, List, [], ◌∷◌, length}
+use Rattle.std.proofs.Common.{◌≡◌, ℕ, zero, suc, ◌+◌, ◌*◌, ◌-◌, ◌<◌, ◌≤◌, Bool, true, false, ◌&&◌, List, [], ◌∷◌, length, arith}
 use Rattle.std.proofs.Common.{Option, Some, None, refl, sym, ◌∙◌, ap, arith, sum_by}
 use Rattle.std.specs.Prelude.{nat_le}
 use Rattle.std.specs.List.{list_all}
@@ -122,11 +122,7 @@ all_here p gap n k at h all =
     (and_parts (p at) (list_all p (spaced gap (n - (k + 1)) (at + gap)))
     (ap (list_all p) (sym (spaced_next gap n k at h)) ∙ all)).0
 
--- what is there, or else what comes
-pub or_assoc : {A : Type 0} (x y z : Option A) → option_or (option_or x y) z ≡ option_or x (option_or y z)
-or_assoc None y z = refl
-or_assoc (Some x) y z = refl
-
+-- what is there, or else nothing
 pub no_more : {A : Type 0} (x : Option A) → x ≡ option_or x None
 no_more None = refl
 no_more (Some x) = refl
@@ -136,7 +132,9 @@ pub found_more : {A B : Type 0} (find : A → Option B) (there there' : Option B
     → all ≡ x ∷ rest → there' ≡ option_or there (find x) → option_or there (first_found find all) ≡ whole
     → option_or there' (first_found find rest) ≡ whole
 found_more find there there' x all rest whole e entered before =
-    ap (λ t. option_or t (first_found find rest)) entered ∙ or_assoc there (find x) (first_found find rest)
+    let grouped : option_or (option_or there (find x)) (first_found find rest)
+    ≡ option_or there (option_or (find x) (first_found find rest)) = grind arith in
+    ap (λ t. option_or t (first_found find rest)) entered ∙ grouped
     ∙ ap (λ l. option_or there (first_found find l)) (sym e) ∙ before
 
 -- and at all

@@ -3,7 +3,7 @@ use Rattle.std.proofs.Common.{refl, sym, ◌∙◌, ap}
 use Rattle.std.specs.Prelude.{nat_le, nat_lt}
 use Rattle.std.specs.List.{flat_map}
 use Rattle.std.specs.Option.{option_to_list, option_or}
-use Rattle.std.proofs.lemmas.Bool.{lt-leb, le-leb, ltb-false}
+use Rattle.std.proofs.lemmas.Bool.{lt-leb, le-leb, ltb-false, cond-false, cond-true}
 use Rattle.real_zone.specs.Header.{tag_at, size_at}
 use Rattle.real_zone.specs.Lists.{first}
 use Rattle.real_zone.specs.Blocks.{has_room, is_size, is_passable, places_from}
@@ -13,7 +13,6 @@ use Rattle.real_zone.specs.declared.form.Form.{Form}
 use Rattle.real_zone.specs.declared.fault.Rule.{Rule}
 use Rattle.real_zone.specs.declared.fault.Rule.TheVariants as rule
 use Rattle.real_zone.specs.declared.fault.Damage.{Damage}
-use Rattle.real_zone.proofs.Tests.{here, past}
 use Rattle.real_zone.proofs.Firsts.{first_of_options, first-map_some, first-map_none, map-nothing, nothing, empty, first-append_some}
 use Rattle.real_zone.proofs.Walking.{next, rest_after, first_place, next_places, no_places}
 
@@ -29,7 +28,7 @@ pub no_room : (f : Form) (zone : ℕ) (bytes : List ℕ) (at : ℕ) → length b
     → Some rule.HeapLength ≡ first (block_rules f zone bytes at)
 unfolding block_rules
 no_room f zone bytes at h =
-    sym (ap first (here (not (has_room bytes at)) (rule.HeapLength ∷ []) (three f zone bytes at)
+    sym (ap first (cond-true (not (has_room bytes at)) (rule.HeapLength ∷ []) (three f zone bytes at)
     (ap not (lt-leb (at + 12) (length bytes) h))))
 
 -- one would
@@ -40,7 +39,7 @@ unfolding block_rules
 first_of_three f zone bytes at h =
     first_of_options (length_rule f bytes at) (kind_rule (tag_at bytes at) f bytes at)
     (owner_rule (tag_at bytes at) f zone bytes at)
-    ∙ sym (ap first (past (not (has_room bytes at)) (rule.HeapLength ∷ []) (three f zone bytes at)
+    ∙ sym (ap first (cond-false (not (has_room bytes at)) (rule.HeapLength ∷ []) (three f zone bytes at)
     (ap not (le-leb (at + 12) (length bytes) h))))
 
 -- the first rule that is broken, with its address

@@ -2,13 +2,12 @@ use Rattle.std.proofs.Common.{◌≡◌, ℕ, zero, suc, ◌+◌, ◌-◌, ◌%�
 use Rattle.std.proofs.Common.{refl, sym, ◌∙◌, ap, arith, sum_by, add_assoc}
 use Rattle.std.specs.Prelude.{◌==◌, nat_le}
 use Rattle.std.specs.List.{list_all}
-use Rattle.std.proofs.lemmas.Bool.{and_parts, leb-true, eqb-true, eq-eqb, ne_eqb}
+use Rattle.std.proofs.lemmas.Bool.{and_parts, leb-true, eqb-true, eq-eqb, ne_eqb, cond-false, cond-true}
 use Rattle.std.proofs.lemmas.List.Sums.{sum_by-cons}
 use Rattle.real_zone.specs.Form.{alignment}
 use Rattle.real_zone.specs.Header.{size_at}
 use Rattle.real_zone.specs.Blocks.{has_room, is_size, is_passable, places, places_from}
 use Rattle.real_zone.specs.declared.form.Form.{Form}
-use Rattle.real_zone.proofs.Tests.{here, past}
 
 -- Walking over the blocks of a zone.
 
@@ -46,11 +45,11 @@ unfolding places
 enough f bytes zero zero at r h k = refl
 enough f bytes zero (suc m) at r h k =
     let e : at ≡ length bytes = omega arith in
-    sym (here (at == length bytes) [] (at ∷ cond (is_passable f bytes at) (places f bytes m (next f bytes at)) [])
+    sym (cond-true (at == length bytes) [] (at ∷ cond (is_passable f bytes at) (places f bytes m (next f bytes at)) [])
     (eq-eqb at (length bytes) e))
 enough f bytes (suc n) zero at r h k =
     let e : at ≡ length bytes = omega arith in
-    here (at == length bytes) [] (at ∷ cond (is_passable f bytes at) (places f bytes n (next f bytes at)) [])
+    cond-true (at == length bytes) [] (at ∷ cond (is_passable f bytes at) (places f bytes n (next f bytes at)) [])
     (eq-eqb at (length bytes) e)
 enough f bytes (suc n) (suc m) at r h k =
     cases (at == length bytes) (is_passable f bytes at) refl
@@ -76,7 +75,7 @@ unfolding places
 first_place f bytes at h =
     let e : length bytes - at ≡ suc (length bytes - at - 1) = omega arith in
     ap (λ n. places f bytes n at) e
-    ∙ past (at == length bytes) [] (at ∷ rest_after f bytes at) (ne_eqb at (length bytes) (λ q. omega arith))
+    ∙ cond-false (at == length bytes) [] (at ∷ rest_after f bytes at) (ne_eqb at (length bytes) (λ q. omega arith))
 
 -- and where it is passable, all others stand after it
 pub next_places : (f : Form) (bytes : List ℕ) (at : ℕ) → is_passable f bytes at ≡ true
@@ -85,7 +84,7 @@ next_places f bytes at p =
     let q : Passes f bytes at = passes f bytes at p in
     first_place f bytes at (omega arith)
     ∙ ap (λ l. at ∷ l)
-    (here (is_passable f bytes at) (places f bytes (length bytes - at - 1) (next f bytes at)) [] p
+    (cond-true (is_passable f bytes at) (places f bytes (length bytes - at - 1) (next f bytes at)) [] p
     ∙ enough f bytes (length bytes - at - 1) (length bytes - next f bytes at) (next f bytes at) (omega arith) (omega arith)
     (omega arith))
 

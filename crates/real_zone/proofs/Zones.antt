@@ -3,7 +3,7 @@ use Rattle.std.proofs.Common.{refl, sym, ◌∙◌, ap}
 use Rattle.std.specs.Prelude.{◌==◌}
 use Rattle.std.specs.List.{list_all, flat_map}
 use Rattle.std.specs.Option.{option_or}
-use Rattle.std.proofs.lemmas.Bool.{and_from, and_parts}
+use Rattle.std.proofs.lemmas.Bool.{and_from, and_parts, cond-false, cond-true}
 use Rattle.real_zone.specs.Numbers.{number}
 use Rattle.real_zone.specs.Lists.{first, is_empty}
 use Rattle.real_zone.specs.Blocks.{is_passable, block_places, is_tiled, free_bytes}
@@ -14,7 +14,6 @@ use Rattle.real_zone.specs.Zone.{has_limit, from_zone, zone_part}
 use Rattle.real_zone.specs.declared.form.Form.{Form}
 use Rattle.real_zone.specs.declared.fault.Rule.TheVariants as rule
 use Rattle.real_zone.specs.declared.fault.Damage.{Damage}
-use Rattle.real_zone.proofs.Tests.{here, past}
 use Rattle.real_zone.proofs.Firsts.{nothing, first-append, first-append_some, empty_if_none, full_if_some, is_empty-append, is_empty-map}
 use Rattle.real_zone.proofs.Ruling.{passable_if_whole, keeps_passable}
 
@@ -53,14 +52,14 @@ after_blocks f zone bytes h =
     first-append (damages_of_list f zone bytes) (damages_of_sum f zone bytes)
     ∙ ap first (sym (ap (λ l. l ++ cond (is_tiled f bytes) (damages_of_list f zone bytes ++ damages_of_sum f zone bytes) [])
     (nothing (damages_of_blocks f zone bytes) h)
-    ∙ here (is_tiled f bytes) (damages_of_list f zone bytes ++ damages_of_sum f zone bytes) [] (tiled f zone bytes h)))
+    ∙ cond-true (is_tiled f bytes) (damages_of_list f zone bytes ++ damages_of_sum f zone bytes) [] (tiled f zone bytes h)))
 
 -- the zone record isn't in the dump
 pub no_record : (f : Form) (dump : List ℕ) (base zone : ℕ) → false ≡ has_record dump base zone
     → first (damages f dump base zone) ≡ Some (broken zone rule.ZonePointer)
 unfolding damages
 no_record f dump base zone h =
-    ap first (here (not (has_record dump base zone)) (broken zone rule.ZonePointer ∷ [])
+    ap first (cond-true (not (has_record dump base zone)) (broken zone rule.ZonePointer ∷ [])
     (damages_from f zone (from_zone dump base zone)) (ap not (sym h)))
 
 -- it is
@@ -68,7 +67,7 @@ pub with_record : (f : Form) (dump : List ℕ) (base zone : ℕ) → true ≡ ha
     → damages f dump base zone ≡ damages_from f zone (from_zone dump base zone)
 unfolding damages
 with_record f dump base zone h =
-    past (not (has_record dump base zone)) (broken zone rule.ZonePointer ∷ [])
+    cond-false (not (has_record dump base zone)) (broken zone rule.ZonePointer ∷ [])
     (damages_from f zone (from_zone dump base zone)) (ap not (sym h))
 
 -- bkLim isn't in its place
@@ -77,7 +76,7 @@ pub no_limit : (f : Form) (dump : List ℕ) (base zone : ℕ) → true ≡ has_r
     → first (damages f dump base zone) ≡ Some (broken zone rule.Limit)
 no_limit f dump base zone h k =
     ap first (with_record f dump base zone h
-    ∙ here (not (has_limit f zone (from_zone dump base zone))) (broken zone rule.Limit ∷ [])
+    ∙ cond-true (not (has_limit f zone (from_zone dump base zone))) (broken zone rule.Limit ∷ [])
     (damages_of_zone f zone (zone_part f zone (from_zone dump base zone))) (ap not (sym k)))
 
 -- it is
@@ -86,7 +85,7 @@ pub with_limit : (f : Form) (dump : List ℕ) (base zone : ℕ) → true ≡ has
     → damages f dump base zone ≡ damages_of_zone f zone (zone_part f zone (from_zone dump base zone))
 with_limit f dump base zone h k =
     with_record f dump base zone h
-    ∙ past (not (has_limit f zone (from_zone dump base zone))) (broken zone rule.Limit ∷ [])
+    ∙ cond-false (not (has_limit f zone (from_zone dump base zone))) (broken zone rule.Limit ∷ [])
     (damages_of_zone f zone (zone_part f zone (from_zone dump base zone))) (ap not (sym k))
 
 -- blocks keep their rules just where nothing is wrong with them
@@ -133,7 +132,7 @@ zone_whole f zone bytes =
     join true t e ls h =
         ap (λ b. is_empty ls && b) (sums e)
         ∙ sym (is_empty-append ls (cond e [] (broken zone rule.FreeBytes ∷ [])))
-        ∙ ap is_empty (sym (here t (ls ++ cond e [] (broken zone rule.FreeBytes ∷ [])) [] (h refl)))
+        ∙ ap is_empty (sym (cond-true t (ls ++ cond e [] (broken zone rule.FreeBytes ∷ [])) [] (h refl)))
 
 pub zone_stands : (f : Form) (zone : ℕ) (bytes : List ℕ) → None ≡ first (damages_of_zone f zone bytes)
     → is_zone f zone bytes ≡ true

@@ -1,4 +1,3 @@
 pub mod Named
-pub mod Appending
 pub mod Binned
 pub mod Scripted

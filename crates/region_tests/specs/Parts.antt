@@ -1,6 +1,6 @@
 -- Three parts fill a region of 48 bytes.
 use Rattle.std.specs.Prelude.{◌≡◌, [], ◌∷◌, length}
-use Rattle.windows.specs.Windows.{window}
+use Rattle.memory_windows.specs.Windows.{window}
 use Rattle.raw_region.specs.Memory.{Bytes, Whole}
 
 pub record AreThree (r : Whole) (a b c : Bytes) : Type 0 where

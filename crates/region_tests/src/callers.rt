@@ -1,8 +1,8 @@
 //! What a caller writes of each library of the region: the README of the library shows the same
 //! lines.
 
+use block_headers::{Header, Tag, write_header};
 use block_store::BlockStore;
-use heap_words::{Header, Tag, write_header};
 use raw_region::Region;
 use raw_zone::RawZone;
 use std::test::Fail;
@@ -29,7 +29,7 @@ const THREE_BYTES: Header = Header {
     flags: 0,
 };
 
-/// Shows `heap_words`: a header is written, and its words are those that stand in memory.
+/// Shows `block_headers`: a header is written, and its words are those that stand in memory.
 #[test]
 fn a_header_is_written(rt: HostRuntime) -> Result<(), Fail> {
     let mut region = Region::new(rt.alloc(), 48)?;

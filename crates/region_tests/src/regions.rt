@@ -2,7 +2,7 @@
 
 ghost use Rattle.std.specs.Prelude.{◌≡◌, ◌≤◌, [], length, IfOk};
 ghost use Rattle.std.specs.List.{Contains};
-ghost use Rattle.windows.specs.Windows.{window, without_window};
+ghost use Rattle.memory_windows.specs.Windows.{window, without_window};
 ghost use Rattle.region_tests.specs.Parts.{AreThree};
 
 use raw_region::{Part, Region};

@@ -1,10 +1,10 @@
 //! Headers and master pointers that are written and read again.
 
 ghost use Rattle.std.specs.Prelude.{◌≡◌, ◌+◌, ◌%◌, ◌≤◌, ◌<◌, ◌^◌};
-ghost use Rattle.heap_words.specs.declared.word.TheConstants.{UNIT};
-ghost use Rattle.heap_words.specs.Slots.{IsSlotWord, slot_number};
+ghost use Rattle.block_headers.specs.declared.word.TheConstants.{UNIT};
+ghost use Rattle.block_headers.specs.Slots.{IsSlotWord, slot_number};
 
-use heap_words::{Header, SlotWord, Tag, header_read_again, slot_read_again};
+use block_headers::{Header, SlotWord, Tag, header_read_again, slot_read_again};
 use raw_region::Region;
 use std::alloc::{AllocError, Global};
 use std::test::Fail;

@@ -37,69 +37,6 @@ refused_with refusal reading = Err (record { refusal = refusal; reading = readin
 abbrev pub filed : List OpenFile → Resources → Resources
 filed chain r = record r { chain = chain }
 
--- a new handle
-pub new_done : (loading : Bool) (f : Found) (r : Resources) (m n : Memory) (h : ℕ) (chain : List OpenFile)
-    → made_for loading (is_system f.file.here) f.reference.here m ≡ (Ok h, n)
-    → with_reference (with_handle (Some h) f.reference.here) f ≡ chain
-    → IsFetched (fetch_new loading f (managers r m)) (given h loading) (managers (filed chain r) n)
-new_done true f r m n h chain made put =
-    subst (λ p. IsFetched (now_filled f p (managers r m)) (given h true) (managers (filed chain r) n)) (sym made)
-    (refl, ap (λ (l : List OpenFile). managers (filed l r) n) put)
-new_done false f r m n h chain made put =
-    subst (λ p. IsFetched (now_empty f p (managers r m)) (given h false) (managers (filed chain r) n)) (sym made)
-    (refl, ap (λ (l : List OpenFile). managers (filed l r) n) put)
-
-pub new_refused : (loading : Bool) (f : Found) (r : Resources) (m n : Memory) (refusal : Refusal)
-    → IsAnswer (made_for loading (is_system f.file.here) f.reference.here m) (Err refusal) n
-    → IsFetched (fetch_new loading f (managers r m)) (refused_with refusal None) (managers r n)
-new_refused loading f r m n HostMemory made = tt
-new_refused true f r m n (Code code) made =
-    subst (λ p. IsFetched (now_filled f p (managers r m)) (refused_with (Code code) None) (managers r n)) (sym made)
-    (refl, refl, refl)
-new_refused false f r m n (Code code) made =
-    subst (λ p. IsFetched (now_empty f p (managers r m)) (refused_with (Code code) None) (managers r n)) (sym made)
-    (refl, refl, refl)
-
--- an empty handle is read again
-again_as : (loading has : Bool) (f : Found) (r : Resources) (m n : Memory) (h : ℕ) (result : Result Fetched Unread)
-    → has_block h m.heap ≡ has
-    → IsFetched (cond (loading && not has)
-    (now_refilled f h (refill_inside h (flags_of f.reference.here) f.reference.here.stored.datum m) (managers r m))
-    (fetch.done (record { handle = h; read = 0 }) (managers r m))) result (managers r n)
-    → IsFetched (fetch_again loading f h (managers r m)) result (managers r n)
-again_as loading has f r m n h result is e = rw is e
-
-pub again_stays : (loading : Bool) (f : Found) (r : Resources) (m : Memory) (h : ℕ)
-    → loading ≡ false → IsFetched (fetch_again loading f h (managers r m)) (given h false) (managers r m)
-again_stays false f r m h off = (refl, refl)
-again_stays true f r m h off = cc
-
-pub again_has : (loading : Bool) (f : Found) (r : Resources) (m : Memory) (h : ℕ)
-    → has_block h m.heap ≡ true → IsFetched (fetch_again loading f h (managers r m)) (given h false) (managers r m)
-again_has false f r m h has = (refl, refl)
-again_has true f r m h has = again_as true true f r m m h (given h false) has (refl, refl)
-
-pub again_done : (f : Found) (r : Resources) (m n : Memory) (h : ℕ) (x : Reference) → f.reference.here ≡ x
-    → has_block h m.heap ≡ false → refill_inside h (flags_of x) x.stored.datum m ≡ (Ok tt, n)
-    → IsFetched (fetch_again true f h (managers r m)) (given h true) (managers r n)
-again_done f r m n h x is has filled =
-    let so : refill_inside h (flags_of f.reference.here) f.reference.here.stored.datum m ≡ (Ok tt, n) =
-    ap (λ (y : Reference). refill_inside h (flags_of y) y.stored.datum m) is ∙ filled in
-    again_as true false f r m n h (given h true) has
-    (subst (λ p. IsFetched (now_refilled f h p (managers r m)) (given h true) (managers r n)) (sym so) (refl, refl))
-
-pub again_refused : (f : Found) (r : Resources) (m n : Memory) (h : ℕ) (x : Reference) (refusal : Refusal)
-    → f.reference.here ≡ x → has_block h m.heap ≡ false
-    → IsAnswer (refill_inside h (flags_of x) x.stored.datum m) (Err refusal) n
-    → IsFetched (fetch_again true f h (managers r m)) (refused_with refusal (Some h)) (managers r n)
-again_refused f r m n h x HostMemory is has filled = tt
-again_refused f r m n h x (Code code) is has filled =
-    let so : refill_inside h (flags_of f.reference.here) f.reference.here.stored.datum m ≡ (Err code, n) =
-    ap (λ (y : Reference). refill_inside h (flags_of y) y.stored.datum m) is ∙ filled in
-    again_as true false f r m n h (refused_with (Code code) (Some h)) has
-    (subst (λ p. IsFetched (now_refilled f h p (managers r m)) (refused_with (Code code) (Some h)) (managers r n))
-    (sym so) (refl, refl, refl))
-
 -- with a handle, or without one
 pub fetch_none : (loading : Bool) (f : Found) (s : Managers) (result : Result Fetched Unread) (after : Managers)
     → f.reference.here.handle ≡ None → IsFetched (fetch_new loading f s) result after
@@ -112,14 +49,6 @@ pub fetch_some : (loading : Bool) (f : Found) (s : Managers) (result : Result Fe
     → IsFetched (fetch.fetch loading f s) result after
 fetch_some loading f s result after h some e =
     subst (λ (o : Option ℕ). IsFetched (fetch.fetch_as loading f o s) result after) (sym some) e
-
--- what was found, if anything, is fetched
-pub fetched_some : (loading : Bool) (o : Option Found) (s : Managers) (result : Result Fetched Unread)
-    (after : Managers)
-    → is_some o ≡ true → ((f : Found) → o ≡ Some f → IsFetched (fetch.fetch loading f s) result after)
-    → IsFetched (fetched_as loading o s) result after
-fetched_some loading None s result after some each = cc
-fetched_some loading (Some f) s result after some each = each f refl
 
 -- a fetch whose code is noted
 refused_noted : (call : Managers → Answer fetch.Fetched) (s : Managers) (refusal : Refusal) (reading : Option ℕ)

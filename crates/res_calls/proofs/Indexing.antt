@@ -47,8 +47,6 @@ pub count_done : (total all : ℕ) → total < 2 ^ 63 → told_count total ≡ a
 count_done total all small e = sym (told_small total small) ∙ e
 
 -- the n-th of a type, from a file on
-pub each_start : (o : Option Found) → spot_from 0 o ≡ option_map spot_of o
-each_start o = spot_start o
 
 pub each_here : (kind n : ℕ) (files : List StoredOpenFile) (i k : ℕ) (x : StoredOpenFile) (all : Option Spot)
     → i < length files → x ≡ get_or files i x → Some k ≡ option_map place (split_nth n (is_of kind) x.map.references)

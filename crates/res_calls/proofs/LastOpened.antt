@@ -1,6 +1,5 @@
 use Rattle.std.proofs.Common.{◌≡◌, ◌<◌, ℕ, suc, ℤ, pos, Bool, true, false, true≢false, not}
-use Rattle.std.specs.Prelude.{OnErr}
-use Rattle.std.proofs.Common.{Result, Ok, Err, Option, Some, None, List, [], ◌∷◌, length, refl, sym, ◌∙◌, ap, subst, cond, arith}
+use Rattle.std.proofs.Common.{Option, Some, None, List, [], ◌∷◌, length, refl, sym, ◌∙◌, ap, subst, cond, arith}
 use Rattle.std.proofs.lemmas.Bool.{not-true}
 use Rattle.std.proofs.lemmas.Bool.Decides.{Decides-int_eq}
 use Rattle.std.specs.Ordering.{int_eq}
@@ -155,13 +154,6 @@ code-grouped a b c = by_first (int_eq a.0 (pos 0)) refl
     by_first true e = refl
     by_first false e = rw e refl
 
-code-alone : (a : OsErr) → first_code a NO_ERR ≡ a
-code-alone a = by_first (int_eq a.0 (pos 0)) refl
-  where
-    by_first : (t : Bool) → int_eq a.0 (pos 0) ≡ t → cond t NO_ERR a ≡ a
-    by_first true e = ap (λ (z : ℤ). (let c : OsErr = record { 0 = z } in c)) (sym ((Decides-int_eq a.0 (pos 0)).0 e))
-    by_first false e = refl
-
 -- the code so far and the code of the rest is the code of all, and the rest is left as all is
 pub record Leaves (so_far : OsErr) (now start : Managers) : Type 0 where
   pub code : first_code so_far (leave now).code ≡ (leave start).code
@@ -178,14 +170,6 @@ leaves_next code next now later start own told left so = record {
       ∙ so.code;
   after = ap (λ (s : Managers). (leave s).after) left ∙ sym (next_after now.resources.chain now own) ∙ so.after;
 }
-
-pub leaves_all : (code : OsErr) (now start : Managers) → has_own now.resources.chain ≡ false
-    → Leaves code now start → (code ≡ (leave start).code) × (now ≡ (leave start).after)
-leaves_all code now start none so =
-    let last = no_more now.resources.chain now none in (
-      sym (code-alone code) ∙ ap (first_code code) (sym (ap (λ (l : FilesClosed). l.code) last)) ∙ so.code,
-      sym (ap (λ (l : FilesClosed). l.after) last) ∙ so.after,
-    )
 
 -- as an application leaves, its heap lies where it lay
 leave-lies : (chain : List OpenFile) (s : Managers) → (leave_files chain s).after.memory.window ≡ s.memory.window
@@ -218,18 +202,6 @@ leaves-lies code now start so =
     sym (leave-lies now.resources.chain now) ∙ ap (λ (s : Managers). s.memory.window) so.after
     ∙ leave-lies start.resources.chain start
 
--- each time there is one file fewer
-pub one_fewer : (now later : Managers) → has_own now.resources.chain ≡ true → later ≡ (left_last now).after
-    → length later.resources.chain < length now.resources.chain
-one_fewer now later own left = by_chain now.resources.chain own
-    (ap (λ (s : Managers). length s.resources.chain) left)
-  where
-    by_chain : (chain : List OpenFile) → has_own chain ≡ true
-        → length later.resources.chain ≡ length (left_last_of chain now).after.resources.chain
-        → length later.resources.chain < length chain
-    by_chain [] own e = cc
-    by_chain (f ∷ older) own e = omega (arith, e)
-
 -- the first files were left
 pub record LeftSome (now start : Managers) : Type 0 where
   pub k : ℕ
@@ -252,8 +224,3 @@ stops_there now later start own same so = record {
   more = ap (λ (s : Managers). has_own s.resources.chain) (sym so.left) ∙ own;
   left = same ∙ so.left;
 }
-
--- what holds where a call fails
-pub on_any_err : {T E : Type 0} (result : Result T E) (P : Type 0) → P → OnErr result P
-on_any_err (Ok x) P so = tt
-on_any_err (Err e) P so = so

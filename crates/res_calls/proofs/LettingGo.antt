@@ -1,8 +1,9 @@
-use Rattle.std.proofs.Common.{◌≡◌, ◌<◌, ℕ, ◌+◌, Bool, true, false, Option, Some, None, refl, sym, subst, ◌∙◌, ap, List, [], ◌∷◌, ◌++◌, map, length}
-use Rattle.std.proofs.Common.{drop, suc, zero, cond, arith, get_or}
+use Rattle.std.proofs.Common.{◌≡◌, ◌<◌, ℕ, ◌+◌, Bool, true, false, Option, Some, None, refl, sym, subst, ◌∙◌, ap, List, [], ◌∷◌, ◌++◌, map}
+use Rattle.std.proofs.Common.{length, drop, suc, zero, cond, arith, get_or}
 use Rattle.std.specs.Prelude.{option_map, slice_get, option_to_list, remove, ◌==◌, Ok, Err}
 use Rattle.std.specs.List.{cons_option}
 use Rattle.std.proofs.lemmas.Bool.{eqb-true}
+use Rattle.std.proofs.lemmas.List.{drop-map}
 use Rattle.heap_calls.specs.State.{State, Memory}
 use Rattle.heap_calls.specs.Inside.{inside, released}
 use Rattle.res_map.specs.Split.{Split, split, place, replaced, removed}
@@ -75,11 +76,6 @@ pub number_seen : (xs : List StoredOpenFile) (i : ℕ) (x : StoredOpenFile) → 
 number_seen xs i x inside is = sym (ap first_number (rest-map view_open xs i x inside is))
 
 -- what is left of items, as they are seen
-drop-seen : {X A : Type 0} (view : X → A) (n : ℕ) (xs : List X) → map view (drop n xs) ≡ drop n (map view xs)
-drop-seen view zero xs = refl
-drop-seen view (suc n) [] = refl
-drop-seen view (suc n) (x ∷ xs) = drop-seen view n xs
-
 remove-seen : {X A : Type 0} (view : X → A) (n : ℕ) (xs : List X) → map view (remove xs n) ≡ remove (map view xs) n
 remove-seen view zero [] = refl
 remove-seen view zero (x ∷ xs) = refl
@@ -191,7 +187,7 @@ pub closed_seen : (n i older : ℕ) (q : Resources) (files files' : List StoredF
 closed_seen n i older q files files' xs ys zs x m after found some each here first without released =
     closed_so n i older (stored_in files xs q) (stored_in files' ys q) (map view_open zs) x m after found some
     (λ s at. each q s at) here
-    (first ∙ ap first_number (drop-seen view_open (i + 1) ys))
+    (first ∙ ap first_number (sym (drop-map view_open (i + 1) ys)))
     (ap (map view_open) without ∙ remove-seen view_open i ys) released
 
 -- a file that isn't closed, since its content doesn't fit

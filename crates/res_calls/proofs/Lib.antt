@@ -2,6 +2,8 @@ pub mod Walks
 mod Worked
 pub mod Finding
 pub mod Indexing
+pub mod Typing
+pub mod FileAttrs
 pub mod Standing
 pub mod Fetches
 pub mod FetchGone

@@ -38,26 +38,3 @@ pub is_noted : {T V : Type 0} (seen : V → T) (call : Managers → Answer T) (s
     → IsAnswered seen (noting call s) result (managers after m)
 is_noted seen call s answer result r after m h same is =
     rw (same, is) (noted_so seen call s answer r m h)
-
--- the same for a call whose value is left out
-unseen_so : {T : Type 0} (call : Managers → Answer T) (s : Managers) (answer : Result (Unit {0}) Refusal)
-    (r : Resources) (m : Memory) → IsAnsweredUnseen (call s) answer (managers r m)
-    → IsAnsweredUnseen (noting call s) answer (managers (noted answer r) m)
-unseen_so call s (Ok u) r m (reply, after) = (
-  reply,
-  ap (λ (c : OsErr). keep_error c (call s).after) (no_code (call s).reply reply) ∙ ap (keep_error NO_ERR) after,
-)
-  where
-    no_code : {T : Type 0} (reply : Result T OsErr) → IsOk reply → code_of reply ≡ NO_ERR
-    no_code (Ok value) is = refl
-    no_code (Err code) is = cc
-unseen_so call s (Err (Code code)) r m (reply, after) =
-    (reply, ap (λ (c : OsErr). keep_error c (call s).after) (ap code_of reply) ∙ ap (keep_error code) after)
-unseen_so call s (Err HostMemory) r m h = tt
-
-pub is_noted_unseen : {T : Type 0} (call : Managers → Answer T) (s : Managers)
-    (answer result : Result (Unit {0}) Refusal) (r after : Resources) (m : Memory)
-    → IsAnsweredUnseen (call s) answer (managers r m) → result ≡ answer → after ≡ noted answer r
-    → IsAnsweredUnseen (noting call s) result (managers after m)
-is_noted_unseen call s answer result r after m h same is =
-    rw (same, is) (unseen_so call s answer r m h)

@@ -139,11 +139,3 @@ launch_refused [] x refusal system bytes some is same unread = let none : ⊥ = 
 launch_refused (f ∷ fs) x refusal system bytes some is same unread =
     let own : bytes ≡ f.fork.items = same ∙ ap (λ (f : StoredFile). f.fork.items) is in
     launch_unread (view_file f) (map view_file fs) refusal system bytes own unread
-
-pub launch_read : (fs : List StoredFile) (x : StoredFile) (own : Map) (system : Content) (bytes : List ℕ)
-    → 0 < length fs → x ≡ get_or fs 0 x → bytes ≡ x.fork.items → map_in bytes ≡ Ok own
-    → launched_resources (map view_file fs) system ≡ Ok (fresh_resources (map view_file fs) own (map_of system))
-launch_read [] x own system bytes some is same read = let none : ⊥ = omega arith in absurd none
-launch_read (f ∷ fs) x own system bytes some is same read =
-    let its : map_in f.fork.items ≡ Ok own = ap map_in (sym (same ∙ ap (λ (f : StoredFile). f.fork.items) is)) ∙ read in
-    rw its refl

@@ -1,11 +1,11 @@
-use Rattle.std.proofs.Common.{◌≡◌, ◌≢◌, ℕ, false, Some, None, Result, Ok, Err, List, [], ◌++◌, map, refl, sym, ◌∙◌}
+use Rattle.std.proofs.Common.{◌≡◌, ◌≢◌, ℕ, false, Some, None, Result, Ok, Err, List, [], map, refl, sym, ◌∙◌}
 use Rattle.std.proofs.Common.{ap, subst}
-use Rattle.std.proofs.lemmas.List.{append-nil}
 use Rattle.std.specs.Prelude.{option_map, slice_get, IfSome, nat_lt, bytes_eq}
 use Rattle.heap_calls.specs.Gone.{Gone, Tells}
 use Rattle.heap_calls.specs.State.{Memory}
 use Rattle.heap_calls.specs.declared.refusal.Refusal.{Refusal}
 use Rattle.heap_calls.specs.declared.refusal.Refusal.TheVariants.{Code, HostMemory}
+use Rattle.heap_calls.proofs.GoneForSizes.{tells-none}
 use Rattle.res_map.specs.Split.{Split, split, place}
 use Rattle.res_map.specs.Map.{Map}
 use Rattle.res_map.proofs.Splitting.{found-place, found-none}
@@ -21,10 +21,6 @@ use Rattle.res_calls.specs.declared.files.OpenFile.{OpenFile as StoredOpenFile}
 use Rattle.res_calls.proofs.OpeningForks.{file_anew}
 
 -- What an opening purges.
-
-tells-none : {A : Type 0} (told : A → List Gone → Type 0) (gone : List Gone) (s : A) → gone ≡ [] → Tells told gone s s
-tells-none told gone s none before was =
-    subst (told s) (sym (ap (λ (l : List Gone). before ++ l) none ∙ append-nil before)) was
 
 -- a fork that can't be read, and one that is opened
 pub gone_refused : {A : Type 0} (told : A → List Gone → Type 0) (s : A) (fork : List ℕ) (r : Resources) (m : Memory)

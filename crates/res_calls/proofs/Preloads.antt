@@ -29,7 +29,8 @@ wanted_from : (references : List Reference) (i : ℕ) (x : Reference) (is : Bool
     ≡ cond is (filling_of x ∷ wanted_of (drop (suc i) references)) (wanted_of (drop (suc i) references))
 wanted_from [] i x is here e = cc
 wanted_from (y ∷ references) zero x is here e =
-    let same : y ≡ x = cc in wanted_cons y references is (ap is_preload same ∙ e) ∙ ap (λ z. cond is (filling_of z ∷ wanted_of references) (wanted_of references)) same
+    let same : y ≡ x = cc in wanted_cons y references is (ap is_preload same ∙ e)
+    ∙ ap (λ z. cond is (filling_of z ∷ wanted_of references) (wanted_of references)) same
 wanted_from (y ∷ references) (suc i) x is here e = wanted_from references i x is here e
 
 -- one more is gathered, or passed by

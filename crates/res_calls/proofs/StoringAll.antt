@@ -2,13 +2,13 @@
 -- it is among them.
 use Rattle.std.proofs.Common.{◌≡◌, ℕ, ◌+◌, ◌≤◌, ◌==◌, Bool, true, false, cond, List, [], ◌∷◌, ◌++◌, map, Option, Some, None}
 use Rattle.std.proofs.Common.{refl, sym, ◌∙◌, ap, arith, count_by}
-use Rattle.std.proofs.lemmas.Bool.Decides.{Decides-eqb}
 use Rattle.std.proofs.lemmas.List.Sums.{sum_by-cons, sum_by-append}
 use Rattle.heap_calls.specs.Gone.{Gone}
 use Rattle.heap_calls.specs.ToldGone.{told_of}
 use Rattle.std.specs.Option.{option_map, option_or}
 use Rattle.res_map.specs.Split.{Split, split, replaced, behind}
 use Rattle.res_map.specs.Map.{Reference, is_handle, has_handle, stored_anew}
+use Rattle.fork_format.proofs.Bools.{flips}
 use Rattle.res_calls.specs.Changing.{is_to_write}
 use Rattle.res_calls.specs.Files.{OpenFile, Resources, Found, find, find_open, found_in, found_behind, with_reference}
 use Rattle.res_calls.specs.Owning.{references}
@@ -98,18 +98,9 @@ none-files (f ∷ chain) =
 abbrev anew : Gone → Reference → Reference
 anew g x = cond (is_to_write x) (stored_anew (Some g.1) x) x
 
-same-test : (h k : ℕ) → (h == k) ≡ (k == h)
-same-test h k = by_test (h == k) (k == h) refl refl
-  where
-    by_test : (t u : Bool) → (h == k) ≡ t → (k == h) ≡ u → t ≡ u
-    by_test true true e f = refl
-    by_test false false e f = refl
-    by_test true false e f = sym ((Decides-eqb k h).1 (sym ((Decides-eqb h k).0 e))) ∙ f
-    by_test false true e f = sym e ∙ (Decides-eqb h k).1 (sym ((Decides-eqb k h).0 f))
-
 one-of : (g : Gone) (o : Option ℕ) (x : Reference) → stored_of (g ∷ []) o x ≡ cond (is_handle g.0 o) (anew g x) x
 one-of g None x = refl
-one-of g (Some h) x = by_test (g.0 == h) (h == g.0) (same-test g.0 h)
+one-of g (Some h) x = by_test (g.0 == h) (h == g.0) (flips g.0 h)
   where
     by_test : (t u : Bool) → t ≡ u → stored_first (cond t (g.1 ∷ []) []) x ≡ cond u (anew g x) x
     by_test true true e = refl

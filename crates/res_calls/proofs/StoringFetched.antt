@@ -143,10 +143,10 @@ module _ (gone : List Gone) (s : Managers) (untold : (k : ℕ) → length s.memo
         (find_from_current (is_resource kind id) s.resources) (λ at e. (find-finds _ _ s.resources.chain at e).0))
     served-stores (asks.Get1Resource kind id) is = noted-stores (rows.get1_resource kind id) (fetched-stores s.resources.loading
         (find_in_current (is_resource kind id) s.resources) (λ at e. (find-finds _ _ s.resources.chain at e).0))
-    served-stores (asks.GetNamedResource kind name) is = noted-stores (rows.get_named_resource kind name) (fetched-stores s.resources.loading
-        (find_from_current (is_named kind name) s.resources) (λ at e. (find-finds _ _ s.resources.chain at e).0))
-    served-stores (asks.Get1NamedResource kind name) is = noted-stores (rows.get1_named_resource kind name) (fetched-stores s.resources.loading
-        (find_in_current (is_named kind name) s.resources) (λ at e. (find-finds _ _ s.resources.chain at e).0))
+    served-stores (asks.GetNamedResource kind name) is = noted-stores (rows.get_named_resource kind name) (fetched-stores
+        s.resources.loading (find_from_current (is_named kind name) s.resources) (λ at e. (find-finds _ _ s.resources.chain at e).0))
+    served-stores (asks.Get1NamedResource kind name) is = noted-stores (rows.get1_named_resource kind name) (fetched-stores
+        s.resources.loading (find_in_current (is_named kind name) s.resources) (λ at e. (find-finds _ _ s.resources.chain at e).0))
     served-stores (asks.GetIndResource among kind index) is =
         noted-stores (rows.get_ind_resource among kind index) (fetched-stores s.resources.loading
         (nth_among among kind index s.resources)

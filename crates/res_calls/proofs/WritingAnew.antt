@@ -62,17 +62,6 @@ fresh_next heap references i x front front' o all here seen pushed e =
     ∙ ap (λ b. view_all front ++ b ∷ rest) seen
     ∙ ap (λ l. view_all front ++ l) (sym (map_from (fresh heap) references i x here)) ∙ e
 
-pub fresh_last : (heap : State) (references : List Reference) (n : ℕ) (front : List (Option (Vec ℕ Global)))
-    (all : List (Option (List ℕ))) → n ≡ length references
-    → view_all front ++ map (fresh heap) (drop n references) ≡ all → view_all front ≡ all
-fresh_last heap references n front all whole e =
-    sym (append-nil (view_all front))
-    ∙ ap (λ l. view_all front ++ map (fresh heap) l) (sym (ap (λ k. drop k references) whole ∙ all_dropped references)) ∙ e
-  where
-    all_dropped : (xs : List Reference) → drop (length xs) xs ≡ []
-    all_dropped [] = refl
-    all_dropped (x ∷ xs) = all_dropped xs
-
 -- a fork that is written
 true_so : (b : Bool) → IsTrue b → b ≡ true
 true_so true h = refl

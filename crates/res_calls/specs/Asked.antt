@@ -17,13 +17,15 @@ pub data ResourceAsked : Type 0 where
   UpdateResFile : (number : ℕ) → ResourceAsked
   UseResFile : (number : ℕ) → ResourceAsked
   CurResFile : ResourceAsked
+  GetResFileAttrs : (number : ℕ) → ResourceAsked
+  SetResFileAttrs : (number : ℕ) (attrs : ℕ) → ResourceAsked
   HomeResFile : (handle : Option ℕ) → ResourceAsked
   GetResource : (kind : ℕ) (id : ℤ) → ResourceAsked
   Get1Resource : (kind : ℕ) (id : ℤ) → ResourceAsked
   GetNamedResource : (kind : ℕ) (name : List ℕ) → ResourceAsked
   Get1NamedResource : (kind : ℕ) (name : List ℕ) → ResourceAsked
-  Count1Types : ResourceAsked
-  Get1IndType : (index : ℕ) → ResourceAsked
+  CountTypes : (among : Among) → ResourceAsked
+  GetIndType : (among : Among) (index : ℕ) → ResourceAsked
   CountResources : (among : Among) (kind : ℕ) → ResourceAsked
   GetIndResource : (among : Among) (kind : ℕ) (index : ℕ) → ResourceAsked
   UniqueID : (among : Among) (kind : ℕ) → ResourceAsked
@@ -73,13 +75,15 @@ served (CloseResFile number) s = telling (λ _. Done) (noting (rows.close_res_fi
 served (UpdateResFile number) s = telling (λ _. Done) (noting (rows.update_res_file number) s)
 served (UseResFile number) s = telling (λ _. Done) (noting (rows.use_res_file number) s)
 served CurResFile s = telling Number (noting rows.cur_res_file s)
+served (GetResFileAttrs number) s = telling Number (noting (rows.get_res_file_attrs number) s)
+served (SetResFileAttrs number attrs) s = telling (λ _. Done) (noting (changing.set_res_file_attrs number attrs) s)
 served (HomeResFile handle) s = telling Number (noting (rows.home_res_file handle) s)
 served (GetResource kind id) s = telling tell_fetched (noting (rows.get_resource kind id) s)
 served (Get1Resource kind id) s = telling tell_fetched (noting (rows.get1_resource kind id) s)
 served (GetNamedResource kind name) s = telling tell_fetched (noting (rows.get_named_resource kind name) s)
 served (Get1NamedResource kind name) s = telling tell_fetched (noting (rows.get1_named_resource kind name) s)
-served Count1Types s = telling Number (noting rows.count1_types s)
-served (Get1IndType index) s = telling Kind (noting (rows.get1_ind_type index) s)
+served (CountTypes among) s = telling Number (noting (rows.count_types among) s)
+served (GetIndType among index) s = telling Kind (noting (rows.get_ind_type among index) s)
 served (CountResources among kind) s = telling Number (noting (rows.count_resources among kind) s)
 served (GetIndResource among kind index) s = telling tell_fetched (noting (rows.get_ind_resource among kind index) s)
 served (UniqueID among kind) s = telling Number (noting (rows.unique_id among kind) s)

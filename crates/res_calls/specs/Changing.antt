@@ -1,18 +1,19 @@
 use Rattle.std.specs.Prelude.{ℕ, ℤ, Bool, true, false, not, ◌&&◌, ◌||◌, ◌==◌, nat_le, Option, Some, None, Result, Ok, Err, List, []}
 use Rattle.std.specs.Prelude.{◌∷◌, ◌++◌, length, replicate, if◌then◌else◌}
-use Rattle.mac_words.specs.Attributes.{changed, set}
+use Rattle.mac_words.specs.Attributes.{changed, has_bit, set}
 use Rattle.mac_words.specs.declared.code.OsErr.{OsErr}
 use Rattle.mac_words.specs.declared.code.TheConstants.OsErr.{RES_NOT_FOUND, ADD_RES_FAILED, REMOVE_RES_FAILED, RES_ATTR}
 use Rattle.mac_words.specs.declared.code.TheConstants.OsErr.{WRITE_PERMISSION, DUPLICATE_FILE, DISK_FULL}
 use Rattle.fork_format.specs.Content.{Content}
 use Rattle.fork_format.specs.Canonical.{canon}
+use Rattle.fork_format.specs.Fork.{map_kept}
 use Rattle.heap_calls.specs.State.{Role}
 use Rattle.heap_calls.specs.Answer.{Known, handle_at}
 use Rattle.heap_calls.specs.Purging.{is_resource}
 use Rattle.heap_calls.specs.Inside.{inside, cast, owned_as, has_block}
 use Rattle.res_map.specs.Split.{Split, replaced, removed, place}
 use Rattle.res_map.specs.Map.{Reference, new_reference, added, is_changed, is_protected, with_attrs, renamed, stored_anew}
-use Rattle.res_calls.specs.Files.{File, OpenFile, Resources, Found, with_reference, file_named}
+use Rattle.res_calls.specs.Files.{File, OpenFile, Resources, Found, with_reference, file_named, file_of}
 use Rattle.res_calls.specs.Fetch.{Managers, Answer, done, refused, is_system}
 use Rattle.res_calls.specs.Update.{bytes_held, written}
 use Rattle.res_calls.specs.Rows.{on_resource, on_file, resource_of, with_resources}
@@ -55,13 +56,28 @@ abbrev pub create_res_file : List ℕ → Managers → Answer (Unit {0})
 create_res_file name s = create_named name (file_named name s.resources) s
 
 -- The open files, and the resources, where the given open file is touched and has the given references.
--- See decision 53 (five calls touch a file).
+-- See decision 53 (six calls touch a file).
 abbrev pub touched_files : Split OpenFile → List Reference → List OpenFile
 touched_files at references =
     replaced (record at.here { map = record at.here.map { references = references }; touched = true }) at
 
 abbrev pub touched : Split OpenFile → List Reference → Resources → Resources
 touched at references r = record r { chain = touched_files at references }
+
+-- SetResFileAttrs: sets the attributes of the resource map of an open file; -61 (wrPermErr) for the System file. A number
+-- under which no file is open is no error, and nothing is done. Of the bits, mapReadOnly (128) and those without a name
+-- are recorded in the map; mapChanged (32) sets whether the file is touched; mapCompact (64) is not recorded.
+-- See decisions 239 (mapChanged says that a file is touched) and 240 (`SetResFileAttrs` of a number that no file has).
+abbrev pub with_map_attrs : ℕ → OpenFile → OpenFile
+with_map_attrs attrs f = record f { map = record f.map { attrs = map_kept attrs }; touched = has_bit 32 attrs }
+
+abbrev pub set_file : ℕ → ℕ → Option (Split OpenFile) → Managers → Answer (Unit {0})
+set_file n attrs None s = done tt s
+set_file n attrs (Some at) s = if n == 0 then refused WRITE_PERMISSION s
+    else done tt (with_resources (record s.resources { chain = replaced (with_map_attrs attrs at.here) at }) s)
+
+abbrev pub set_res_file_attrs : ℕ → ℕ → Managers → Answer (Unit {0})
+set_res_file_attrs n attrs s = set_file n attrs (file_of n s.resources) s
 
 -- The answer of a call whose argument must be a handle, of any role, empty or not; -192 (resNotFound) where the
 -- argument is not a handle.

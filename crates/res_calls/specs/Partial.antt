@@ -2,7 +2,7 @@ use Rattle.std.specs.Prelude.{ℕ, ◌+◌, Bool, Option, Some, None, is_some, L
 use Rattle.mac_words.specs.declared.code.OsErr.{OsErr}
 use Rattle.mac_words.specs.declared.code.TheConstants.OsErr.{IN_MEMORY, OFFSET, RES_ATTR, TOO_LONG, WRITE_PERMISSION}
 use Rattle.res_map.specs.Map.{resized_datum}
-use Rattle.windows.specs.Writes.{piece, written}
+use Rattle.memory_windows.specs.Writes.{piece, written}
 use Rattle.heap_calls.specs.State.{State}
 use Rattle.res_map.specs.Split.{replaced}
 use Rattle.res_map.specs.Map.{is_protected, with_datum}

@@ -1,5 +1,6 @@
 use Rattle.std.specs.Prelude.{◌≡◌, ℕ, zero, suc, Bool, true, Option, Some, None, Result, Ok, Err, List, [], ◌∷◌}
-use Rattle.std.specs.Prelude.{map, option_map, nat_le, ◌==◌, if◌then◌else◌, is_some, pos}
+use Rattle.std.specs.Prelude.{map, filter, not, option_map, nat_le, ◌==◌, if◌then◌else◌, is_some, pos}
+use Rattle.std.specs.List.{list_any}
 use Rattle.byteorder.specs.Endian.{big_number}
 use Rattle.mac_words.specs.declared.code.OsErr.{OsErr}
 use Rattle.mac_words.specs.declared.code.TheConstants.OsErr.{NO_ERR}
@@ -10,7 +11,7 @@ use Rattle.heap_calls.specs.Inside.{new_inside, new_empty_inside, resource_role}
 use Rattle.heap_calls.specs.declared.refusal.Refusal.{Refusal}
 use Rattle.heap_calls.specs.declared.refusal.Refusal.TheVariants.{Code, HostMemory}
 use Rattle.res_map.specs.Split.{Split, behind, place}
-use Rattle.res_map.specs.Map.{Reference, is_resource, is_named, has_handle, new_reference}
+use Rattle.res_map.specs.Map.{Reference, is_resource, is_named, has_handle, new_reference, types}
 use Rattle.res_calls.specs.Files.{OpenFile, Resources, Found, find, is_at}
 use Rattle.res_calls.specs.Fetch.{Managers, Answer, flags_of, is_system}
 use Rattle.res_calls.specs.Fetch as fetch
@@ -68,6 +69,17 @@ abbrev pub is_wanted : Wanted → Reference → Bool
 is_wanted (wanted.Id ty id) = is_resource (big_number 4 ty.0) id
 is_wanted (wanted.Named ty name) = is_named (big_number 4 ty.0) name.now
 is_wanted (wanted.Handle h) = has_handle h
+
+-- Holds of a type that one of the open files has.
+abbrev pub has_type : List OpenFile → ℕ → Bool
+has_type files kind = list_any (λ (f : OpenFile). list_any (λ (k : ℕ). k == kind) (types f.map.references)) files
+
+-- The types of references that none of the open files before them has.
+abbrev pub is_new : List OpenFile → ℕ → Bool
+is_new before kind = not (has_type before kind)
+
+abbrev pub new_types : List OpenFile → List Reference → List ℕ
+new_types before references = filter (is_new before) (types references)
 
 -- Holds of an ID that a resource of a type has in the files that a search passes through.
 abbrev pub is_taken_in : Within → ℕ → List OpenFile → ℕ → Bool

@@ -3,7 +3,7 @@ use Rattle.std.specs.Ordering.{int_eq}
 use Rattle.mac_words.specs.declared.code.OsErr.{OsErr}
 use Rattle.mac_words.specs.declared.code.TheConstants.OsErr.{IN_MEMORY}
 use Rattle.res_map.specs.Map.{resized_datum}
-use Rattle.windows.specs.Writes.{written}
+use Rattle.memory_windows.specs.Writes.{written}
 use Rattle.res_calls.specs.Asked.{ResourceAsked, WritePartialResource, SetResourceSize}
 use Rattle.res_calls.specs.Fetch.{Managers}
 use Rattle.res_calls.specs.Files.{Resources, Found}

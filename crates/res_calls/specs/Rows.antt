@@ -1,6 +1,6 @@
 use Rattle.std.specs.Prelude.{ℕ, zero, suc, ℤ, pos, ◌+◌, ◌-◌, is_some, Bool, true, false, ◌==◌, nat_lt, Option}
 use Rattle.std.specs.Prelude.{Some, None, Result, Ok, Err, List, [], ◌∷◌}
-use Rattle.std.specs.Prelude.{min, length, if◌then◌else◌, option_map, unwrap_or, filter_map}
+use Rattle.std.specs.Prelude.{min, length, bit_or, if◌then◌else◌, option_map, unwrap_or, filter_map}
 use Rattle.mac_words.specs.declared.code.OsErr.{OsErr}
 use Rattle.mac_words.specs.declared.code.TheConstants.OsErr.{FILE_NOT_FOUND, LOCKED, PROFILE}
 use Rattle.mac_words.specs.declared.code.TheConstants.OsErr.{DISK_FULL}
@@ -11,6 +11,7 @@ use Rattle.heap_calls.specs.Busy.{is_busy}
 use Rattle.heap_calls.specs.Inside.{inside, released, cast, owned_as}
 use Rattle.fork_format.specs.Content.{Content}
 use Rattle.fork_format.specs.Code.{content_or_code}
+use Rattle.fork_format.specs.Fork.{map_kept}
 use Rattle.res_map.specs.Split.{Split, removed, place}
 use Rattle.res_map.specs.Map.{Reference, Map, has_handle, is_changed, is_named, is_of, is_resource, map_of, nth, of_type}
 use Rattle.res_map.specs.Map.{split_nth, types}
@@ -19,6 +20,7 @@ use Rattle.res_calls.specs.Files.{File, OpenFile, Resources, Found, find_from_cu
 use Rattle.res_calls.specs.Files.{found_in, found_behind}
 use Rattle.res_calls.specs.Files.{file_of, file_named, open_at, current_references, opened, fresh_resources}
 use Rattle.res_calls.specs.Fetch.{Managers, Reads, Answer, done, refused, Fetched, fetch, Loaded, preload}
+use Rattle.res_calls.specs.Owning.{references as references_of}
 use Rattle.res_calls.specs.Update.{update}
 
 -- The calls of the Resource Manager that open files, read resources and close files. More Macintosh Toolbox, chapter 1,
@@ -180,6 +182,16 @@ use_res_file n s = on_file n s (λ at. done tt (with_resources (record s.resourc
 abbrev pub cur_res_file : Managers → Answer ℕ
 cur_res_file s = done s.resources.current s
 
+-- The attributes of an open file's resource map, as they are told: mapReadOnly (128) as the map records it, and
+-- mapChanged (32) where the file is touched. More Macintosh Toolbox, chapter 1, "Resource Fork Attributes".
+-- See decision 239 (mapChanged says that a file is touched; mapReadOnly is recorded; mapCompact is never set).
+abbrev pub attrs_told : OpenFile → ℕ
+attrs_told f = bit_or (map_kept f.map.attrs) (if f.touched then 32 else 0)
+
+-- GetResFileAttrs: returns the attributes of the resource map of an open file.
+abbrev pub get_res_file_attrs : ℕ → Managers → Answer ℕ
+get_res_file_attrs n s = on_file n s (λ at. done (attrs_told at.here) s)
+
 -- HomeResFile: returns the number of the file that holds a resource.
 abbrev pub home_res_file : Option ℕ → Managers → Answer ℕ
 home_res_file handle s = on_resource handle s (λ at. done at.file.here.number s)
@@ -207,18 +219,6 @@ get_named_resource kind text s = fetched (find_from_current (is_named kind text)
 abbrev pub get1_named_resource : ℕ → List ℕ → Managers → Answer Fetched
 get1_named_resource kind text s = fetched (find_in_current (is_named kind text) s.resources) s
 
--- Count1Types and Get1IndType: return the number of types in the current file, and the n-th of the types, counted from
--- 1; -192 (resNotFound) where there is no n-th type.
-abbrev pub count1_types : Managers → Answer ℕ
-count1_types s = done (length (types (current_references s.resources))) s
-
-abbrev pub told_or : OsErr → Option ℕ → Managers → Answer ℕ
-told_or code None s = refused code s
-told_or code (Some n) s = done n s
-
-abbrev pub get1_ind_type : ℕ → Managers → Answer ℕ
-get1_ind_type n s = told_or RES_NOT_FOUND (nth n (types (current_references s.resources))) s
-
 -- The open files whose resources a call counts: the current file, or all open files together, the file opened last
 -- first. More Macintosh Toolbox, chapter 1, "Counting and Listing Resource Types" and "Getting a Unique Resource ID".
 -- See decision 235 (all open files are counted, whichever file is current).
@@ -226,15 +226,37 @@ pub data Among : Type 0 where
   Current : Among
   EachFile : Among
 
+-- The types of the references of the current file, and of all open files together: each type once.
+abbrev pub types_among : Among → Resources → List ℕ
+types_among Current r = types (current_references r)
+types_among EachFile r = types (references_of r.chain)
+
+-- A count of all open files, as it is told.
+-- See decision 236 (`CountResources` and `CountTypes` tell no greater number than 9223372036854775807).
+abbrev pub told_count : ℕ → ℕ
+told_count n = min n 9223372036854775807
+
+abbrev pub count_told : Among → ℕ → ℕ
+count_told Current n = n
+count_told EachFile n = told_count n
+
+-- CountTypes and Count1Types, GetIndType and Get1IndType: return the number of types, and the n-th of the types, counted
+-- from 1, in all open files and in the current file; -192 (resNotFound) where there is no n-th type.
+-- See decision 238 (a type of several open files counts once).
+abbrev pub count_types : Among → Managers → Answer ℕ
+count_types among s = done (count_told among (length (types_among among s.resources))) s
+
+abbrev pub told_or : OsErr → Option ℕ → Managers → Answer ℕ
+told_or code None s = refused code s
+told_or code (Some n) s = done n s
+
+abbrev pub get_ind_type : Among → ℕ → Managers → Answer ℕ
+get_ind_type among n s = told_or RES_NOT_FOUND (nth n (types_among among s.resources)) s
+
 -- The number of resources of a type in open files, one after the other.
 abbrev pub count_each : ℕ → List OpenFile → ℕ
 count_each kind [] = 0
 count_each kind (f ∷ older) = length (of_type kind f.map.references) + count_each kind older
-
--- A count of all open files, as it is told.
--- See decision 236 (`CountResources` tells no greater number than 9223372036854775807).
-abbrev pub told_count : ℕ → ℕ
-told_count n = min n 9223372036854775807
 
 abbrev pub counted_among : Among → ℕ → Resources → ℕ
 counted_among Current kind r = length (of_type kind (current_references r))

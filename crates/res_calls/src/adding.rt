@@ -38,13 +38,14 @@ pub(crate) struct NewReference<'a> {
     handle: usize,
 }
 
-/// Adds the reference `new` to an open file, and marks the file as touched. Where the host is out of memory, the file
-/// stays as it was.
+/// Adds the reference `new` to an open file, and marks the file as touched. Where the host is out
+/// of memory, the file stays as it was.
 fn add_in(file: &mut OpenFile, alloc: Global, new: NewReference<'_>) -> Result<(), AllocError>
     ensures map { OnOk result (file.new.map ≡ record file.old.map {
       references = added (view_new new.entry) file.old.map.references;
     }) }
-    ensures touched { OnOk result (file.new ≡ record file.old { map = file.new.map; touched = true }) }
+    ensures touched { OnOk result (file.new
+        ≡ record file.old { map = file.new.map; touched = true }) }
     ensures kept { OnErr result (file.new ≡ file.old) }
 {
     file.map.add(alloc, new.ty, new.id, new.name, new.handle)?;
@@ -52,9 +53,9 @@ fn add_in(file: &mut OpenFile, alloc: Global, new: NewReference<'_>) -> Result<(
     Ok(())
 }
 
-/// Adds the reference `new` to the open file whose number is `current`, and makes the handle of `new` a resource's
-/// handle. Returns -193 (resFNotFound) where no file of that number is open. Where the host is out of memory, the files
-/// and the heap stay as they were.
+/// Adds the reference `new` to the open file whose number is `current`, and makes the handle of
+/// `new` a resource's handle. Returns -193 (resFNotFound) where no file of that number is open.
+/// Where the host is out of memory, the files and the heap stay as they were.
 fn add_to<S: BlockStore>(
     files: &mut Vec<OpenFile>,
     alloc: Global,
@@ -63,10 +64,11 @@ fn add_to<S: BlockStore>(
     new: NewReference<'_>,
 ) -> Result<(), Refusal>
     ensures answer { (r : ResourcesValue) → IsAnswered (λ (u : Unit {0}). u)
-        (on_file current (managers (chained files.old.items r) heap.old.memory) (λ at. done tt (added_to at
-        (view_new new.entry) new.entry.handle (managers (chained files.old.items r) heap.old.memory))))
-        result (managers (chained files.new.items r) heap.new.memory) }
-    ensures kept { result ≡ Err Refusal.HostMemory → map view_open files.new.items ≡ map view_open files.old.items }
+        (on_file current (managers (chained files.old.items r) heap.old.memory) (λ at. done tt
+        (added_to at (view_new new.entry) new.entry.handle (managers (chained files.old.items r)
+        heap.old.memory)))) result (managers (chained files.new.items r) heap.new.memory) }
+    ensures kept { result ≡ Err Refusal.HostMemory
+        → map view_open files.new.items ≡ map view_open files.old.items }
     ensures heap { result ≡ Err Refusal.HostMemory → heap.new ≡ heap.old }
     ensures lies { heap.new.memory.window ≡ heap.old.memory.window }
 {
@@ -78,9 +80,9 @@ fn add_to<S: BlockStore>(
     Ok(())
 }
 
-/// Adds the reference `new` to the current file. Returns -194 (addResFailed) where the handle is empty or already a
-/// resource's, and -61 (wrPermErr) where the current file is the System file. Where the host is out of memory, the
-/// files and the heap stay as they were.
+/// Adds the reference `new` to the current file. Returns -194 (addResFailed) where the handle is
+/// empty or already a resource's, and -61 (wrPermErr) where the current file is the System file.
+/// Where the host is out of memory, the files and the heap stay as they were.
 fn add_with<S: BlockStore>(
     files: &mut Vec<OpenFile>,
     alloc: Global,
@@ -94,7 +96,8 @@ fn add_with<S: BlockStore>(
         → IsAnswered (λ (u : Unit {0}). u) (add_found role (view_new new.entry) new.entry.handle
         (managers (chained files.old.items r) heap.old.memory))
         result (managers (chained files.new.items r) heap.new.memory) }
-    ensures kept { result ≡ Err Refusal.HostMemory → map view_open files.new.items ≡ map view_open files.old.items }
+    ensures kept { result ≡ Err Refusal.HostMemory
+        → map view_open files.new.items ≡ map view_open files.old.items }
     ensures heap { result ≡ Err Refusal.HostMemory → heap.new ≡ heap.old }
     ensures lies { heap.new.memory.window ≡ heap.old.memory.window }
 {
@@ -107,9 +110,9 @@ fn add_with<S: BlockStore>(
     add_to(files, alloc, heap, current, new)
 }
 
-/// Removes the reference at `at` from its file, and makes the handle `number` the application's own. Returns -61
-/// (wrPermErr) where the file is the System file, and -196 (rmvResFailed) where the file is not the current file or the
-/// resource is protected.
+/// Removes the reference at `at` from its file, and makes the handle `number` the application's
+/// own. Returns -61 (wrPermErr) where the file is the System file, and -196 (rmvResFailed) where
+/// the file is not the current file or the resource is protected.
 fn remove_at<S: BlockStore>(
     files: &mut Vec<OpenFile>,
     heap: &mut Heap<S>,
@@ -118,7 +121,8 @@ fn remove_at<S: BlockStore>(
     current: u32,
 ) -> Result<(), Refusal>
     requires { is_some (found_at at (map view_open files.old.items)) ≡ true }
-    ensures answer { (r : ResourcesValue) (f : Found) → found_at at (map view_open files.old.items) ≡ Some f
+    ensures answer { (r : ResourcesValue) (f : Found)
+        → found_at at (map view_open files.old.items) ≡ Some f
         → r.current ≡ current
         → IsAnswered (λ (u : Unit {0}). u)
         (remove_found number (managers (chained files.old.items r) heap.old.memory) f)
@@ -139,10 +143,11 @@ fn remove_at<S: BlockStore>(
 }
 
 impl Resources {
-    /// `AddResource`: adds a reference to the current file for a handle that has a block, and makes the handle a
-    /// resource's. Returns -192 (resNotFound) where `handle` is not a handle, -194 (addResFailed) where the handle is
-    /// empty or already a resource's, and -61 (wrPermErr) where the current file is the System file. Where the host is
-    /// out of memory, the resources and the heap stay as they were.
+    /// `AddResource`: adds a reference to the current file for a handle that has a block, and makes
+    /// the handle a resource's. Returns -192 (resNotFound) where `handle` is not a handle, -194
+    /// (addResFailed) where the handle is empty or already a resource's, and -61 (wrPermErr) where
+    /// the current file is the System file. Where the host is out of memory, the resources and the
+    /// heap stay as they were.
     pub fn add_resource<S: BlockStore>(
         &mut self,
         alloc: Global,
@@ -152,8 +157,9 @@ impl Resources {
         id: i16,
         name: &Name,
     ) -> Result<(), Refusal>
-        ensures answer { IsAnswered (λ (u : Unit {0}). u) (noting (changing.add_resource handle (big_number 4 ty.0) id
-            name.now.0.items) (managers self.old heap.old.memory)) result (managers self.new heap.new.memory) }
+        ensures answer { IsAnswered (λ (u : Unit {0}). u)
+            (noting (changing.add_resource handle (big_number 4 ty.0) id name.now.0.items)
+            (managers self.old heap.old.memory)) result (managers self.new heap.new.memory) }
         ensures kept { result ≡ Err Refusal.HostMemory → self.new ≡ self.old }
         ensures heap { result ≡ Err Refusal.HostMemory → heap.new ≡ heap.old }
         ensures lies { heap.new.memory.window ≡ heap.old.memory.window }
@@ -172,8 +178,9 @@ impl Resources {
         id: i16,
         name: &Name,
     ) -> Result<(), Refusal>
-        ensures answer { IsAnswered (λ (u : Unit {0}). u) (changing.add_resource handle (big_number 4 ty.0) id
-            name.now.0.items (managers self.old heap.old.memory)) result (managers self.new heap.new.memory) }
+        ensures answer { IsAnswered (λ (u : Unit {0}). u) (changing.add_resource handle
+            (big_number 4 ty.0) id name.now.0.items (managers self.old heap.old.memory)) result
+            (managers self.new heap.new.memory) }
         ensures kept { result ≡ Err Refusal.HostMemory → self.new ≡ self.old }
         ensures heap { result ≡ Err Refusal.HostMemory → heap.new ≡ heap.old }
         ensures lies { heap.new.memory.window ≡ heap.old.memory.window }
@@ -194,10 +201,11 @@ impl Resources {
         add_with(&mut self.chain, alloc, heap, current, new)
     }
 
-    /// `RemoveResource`: removes the reference of a resource from the current file, and makes the handle the
-    /// application's own. Returns -192 (resNotFound) where `handle` is not a handle, -196 (rmvResFailed) where the
-    /// handle is not a resource's, -61 (wrPermErr) where the resource is the System file's, and -196 (rmvResFailed)
-    /// where the resource is in a file other than the current file or is protected.
+    /// `RemoveResource`: removes the reference of a resource from the current file, and makes the
+    /// handle the application's own. Returns -192 (resNotFound) where `handle` is not a handle,
+    /// -196 (rmvResFailed) where the handle is not a resource's, -61 (wrPermErr) where the resource
+    /// is the System file's, and -196 (rmvResFailed) where the resource is in a file other than the
+    /// current file or is protected.
     pub fn remove_resource<S: BlockStore>(
         &mut self,
         heap: &mut Heap<S>,

@@ -1,7 +1,7 @@
 //! Searches among the files of an application, and among the open files.
 
-ghost use Rattle.std.specs.Prelude.{◌≡◌, ◌<◌, ◌==◌, ◌+◌, map, length, drop, option_map, slice_get, bytes_eq, Some};
-ghost use Rattle.std.specs.Prelude.{IfSome};
+ghost use Rattle.std.specs.Prelude.{◌≡◌, ◌<◌, ◌==◌, ◌+◌, map, length, drop, option_map, slice_get};
+ghost use Rattle.std.specs.Prelude.{bytes_eq, Some, IfSome};
 ghost use Rattle.res_map.specs.Split.{split, place};
 ghost use Rattle.res_calls.specs.Files.{File as FileValue, OpenFile as OpenFileValue, is_at};
 ghost use Rattle.res_calls.specs.View.{view_file, view_open};
@@ -12,7 +12,8 @@ use mac_words::FileName;
 /// Returns the place, among the open files, of the file whose number is `number`.
 #[tactic(auto, using(res_map::proofs::Steps::found_here, res_map::proofs::Steps::found_on))]
 pub fn place_numbered(chain: &[OpenFile], number: u32) -> Option<usize>
-    ensures found { result ≡ option_map place (split (λ (f : OpenFileValue). f.number == number) (map view_open chain.now)) }
+    ensures found { result ≡ option_map place
+        (split (λ (f : OpenFileValue). f.number == number) (map view_open chain.now)) }
     ensures within { IfSome result (λ i. i < length chain.now) }
 {
     for i in 0..chain.len() {
@@ -33,10 +34,12 @@ pub fn is_open_at(file: &OpenFile, index: usize) -> bool
     }
 }
 
-/// Returns the place, among the open files, of the file that stands at `index` among the application's files.
+/// Returns the place, among the open files, of the file that stands at `index` among the
+/// application's files.
 #[tactic(auto, using(res_map::proofs::Steps::found_here, res_map::proofs::Steps::found_on))]
 pub fn place_of_file(chain: &[OpenFile], index: usize) -> Option<usize>
-    ensures found { result ≡ option_map place (split (λ (f : OpenFileValue). is_at index f.file) (map view_open chain.now)) }
+    ensures found { result ≡ option_map place
+        (split (λ (f : OpenFileValue). is_at index f.file) (map view_open chain.now)) }
     ensures within { IfSome result (λ i. i < length chain.now) }
 {
     for i in 0..chain.len() {
@@ -57,8 +60,8 @@ fn is_called(file: &File, name: &FileName) -> bool
 /// Returns the place of the file whose name is `name`.
 #[tactic(auto, using(res_map::proofs::Steps::found_here, res_map::proofs::Steps::found_on))]
 pub fn place_called(files: &[File], name: &FileName) -> Option<usize>
-    ensures found { result ≡ option_map place (split (λ (f : FileValue). bytes_eq f.name name.now.0.items)
-        (map view_file files.now)) }
+    ensures found { result ≡ option_map place
+        (split (λ (f : FileValue). bytes_eq f.name name.now.0.items) (map view_file files.now)) }
     ensures within { IfSome result (λ i. i < length files.now) }
 {
     for i in 0..files.len() {

@@ -1,6 +1,7 @@
 //! The call that closes an open file.
 
-ghost use Rattle.std.specs.Prelude.{◌≡◌, ◌==◌, if◌then◌else◌, ◌≢◌, ◌<◌, ◌+◌, map, length, drop, slice_get, remove, option_to_list, Some, Err, OnOk, true};
+ghost use Rattle.std.specs.Prelude.{◌≡◌, ◌==◌, if◌then◌else◌, ◌≢◌, ◌<◌, ◌+◌, map, length, drop};
+ghost use Rattle.std.specs.Prelude.{slice_get, remove, option_to_list, Some, Err, OnOk, true};
 ghost use Rattle.fork_format.specs.Canonical.{clear};
 ghost use Rattle.fork_format.specs.Fork.{Spells};
 ghost use Rattle.res_map.specs.Split.{Split};
@@ -41,7 +42,8 @@ fn release_held<S: BlockStore>(heap: &mut Heap<S>, handle: Option<usize>)
 /// Disposes of the handles of all references of a resource map, in order.
 #[tactic(auto, using(crate::proofs::LettingGo::released_next, crate::proofs::LettingGo::released_none, crate::proofs::LettingGo::released_lies))]
 pub(crate) fn release_all<S: BlockStore>(heap: &mut Heap<S>, map: &ResFile)
-    ensures released { heap.new.memory ≡ all_released (handles_of map.now.references) heap.old.memory }
+    ensures released { heap.new.memory
+        ≡ all_released (handles_of map.now.references) heap.old.memory }
     ensures lies { heap.new.memory.window ≡ heap.old.memory.window }
 {
     for i in 0..map.len() {
@@ -74,8 +76,8 @@ pub(crate) fn take_out(chain: &mut Vec<OpenFile>, at: usize) -> Removed
     Removed { file, older }
 }
 
-/// Returns the number of the current file after the file `closed` is closed: `older`, the number of the file opened
-/// before `closed`, where `closed` was current, and `current` otherwise.
+/// Returns the number of the current file after the file `closed` is closed: `older`, the number of
+/// the file opened before `closed`, where `closed` was current, and `current` otherwise.
 pub(crate) fn current_after(current: u32, closed: u32, older: u32) -> u32
     ensures { result ≡ (if current == closed then older else current) }
 {
@@ -83,10 +85,11 @@ pub(crate) fn current_after(current: u32, closed: u32, older: u32) -> u32
 }
 
 impl Resources {
-    /// `CloseResFile`: updates an open file, closes the file, and disposes of the handles of all its resources, the
-    /// locked ones too. Where the file was the current file, the file opened before it becomes current. Returns -193
-    /// (resFNotFound) where no file of that number is open, -30001 (profileErr) for the System file, and -34
-    /// (dskFulErr) where the content of the file does not fit the format of a resource fork; the file then stays open.
+    /// `CloseResFile`: updates an open file, closes the file, and disposes of the handles of all
+    /// its resources, the locked ones too. Where the file was the current file, the file opened
+    /// before it becomes current. Returns -193 (resFNotFound) where no file of that number is open,
+    /// -30001 (profileErr) for the System file, and -34 (dskFulErr) where the content of the file
+    /// does not fit the format of a resource fork; the file then stays open.
     ///
     /// *More Macintosh Toolbox*, chapter 1, "Closing Resource Forks".
     pub fn close_res_file<S: BlockStore>(
@@ -99,10 +102,11 @@ impl Resources {
             (managers self.old heap.old.memory)) result (managers self.new heap.new.memory) }
         ensures kept { result ≡ Err Refusal.HostMemory → self.new ≡ self.old }
         ensures heap { result ≡ Err Refusal.HostMemory → heap.new ≡ heap.old }
-        ensures read_again { OnOk result ((at : Split OpenFileValue) → number ≢ 0 → file_of number self.old ≡ Some at
+        ensures read_again { OnOk result ((at : Split OpenFileValue) → number ≢ 0
+            → file_of number self.old ≡ Some at
             → at.here.touched ≡ true
-            → Spells (fork_of heap.old.memory.heap at.here) (clear (content (updated_map heap.old.memory.heap
-            at.here.map)))) }
+            → Spells (fork_of heap.old.memory.heap at.here)
+            (clear (content (updated_map heap.old.memory.heap at.here.map)))) }
         ensures lies { heap.new.memory.window ≡ heap.old.memory.window }
     {
         let answer = self.close(alloc, heap, number);
@@ -120,10 +124,11 @@ impl Resources {
             (managers self.old heap.old.memory)) result (managers self.new heap.new.memory) }
         ensures kept { result ≡ Err Refusal.HostMemory → self.new ≡ self.old }
         ensures heap { result ≡ Err Refusal.HostMemory → heap.new ≡ heap.old }
-        ensures read_again { OnOk result ((at : Split OpenFileValue) → number ≢ 0 → file_of number self.old ≡ Some at
+        ensures read_again { OnOk result ((at : Split OpenFileValue) → number ≢ 0
+            → file_of number self.old ≡ Some at
             → at.here.touched ≡ true
-            → Spells (fork_of heap.old.memory.heap at.here) (clear (content (updated_map heap.old.memory.heap
-            at.here.map)))) }
+            → Spells (fork_of heap.old.memory.heap at.here)
+            (clear (content (updated_map heap.old.memory.heap at.here.map)))) }
         ensures lies { heap.new.memory.window ≡ heap.old.memory.window }
     {
         let Some(at) = place_numbered(&self.chain, number) else {

@@ -2,7 +2,8 @@
 //!
 //! *More Macintosh Toolbox*, chapter 1, "Creating and Opening Resource Files".
 
-ghost use Rattle.std.specs.Prelude.{◌≡◌, ◌<◌, ◌++◌, ◌∷◌, ◌==◌, [], IfOk, OnOk, OnErr, IsErr, List, ℕ, Err, Some, None, map, length};
+ghost use Rattle.std.specs.Prelude.{◌≡◌, ◌<◌, ◌++◌, ◌∷◌, ◌==◌, [], IfOk, OnOk, OnErr, IsErr, List};
+ghost use Rattle.std.specs.Prelude.{ℕ, Err, Some, None, map, length};
 ghost use Rattle.heap_calls.specs.State.{Memory};
 ghost use Rattle.res_map.specs.Split.{Split};
 ghost use Rattle.res_calls.specs.Changing as changing;
@@ -50,7 +51,8 @@ fn own_name(name: &FileName) -> Result<FileName, AllocError>
 
 /// Puts a file after the other files. Where the host is out of memory, the files stay as they were.
 fn push_file(files: &mut Vec<File>, file: File) -> Result<(), AllocError>
-    ensures done { OnOk result (map view_file files.new.items ≡ map view_file files.old.items ++ view_file file ∷ []) }
+    ensures done { OnOk result (map view_file files.new.items
+        ≡ map view_file files.old.items ++ view_file file ∷ []) }
     ensures kept { OnErr result (files.new.items ≡ files.old.items) }
 {
     match files.push(file) {
@@ -59,12 +61,12 @@ fn push_file(files: &mut Vec<File>, file: File) -> Result<(), AllocError>
     }
 }
 
-/// Makes a file whose name no other file has. Returns -34 (dskFulErr) where the application already has 256 files.
-/// Where the call fails, the files stay as they were.
+/// Makes a file whose name no other file has. Returns -34 (dskFulErr) where the application already
+/// has 256 files. Where the call fails, the files stay as they were.
 fn add_file(alloc: Global, files: &mut Vec<File>, name: &FileName) -> Result<(), Refusal>
     ensures answer { (r : ResourcesValue) (m : Memory) → IsAnswered (λ (u : Unit {0}). u)
-        (changing.create_named name.now.0.items None (managers (filed_in files.old.items r) m)) result
-        (managers (filed_in files.new.items r) m) }
+        (changing.create_named name.now.0.items None (managers (filed_in files.old.items r) m))
+        result (managers (filed_in files.new.items r) m) }
     ensures kept { IsErr result → files.new.items ≡ files.old.items }
 {
     if files.len() >= MOST_FILES {
@@ -86,8 +88,9 @@ fn is_bare(file: &File) -> bool
     file.fork.is_empty()
 }
 
-/// Gives the file at the place `at`, whose fork has no bytes, a fork that has no resources. Returns -48 (dupFNErr)
-/// where the fork has one byte or more. Where the call fails, the files stay as they were.
+/// Gives the file at the place `at`, whose fork has no bytes, a fork that has no resources. Returns
+/// -48 (dupFNErr) where the fork has one byte or more. Where the call fails, the files stay as they
+/// were.
 fn renew_file(alloc: Global, files: &mut Vec<File>, at: usize) -> Result<(), Refusal>
     requires { at < length files.old.items }
     ensures answer { (name : List ℕ) (f : Split FileValue) (r : ResourcesValue) (m : Memory)
@@ -104,8 +107,8 @@ fn renew_file(alloc: Global, files: &mut Vec<File>, at: usize) -> Result<(), Ref
     Ok(())
 }
 
-/// Creates the file whose name is `name`, with the codes of `CreateResFile`. Where the call fails, the files stay as
-/// they were.
+/// Creates the file whose name is `name`, with the codes of `CreateResFile`. Where the call fails,
+/// the files stay as they were.
 fn create_in(alloc: Global, files: &mut Vec<File>, name: &FileName) -> Result<(), Refusal>
     ensures answer { (r : ResourcesValue) (m : Memory) → IsAnswered (λ (u : Unit {0}). u)
         (changing.create_res_file name.now.0.items (managers (filed_in files.old.items r) m)) result
@@ -140,15 +143,16 @@ impl Resources {
         self.files
     }
 
-    /// `CreateResFile`: makes a file whose fork has no resources; a file of that name whose fork has no bytes is given
-    /// such a fork. Returns -48 (dupFNErr) where a file of that name has a fork of one byte or more, and -34
-    /// (dskFulErr) where the name is new and the application has 256 files. Where the host is out of memory, the
-    /// resources stay as they were.
+    /// `CreateResFile`: makes a file whose fork has no resources; a file of that name whose fork
+    /// has no bytes is given such a fork. Returns -48 (dupFNErr) where a file of that name has a
+    /// fork of one byte or more, and -34 (dskFulErr) where the name is new and the application has
+    /// 256 files. Where the host is out of memory, the resources stay as they were.
     ///
     /// *More Macintosh Toolbox*, chapter 1, "Creating and Opening Resource Files".
     pub fn create_res_file(&mut self, alloc: Global, name: &FileName) -> Result<(), Refusal>
         ensures answer { (m : Memory) → IsAnswered (λ (u : Unit {0}). u)
-            (noting (changing.create_res_file name.now.0.items) (managers self.old m)) result (managers self.new m) }
+            (noting (changing.create_res_file name.now.0.items) (managers self.old m)) result
+            (managers self.new m) }
         ensures kept { result ≡ Err Refusal.HostMemory → self.new ≡ self.old }
     {
         let answer = self.create(alloc, name);
@@ -157,8 +161,8 @@ impl Resources {
 
     /// Does the work of `CreateResFile` without setting the code that `ResError` returns.
     fn create(&mut self, alloc: Global, name: &FileName) -> Result<(), Refusal>
-        ensures answer { (m : Memory) → IsAnswered (λ (u : Unit {0}). u)
-            (changing.create_res_file name.now.0.items (managers self.old m)) result (managers self.new m) }
+        ensures answer { (m : Memory) → IsAnswered (λ (u : Unit {0}). u) (changing.create_res_file
+            name.now.0.items (managers self.old m)) result (managers self.new m) }
         ensures kept { result ≡ Err Refusal.HostMemory → self.new ≡ self.old }
     {
         create_in(alloc, &mut self.files, name)

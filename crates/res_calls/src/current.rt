@@ -1,5 +1,5 @@
-//! The calls that return and set the current file, that count and index the types and resources of the current file,
-//! that turn loading on and off, and that return the last result code.
+//! The calls that return and set the current file, that count and index the types and resources of
+//! the current file, that turn loading on and off, and that return the last result code.
 
 ghost use Rattle.std.specs.Prelude.{◌≡◌, ◌≢◌, ◌<◌, ◌^◌, ◌==◌, map, length, option_map, Err, Ok, ℕ};
 ghost use Rattle.byteorder.specs.Endian.{big_number};
@@ -18,11 +18,12 @@ use crate::files::{OpenFile, Resources};
 use heap_calls::Refusal;
 use mac_words::{OsErr, OsType};
 
-/// Returns the number of types in the open file whose number is `number`, or 0 where no such file is open.
+/// Returns the number of types in the open file whose number is `number`, or 0 where no such file
+/// is open.
 #[tactic(auto, using(crate::proofs::Lookups::references_seen))]
 fn count_types(chain: &[OpenFile], number: u32) -> usize
-    ensures count { result ≡ length (types (references_in (split (λ (f : OpenFileValue). f.number == number)
-        (map view_open chain.now)))) }
+    ensures count { result ≡ length (types (references_in
+        (split (λ (f : OpenFileValue). f.number == number) (map view_open chain.now)))) }
     ensures fits { result < 2 ^ 63 }
 {
     match place_numbered(chain, number) {
@@ -34,7 +35,8 @@ fn count_types(chain: &[OpenFile], number: u32) -> usize
 /// Returns the `n`-th type, counted from 1, of the open file whose number is `number`.
 #[tactic(auto, using(crate::proofs::Lookups::references_seen))]
 fn nth_type(chain: &[OpenFile], number: u32, n: u32) -> Option<OsType>
-    ensures { option_map (λ (t : OsTypeValue). big_number 4 t.0) result ≡ nth n (types (references_in
+    ensures { option_map (λ (t : OsTypeValue). big_number 4 t.0) result
+        ≡ nth n (types (references_in
         (split (λ (f : OpenFileValue). f.number == number) (map view_open chain.now)))) }
 {
     match place_numbered(chain, number) {
@@ -43,8 +45,8 @@ fn nth_type(chain: &[OpenFile], number: u32, n: u32) -> Option<OsType>
     }
 }
 
-/// Returns the number of resources of a type in the open file whose number is `number`, or 0 where no such file is
-/// open.
+/// Returns the number of resources of a type in the open file whose number is `number`, or 0 where
+/// no such file is open.
 #[tactic(auto, using(crate::proofs::Lookups::references_seen))]
 fn count_resources(chain: &[OpenFile], number: u32, ty: OsType) -> usize
     ensures fits { result < 2 ^ 63 }
@@ -58,11 +60,11 @@ fn count_resources(chain: &[OpenFile], number: u32, ty: OsType) -> usize
 }
 
 impl Resources {
-    /// `UseResFile`: makes the open file whose number is `number` the current file. Returns -193 (resFNotFound) where
-    /// no such file is open.
+    /// `UseResFile`: makes the open file whose number is `number` the current file. Returns -193
+    /// (resFNotFound) where no such file is open.
     pub fn use_res_file(&mut self, number: u32) -> Result<(), Refusal>
-        ensures answer { (m : Memory) → IsAnswered (λ (u : Unit {0}). u) (noting (rows.use_res_file number)
-            (managers self.old m)) result (managers self.new m) }
+        ensures answer { (m : Memory) → IsAnswered (λ (u : Unit {0}). u)
+            (noting (rows.use_res_file number) (managers self.old m)) result (managers self.new m) }
         ensures host { result ≢ Err Refusal.HostMemory }
     {
         let answer = self.use_file(number);
@@ -86,8 +88,8 @@ impl Resources {
 
     /// `CurResFile`: returns the number of the current file.
     pub fn cur_res_file(&mut self) -> u32
-        ensures { (m : Memory) → IsAnswered (λ (n : ℕ). n) (noting rows.cur_res_file (managers self.old m))
-            (Ok result) (managers self.new m) }
+        ensures { (m : Memory) → IsAnswered (λ (n : ℕ). n)
+            (noting rows.cur_res_file (managers self.old m)) (Ok result) (managers self.new m) }
     {
         self.error = OsErr::NO_ERR;
         self.current
@@ -95,7 +97,8 @@ impl Resources {
 
     /// `Count1Types`: returns the number of resource types in the current file.
     pub fn count1_types(&mut self) -> usize
-        ensures answer { (m : Memory) → IsAnswered (λ (n : ℕ). n) (noting rows.count1_types (managers self.old m))
+        ensures answer { (m : Memory) → IsAnswered (λ (n : ℕ). n)
+            (noting (rows.count_types rows.Current) (managers self.old m))
             (Ok result) (managers self.new m) }
         ensures fits { result < 2 ^ 63 }
     {
@@ -103,11 +106,11 @@ impl Resources {
         count_types(&self.chain, self.current)
     }
 
-    /// `Get1IndType`: returns the `n`-th resource type of the current file, counted from 1. Returns -192 (resNotFound)
-    /// where the current file has no `n`-th type.
+    /// `Get1IndType`: returns the `n`-th resource type of the current file, counted from 1. Returns
+    /// -192 (resNotFound) where the current file has no `n`-th type.
     pub fn get1_ind_type(&mut self, n: u32) -> Result<OsType, Refusal>
-        ensures answer { (m : Memory) → IsAnswered (λ (t : OsTypeValue). big_number 4 t.0)
-            (noting (rows.get1_ind_type n) (managers self.old m)) result (managers self.new m) }
+        ensures answer { (m : Memory) → IsAnswered (λ (t : OsTypeValue). big_number 4 t.0) (noting
+            (rows.get_ind_type rows.Current n) (managers self.old m)) result (managers self.new m) }
         ensures host { result ≢ Err Refusal.HostMemory }
     {
         let answer = self.ind_type(n);
@@ -117,7 +120,7 @@ impl Resources {
     /// Does the work of `Get1IndType` without setting the code that `ResError` returns.
     fn ind_type(&self, n: u32) -> Result<OsType, Refusal>
         ensures answer { (m : Memory) → IsAnswered (λ (t : OsTypeValue). big_number 4 t.0)
-            (rows.get1_ind_type n (managers self.now m)) result (managers self.now m) }
+            (rows.get_ind_type rows.Current n (managers self.now m)) result (managers self.now m) }
         ensures host { result ≢ Err Refusal.HostMemory }
     {
         match nth_type(&self.chain, self.current, n) {
@@ -128,16 +131,17 @@ impl Resources {
 
     /// `Count1Resources`: returns the number of resources of a type in the current file.
     pub fn count1_resources(&mut self, ty: OsType) -> usize
-        ensures answer { (m : Memory) → IsAnswered (λ (n : ℕ). n) (noting (rows.count_resources rows.Current
-            (big_number 4 ty.0)) (managers self.old m)) (Ok result) (managers self.new m) }
+        ensures answer { (m : Memory) → IsAnswered (λ (n : ℕ). n)
+            (noting (rows.count_resources rows.Current (big_number 4 ty.0)) (managers self.old m))
+            (Ok result) (managers self.new m) }
         ensures fits { result < 2 ^ 63 }
     {
         self.error = OsErr::NO_ERR;
         count_resources(&self.chain, self.current, ty)
     }
 
-    /// `SetResPurge`: turns on or off the storing of what was changed: while it is on, the bytes of a block that is purged
-    /// are stored of the block's resource, as `WriteResource` stores them.
+    /// `SetResPurge`: turns on or off the storing of what was changed: while it is on, the bytes of
+    /// a block that is purged are stored of the block's resource, as `WriteResource` stores them.
     ///
     /// *More Macintosh Toolbox*, chapter 1, "SetResPurge".
     pub fn set_res_purge(&mut self, on: bool)
@@ -148,8 +152,8 @@ impl Resources {
         self.error = OsErr::NO_ERR;
     }
 
-    /// `SetResLoad`: turns on or off the reading of stored data by the calls that return a resource's handle and by
-    /// `OpenResFile`.
+    /// `SetResLoad`: turns on or off the reading of stored data by the calls that return a
+    /// resource's handle and by `OpenResFile`.
     pub fn set_res_load(&mut self, on: bool)
         ensures { (m : Memory) → IsAnswered (λ (u : Unit {0}). u) (noting (rows.set_res_load on)
             (managers self.old m)) (Ok tt) (managers self.new m) }
@@ -172,8 +176,8 @@ impl Resources {
         self.error = code;
     }
 
-    /// Sets the code that `ResError` returns to the code of `answer`, and returns `answer`. Where the host was out of
-    /// memory, the code that `ResError` returns stays as it was.
+    /// Sets the code that `ResError` returns to the code of `answer`, and returns `answer`. Where
+    /// the host was out of memory, the code that `ResError` returns stays as it was.
     pub(crate) fn note<T>(&mut self, answer: Result<T, Refusal>) -> Result<T, Refusal>
         ensures answer { result ≡ answer }
         ensures noted { self.new ≡ noted answer self.old }

@@ -16,7 +16,7 @@ pub struct Fetched {
 pub struct Unread {
     /// The reason why the resource was not fetched.
     pub refusal: Refusal,
-    /// The number of the empty handle into whose block the stored data would have been read again, if the resource had
-    /// an empty handle.
+    /// The number of the empty handle into whose block the stored data would have been read again,
+    /// if the resource had an empty handle.
     pub reading: Option<usize>,
 }

@@ -1,4 +1,5 @@
-//! Fetching a resource: its reference gets a handle, and its stored data is read into the handle's block.
+//! Fetching a resource: its reference gets a handle, and its stored data is read into the handle's
+//! block.
 //!
 //! *More Macintosh Toolbox*, chapter 1, "Reading Resources into Memory".
 
@@ -29,7 +30,8 @@ use heap_calls::{Heap, PurgeSink, Refusal};
 use mac_words::{Attrs, OsErr};
 use res_map::LentReference;
 
-/// Returns the flags of the block into which a resource is read: locked for resLocked, purgeable for resPurgeable.
+/// Returns the flags of the block into which a resource is read: locked for resLocked, purgeable
+/// for resPurgeable.
 pub(crate) fn flags_of(entry: &LentReference<'_>) -> Flags
     ensures { result ≡ fetch.flags_of (view_lent entry.now) }
 {
@@ -40,9 +42,9 @@ pub(crate) fn flags_of(entry: &LentReference<'_>) -> Flags
     }
 }
 
-/// Makes a new handle for a resource: a handle to a block that holds the stored data where `loading` is on, and an
-/// empty handle otherwise. `guarded` says that the resource is the System file's. The blocks that are purged for it are
-/// reported to the sink, if it listens.
+/// Makes a new handle for a resource: a handle to a block that holds the stored data where
+/// `loading` is on, and an empty handle otherwise. `guarded` says that the resource is the System
+/// file's. The blocks that are purged for it are reported to the sink, if it listens.
 fn make_handle<S: BlockStore, K: PurgeSink>(
     heap: &mut Heap<S>,
     entry: &LentReference<'_>,
@@ -51,11 +53,12 @@ fn make_handle<S: BlockStore, K: PurgeSink>(
     sink: &mut K,
 ) -> Result<usize, Refusal>
     requires idle { IsIdle K.told K.waits sink.old }
-    ensures answer { IsAnswer (made_for loading guarded (view_lent entry.now) heap.old.memory) result heap.new.memory }
-    ensures hears { Hears K.told K.waits K.listens (result ≢ Err Refusal.HostMemory) (handle_gone loading (view_lent
-        entry.now) heap.old.memory) sink.old sink.new }
-    ensures stops { result ≡ Err Refusal.HostMemory → Stops S.TAKES_HOST K.told K.listens KeepsNames ⊤ (Some (slot_step
-        nothing heap.old.memory.heap)) heap.old heap.new sink.old sink.new }
+    ensures answer { IsAnswer (made_for loading guarded (view_lent entry.now) heap.old.memory)
+        result heap.new.memory }
+    ensures hears { Hears K.told K.waits K.listens (result ≢ Err Refusal.HostMemory)
+        (handle_gone loading (view_lent entry.now) heap.old.memory) sink.old sink.new }
+    ensures stops { result ≡ Err Refusal.HostMemory → Stops S.TAKES_HOST K.told K.listens KeepsNames
+        ⊤ (Some (slot_step nothing heap.old.memory.heap)) heap.old heap.new sink.old sink.new }
     ensures lies { heap.new.memory.window ≡ heap.old.memory.window }
 {
     if loading {
@@ -65,8 +68,8 @@ fn make_handle<S: BlockStore, K: PurgeSink>(
     }
 }
 
-/// Fetches the reference at `at`, which has no handle. The blocks that are purged for it are reported to the sink, if
-/// it listens.
+/// Fetches the reference at `at`, which has no handle. The blocks that are purged for it are
+/// reported to the sink, if it listens.
 fn fetch_new<S: BlockStore, K: PurgeSink>(
     files: &mut Vec<OpenFile>,
     heap: &mut Heap<S>,
@@ -76,14 +79,17 @@ fn fetch_new<S: BlockStore, K: PurgeSink>(
 ) -> Result<Fetched, Unread>
     requires place { is_some (found_at at (map view_open files.old.items)) ≡ true }
     requires idle { IsIdle K.told K.waits sink.old }
-    ensures answer { (r : ResourcesValue) (f : Found) → found_at at (map view_open files.old.items) ≡ Some f
-        → IsFetched (fetch.fetch_new loading f (managers (chained files.old.items r) heap.old.memory)) result
-        (managers (chained files.new.items r) heap.new.memory) }
-    ensures told { (r : ResourcesValue) (f : Found) → found_at at (map view_open files.old.items) ≡ Some f
-        → ¬ (WantsHost result) → K.listens sink.old ≡ true → Tells K.told
-        (fetch_gone_as loading f None (managers (chained files.old.items r) heap.old.memory)) sink.old sink.new }
-    ensures stops { WantsHost result → StopsFetching S.TAKES_HOST K.told K.listens (map view_open files.new.items ≡ map
-        view_open files.old.items) heap.old heap.new sink.old sink.new }
+    ensures answer { (r : ResourcesValue) (f : Found)
+        → found_at at (map view_open files.old.items) ≡ Some f
+        → IsFetched (fetch.fetch_new loading f (managers (chained files.old.items r)
+        heap.old.memory)) result (managers (chained files.new.items r) heap.new.memory) }
+    ensures told { (r : ResourcesValue) (f : Found)
+        → found_at at (map view_open files.old.items) ≡ Some f
+        → ¬ (WantsHost result) → K.listens sink.old ≡ true → Tells K.told (fetch_gone_as loading f
+        None (managers (chained files.old.items r) heap.old.memory)) sink.old sink.new }
+    ensures stops { WantsHost result → StopsFetching S.TAKES_HOST K.told K.listens
+        (map view_open files.new.items ≡ map view_open files.old.items) heap.old heap.new
+        sink.old sink.new }
     ensures rests { Rests K.told K.waits K.listens sink.old sink.new }
     ensures lies { heap.new.memory.window ≡ heap.old.memory.window }
 {
@@ -104,8 +110,9 @@ fn fetch_new<S: BlockStore, K: PurgeSink>(
     }
 }
 
-/// Fetches a reference whose handle is `handle`: where `loading` is on and the handle is empty, reads the stored data
-/// into a new block of the handle. The blocks that are purged for it are reported to the sink, if it listens.
+/// Fetches a reference whose handle is `handle`: where `loading` is on and the handle is empty,
+/// reads the stored data into a new block of the handle. The blocks that are purged for it are
+/// reported to the sink, if it listens.
 fn fetch_again<S: BlockStore, K: PurgeSink>(
     heap: &mut Heap<S>,
     entry: &LentReference<'_>,
@@ -115,13 +122,13 @@ fn fetch_again<S: BlockStore, K: PurgeSink>(
 ) -> Result<Fetched, Unread>
     requires idle { IsIdle K.told K.waits sink.old }
     ensures answer { (r : ResourcesValue) (f : Found) → f.reference.here ≡ view_lent entry.now
-        → IsFetched (fetch.fetch_again loading f handle (managers r heap.old.memory)) result (managers r
-        heap.new.memory) }
+        → IsFetched (fetch.fetch_again loading f handle (managers r heap.old.memory)) result
+        (managers r heap.new.memory) }
     ensures told { (r : ResourcesValue) (f : Found) → f.reference.here ≡ view_lent entry.now
         → ¬ (WantsHost result) → K.listens sink.old ≡ true → Tells K.told
         (fetch_gone_as loading f (Some handle) (managers r heap.old.memory)) sink.old sink.new }
-    ensures stops { WantsHost result → Stops S.TAKES_HOST K.told K.listens KeepsNames ⊤ (Some (slot_step nothing
-        heap.old.memory.heap)) heap.old heap.new sink.old sink.new }
+    ensures stops { WantsHost result → Stops S.TAKES_HOST K.told K.listens KeepsNames ⊤
+        (Some (slot_step nothing heap.old.memory.heap)) heap.old heap.new sink.old sink.new }
     ensures rests { Rests K.told K.waits K.listens sink.old sink.new }
     ensures lies { heap.new.memory.window ≡ heap.old.memory.window }
 {
@@ -140,7 +147,8 @@ fn fetch_again<S: BlockStore, K: PurgeSink>(
     }
 }
 
-/// Fetches the reference at `at`. The blocks that are purged for it are reported to the sink, if it listens.
+/// Fetches the reference at `at`. The blocks that are purged for it are reported to the sink, if it
+/// listens.
 fn fetch_in<S: BlockStore, K: PurgeSink>(
     files: &mut Vec<OpenFile>,
     heap: &mut Heap<S>,
@@ -150,15 +158,18 @@ fn fetch_in<S: BlockStore, K: PurgeSink>(
 ) -> Result<Fetched, Unread>
     requires place { is_some (found_at at (map view_open files.old.items)) ≡ true }
     requires idle { IsIdle K.told K.waits sink.old }
-    ensures answer { (r : ResourcesValue) (f : Found) → found_at at (map view_open files.old.items) ≡ Some f
-        → IsFetched (fetch.fetch loading f (managers (chained files.old.items r) heap.old.memory)) result
-        (managers (chained files.new.items r) heap.new.memory) }
-    ensures told { (r : ResourcesValue) (f : Found) → found_at at (map view_open files.old.items) ≡ Some f
-        → ¬ (WantsHost result) → K.listens sink.old ≡ true → Tells K.told
-        (fetch_gone_as loading f f.reference.here.handle (managers (chained files.old.items r) heap.old.memory))
+    ensures answer { (r : ResourcesValue) (f : Found)
+        → found_at at (map view_open files.old.items) ≡ Some f
+        → IsFetched (fetch.fetch loading f (managers (chained files.old.items r) heap.old.memory))
+        result (managers (chained files.new.items r) heap.new.memory) }
+    ensures told { (r : ResourcesValue) (f : Found)
+        → found_at at (map view_open files.old.items) ≡ Some f
+        → ¬ (WantsHost result) → K.listens sink.old ≡ true
+        → Tells K.told (fetch_gone_as loading f f.reference.here.handle
+        (managers (chained files.old.items r) heap.old.memory)) sink.old sink.new }
+    ensures stops { WantsHost result → StopsFetching S.TAKES_HOST K.told K.listens
+        (map view_open files.new.items ≡ map view_open files.old.items) heap.old heap.new
         sink.old sink.new }
-    ensures stops { WantsHost result → StopsFetching S.TAKES_HOST K.told K.listens (map view_open files.new.items ≡ map
-        view_open files.old.items) heap.old heap.new sink.old sink.new }
     ensures rests { Rests K.told K.waits K.listens sink.old sink.new }
     ensures lies { heap.new.memory.window ≡ heap.old.memory.window }
 {
@@ -170,11 +181,12 @@ fn fetch_in<S: BlockStore, K: PurgeSink>(
 }
 
 impl Resources {
-    /// Fetches the reference at `found`. Returns -192 (resNotFound) where `found` is `None`, and -108 (memFullErr)
-    /// where the zone has no room. The blocks that are purged for it are reported to the sink, if it listens. Where the
-    /// host is out of memory, the resources stay as they were, and so do the heap and the sink over a store that uses
-    /// no host memory, except where the sink found the host out of memory after a new master pointer block was made,
-    /// which then stays.
+    /// Fetches the reference at `found`. Returns -192 (resNotFound) where `found` is `None`, and
+    /// -108 (memFullErr) where the zone has no room. The blocks that are purged for it are reported
+    /// to the sink, if it listens. Where the host is out of memory, the resources stay as they
+    /// were, and so do the heap and the sink over a store that uses no host memory, except where
+    /// the sink found the host out of memory after a new master pointer block was made, which then
+    /// stays.
     pub(crate) fn fetch_found<S: BlockStore, K: PurgeSink>(
         &mut self,
         heap: &mut Heap<S>,
@@ -184,12 +196,13 @@ impl Resources {
     ) -> Result<Fetched, Unread>
         requires placed { is_some (found_from found self.old.chain) ≡ is_some found }
         requires idle { IsIdle K.told K.waits sink.old }
-        ensures answer { IsFetched (fetched_as loading (found_from found self.old.chain) (managers self.old
-            heap.old.memory)) result (managers self.new heap.new.memory) }
-        ensures hears { Hears K.told K.waits K.listens (¬ (WantsHost result)) (fetch_gone loading (found_from found
-            self.old.chain) (managers self.old heap.old.memory)) sink.old sink.new }
-        ensures stops { WantsHost result → StopsFetching S.TAKES_HOST K.told K.listens (self.new ≡ self.old) heap.old
-            heap.new sink.old sink.new }
+        ensures answer { IsFetched (fetched_as loading (found_from found self.old.chain)
+            (managers self.old heap.old.memory)) result (managers self.new heap.new.memory) }
+        ensures hears { Hears K.told K.waits K.listens (¬ (WantsHost result))
+            (fetch_gone loading (found_from found self.old.chain)
+            (managers self.old heap.old.memory)) sink.old sink.new }
+        ensures stops { WantsHost result → StopsFetching S.TAKES_HOST K.told K.listens
+            (self.new ≡ self.old) heap.old heap.new sink.old sink.new }
         ensures lies { heap.new.memory.window ≡ heap.old.memory.window }
     {
         match found {
@@ -201,8 +214,8 @@ impl Resources {
         }
     }
 
-    /// Sets the code that `ResError` returns to the code of a fetch, and returns the answer of the fetch. Where the
-    /// host was out of memory, the code that `ResError` returns stays as it was.
+    /// Sets the code that `ResError` returns to the code of a fetch, and returns the answer of the
+    /// fetch. Where the host was out of memory, the code that `ResError` returns stays as it was.
     pub(crate) fn note_fetch(&mut self, answer: Result<Fetched, Unread>) -> Result<Fetched, Unread>
         ensures answer { result ≡ answer }
         ensures noted { self.new ≡ record self.old { error = last_fetched answer self.old.error } }

@@ -30,7 +30,8 @@ pub struct OpenFile {
     pub(crate) file: Option<usize>,
     /// The resource map of the file.
     pub map: ResFile,
-    /// Whether references of the file were added, removed or marked as changed since the fork was last written.
+    /// Whether references of the file were added, removed or marked as changed since the fork was
+    /// last written.
     pub(crate) touched: bool,
 }
 
@@ -43,8 +44,8 @@ impl OpenFile {
     }
 }
 
-/// The resources of one application: its files, the open ones among the files, and the application's own copy of the
-/// System file's resource map.
+/// The resources of one application: its files, the open ones among the files, and the
+/// application's own copy of the System file's resource map.
 ///
 /// *More Macintosh Toolbox*, chapter 1, "The Resource File Search Path".
 #[derive(Drop)]
@@ -71,7 +72,9 @@ impl Model for Resources {
 
     ghost Value = { ResourcesValue };
 
-    ghost view = { λ r. resources_of r.files.items r.chain.items r.current r.next r.loading r.purging r.error };
+    ghost view = { λ r.
+        resources_of r.files.items r.chain.items r.current r.next r.loading r.purging r.error };
 
-    ghost invariant = { λ r. Sound (resources_of r.files.items r.chain.items r.current r.next r.loading r.purging r.error) };
+    ghost invariant = { λ r. Sound
+        (resources_of r.files.items r.chain.items r.current r.next r.loading r.purging r.error) };
 }

@@ -2,12 +2,13 @@
 //!
 //! *More Macintosh Toolbox*, chapter 1, "The Resource File Search Path".
 
-ghost use Rattle.std.specs.Prelude.{◌≡◌, ◌<◌, ◌≤◌, map, length, option_map, is_some, true, Some, IfSome, if◌then◌else◌};
-ghost use Rattle.std.specs.Prelude.{None, OnOk, OnErr, slice_get, slice_set, remove};
+ghost use Rattle.std.specs.Prelude.{◌≡◌, ◌<◌, ◌≤◌, map, length, option_map, is_some, true, Some};
+ghost use Rattle.std.specs.Prelude.{IfSome, if◌then◌else◌, None, OnOk, OnErr, slice_get, slice_set};
+ghost use Rattle.std.specs.Prelude.{remove};
 ghost use Rattle.mac_words.specs.Attributes.{has_bit};
 ghost use Rattle.res_map.specs.Split.{split, place, replaced, removed};
 ghost use Rattle.res_map.specs.Map.{with_handle, with_attrs, with_datum, stored_anew, renamed};
-ghost use Rattle.windows.specs.Writes.{written};
+ghost use Rattle.memory_windows.specs.Writes.{written};
 ghost use Rattle.res_map.specs.Map.{resized_datum};
 ghost use Rattle.res_map.specs.View.{view_lent};
 ghost use Rattle.res_calls.specs.Files.{Found, find, with_reference};
@@ -35,7 +36,8 @@ pub(crate) struct Spot {
 /// The open files that a search passes through.
 #[derive(Clone, Copy)]
 pub(crate) enum Within {
-    /// The files with this number or a lower number: the file with this number, and the files opened before it.
+    /// The files with this number or a lower number: the file with this number, and the files
+    /// opened before it.
     UpTo(u32),
     /// The file with this number.
     Only(u32),
@@ -79,7 +81,8 @@ fn find_in_map(map: &ResFile, wanted: Wanted<'_>) -> Option<usize>
     }
 }
 
-/// Returns the index of the first reference of a file that is `wanted`, where the search passes through the file.
+/// Returns the index of the first reference of a file that is `wanted`, where the search passes
+/// through the file.
 fn find_in_file(file: &OpenFile, within: Within, wanted: Wanted<'_>) -> Option<usize>
     ensures { result ≡ option_map place (if is_searched within (view_open file.now)
         then split (is_wanted wanted.entry) file.now.map.references else None) }
@@ -91,8 +94,8 @@ fn find_in_file(file: &OpenFile, within: Within, wanted: Wanted<'_>) -> Option<u
     }
 }
 
-/// Returns the place of the first reference that is `wanted`, in the first file within `within` that has such a
-/// reference.
+/// Returns the place of the first reference that is `wanted`, in the first file within `within`
+/// that has such a reference.
 #[tactic(auto, using(crate::proofs::Finding::spot_start, crate::proofs::Finding::found_here, crate::proofs::Finding::found_on))]
 pub(crate) fn find_spot(files: &[OpenFile], within: Within, wanted: Wanted<'_>) -> Option<Spot>
     ensures { result ≡ option_map spot_of
@@ -120,7 +123,8 @@ pub(crate) fn entry_at<'a>(files: &'a [OpenFile], at: Spot) -> LentReference<'a>
 #[tactic(auto, using(crate::proofs::Standing::inside_files, crate::proofs::Standing::number_here))]
 pub(crate) fn number_at(files: &[OpenFile], at: Spot) -> u32
     requires { is_some (found_at at (map view_open files.now)) ≡ true }
-    ensures { option_map (λ (f : Found). f.file.here.number) (found_at at (map view_open files.now)) ≡ Some result }
+    ensures { option_map (λ (f : Found). f.file.here.number) (found_at at (map view_open files.now))
+        ≡ Some result }
 {
     files[at.file].number
 }
@@ -158,14 +162,15 @@ pub(crate) fn set_attrs(files: &mut Vec<OpenFile>, at: Spot, attrs: Attrs)
 #[tactic(auto, using(crate::proofs::Standing::inside_files, crate::proofs::Standing::inside_map))]
 pub(crate) fn store(files: &mut Vec<OpenFile>, at: Spot, datum: Vec<u8>)
     requires { is_some (found_at at (map view_open files.old.items)) ≡ true }
-    ensures { option_map (λ (f : Found). with_reference (stored_anew (Some datum.items) f.reference.here) f)
+    ensures { option_map
+        (λ (f : Found). with_reference (stored_anew (Some datum.items) f.reference.here) f)
         (found_at at (map view_open files.old.items)) ≡ Some (map view_open files.new.items) }
 {
     files[at.file].map.store(at.reference, datum);
 }
 
-/// Sets the ID of the reference at `at`, and the name too where `name` is not empty. Where the host is out of memory,
-/// the files stay as they were.
+/// Sets the ID of the reference at `at`, and the name too where `name` is not empty. Where the host
+/// is out of memory, the files stay as they were.
 #[tactic(auto, using(crate::proofs::Standing::inside_files, crate::proofs::Standing::inside_map))]
 pub(crate) fn rename(
     files: &mut Vec<OpenFile>,
@@ -175,8 +180,9 @@ pub(crate) fn rename(
     name: &Name,
 ) -> Result<(), AllocError>
     requires { is_some (found_at at (map view_open files.old.items)) ≡ true }
-    ensures renamed { OnOk result (option_map (λ (f : Found). with_reference
-        (renamed id name.now.0.items f.reference.here) f) (found_at at (map view_open files.old.items))
+    ensures renamed { OnOk result
+        (option_map (λ (f : Found). with_reference (renamed id name.now.0.items f.reference.here) f)
+        (found_at at (map view_open files.old.items))
         ≡ Some (map view_open files.new.items)) }
     ensures kept { OnErr result (map view_open files.new.items ≡ map view_open files.old.items) }
 {
@@ -187,9 +193,10 @@ pub(crate) fn rename(
 /// Sets the attributes of a reference of an open file, and marks the file as touched.
 fn mark_in(file: &mut OpenFile, index: usize, attrs: Attrs)
     requires { index < length file.old.map.references }
-    ensures map { IfSome (slice_get file.old.map.references index) (λ r. file.new.map ≡ record file.old.map {
-      references = slice_set file.old.map.references index (with_attrs attrs.0 r);
-    }) }
+    ensures map { IfSome (slice_get file.old.map.references index) (λ r. file.new.map
+        ≡ record file.old.map {
+          references = slice_set file.old.map.references index (with_attrs attrs.0 r);
+        }) }
     ensures touched { file.new ≡ record file.old { map = file.new.map; touched = true } }
 {
     file.map.set_attrs(index, attrs);
@@ -207,16 +214,19 @@ pub(crate) fn mark(files: &mut Vec<OpenFile>, at: Spot, attrs: Attrs)
     mark_in(&mut files[at.file], at.reference, attrs);
 }
 
-/// Writes bytes over the stored data of a reference of an open file from the offset `from` on, and marks the file as
-/// touched. Where the host is out of memory, the file stays as it was.
+/// Writes bytes over the stored data of a reference of an open file from the offset `from` on, and
+/// marks the file as touched. Where the host is out of memory, the file stays as it was.
 fn write_in(file: &mut OpenFile, index: usize, from: usize, bytes: &[u8]) -> Result<(), AllocError>
     requires inside { index < length file.old.map.references }
-    requires offset { IfSome (slice_get file.old.map.references index) (λ r. from ≤ length r.stored.datum) }
+    requires offset { IfSome (slice_get file.old.map.references index) (λ r. from
+        ≤ length r.stored.datum) }
     ensures map { OnOk result (IfSome (slice_get file.old.map.references index)
         (λ r. file.new.map ≡ record file.old.map {
-          references = slice_set file.old.map.references index (with_datum (written from bytes.now r.stored.datum) r);
+          references = slice_set file.old.map.references index
+              (with_datum (written from bytes.now r.stored.datum) r);
         })) }
-    ensures touched { OnOk result (file.new ≡ record file.old { map = file.new.map; touched = true }) }
+    ensures touched { OnOk result (file.new
+        ≡ record file.old { map = file.new.map; touched = true }) }
     ensures kept { OnErr result (file.new ≡ file.old) }
 {
     file.map.write_datum(index, from, bytes)?;
@@ -224,8 +234,8 @@ fn write_in(file: &mut OpenFile, index: usize, from: usize, bytes: &[u8]) -> Res
     Ok(())
 }
 
-/// Writes bytes over the stored data of the reference at `at` from the offset `from` on, and marks the reference's file
-/// as touched. Where the host is out of memory, the files stay as they were.
+/// Writes bytes over the stored data of the reference at `at` from the offset `from` on, and marks
+/// the reference's file as touched. Where the host is out of memory, the files stay as they were.
 #[tactic(auto, using(crate::proofs::Standing::inside_files, crate::proofs::Standing::inside_map))]
 pub(crate) fn write(
     files: &mut Vec<OpenFile>,
@@ -236,7 +246,8 @@ pub(crate) fn write(
     requires there { is_some (found_at at (map view_open files.old.items)) ≡ true }
     requires offset { IfSome (found_at at (map view_open files.old.items))
         (λ f. from ≤ length f.reference.here.stored.datum) }
-    ensures restored { OnOk result (option_map (λ (f : Found). restored_files (written from bytes.now) f)
+    ensures restored { OnOk result
+        (option_map (λ (f : Found). restored_files (written from bytes.now) f)
         (found_at at (map view_open files.old.items)) ≡ Some (map view_open files.new.items)) }
     ensures kept { OnErr result (map view_open files.new.items ≡ map view_open files.old.items) }
 {
@@ -244,15 +255,17 @@ pub(crate) fn write(
     Ok(())
 }
 
-/// Gives the stored data of a reference of an open file another size, and marks the file as touched. Where the host is
-/// out of memory, the file stays as it was.
+/// Gives the stored data of a reference of an open file another size, and marks the file as
+/// touched. Where the host is out of memory, the file stays as it was.
 fn resize_in(file: &mut OpenFile, index: usize, size: usize) -> Result<(), AllocError>
     requires { index < length file.old.map.references }
     ensures map { OnOk result (IfSome (slice_get file.old.map.references index)
         (λ r. file.new.map ≡ record file.old.map {
-          references = slice_set file.old.map.references index (with_datum (resized_datum size r.stored.datum) r);
+          references = slice_set file.old.map.references index
+              (with_datum (resized_datum size r.stored.datum) r);
         })) }
-    ensures touched { OnOk result (file.new ≡ record file.old { map = file.new.map; touched = true }) }
+    ensures touched { OnOk result (file.new
+        ≡ record file.old { map = file.new.map; touched = true }) }
     ensures kept { OnErr result (file.new ≡ file.old) }
 {
     file.map.resize_datum(index, size)?;
@@ -260,13 +273,13 @@ fn resize_in(file: &mut OpenFile, index: usize, size: usize) -> Result<(), Alloc
     Ok(())
 }
 
-/// Gives the stored data of the reference at `at` another size, and marks the reference's file as touched. Where the
-/// host is out of memory, the files stay as they were.
+/// Gives the stored data of the reference at `at` another size, and marks the reference's file as
+/// touched. Where the host is out of memory, the files stay as they were.
 #[tactic(auto, using(crate::proofs::Standing::inside_files, crate::proofs::Standing::inside_map))]
 pub(crate) fn resize(files: &mut Vec<OpenFile>, at: Spot, size: usize) -> Result<(), AllocError>
     requires { is_some (found_at at (map view_open files.old.items)) ≡ true }
-    ensures restored { OnOk result (option_map (λ (f : Found). restored_files (resized_datum size) f)
-        (found_at at (map view_open files.old.items)) ≡ Some (map view_open files.new.items)) }
+    ensures restored { OnOk result (option_map (λ (f : Found). restored_files (resized_datum size)
+        f) (found_at at (map view_open files.old.items)) ≡ Some (map view_open files.new.items)) }
     ensures kept { OnErr result (map view_open files.new.items ≡ map view_open files.old.items) }
 {
     resize_in(&mut files[at.file], at.reference, size)?;
@@ -276,7 +289,8 @@ pub(crate) fn resize(files: &mut Vec<OpenFile>, at: Spot, size: usize) -> Result
 /// Removes a reference from an open file, and marks the file as touched.
 fn remove_in(file: &mut OpenFile, index: usize)
     requires { index < length file.old.map.references }
-    ensures map { file.new.map ≡ record file.old.map { references = remove file.old.map.references index } }
+    ensures map { file.new.map
+        ≡ record file.old.map { references = remove file.old.map.references index } }
     ensures touched { file.new ≡ record file.old { map = file.new.map; touched = true } }
 {
     file.map.remove(index);
@@ -294,8 +308,8 @@ pub(crate) fn take_out(files: &mut Vec<OpenFile>, at: Spot)
 }
 
 impl Resources {
-    /// Returns the place of the first reference that is `wanted`, in the first file within `within` that has such a
-    /// reference.
+    /// Returns the place of the first reference that is `wanted`, in the first file within `within`
+    /// that has such a reference.
     pub(crate) fn find(&self, within: Within, wanted: Wanted<'_>) -> Option<Spot>
         ensures found { found_from result self.now.chain
             ≡ find (is_searched within) (is_wanted wanted.entry) self.now.chain }

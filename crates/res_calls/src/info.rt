@@ -1,4 +1,5 @@
-//! The calls that return what is recorded of a resource: its file, ID, type, name, attributes and size on disk.
+//! The calls that return what is recorded of a resource: its file, ID, type, name, attributes and
+//! size on disk.
 
 ghost use Rattle.std.specs.Prelude.{◌≡◌, ◌≢◌, ◌<◌, ◌^◌, Err, ℕ, IfOk, option_map};
 ghost use Rattle.mac_words.specs.declared.attributes.Attrs.{Attrs as AttrsValue};
@@ -70,7 +71,8 @@ impl Resources {
 
     /// Returns the number of the file that holds the resource whose handle is `handle`.
     fn home(&self, handle: Option<usize>) -> Option<u32>
-        ensures { result ≡ option_map (λ (f : Found). f.file.here.number) (rows.resource_of handle self.now) }
+        ensures { result
+            ≡ option_map (λ (f : Found). f.file.here.number) (rows.resource_of handle self.now) }
     {
         match self.find_handle(handle) {
             None => None,
@@ -78,8 +80,8 @@ impl Resources {
         }
     }
 
-    /// `HomeResFile`: returns the number of the open file that holds a resource. Returns -192 (resNotFound) where the
-    /// handle is not a resource's.
+    /// `HomeResFile`: returns the number of the open file that holds a resource. Returns -192
+    /// (resNotFound) where the handle is not a resource's.
     pub fn home_res_file(&mut self, handle: Option<usize>) -> Result<u32, Refusal>
         ensures answer { (m : Memory) → IsAnswered (λ (n : ℕ). n)
             (noting (rows.home_res_file handle) (managers self.old m))
@@ -92,8 +94,8 @@ impl Resources {
 
     /// Does the work of `HomeResFile` without setting the code that `ResError` returns.
     fn home_of(&self, handle: Option<usize>) -> Result<u32, Refusal>
-        ensures answer { (m : Memory) → IsAnswered (λ (n : ℕ). n) (rows.home_res_file handle (managers self.now m))
-            result (managers self.now m) }
+        ensures answer { (m : Memory) → IsAnswered (λ (n : ℕ). n)
+            (rows.home_res_file handle (managers self.now m)) result (managers self.now m) }
         ensures host { result ≢ Err Refusal.HostMemory }
     {
         match self.home(handle) {
@@ -102,11 +104,11 @@ impl Resources {
         }
     }
 
-    /// `GetResInfo`: returns the ID, the type and the name of a resource. Returns -192 (resNotFound) where the handle
-    /// is not a resource's.
+    /// `GetResInfo`: returns the ID, the type and the name of a resource. Returns -192
+    /// (resNotFound) where the handle is not a resource's.
     pub fn get_res_info(&mut self, handle: Option<usize>) -> Result<Info, Refusal>
-        ensures answer { (m : Memory) → IsAnswered seen_info (noting (rows.get_res_info handle) (managers self.old m))
-            result (managers self.new m) }
+        ensures answer { (m : Memory) → IsAnswered seen_info
+            (noting (rows.get_res_info handle) (managers self.old m)) result (managers self.new m) }
         ensures host { result ≢ Err Refusal.HostMemory }
     {
         let answer = self.info_at(handle);
@@ -115,8 +117,8 @@ impl Resources {
 
     /// Does the work of `GetResInfo` without setting the code that `ResError` returns.
     fn info_at(&self, handle: Option<usize>) -> Result<Info, Refusal>
-        ensures answer { (m : Memory) → IsAnswered seen_info (rows.get_res_info handle (managers self.now m))
-            result (managers self.now m) }
+        ensures answer { (m : Memory) → IsAnswered seen_info
+            (rows.get_res_info handle (managers self.now m)) result (managers self.now m) }
         ensures host { result ≢ Err Refusal.HostMemory }
     {
         match self.entry(handle) {
@@ -125,8 +127,8 @@ impl Resources {
         }
     }
 
-    /// `GetResAttrs`: returns the attributes of a resource. Returns -192 (resNotFound) where the handle is not a
-    /// resource's.
+    /// `GetResAttrs`: returns the attributes of a resource. Returns -192 (resNotFound) where the
+    /// handle is not a resource's.
     pub fn get_res_attrs(&mut self, handle: Option<usize>) -> Result<Attrs, Refusal>
         ensures answer { (m : Memory) → IsAnswered (λ (a : AttrsValue). a.0)
             (noting (rows.get_res_attrs handle) (managers self.old m))
@@ -150,8 +152,8 @@ impl Resources {
         }
     }
 
-    /// `GetResourceSizeOnDisk`: returns the number of bytes in the stored data of a resource. Returns -192
-    /// (resNotFound) where the handle is not a resource's.
+    /// `GetResourceSizeOnDisk`: returns the number of bytes in the stored data of a resource.
+    /// Returns -192 (resNotFound) where the handle is not a resource's.
     pub fn get_resource_size_on_disk(&mut self, handle: Option<usize>) -> Result<usize, Refusal>
         ensures answer { (m : Memory) → IsAnswered (λ (n : ℕ). n)
             (noting (rows.get_resource_size_on_disk handle) (managers self.old m))

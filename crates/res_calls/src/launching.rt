@@ -17,8 +17,8 @@ use mac_words::OsErr;
 use res_map::ResFile;
 use std::alloc::{AllocError, Global};
 
-/// Reads the resource map of a fork. Returns -39 (eofErr) where the fork has no bytes, and -199 (mapReadErr) where the
-/// bytes are not a resource fork.
+/// Reads the resource map of a fork. Returns -39 (eofErr) where the fork has no bytes, and -199
+/// (mapReadErr) where the bytes are not a resource fork.
 pub fn open_map(alloc: Global, bytes: &[u8]) -> Result<ResFile, Refusal>
     ensures { IsReply (map_in bytes.now) result }
 {
@@ -34,9 +34,11 @@ pub fn open_map(alloc: Global, bytes: &[u8]) -> Result<ResFile, Refusal>
 /// The number of the application's own file at the launch.
 const OWN_FILE: u32 = 2;
 
-/// Returns the open files of an application at its launch: the application's own file and then the System file.
+/// Returns the open files of an application at its launch: the application's own file and then the
+/// System file.
 fn launched_chain(alloc: Global, own: ResFile, system: ResFile) -> Result<Vec<OpenFile>, AllocError>
-    ensures { IfOk result (λ v. map view_open v.items ≡ opened 2 (Some 0) own ∷ opened 0 None system ∷ []) }
+    ensures { IfOk result (λ v. map view_open v.items
+        ≡ opened 2 (Some 0) own ∷ opened 0 None system ∷ []) }
 {
     let mut chain = Vec::with_capacity(alloc, 2)?;
     chain.push(OpenFile {
@@ -55,14 +57,17 @@ fn launched_chain(alloc: Global, own: ResFile, system: ResFile) -> Result<Vec<Op
 }
 
 impl Resources {
-    /// Returns the resources of an application at its launch, with the fork of the first of `files` open as number 2
-    /// and current, and the application's own copy of the System file's resource map open as number 0. Returns -39
-    /// (eofErr) where the fork has no bytes, and -199 (mapReadErr) where the bytes are not a resource fork.
+    /// Returns the resources of an application at its launch, with the fork of the first of `files`
+    /// open as number 2 and current, and the application's own copy of the System file's resource
+    /// map open as number 0. Returns -39 (eofErr) where the fork has no bytes, and -199
+    /// (mapReadErr) where the bytes are not a resource fork.
     pub fn new(alloc: Global, files: Vec<File>, system: &Content<'_>) -> Result<Resources, Refusal>
         requires own { 0 < length files.items }
-        requires types { IsTrue (are_distinct (map (λ (g : GroupValue). g.kind) (view system.now).groups)) }
+        requires types { IsTrue
+            (are_distinct (map (λ (g : GroupValue). g.kind) (view system.now).groups)) }
         requires references { IsTrue (list_all has_refs (view system.now).groups) }
-        ensures { IsReply (launched_resources (map view_file files.items) (view system.now)) result }
+        ensures { IsReply
+            (launched_resources (map view_file files.items) (view system.now)) result }
     {
         let own = match open_map(alloc, &files[OWN_PLACE].fork) {
             Ok(own) => own,

@@ -1,13 +1,15 @@
 //! The quit of an application: its open files are updated and closed.
 //!
-//! *More Macintosh Toolbox*, chapter 1, "Closing Resource Forks"; *Processes*, chapter 2, "Terminating a Process".
+//! *More Macintosh Toolbox*, chapter 1, "Closing Resource Forks"; *Processes*, chapter 2,
+//! "Terminating a Process".
 
 ghost use Rattle.std.specs.Prelude.{◌≡◌, ◌<◌, map, length, IfOk, OnOk, OnErr, true, List};
 ghost use Rattle.res_calls.specs.Files.{Resources as ResourcesValue};
 ghost use Rattle.res_calls.specs.Given.{managers};
 ghost use Rattle.res_calls.specs.Leaving as leaving;
 ghost use Rattle.res_calls.specs.Leaving.{has_own, StopsLeaving};
-ghost use Rattle.res_calls.specs.Places.{left_last, standing, IsLastUpdated, IsLastClosed, StopsAmid};
+ghost use Rattle.res_calls.specs.Places.{left_last, standing, IsLastUpdated, IsLastClosed};
+ghost use Rattle.res_calls.specs.Places.{StopsAmid};
 ghost use Rattle.res_calls.specs.Undoing.{undone};
 ghost use Rattle.res_calls.specs.Updating.{stored_in};
 ghost use Rattle.res_calls.specs.declared.files.File.{File as StoredFile};
@@ -39,9 +41,9 @@ fn first_code(first: OsErr, later: OsErr) -> OsErr
     if first.0 == 0 { later } else { first }
 }
 
-/// Updates the file opened last, and returns the code of the update; adds what is replaced to what earlier updates
-/// replaced. Where the content of the file does not fit the format of a resource fork, the file stays as it is and the
-/// code is -34 (dskFulErr).
+/// Updates the file opened last, and returns the code of the update; adds what is replaced to what
+/// earlier updates replaced. Where the content of the file does not fit the format of a resource
+/// fork, the file stays as it is and the code is -34 (dskFulErr).
 fn update_last<S: BlockStore>(
     alloc: Global,
     heap: &Heap<S>,
@@ -74,7 +76,8 @@ fn update_last<S: BlockStore>(
 /// Closes the file opened last as it is, and returns the number of the file that is then current.
 fn close_last<S: BlockStore>(heap: &mut Heap<S>, chain: &mut Vec<OpenFile>, current: u32) -> u32
     requires { 0 < length chain.old.items }
-    ensures closed { (files : List StoredFile) (r : ResourcesValue) → IsLastClosed (map view_open chain.old.items)
+    ensures closed { (files : List StoredFile) (r : ResourcesValue)
+        → IsLastClosed (map view_open chain.old.items)
         (managers (standing files chain.old.items current r) heap.old.memory)
         (managers (standing files chain.new.items result r) heap.new.memory) }
     ensures lies { heap.new.memory.window ≡ heap.old.memory.window }
@@ -85,22 +88,24 @@ fn close_last<S: BlockStore>(heap: &mut Heap<S>, chain: &mut Vec<OpenFile>, curr
 }
 
 impl Resources {
-    /// Updates and closes the open files of an application that quits, the file opened last first; the System file
-    /// stays open. Returns the first code that is not 0, or 0. A file whose content does not fit the format of a
-    /// resource fork (-34, dskFulErr) keeps its fork, and is closed all the same. Where the host is out of memory,
-    /// all files stay as they were. The open files that were opened last, as many as had been closed until then, are
-    /// closed, and the handles of their resources disposed of; the other open files are as they were, and the heap too.
+    /// Updates and closes the open files of an application that quits, the file opened last first;
+    /// the System file stays open. Returns the first code that is not 0, or 0. A file whose content
+    /// does not fit the format of a resource fork (-34, dskFulErr) keeps its fork, and is closed
+    /// all the same. Where the host is out of memory, all files stay as they were. The open files
+    /// that were opened last, as many as had been closed until then, are closed, and the handles of
+    /// their resources disposed of; the other open files are as they were, and the heap too.
     pub fn leave<S: BlockStore>(
         &mut self,
         alloc: Global,
         heap: &mut Heap<S>,
     ) -> Result<OsErr, AllocError>
-        ensures code { IfOk result (λ code. code ≡ (leaving.leave (managers self.old heap.old.memory)).code) }
+        ensures code { IfOk result (λ code. code
+            ≡ (leaving.leave (managers self.old heap.old.memory)).code) }
         ensures after { OnOk result (managers self.new heap.new.memory
             ≡ (leaving.leave (managers self.old heap.old.memory)).after) }
         ensures files { OnErr result (self.new.files ≡ self.old.files) }
-        ensures stopped { OnErr result (StopsLeaving (managers self.old heap.old.memory) (managers self.new
-            heap.new.memory)) }
+        ensures stopped { OnErr result
+            (StopsLeaving (managers self.old heap.old.memory) (managers self.new heap.new.memory)) }
         ensures lies { heap.new.memory.window ≡ heap.old.memory.window }
     {
         let mut undo = Vec::new(alloc);
@@ -113,19 +118,22 @@ impl Resources {
         }
     }
 
-    /// Does the work of `leave`, and adds what the updates replace to `undo`, in the order of the updates.
+    /// Does the work of `leave`, and adds what the updates replace to `undo`, in the order of the
+    /// updates.
     fn leave_each<S: BlockStore>(
         &mut self,
         alloc: Global,
         heap: &mut Heap<S>,
         undo: &mut Vec<Replaced>,
     ) -> Result<OsErr, AllocError>
-        ensures code { IfOk result (λ code. code ≡ (leaving.leave (managers self.old heap.old.memory)).code) }
+        ensures code { IfOk result (λ code. code
+            ≡ (leaving.leave (managers self.old heap.old.memory)).code) }
         ensures after { OnOk result (managers self.new heap.new.memory
             ≡ (leaving.leave (managers self.old heap.old.memory)).after) }
-        ensures undone { undone undo.new.items self.new.files ≡ undone undo.old.items self.old.files }
-        ensures stopped { OnErr result (StopsAmid (managers self.old heap.old.memory) (managers self.new
-            heap.new.memory)) }
+        ensures undone { undone undo.new.items self.new.files
+            ≡ undone undo.old.items self.old.files }
+        ensures stopped { OnErr result
+            (StopsAmid (managers self.old heap.old.memory) (managers self.new heap.new.memory)) }
         ensures lies { heap.new.memory.window ≡ heap.old.memory.window }
     {
         let mut code = OsErr::NO_ERR;
@@ -143,7 +151,8 @@ impl Resources {
         is_own_open(&self.chain)
     }
 
-    /// Updates and closes the file opened last, and returns the code of the update; adds what is replaced to `undo`.
+    /// Updates and closes the file opened last, and returns the code of the update; adds what is
+    /// replaced to `undo`.
     fn leave_last<S: BlockStore>(
         &mut self,
         alloc: Global,
@@ -151,10 +160,12 @@ impl Resources {
         undo: &mut Vec<Replaced>,
     ) -> Result<OsErr, AllocError>
         requires { has_own self.old.chain ≡ true }
-        ensures code { IfOk result (λ code. code ≡ (left_last (managers self.old heap.old.memory)).code) }
+        ensures code { IfOk result (λ code. code
+            ≡ (left_last (managers self.old heap.old.memory)).code) }
         ensures after { OnOk result (managers self.new heap.new.memory
             ≡ (left_last (managers self.old heap.old.memory)).after) }
-        ensures undone { undone undo.new.items self.new.files ≡ undone undo.old.items self.old.files }
+        ensures undone { undone undo.new.items self.new.files
+            ≡ undone undo.old.items self.old.files }
         ensures kept { OnErr result (self.new ≡ self.old) }
         ensures heap { OnErr result (heap.new ≡ heap.old) }
         ensures lies { heap.new.memory.window ≡ heap.old.memory.window }

@@ -9,6 +9,7 @@ mod creating;
 mod current;
 mod fetched;
 mod fetching;
+mod file_attrs;
 mod files;
 mod find;
 mod getting;
@@ -24,6 +25,7 @@ mod preloading;
 mod purging;
 mod releasing;
 mod renaming;
+mod type_listing;
 mod undoing;
 mod updating;
 

@@ -2,8 +2,8 @@
 //!
 //! *More Macintosh Toolbox*, chapter 1, "Resource Attributes".
 
-ghost use Rattle.std.specs.Prelude.{◌≡◌, ◌⊎◌, ◌<◌, IsTrue, IsErr, IfOk, OnOk, OnErr, Ok, true, false, map, drop};
-ghost use Rattle.std.specs.Prelude.{length};
+ghost use Rattle.std.specs.Prelude.{◌≡◌, ◌⊎◌, ◌<◌, IsTrue, IsErr, IfOk, OnOk, OnErr, Ok, true};
+ghost use Rattle.std.specs.Prelude.{false, map, drop, length};
 ghost use Rattle.heap_calls.specs.Gone.{TellsNothing, IsIdle, all_gone, Hears};
 ghost use Rattle.heap_calls.specs.Inside.{new_all};
 ghost use Rattle.heap_calls.specs.Inner.Filling.{wanted_as};
@@ -12,7 +12,8 @@ ghost use Rattle.res_map.specs.Map.{is_preload};
 ghost use Rattle.res_map.specs.View.{view_lent};
 ghost use Rattle.res_calls.specs.Fetch as fetch;
 ghost use Rattle.res_calls.specs.Gone.{preload_gone};
-ghost use Rattle.res_calls.specs.Preloading.{filling_of, wanted_of, next_number, given_to, StopsPreloading};
+ghost use Rattle.res_calls.specs.Preloading.{filling_of, wanted_of, next_number, given_to};
+ghost use Rattle.res_calls.specs.Preloading.{StopsPreloading};
 
 use crate::fetching::flags_of;
 use block_store::BlockStore;
@@ -53,8 +54,8 @@ fn gather<'a>(alloc: Global, file: &'a ResFile) -> Result<Vec<Filling<'a>>, Allo
     Ok(wanted)
 }
 
-/// Makes a new handle for each reference that has resPreload, in order, and returns the number of each handle; the
-/// number is `None` where the zone had no room.
+/// Makes a new handle for each reference that has resPreload, in order, and returns the number of
+/// each handle; the number is `None` where the zone had no room.
 fn make_all<S: BlockStore>(
     alloc: Global,
     heap: &mut Heap<S>,
@@ -71,10 +72,11 @@ fn make_all<S: BlockStore>(
     Ok(numbers)
 }
 
-/// Makes a new handle for each reference that has resPreload, in order, puts the number of each into `numbers`, and
-/// returns whether all were made; a number is `None` where the zone had no room. The blocks that are purged for it are
-/// reported to the sink, if it listens. Where the host is out of memory as the handles are made, `numbers` has the
-/// numbers of those that were made so far.
+/// Makes a new handle for each reference that has resPreload, in order, puts the number of each
+/// into `numbers`, and returns whether all were made; a number is `None` where the zone had no
+/// room. The blocks that are purged for it are reported to the sink, if it listens. Where the host
+/// is out of memory as the handles are made, `numbers` has the numbers of those that were made
+/// so far.
 fn make_told<S: BlockStore, K: PurgeSink>(
     alloc: Global,
     heap: &mut Heap<S>,
@@ -85,8 +87,8 @@ fn make_told<S: BlockStore, K: PurgeSink>(
     requires idle { IsIdle K.told K.waits sink.old }
     ensures all { result ≡ Ok true → new_all (wanted_of file.now.references) heap.old.memory
         ≡ (numbers.new.items, heap.new.memory) }
-    ensures hears { Hears K.told K.waits K.listens (result ≡ Ok true) (all_gone (wanted_of file.now.references)
-        heap.old.memory) sink.old sink.new }
+    ensures hears { Hears K.told K.waits K.listens (result ≡ Ok true)
+        (all_gone (wanted_of file.now.references) heap.old.memory) sink.old sink.new }
     ensures some { result ≡ Ok false → IsTrue S.TAKES_HOST
         ⊎ MadeSome K.told (wanted_of file.now.references) heap.old.memory
         numbers.new.items heap.new.memory sink.old sink.new }
@@ -124,8 +126,8 @@ fn give_all(file: &mut ResFile, numbers: &[Option<usize>])
     }
 }
 
-/// Preloads the resources of a file that have resPreload, in order. A resource for which the zone has no room gets no
-/// handle. Where the host is out of memory, the file stays as it was.
+/// Preloads the resources of a file that have resPreload, in order. A resource for which the zone
+/// has no room gets no handle. Where the host is out of memory, the file stays as it was.
 pub fn preload<S: BlockStore>(
     alloc: Global,
     heap: &mut Heap<S>,
@@ -134,7 +136,8 @@ pub fn preload<S: BlockStore>(
     ensures file { OnOk result (file.new ≡ record file.old {
       references = (fetch.preload file.old.references heap.old.memory).references;
     }) }
-    ensures heap { OnOk result (heap.new.memory ≡ (fetch.preload file.old.references heap.old.memory).memory) }
+    ensures heap { OnOk result (heap.new.memory
+        ≡ (fetch.preload file.old.references heap.old.memory).memory) }
     ensures kept { OnErr result (file.new ≡ file.old) }
     ensures host { IsErr result → IsTrue S.TAKES_HOST ⊎ (heap.new ≡ heap.old) }
     ensures lies { heap.new.memory.window ≡ heap.old.memory.window }
@@ -145,10 +148,10 @@ pub fn preload<S: BlockStore>(
     Ok(())
 }
 
-/// Preloads the resources of a file that have resPreload, in order, and returns whether all were preloaded. A resource
-/// for which the zone has no room gets no handle. The blocks that are purged for it are reported to the sink, if it
-/// listens. Where the host is out of memory as the handles are made, the resources that were preloaded so far have
-/// their handles, and the others have none.
+/// Preloads the resources of a file that have resPreload, in order, and returns whether all were
+/// preloaded. A resource for which the zone has no room gets no handle. The blocks that are purged
+/// for it are reported to the sink, if it listens. Where the host is out of memory as the handles
+/// are made, the resources that were preloaded so far have their handles, and the others have none.
 pub fn preload_told<S: BlockStore, K: PurgeSink>(
     alloc: Global,
     heap: &mut Heap<S>,
@@ -159,11 +162,13 @@ pub fn preload_told<S: BlockStore, K: PurgeSink>(
     ensures file { result ≡ Ok true → file.new ≡ record file.old {
       references = (fetch.preload file.old.references heap.old.memory).references;
     } }
-    ensures heap { result ≡ Ok true → heap.new.memory ≡ (fetch.preload file.old.references heap.old.memory).memory }
-    ensures hears { Hears K.told K.waits K.listens (result ≡ Ok true) (preload_gone file.old.references heap.old.memory)
-        sink.old sink.new }
+    ensures heap { result ≡ Ok true
+        → heap.new.memory ≡ (fetch.preload file.old.references heap.old.memory).memory }
+    ensures hears { Hears K.told K.waits K.listens (result ≡ Ok true)
+        (preload_gone file.old.references heap.old.memory) sink.old sink.new }
     ensures stopped { result ≡ Ok false
-        → StopsPreloading K.told S.TAKES_HOST file.old file.new heap.old.memory heap.new.memory sink.old sink.new }
+        → StopsPreloading K.told S.TAKES_HOST file.old file.new heap.old.memory heap.new.memory
+        sink.old sink.new }
     ensures kept { OnErr result (file.new ≡ file.old) }
     ensures unfilled { OnErr result (heap.new ≡ heap.old) }
     ensures untold { OnErr result (TellsNothing K.told sink.old sink.new) }

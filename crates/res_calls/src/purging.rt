@@ -2,10 +2,12 @@
 //!
 //! *More Macintosh Toolbox*, chapter 1, "SetResPurge".
 
-ghost use Rattle.std.specs.Prelude.{◌≡◌, ◌≤◌, true, ◌++◌, ◌∷◌, [], map, take, drop, length, is_some, Some};
+ghost use Rattle.std.specs.Prelude.{◌≡◌, ◌≤◌, true, ◌++◌, ◌∷◌, [], map, take, drop, length};
+ghost use Rattle.std.specs.Prelude.{is_some, Some};
 ghost use Rattle.res_calls.specs.Files.{Found, Resources as ResourcesValue};
 ghost use Rattle.res_calls.specs.Places.{found_at, chained};
-ghost use Rattle.res_calls.specs.Purging.{PurgesValue, heard, stored_found, stored_gone, view_purged};
+ghost use Rattle.res_calls.specs.Purging.{PurgesValue, heard, stored_found, stored_gone};
+ghost use Rattle.res_calls.specs.Purging.{view_purged};
 ghost use Rattle.res_calls.specs.View.{view_open};
 
 use crate::files::{OpenFile, Resources};
@@ -24,8 +26,8 @@ pub struct Purged {
     pub bytes: Vec<u8>,
 }
 
-/// The sink that a call of either manager is given: it keeps a copy of each block that is reported to it, until
-/// `Resources::store_purged` stores what is to be stored of it.
+/// The sink that a call of either manager is given: it keeps a copy of each block that is reported
+/// to it, until `Resources::store_purged` stores what is to be stored of it.
 #[derive(Drop)]
 pub struct Purges {
     alloc: Global,
@@ -108,12 +110,14 @@ impl PurgeSink for Purges {
     }
 }
 
-/// Stores the bytes of a purged block as the stored data of the reference at `at`. Does nothing where the resource was
-/// not changed, or is protected.
+/// Stores the bytes of a purged block as the stored data of the reference at `at`. Does nothing
+/// where the resource was not changed, or is protected.
 fn store_at(files: &mut Vec<OpenFile>, at: Spot, bytes: Vec<u8>)
     requires { is_some (found_at at (map view_open files.old.items)) ≡ true }
-    ensures { (r : ResourcesValue) (f : Found) → found_at at (map view_open files.old.items) ≡ Some f
-        → stored_found (Some f) bytes.items (chained files.old.items r) ≡ chained files.new.items r }
+    ensures { (r : ResourcesValue) (f : Found)
+        → found_at at (map view_open files.old.items) ≡ Some f
+        → stored_found (Some f) bytes.items (chained files.old.items r)
+        ≡ chained files.new.items r }
 {
     if !has_bit_at(files, at, Attrs::CHANGED) || has_bit_at(files, at, Attrs::PROTECTED) {
         return;
@@ -122,15 +126,16 @@ fn store_at(files: &mut Vec<OpenFile>, at: Spot, bytes: Vec<u8>)
 }
 
 impl Resources {
-    /// Reports whether what was changed is stored as its block is purged, as `SetResPurge` has set it.
+    /// Reports whether what was changed is stored as its block is purged, as `SetResPurge` has
+    /// set it.
     pub fn purging(&self) -> bool
         ensures { result ≡ self.now.purging }
     {
         self.purging
     }
 
-    /// Stores the bytes of a purged block as the stored data of the block's resource, where the resource was changed and
-    /// is not protected.
+    /// Stores the bytes of a purged block as the stored data of the block's resource, where the
+    /// resource was changed and is not protected.
     fn store_one(&mut self, purged: Purged)
         ensures { self.new ≡ stored_gone (view_purged purged ∷ []) self.old }
     {

@@ -15,8 +15,8 @@ use block_store::BlockStore;
 use heap_calls::{Heap, Refusal};
 use mac_words::{Attrs, OsErr};
 
-/// Disposes of the handle `number` of the reference at `at`. Returns -117 (memLockedErr) where the handle is busy; does
-/// nothing where the resource was changed.
+/// Disposes of the handle `number` of the reference at `at`. Returns -117 (memLockedErr) where the
+/// handle is busy; does nothing where the resource was changed.
 fn release_at<S: BlockStore>(
     files: &mut Vec<OpenFile>,
     heap: &mut Heap<S>,
@@ -24,7 +24,8 @@ fn release_at<S: BlockStore>(
     number: usize,
 ) -> Result<(), Refusal>
     requires { is_some (found_at at (map view_open files.old.items)) ≡ true }
-    ensures answer { (r : ResourcesValue) (f : Found) → found_at at (map view_open files.old.items) ≡ Some f
+    ensures answer { (r : ResourcesValue) (f : Found)
+        → found_at at (map view_open files.old.items) ≡ Some f
         → IsAnswered (λ (u : Unit {0}). u)
         (release_found (Some number) (managers (chained files.old.items r) heap.old.memory) f)
         result (managers (chained files.new.items r) heap.new.memory) }
@@ -42,8 +43,8 @@ fn release_at<S: BlockStore>(
     Ok(())
 }
 
-/// Makes the handle `number` of the reference at `at` the application's own, and removes the handle from the reference.
-/// Returns -198 (resAttrErr) where the resource was changed.
+/// Makes the handle `number` of the reference at `at` the application's own, and removes the handle
+/// from the reference. Returns -198 (resAttrErr) where the resource was changed.
 fn detach_at<S: BlockStore>(
     files: &mut Vec<OpenFile>,
     heap: &mut Heap<S>,
@@ -51,7 +52,8 @@ fn detach_at<S: BlockStore>(
     number: usize,
 ) -> Result<(), Refusal>
     requires { is_some (found_at at (map view_open files.old.items)) ≡ true }
-    ensures answer { (r : ResourcesValue) (f : Found) → found_at at (map view_open files.old.items) ≡ Some f
+    ensures answer { (r : ResourcesValue) (f : Found)
+        → found_at at (map view_open files.old.items) ≡ Some f
         → IsAnswered (λ (u : Unit {0}). u)
         (detach_found (Some number) (managers (chained files.old.items r) heap.old.memory) f)
         result (managers (chained files.new.items r) heap.new.memory) }
@@ -67,9 +69,9 @@ fn detach_at<S: BlockStore>(
 }
 
 impl Resources {
-    /// `ReleaseResource`: disposes of the handle of a resource, locked or not; the reference then has no handle. Does
-    /// nothing where the resource was changed. Returns -192 (resNotFound) where the handle is not a resource's, and
-    /// -117 (memLockedErr) where the handle is busy.
+    /// `ReleaseResource`: disposes of the handle of a resource, locked or not; the reference then
+    /// has no handle. Does nothing where the resource was changed. Returns -192 (resNotFound) where
+    /// the handle is not a resource's, and -117 (memLockedErr) where the handle is busy.
     pub fn release_resource<S: BlockStore>(
         &mut self,
         heap: &mut Heap<S>,
@@ -105,9 +107,9 @@ impl Resources {
         release_at(&mut self.chain, heap, at, number)
     }
 
-    /// `DetachResource`: makes the handle of a resource the application's own; the reference then has no handle.
-    /// Returns -192 (resNotFound) where the handle is not a resource's, and -198 (resAttrErr) where the resource was
-    /// changed.
+    /// `DetachResource`: makes the handle of a resource the application's own; the reference then
+    /// has no handle. Returns -192 (resNotFound) where the handle is not a resource's, and -198
+    /// (resAttrErr) where the resource was changed.
     pub fn detach_resource<S: BlockStore>(
         &mut self,
         heap: &mut Heap<S>,

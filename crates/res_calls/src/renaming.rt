@@ -18,8 +18,9 @@ use heap_calls::Refusal;
 use mac_words::{Attrs, Name, OsErr};
 use std::alloc::Global;
 
-/// Sets the ID of the reference at `at`, and the name too where `name` is not empty. Returns -61 (wrPermErr) where the
-/// file is the System file, and -198 (resAttrErr) where the resource is protected.
+/// Sets the ID of the reference at `at`, and the name too where `name` is not empty. Returns -61
+/// (wrPermErr) where the file is the System file, and -198 (resAttrErr) where the resource is
+/// protected.
 fn rename_at(
     files: &mut Vec<OpenFile>,
     alloc: Global,
@@ -32,7 +33,8 @@ fn rename_at(
         → found_at at (map view_open files.old.items) ≡ Some f → IsAnswered (λ (u : Unit {0}). u)
         (rename_found id name.now.0.items (managers (chained files.old.items r) m) f)
         result (managers (chained files.new.items r) m) }
-    ensures kept { result ≡ Err Refusal.HostMemory → map view_open files.new.items ≡ map view_open files.old.items }
+    ensures kept { result ≡ Err Refusal.HostMemory
+        → map view_open files.new.items ≡ map view_open files.old.items }
 {
     if number_at(files, at) == 0 {
         return Err(Refusal::Code(OsErr::WRITE_PERMISSION));
@@ -48,7 +50,8 @@ fn rename_at(
 fn set_attrs_at(files: &mut Vec<OpenFile>, at: Spot, attrs: Attrs) -> Result<(), Refusal>
     requires { is_some (found_at at (map view_open files.old.items)) ≡ true }
     ensures answer { (r : ResourcesValue) (m : Memory) (f : Found)
-        → found_at at (map view_open files.old.items) ≡ Some f → IsAnswered (λ (u : Unit {0}). u) (set_found attrs.0 (managers (chained files.old.items r) m) f)
+        → found_at at (map view_open files.old.items) ≡ Some f → IsAnswered (λ (u : Unit {0}). u)
+        (set_found attrs.0 (managers (chained files.old.items r) m) f)
         result (managers (chained files.new.items r) m) }
     ensures host { result ≢ Err Refusal.HostMemory }
 {
@@ -58,10 +61,10 @@ fn set_attrs_at(files: &mut Vec<OpenFile>, at: Spot, attrs: Attrs) -> Result<(),
 }
 
 impl Resources {
-    /// `SetResInfo`: sets the ID and the name of a resource; an empty name leaves the resource's name as it was.
-    /// Returns -192 (resNotFound) where the handle is not a resource's, -61 (wrPermErr) where the resource is the
-    /// System file's, and -198 (resAttrErr) where the resource is protected. Where the host is out of memory, the
-    /// resources stay as they were.
+    /// `SetResInfo`: sets the ID and the name of a resource; an empty name leaves the resource's
+    /// name as it was. Returns -192 (resNotFound) where the handle is not a resource's, -61
+    /// (wrPermErr) where the resource is the System file's, and -198 (resAttrErr) where the
+    /// resource is protected. Where the host is out of memory, the resources stay as they were.
     pub fn set_res_info(
         &mut self,
         alloc: Global,
@@ -69,8 +72,9 @@ impl Resources {
         id: i16,
         name: &Name,
     ) -> Result<(), Refusal>
-        ensures answer { (m : Memory) → IsAnswered (λ (u : Unit {0}). u) (noting (changing.set_res_info handle id
-            name.now.0.items) (managers self.old m)) result (managers self.new m) }
+        ensures answer { (m : Memory) → IsAnswered (λ (u : Unit {0}). u)
+            (noting (changing.set_res_info handle id name.now.0.items) (managers self.old m)) result
+            (managers self.new m) }
         ensures kept { result ≡ Err Refusal.HostMemory → self.new ≡ self.old }
     {
         let answer = self.set_info(alloc, handle, id, name);
@@ -85,8 +89,8 @@ impl Resources {
         id: i16,
         name: &Name,
     ) -> Result<(), Refusal>
-        ensures answer { (m : Memory) → IsAnswered (λ (u : Unit {0}). u) (changing.set_res_info handle id
-            name.now.0.items (managers self.old m)) result (managers self.new m) }
+        ensures answer { (m : Memory) → IsAnswered (λ (u : Unit {0}). u) (changing.set_res_info
+            handle id name.now.0.items (managers self.old m)) result (managers self.new m) }
         ensures kept { result ≡ Err Refusal.HostMemory → self.new ≡ self.old }
     {
         match self.find_handle(handle) {
@@ -95,11 +99,12 @@ impl Resources {
         }
     }
 
-    /// `SetResAttrs`: sets the attributes of a resource, of the System file too, except resChanged, which stays as it
-    /// was. Returns -192 (resNotFound) where the handle is not a resource's.
+    /// `SetResAttrs`: sets the attributes of a resource, of the System file too, except resChanged,
+    /// which stays as it was. Returns -192 (resNotFound) where the handle is not a resource's.
     pub fn set_res_attrs(&mut self, handle: Option<usize>, attrs: Attrs) -> Result<(), Refusal>
-        ensures answer { (m : Memory) → IsAnswered (λ (u : Unit {0}). u) (noting (changing.set_res_attrs handle attrs.0)
-            (managers self.old m)) result (managers self.new m) }
+        ensures answer { (m : Memory) → IsAnswered (λ (u : Unit {0}). u)
+            (noting (changing.set_res_attrs handle attrs.0) (managers self.old m)) result
+            (managers self.new m) }
         ensures host { result ≢ Err Refusal.HostMemory }
     {
         let answer = self.set_all_attrs(handle, attrs);
@@ -108,8 +113,8 @@ impl Resources {
 
     /// Does the work of `SetResAttrs` without setting the code that `ResError` returns.
     fn set_all_attrs(&mut self, handle: Option<usize>, attrs: Attrs) -> Result<(), Refusal>
-        ensures answer { (m : Memory) → IsAnswered (λ (u : Unit {0}). u)
-            (changing.set_res_attrs handle attrs.0 (managers self.old m)) result (managers self.new m) }
+        ensures answer { (m : Memory) → IsAnswered (λ (u : Unit {0}). u) (changing.set_res_attrs
+            handle attrs.0 (managers self.old m)) result (managers self.new m) }
         ensures host { result ≢ Err Refusal.HostMemory }
     {
         match self.find_handle(handle) {

@@ -29,7 +29,8 @@ pub(crate) fn keep(undo: &mut Vec<Replaced>, replaced: Option<Replaced>)
 
 /// Sets the fork of a file, and whether the fork was written.
 fn give_back(file: &mut File, fork: Vec<u8>, written: bool)
-    ensures { view_file file.new ≡ record (view_file file.old) { fork = fork.items; written = written } }
+    ensures { view_file file.new
+        ≡ record (view_file file.old) { fork = fork.items; written = written } }
 {
     file.fork = fork;
     file.written = written;

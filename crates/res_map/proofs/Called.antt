@@ -1,5 +1,5 @@
 use Rattle.std.proofs.Common.{◌≡◌, ◌∙◌, refl, sym, ap, ℕ, ℤ, zero, suc, ◌+◌, arith, Bool, true, false, ◌&&◌}
-use Rattle.std.proofs.Common.{List, [], ◌∷◌, map, drop, Option, Some, None}
+use Rattle.std.proofs.Common.{List, [], ◌∷◌, drop, Option, Some, None}
 use Rattle.std.specs.Prelude.{option_map, ◌==◌, ◌%◌}
 use Rattle.std.specs.Str.{str_to_ascii_lowercase}
 use Rattle.std.specs.Int.{cast_signed, w32}
@@ -91,11 +91,6 @@ pub called-from : (kind : ℕ) (text : List ℕ) (references : List Reference) (
     ≡ first_place (is_named kind text) references
 called-from kind text references n e =
     found-from (is_named kind text) (is_printed kind (print text)) (not-named kind text) references n e
-
-pub drop-map : {A B : Type 0} (f : A → B) (n : ℕ) (xs : List A) → map f (drop n xs) ≡ drop n (map f xs)
-drop-map f zero xs = refl
-drop-map f (suc n) [] = refl
-drop-map f (suc n) (x ∷ xs) = drop-map f n xs
 
 -- what the index tells of the print of a text
 pub told-print : (kind : ℕ) (text : List ℕ) (rows : List Row) (references : List Reference) (key seen : ℤ)

@@ -9,6 +9,7 @@ use Rattle.std.proofs.lemmas.List.{map-set, set-set}
 use Rattle.std.proofs.lemmas.List.Edits.{length-remove}
 use Rattle.std.proofs.lemmas.List.Sums.{sum_by-cons}
 use Rattle.std.proofs.lemmas.Option.{slice_get_within, slice_get-get_or, slice_get-map}
+use Rattle.std.proofs.lemmas.Bool.{and_parts}
 use Rattle.fork_format.specs.Content.{Ref, Group}
 use Rattle.res_map.specs.View.{view_reference}
 use Rattle.res_map.specs.declared.stored.StoredReference.{StoredReference}
@@ -50,14 +51,9 @@ held-placed at r row placed is moved-to k i =
 abbrev halves : ℕ → ℕ → Bool
 halves g h = (handle_row 0 g).kind == (handle_row 0 h).kind && int_eq (handle_row 0 g).key (handle_row 0 h).key
 
-parts : (a b : Bool) → a && b ≡ true → (a ≡ true) × (b ≡ true)
-parts true true e = (refl, refl)
-parts true false e = cc
-parts false b e = cc
-
 one-number : (g h : ℕ) → halves g h ≡ true → g ≡ h
 one-number g h e =
-    let two = parts ((handle_row 0 g).kind == (handle_row 0 h).kind) (int_eq (handle_row 0 g).key (handle_row 0 h).key) e in
+    let two = and_parts ((handle_row 0 g).kind == (handle_row 0 h).kind) (int_eq (handle_row 0 g).key (handle_row 0 h).key) e in
     let upper : g / 4294967296 ≡ h / 4294967296 = (Decides-eqb (g / 4294967296) (h / 4294967296)).0 two.0 in
     let keys = (Decides-int_eq (handle_row 0 g).key (handle_row 0 h).key).0 two.1 in
     let lower : g % 4294967296 ≡ h % 4294967296 =

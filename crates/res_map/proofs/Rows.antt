@@ -1,5 +1,6 @@
 use Rattle.std.proofs.Common.{◌≡◌, ◌∙◌, refl, sym, ap, ℕ, ℤ, zero, suc, ◌+◌, ◌<◌, ◌≤◌, arith, Bool, true, false, cond, not, ◌&&◌}
-use Rattle.std.proofs.Common.{List, [], ◌∷◌, ◌++◌, length, Option, Some, None, IfSome, get_or, filter, map, take, drop, subst, int_eq, nat_cmp, is_lt, ⊎_elim, length-set}
+use Rattle.std.proofs.Common.{List, [], ◌∷◌, ◌++◌, length, Option, Some, None, IfSome, get_or, filter, map, take, drop, subst, int_eq}
+use Rattle.std.proofs.Common.{nat_cmp, is_lt, ⊎_elim, length-set}
 use Rattle.std.specs.Prelude.{option_map, slice_get, slice_set, nat_lt, ◌==◌, ◌≢◌}
 use Rattle.std.specs.List.{insert, remove}
 use Rattle.std.specs.List.Sorted.{IsStableBy, IsPartitionPoint}
@@ -7,7 +8,7 @@ use Rattle.std.proofs.lemmas.List.Sorted.{IsNonDecreasingBy-insert}
 use Rattle.std.proofs.lemmas.Bool.Decides.{nat_tests, Decides-int_eq, Decides-eqb}
 use Rattle.std.proofs.lemmas.List.{get_or-map, length-map, get_or_default, length-take-le, map-set, append-nil}
 use Rattle.std.proofs.lemmas.Option.{slice_get-map, slice_get-get_or}
-use Rattle.std.proofs.lemmas.Bool.{cases_lt}
+use Rattle.std.proofs.lemmas.Bool.{cases_lt, and_parts}
 use Rattle.res_map.specs.View.{view_reference}
 use Rattle.res_map.specs.declared.stored.StoredReference.{StoredReference}
 use Rattle.res_map.specs.declared.index.Row.{Row}
@@ -15,21 +16,16 @@ use Rattle.res_map.specs.Map.{Reference, Map, is_resource, all_anew, stored_anew
 use Rattle.res_map.specs.Print.{print}
 use Rattle.res_map.specs.Index.{IsIndex, IsRising, IsToldAs, rank, rank_of, is_row, place_in, moved, sooner, entered}
 use Rattle.res_map.specs.Index.{raised, lowered, first_place, IsAt, IsRowOf, IsWithin, is_own, is_printed, has_print, named_row, rows_in}
-use Rattle.res_map.proofs.Places.{later, first-insert, first-remove, first-set, first-alike, first-there, first-push, replaced_at, some-none}
-use Rattle.res_map.proofs.Places.{first-cons, first-within, one_on}
+use Rattle.res_map.proofs.Places.{later, first-insert, first-remove, first-set, first-alike, first-there, first-push, replaced_at}
+use Rattle.res_map.proofs.Places.{some-none, first-cons, first-within, one_on}
 use Rattle.res_map.proofs.Splitting.{get-inside}
 
 -- What rows tell, as they change.
 
-both : (a b : Bool) → a && b ≡ true → (a ≡ true) × (b ≡ true)
-both true true e = (refl, refl)
-both true false e = cc
-both false b e = cc
-
 -- a row of a type and ID has that type, and that ID
 pub row-key : (kind : ℕ) (id : ℤ) (row : Row) → is_row kind id row ≡ true → (row.kind ≡ kind) × (row.key ≡ id)
 row-key kind id row e =
-    let two = both (row.kind == kind) (int_eq row.key id) e in
+    let two = and_parts (row.kind == kind) (int_eq row.key id) e in
     ((Decides-eqb row.kind kind).0 two.0, (Decides-int_eq row.key id).0 two.1)
 
 pub row-rank : (kind : ℕ) (id : ℤ) (row : Row) → is_row kind id row ≡ true → rank_of row ≡ rank kind id
@@ -317,7 +313,7 @@ key-test x kind id is-kind is-id k i =
 
 pub key-of : (kind : ℕ) (id : ℤ) (k : ℕ) (i : ℤ) → (kind == k && int_eq id i) ≡ true → (kind ≡ k) × (id ≡ i)
 key-of kind id k i e =
-    let two = both (kind == k) (int_eq id i) e in
+    let two = and_parts (kind == k) (int_eq id i) e in
     ((Decides-eqb kind k).0 two.0, (Decides-int_eq id i).0 two.1)
 
 pub index-entered : (test : ℕ → ℤ → Reference → Bool) (rows mid new : List Row) (row : Row) (references : List Reference)
@@ -440,7 +436,8 @@ index-renamed test rows mid new row id first references old x there was own apar
     cases k i false true here other =
         let key = key-of row.kind id k i other in
         let-go k i ∙ ap (λ t. cond t first (place_in k i rows)) other ∙ is
-        ∙ ap (λ m. first_place (test m id) (slice_set references row.place x)) key.0 ∙ ap (λ m. first_place (test k m) (slice_set references row.place x)) key.1
+        ∙ ap (λ m. first_place (test m id) (slice_set references row.place x)) key.0
+        ∙ ap (λ m. first_place (test k m) (slice_set references row.place x)) key.1
     cases k i false false here other =
         stays k i other
         ∙ sym (set k i other

@@ -1,7 +1,7 @@
 //! References that are added to a map and removed from it.
 
-ghost use Rattle.std.specs.Prelude.{◌≡◌, ◌<◌, ◌≤◌, ◌==◌, not, filter, map, length, Some, None, List, ℕ};
-ghost use Rattle.std.specs.Prelude.{IfOk, OnOk, OnErr};
+ghost use Rattle.std.specs.Prelude.{◌≡◌, ◌<◌, ◌≤◌, ◌==◌, not, filter, map, length, Some, None};
+ghost use Rattle.std.specs.Prelude.{List, ℕ, IfOk, OnOk, OnErr};
 ghost use Rattle.std.specs.List.{insert, remove};
 ghost use Rattle.res_map.specs.Map.{IsOrdered, is_resource, added, new_reference};
 ghost use Rattle.std.specs.Prelude.{option_map};
@@ -18,7 +18,8 @@ use crate::stored::{Rest, StoredReference};
 use mac_words::{Attrs, Name};
 use std::alloc::{AllocError, Global};
 
-/// Returns a new reference with a handle: the resource is marked as changed, and has no stored data yet.
+/// Returns a new reference with a handle: the resource is marked as changed, and has no stored
+/// data yet.
 pub fn new_one(
     alloc: Global,
     kind: u32,
@@ -54,8 +55,10 @@ fn put_behind(
     ensures added { OnOk result (map view_reference refs.new.items
         ≡ added (view_reference new) (map view_reference refs.old.items)) }
     ensures put { IfOk result (λ place. (place ≤ length refs.old.items)
-        × (map view_reference refs.new.items ≡ insert (map view_reference refs.old.items) place (view_reference new))) }
-    ensures kept { OnErr result (map view_reference refs.new.items ≡ map view_reference refs.old.items) }
+        × (map view_reference refs.new.items
+        ≡ insert (map view_reference refs.old.items) place (view_reference new))) }
+    ensures kept { OnErr result (map view_reference refs.new.items
+        ≡ map view_reference refs.old.items) }
     ensures ordered { (kinds : List ℕ) → IsOrdered kinds (map view_reference refs.old.items)
         → IsOrdered kinds (map view_reference refs.new.items) }
 {
@@ -73,8 +76,10 @@ fn put_last(
     ensures added { OnOk result (map view_reference refs.new.items
         ≡ added (view_reference new) (map view_reference refs.old.items)) }
     ensures put { IfOk result (λ place. (place ≤ length refs.old.items)
-        × (map view_reference refs.new.items ≡ insert (map view_reference refs.old.items) place (view_reference new))) }
-    ensures kept { OnErr result (map view_reference refs.new.items ≡ map view_reference refs.old.items) }
+        × (map view_reference refs.new.items
+        ≡ insert (map view_reference refs.old.items) place (view_reference new))) }
+    ensures kept { OnErr result (map view_reference refs.new.items
+        ≡ map view_reference refs.old.items) }
     ensures ordered { IsOrdered kinds.old.items (map view_reference refs.old.items)
         → IsOrdered kinds.new.items (map view_reference refs.new.items) }
 {
@@ -86,7 +91,8 @@ fn put_last(
     Ok(end)
 }
 
-/// Adds a reference after the last one of its type; the first of a type is added as the last of all.
+/// Adds a reference after the last one of its type; the first of a type is added as the last
+/// of all.
 fn put_in(
     kinds: &mut Vec<u32>,
     refs: &mut Vec<StoredReference>,
@@ -95,8 +101,10 @@ fn put_in(
     ensures added { OnOk result (map view_reference refs.new.items
         ≡ added (view_reference new) (map view_reference refs.old.items)) }
     ensures put { IfOk result (λ place. (place ≤ length refs.old.items)
-        × (map view_reference refs.new.items ≡ insert (map view_reference refs.old.items) place (view_reference new))) }
-    ensures kept { OnErr result (map view_reference refs.new.items ≡ map view_reference refs.old.items) }
+        × (map view_reference refs.new.items
+        ≡ insert (map view_reference refs.old.items) place (view_reference new))) }
+    ensures kept { OnErr result (map view_reference refs.new.items
+        ≡ map view_reference refs.old.items) }
     ensures ordered { IsOrdered kinds.old.items (map view_reference refs.old.items)
         → IsOrdered kinds.new.items (map view_reference refs.new.items) }
 {
@@ -127,14 +135,16 @@ pub fn put_in_file(
 ) -> Result<(), AllocError>
     ensures added { OnOk result (map view_reference refs.new.items
         ≡ added (view_reference new) (map view_reference refs.old.items)) }
-    ensures kept { OnErr result (map view_reference refs.new.items ≡ map view_reference refs.old.items) }
+    ensures kept { OnErr result (map view_reference refs.new.items
+        ≡ map view_reference refs.old.items) }
     ensures ordered { IsOrdered kinds.old.items (map view_reference refs.old.items)
         → IsOrdered kinds.new.items (map view_reference refs.new.items) }
     ensures indexed { IsIndex is_resource rows.old.items (map view_reference refs.old.items)
         → IsIndex is_resource rows.new.items (map view_reference refs.new.items) }
     ensures named { IsIndex is_printed names.old.items (map view_reference refs.old.items)
         → IsIndex is_printed names.new.items (map view_reference refs.new.items) }
-    ensures held { IsHolding held.old.items (vec_capacity held.old) (map view_reference refs.old.items)
+    ensures held { IsHolding held.old.items (vec_capacity held.old)
+        (map view_reference refs.old.items)
         → IsHolding held.new.items (vec_capacity held.new) (map view_reference refs.new.items) }
 {
     rows.reserve(1)?;
@@ -160,7 +170,8 @@ fn forget(kinds: &mut Vec<u32>, kind: u32)
 /// Removes the reference at a place, and its type where the reference was the last of the type.
 fn take_out(kinds: &mut Vec<u32>, refs: &mut Vec<StoredReference>, index: usize)
     requires { index < length refs.old.items }
-    ensures references { map view_reference refs.new.items ≡ remove (map view_reference refs.old.items) index }
+    ensures references { map view_reference refs.new.items
+        ≡ remove (map view_reference refs.old.items) index }
     ensures ordered { IsOrdered kinds.old.items (map view_reference refs.old.items)
         → IsOrdered kinds.new.items (map view_reference refs.new.items) }
 {
@@ -181,14 +192,16 @@ pub fn take_out_of_file(
     index: usize,
 )
     requires { index < length refs.old.items }
-    ensures references { map view_reference refs.new.items ≡ remove (map view_reference refs.old.items) index }
+    ensures references { map view_reference refs.new.items
+        ≡ remove (map view_reference refs.old.items) index }
     ensures ordered { IsOrdered kinds.old.items (map view_reference refs.old.items)
         → IsOrdered kinds.new.items (map view_reference refs.new.items) }
     ensures indexed { IsIndex is_resource rows.old.items (map view_reference refs.old.items)
         → IsIndex is_resource rows.new.items (map view_reference refs.new.items) }
     ensures named { IsIndex is_printed names.old.items (map view_reference refs.old.items)
         → IsIndex is_printed names.new.items (map view_reference refs.new.items) }
-    ensures held { IsHolding held.old.items (vec_capacity held.old) (map view_reference refs.old.items)
+    ensures held { IsHolding held.old.items (vec_capacity held.old)
+        (map view_reference refs.old.items)
         → IsHolding held.new.items (vec_capacity held.new) (map view_reference refs.new.items) }
 {
     let row = row_at(refs.as_slice(), index);

@@ -1,10 +1,10 @@
 //! Changes of one reference.
 
-ghost use Rattle.std.specs.Prelude.{◌≡◌, ◌<◌, ◌≤◌, Some, None, length, vec_len, vec_capacity, map, slice_get, slice_set};
-ghost use Rattle.std.specs.Prelude.{List, ℕ, IfOk, IfSome, OnOk, OnErr};
-ghost use Rattle.windows.specs.Writes.{written};
-ghost use Rattle.res_map.specs.Map.{IsOrdered, with_handle, with_attrs, stored_anew, with_datum, resized_datum};
-ghost use Rattle.res_map.specs.Map.{Reference, is_resource, name_by, renamed};
+ghost use Rattle.std.specs.Prelude.{◌≡◌, ◌<◌, ◌≤◌, Some, None, length, vec_len, vec_capacity, map};
+ghost use Rattle.std.specs.Prelude.{slice_get, slice_set, List, ℕ, IfOk, IfSome, OnOk, OnErr};
+ghost use Rattle.memory_windows.specs.Writes.{written};
+ghost use Rattle.res_map.specs.Map.{IsOrdered, with_handle, with_attrs, stored_anew, with_datum};
+ghost use Rattle.res_map.specs.Map.{resized_datum, Reference, is_resource, name_by, renamed};
 ghost use Rattle.res_map.specs.Index.{IsHolding, IsIndex, is_printed, named_row};
 ghost use Rattle.res_map.specs.declared.index.Row.{Row};
 ghost use Rattle.res_map.specs.View.{view_name, view_reference};
@@ -26,7 +26,8 @@ fn hold(r: &mut StoredReference, handle: Option<usize>)
 /// Sets the handle of the reference at a place, or takes it away.
 pub fn put_handle(refs: &mut Vec<StoredReference>, index: usize, handle: Option<usize>)
     requires { index < length refs.old.items }
-    ensures { IfSome (slice_get (map view_reference refs.old.items) index) (λ r. map view_reference refs.new.items
+    ensures { IfSome (slice_get (map view_reference refs.old.items) index) (λ r.
+        map view_reference refs.new.items
         ≡ slice_set (map view_reference refs.old.items) index (with_handle handle r)) }
 {
     hold(&mut refs[index], handle);
@@ -42,7 +43,8 @@ fn mark(r: &mut StoredReference, attrs: Attrs)
 /// Sets the attributes of the reference at a place.
 pub fn put_attrs(refs: &mut Vec<StoredReference>, index: usize, attrs: Attrs)
     requires { index < length refs.old.items }
-    ensures { IfSome (slice_get (map view_reference refs.old.items) index) (λ r. map view_reference refs.new.items
+    ensures { IfSome (slice_get (map view_reference refs.old.items) index) (λ r.
+        map view_reference refs.new.items
         ≡ slice_set (map view_reference refs.old.items) index (with_attrs attrs.0 r)) }
 {
     mark(&mut refs[index], attrs);
@@ -59,7 +61,8 @@ fn keep(r: &mut StoredReference, datum: Vec<u8>)
 /// Replaces the stored data of the reference at a place, and clears its resChanged.
 pub fn put_datum(refs: &mut Vec<StoredReference>, index: usize, datum: Vec<u8>)
     requires { index < length refs.old.items }
-    ensures { IfSome (slice_get (map view_reference refs.old.items) index) (λ r. map view_reference refs.new.items
+    ensures { IfSome (slice_get (map view_reference refs.old.items) index) (λ r.
+        map view_reference refs.new.items
         ≡ slice_set (map view_reference refs.old.items) index (stored_anew (Some datum.items) r)) }
 {
     keep(&mut refs[index], datum);
@@ -78,11 +81,13 @@ fn overwrite(datum: &mut Vec<u8>, from: usize, bytes: &[u8]) -> Result<(), Alloc
     Ok(())
 }
 
-/// Writes bytes into the stored data of a reference, from an offset on; the data grows where they reach past its end.
+/// Writes bytes into the stored data of a reference, from an offset on; the data grows where they
+/// reach past its end.
 fn write(r: &mut StoredReference, from: usize, bytes: &[u8]) -> Result<(), AllocError>
     requires { from ≤ length (view_reference r.old).stored.datum }
     ensures written { OnOk result (view_reference r.new
-        ≡ with_datum (written from bytes.now (view_reference r.old).stored.datum) (view_reference r.old)) }
+        ≡ with_datum (written from bytes.now (view_reference r.old).stored.datum)
+        (view_reference r.old)) }
     ensures kept { OnErr result (view_reference r.new ≡ view_reference r.old) }
     ensures kind { r.new.kind ≡ r.old.kind }
     ensures id { r.new.id ≡ r.old.id }
@@ -92,8 +97,8 @@ fn write(r: &mut StoredReference, from: usize, bytes: &[u8]) -> Result<(), Alloc
     overwrite(&mut r.rest.datum, from, bytes)
 }
 
-/// Writes bytes into the stored data of the reference at a place, from an offset on; the data grows where they reach
-/// past its end.
+/// Writes bytes into the stored data of the reference at a place, from an offset on; the data grows
+/// where they reach past its end.
 pub fn put_bytes(
     refs: &mut Vec<StoredReference>,
     index: usize,
@@ -101,18 +106,22 @@ pub fn put_bytes(
     bytes: &[u8],
 ) -> Result<(), AllocError>
     requires inside { index < length refs.old.items }
-    requires within { IfSome (slice_get (map view_reference refs.old.items) index) (λ r. from ≤ length r.stored.datum) }
-    ensures written { OnOk result (IfSome (slice_get (map view_reference refs.old.items) index) (λ r.
-        map view_reference refs.new.items ≡ slice_set (map view_reference refs.old.items) index
-        (with_datum (written from bytes.now r.stored.datum) r))) }
-    ensures kept { OnErr result (map view_reference refs.new.items ≡ map view_reference refs.old.items) }
+    requires within { IfSome (slice_get (map view_reference refs.old.items) index) (λ r. from
+        ≤ length r.stored.datum) }
+    ensures written { OnOk result (IfSome (slice_get (map view_reference refs.old.items) index)
+        (λ r. map view_reference refs.new.items ≡ slice_set (map view_reference refs.old.items)
+        index (with_datum (written from bytes.now r.stored.datum) r))) }
+    ensures kept { OnErr result (map view_reference refs.new.items
+        ≡ map view_reference refs.old.items) }
     ensures ordered { (kinds : List ℕ) → IsOrdered kinds (map view_reference refs.old.items)
         → IsOrdered kinds (map view_reference refs.new.items) }
-    ensures indexed { (rows : List Row) → IsIndex is_resource rows (map view_reference refs.old.items)
+    ensures indexed { (rows : List Row)
+        → IsIndex is_resource rows (map view_reference refs.old.items)
         → IsIndex is_resource rows (map view_reference refs.new.items) }
     ensures named { (rows : List Row) → IsIndex is_printed rows (map view_reference refs.old.items)
         → IsIndex is_printed rows (map view_reference refs.new.items) }
-    ensures held { (rows : List Row) (capacity : ℕ) → IsHolding rows capacity (map view_reference refs.old.items)
+    ensures held { (rows : List Row) (capacity : ℕ)
+        → IsHolding rows capacity (map view_reference refs.old.items)
         → IsHolding rows capacity (map view_reference refs.new.items) }
 {
     write(&mut refs[index], from, bytes)
@@ -121,7 +130,8 @@ pub fn put_bytes(
 /// Sets the size of the stored data of a reference: bytes are cut off, or new ones are 0.
 fn resize(r: &mut StoredReference, size: usize) -> Result<(), AllocError>
     ensures resized { OnOk result (view_reference r.new
-        ≡ with_datum (resized_datum size (view_reference r.old).stored.datum) (view_reference r.old)) }
+        ≡ with_datum (resized_datum size (view_reference r.old).stored.datum)
+        (view_reference r.old)) }
     ensures kept { OnErr result (view_reference r.new ≡ view_reference r.old) }
     ensures kind { r.new.kind ≡ r.old.kind }
     ensures id { r.new.id ≡ r.old.id }
@@ -131,24 +141,28 @@ fn resize(r: &mut StoredReference, size: usize) -> Result<(), AllocError>
     r.rest.datum.resize(size, 0)
 }
 
-/// Sets the size of the stored data of the reference at a place: bytes are cut off, or new ones are 0.
+/// Sets the size of the stored data of the reference at a place: bytes are cut off, or new ones
+/// are 0.
 pub fn put_size(
     refs: &mut Vec<StoredReference>,
     index: usize,
     size: usize,
 ) -> Result<(), AllocError>
     requires { index < length refs.old.items }
-    ensures resized { OnOk result (IfSome (slice_get (map view_reference refs.old.items) index) (λ r.
-        map view_reference refs.new.items ≡ slice_set (map view_reference refs.old.items) index
-        (with_datum (resized_datum size r.stored.datum) r))) }
-    ensures kept { OnErr result (map view_reference refs.new.items ≡ map view_reference refs.old.items) }
+    ensures resized { OnOk result (IfSome (slice_get (map view_reference refs.old.items) index)
+        (λ r. map view_reference refs.new.items ≡ slice_set (map view_reference refs.old.items)
+        index (with_datum (resized_datum size r.stored.datum) r))) }
+    ensures kept { OnErr result (map view_reference refs.new.items
+        ≡ map view_reference refs.old.items) }
     ensures ordered { (kinds : List ℕ) → IsOrdered kinds (map view_reference refs.old.items)
         → IsOrdered kinds (map view_reference refs.new.items) }
-    ensures indexed { (rows : List Row) → IsIndex is_resource rows (map view_reference refs.old.items)
+    ensures indexed { (rows : List Row)
+        → IsIndex is_resource rows (map view_reference refs.old.items)
         → IsIndex is_resource rows (map view_reference refs.new.items) }
     ensures named { (rows : List Row) → IsIndex is_printed rows (map view_reference refs.old.items)
         → IsIndex is_printed rows (map view_reference refs.new.items) }
-    ensures held { (rows : List Row) (capacity : ℕ) → IsHolding rows capacity (map view_reference refs.old.items)
+    ensures held { (rows : List Row) (capacity : ℕ)
+        → IsHolding rows capacity (map view_reference refs.old.items)
         → IsHolding rows capacity (map view_reference refs.new.items) }
 {
     resize(&mut refs[index], size)
@@ -188,14 +202,15 @@ pub fn put_name(
 )
     requires inside { index < length refs.old.items }
     requires name { view_name name ≡ name_by text.now None }
-    ensures { IfSome (slice_get (map view_reference refs.old.items) index) (λ r. map view_reference refs.new.items
+    ensures { IfSome (slice_get (map view_reference refs.old.items) index) (λ r.
+        map view_reference refs.new.items
         ≡ slice_set (map view_reference refs.old.items) index (renamed id text.now r)) }
 {
     call(&mut refs[index], id, text, name);
 }
 
-/// Sets the ID of the reference at a place, and its name where a name is given, and records it in the index, which has
-/// room for a row.
+/// Sets the ID of the reference at a place, and its name where a name is given, and records it in
+/// the index, which has room for a row.
 fn put_name_told(
     refs: &mut Vec<StoredReference>,
     rows: &mut Vec<Row>,
@@ -214,7 +229,8 @@ fn put_name_told(
         → IsOrdered kinds (map view_reference refs.new.items) }
     ensures indexed { IsIndex is_resource rows.old.items (map view_reference refs.old.items)
         → IsIndex is_resource rows.new.items (map view_reference refs.new.items) }
-    ensures held { (rows : List Row) (capacity : ℕ) → IsHolding rows capacity (map view_reference refs.old.items)
+    ensures held { (rows : List Row) (capacity : ℕ)
+        → IsHolding rows capacity (map view_reference refs.old.items)
         → IsHolding rows capacity (map view_reference refs.new.items) }
 {
     let old = row_at(refs.as_slice(), index);
@@ -224,11 +240,12 @@ fn put_name_told(
     enter_renamed(rows, Row { key, ..old }, old.key, first);
 }
 
-/// Tells the index by name of the reference at a place, which had a row, or none; it has a row now where it had one. There
-/// is room for a row.
+/// Tells the index by name of the reference at a place, which had a row, or none; it has a row now
+/// where it had one. There is room for a row.
 fn tell_name(names: &mut Vec<Row>, refs: &[StoredReference], old: Option<Row>, index: usize)
     requires { index < length refs.now }
-    ensures { vec_len names.old < vec_capacity names.old → (references : List Reference) (was new : Reference)
+    ensures { vec_len names.old < vec_capacity names.old
+        → (references : List Reference) (was new : Reference)
         → slice_get references index ≡ Some was → old ≡ named_row index was.kind was.stored.name
         → new.kind ≡ was.kind → (new.stored.name ≡ None → was.stored.name ≡ None)
         → map view_reference refs.now ≡ slice_set references index new
@@ -240,7 +257,8 @@ fn tell_name(names: &mut Vec<Row>, refs: &[StoredReference], old: Option<Row>, i
     }
 }
 
-/// Sets the ID of the reference at a place, and its name where a name is given, and records it in the indexes.
+/// Sets the ID of the reference at a place, and its name where a name is given, and records it in
+/// the indexes.
 pub fn put_name_in_file(
     refs: &mut Vec<StoredReference>,
     rows: &mut Vec<Row>,
@@ -252,15 +270,17 @@ pub fn put_name_in_file(
 ) -> Result<(), AllocError>
     requires inside { index < length refs.old.items }
     requires name { view_name name ≡ name_by text.now None }
-    ensures renamed { OnOk result (IfSome (slice_get (map view_reference refs.old.items) index) (λ r.
-        map view_reference refs.new.items
+    ensures renamed { OnOk result (IfSome (slice_get (map view_reference refs.old.items) index)
+        (λ r. map view_reference refs.new.items
         ≡ slice_set (map view_reference refs.old.items) index (renamed id text.now r))) }
-    ensures kept { OnErr result (map view_reference refs.new.items ≡ map view_reference refs.old.items) }
+    ensures kept { OnErr result (map view_reference refs.new.items
+        ≡ map view_reference refs.old.items) }
     ensures ordered { (kinds : List ℕ) → IsOrdered kinds (map view_reference refs.old.items)
         → IsOrdered kinds (map view_reference refs.new.items) }
     ensures indexed { IsIndex is_resource rows.old.items (map view_reference refs.old.items)
         → IsIndex is_resource rows.new.items (map view_reference refs.new.items) }
-    ensures held { (rows : List Row) (capacity : ℕ) → IsHolding rows capacity (map view_reference refs.old.items)
+    ensures held { (rows : List Row) (capacity : ℕ)
+        → IsHolding rows capacity (map view_reference refs.old.items)
         → IsHolding rows capacity (map view_reference refs.new.items) }
     ensures named { IsIndex is_printed names.old.items (map view_reference refs.old.items)
         → IsIndex is_printed names.new.items (map view_reference refs.new.items) }

@@ -1,12 +1,14 @@
-//! The index by handle: a row for each handle that a reference has. Its room is taken where references come in, so a
-//! handle is set with no host memory.
+//! The index by handle: a row for each handle that a reference has. Its room is taken where
+//! references come in, so a handle is set with no host memory.
 
-ghost use Rattle.std.specs.Prelude.{◌≡◌, ◌<◌, ◌≤◌, ◌+◌, ℤ, None, Some, List, ℕ, IfSome, OnOk, length, map, option_map, slice_get};
-ghost use Rattle.std.specs.Prelude.{slice_set, vec_len, vec_capacity};
+ghost use Rattle.std.specs.Prelude.{◌≡◌, ◌<◌, ◌≤◌, ◌+◌, ℤ, None, Some, List, ℕ, IfSome, OnOk};
+ghost use Rattle.std.specs.Prelude.{length, map, option_map, slice_get, slice_set, vec_len};
+ghost use Rattle.std.specs.Prelude.{vec_capacity};
 ghost use Rattle.std.specs.List.{insert, remove};
 ghost use Rattle.res_map.specs.Map.{Reference, has_handle, with_handle};
-ghost use Rattle.res_map.specs.Index.{IsEach, IsEachAnd, IsHolding, IsIndex, IsRising, IsRowOf, IsToldAs, first_place};
-ghost use Rattle.res_map.specs.Index.{handle_row, held_row, is_held, row_weights, weight};
+ghost use Rattle.res_map.specs.Index.{IsEach, IsEachAnd, IsHolding, IsIndex, IsRising, IsRowOf};
+ghost use Rattle.res_map.specs.Index.{IsToldAs, first_place, handle_row, held_row, is_held};
+ghost use Rattle.res_map.specs.Index.{row_weights, weight};
 ghost use Rattle.res_map.specs.View.{view_reference};
 
 use crate::changing::put_handle;
@@ -38,7 +40,8 @@ pub fn held_row_of(r: &StoredReference, place: usize) -> Option<Row>
 /// Returns the row by handle of the reference at a place, if it has a handle.
 pub fn held_row_at(refs: &[StoredReference], place: usize) -> Option<Row>
     requires { place < length refs.now }
-    ensures { IfSome (slice_get (map view_reference refs.now) place) (λ r. result ≡ held_row place r.handle) }
+    ensures { IfSome (slice_get (map view_reference refs.now) place) (λ r. result
+        ≡ held_row place r.handle) }
 {
     held_row_of(&refs[place], place)
 }
@@ -86,11 +89,12 @@ pub fn make_room(rows: &mut Vec<Row>, refs: &[StoredReference]) -> Result<(), Al
     rows.reserve(more + 1)
 }
 
-/// Tells of a reference that was put in at a place, with its row, if it has a handle; `len` references were there before.
-/// There is room for a row.
+/// Tells of a reference that was put in at a place, with its row, if it has a handle; `len`
+/// references were there before. There is room for a row.
 pub fn enter_held(rows: &mut Vec<Row>, row: Option<Row>, place: usize, len: usize)
     requires { IfSome row (λ r. r.place ≡ place) }
-    ensures index { vec_len rows.old < vec_capacity rows.old → (references : List Reference) (new : Reference)
+    ensures index { vec_len rows.old < vec_capacity rows.old
+        → (references : List Reference) (new : Reference)
         → length references ≡ len → place ≤ len → IsRowOf is_held row new
         → IsIndex is_held rows.old.items references
         → IsIndex is_held rows.new.items (insert references place new) }
@@ -104,14 +108,17 @@ pub fn enter_held(rows: &mut Vec<Row>, row: Option<Row>, place: usize, len: usiz
     }
 }
 
-/// Removes from the index a reference that has no handle any more: it had that of the row. `refs` are the references
-/// without it, or with it as it is now. They are searched where another of them has the handle.
+/// Removes from the index a reference that has no handle any more: it had that of the row. `refs`
+/// are the references without it, or with it as it is now. They are searched where another of them
+/// has the handle.
 fn let_go(rows: &mut Vec<Row>, refs: &[StoredReference], row: Row)
     ensures rising { IsRising rows.old.items → IsRising rows.new.items }
-    ensures tells { IsRising rows.old.items → IsEachAnd row rows.old.items (map view_reference refs.now)
-        → IsToldAs row.kind row.key (first_place (is_held row.kind row.key) (map view_reference refs.now))
-        rows.old.items rows.new.items }
-    ensures each { IsRising rows.old.items → IsEachAnd row rows.old.items (map view_reference refs.now)
+    ensures tells { IsRising rows.old.items
+        → IsEachAnd row rows.old.items (map view_reference refs.now)
+        → IsToldAs row.kind row.key (first_place (is_held row.kind row.key)
+        (map view_reference refs.now)) rows.old.items rows.new.items }
+    ensures each { IsRising rows.old.items
+        → IsEachAnd row rows.old.items (map view_reference refs.now)
         → IsEach rows.new.items (map view_reference refs.now) }
     ensures capacity { vec_capacity rows.old ≤ vec_capacity rows.new }
 {
@@ -124,10 +131,12 @@ fn let_go(rows: &mut Vec<Row>, refs: &[StoredReference], row: Row)
     }
 }
 
-/// Removes from the index a reference that was taken out at a place, with its row, if it had a handle; `refs` are left.
+/// Removes from the index a reference that was taken out at a place, with its row, if it had a
+/// handle; `refs` are left.
 pub fn leave_held(rows: &mut Vec<Row>, refs: &[StoredReference], row: Option<Row>, place: usize)
     requires { IfSome row (λ r. r.place ≡ place) }
-    ensures held { (capacity : ℕ) (references : List Reference) (old : Reference) → slice_get references place ≡ Some old
+    ensures held { (capacity : ℕ) (references : List Reference) (old : Reference)
+        → slice_get references place ≡ Some old
         → row ≡ held_row place old.handle → map view_reference refs.now ≡ remove references place
         → IsHolding rows.old.items capacity references
         → IsHolding rows.new.items capacity (remove references place) }
@@ -139,12 +148,15 @@ pub fn leave_held(rows: &mut Vec<Row>, refs: &[StoredReference], row: Option<Row
     }
 }
 
-/// Takes the handle of the reference at a place away, if it has one, and records that in the index by handle.
+/// Takes the handle of the reference at a place away, if it has one, and records that in the index
+/// by handle.
 fn take_handle(refs: &mut Vec<StoredReference>, rows: &mut Vec<Row>, index: usize)
     requires { index < length refs.old.items }
-    ensures taken { IfSome (slice_get (map view_reference refs.old.items) index) (λ r. map view_reference refs.new.items
+    ensures taken { IfSome (slice_get (map view_reference refs.old.items) index) (λ r.
+        map view_reference refs.new.items
         ≡ slice_set (map view_reference refs.old.items) index (with_handle None r)) }
-    ensures held { IsHolding rows.old.items (vec_capacity rows.old) (map view_reference refs.old.items)
+    ensures held { IsHolding rows.old.items (vec_capacity rows.old)
+        (map view_reference refs.old.items)
         → IsHolding rows.new.items (vec_capacity rows.new) (map view_reference refs.new.items) }
 {
     let row = held_row_at(refs.as_slice(), index);
@@ -154,12 +166,15 @@ fn take_handle(refs: &mut Vec<StoredReference>, rows: &mut Vec<Row>, index: usiz
     }
 }
 
-/// Gives a handle to the reference at a place, which has none, and records that in the index by handle.
+/// Gives a handle to the reference at a place, which has none, and records that in the index by
+/// handle.
 fn give_handle(refs: &mut Vec<StoredReference>, rows: &mut Vec<Row>, index: usize, handle: usize)
     requires { index < length refs.old.items }
-    ensures given { IfSome (slice_get (map view_reference refs.old.items) index) (λ r. map view_reference refs.new.items
+    ensures given { IfSome (slice_get (map view_reference refs.old.items) index) (λ r.
+        map view_reference refs.new.items
         ≡ slice_set (map view_reference refs.old.items) index (with_handle (Some handle) r)) }
-    ensures held { IfSome (slice_get (map view_reference refs.old.items) index) (λ r. r.handle ≡ None)
+    ensures held { IfSome (slice_get (map view_reference refs.old.items) index) (λ r.
+        r.handle ≡ None)
         → IsHolding rows.old.items (vec_capacity rows.old) (map view_reference refs.old.items)
         → IsHolding rows.new.items (vec_capacity rows.new) (map view_reference refs.new.items) }
 {
@@ -167,7 +182,8 @@ fn give_handle(refs: &mut Vec<StoredReference>, rows: &mut Vec<Row>, index: usiz
     put_sooner(rows, handle_row(handle, index));
 }
 
-/// Sets the handle of the reference at a place, or takes it away, and records that in the index by handle.
+/// Sets the handle of the reference at a place, or takes it away, and records that in the index by
+/// handle.
 pub fn put_handle_in_file(
     refs: &mut Vec<StoredReference>,
     rows: &mut Vec<Row>,
@@ -175,9 +191,11 @@ pub fn put_handle_in_file(
     handle: Option<usize>,
 )
     requires { index < length refs.old.items }
-    ensures set { IfSome (slice_get (map view_reference refs.old.items) index) (λ r. map view_reference refs.new.items
+    ensures set { IfSome (slice_get (map view_reference refs.old.items) index) (λ r.
+        map view_reference refs.new.items
         ≡ slice_set (map view_reference refs.old.items) index (with_handle handle r)) }
-    ensures held { IsHolding rows.old.items (vec_capacity rows.old) (map view_reference refs.old.items)
+    ensures held { IsHolding rows.old.items (vec_capacity rows.old)
+        (map view_reference refs.old.items)
         → IsHolding rows.new.items (vec_capacity rows.new) (map view_reference refs.new.items) }
 {
     take_handle(refs, rows, index);

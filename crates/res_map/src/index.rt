@@ -1,7 +1,8 @@
 //! An index of references: rows that are searched by halving.
 
-ghost use Rattle.std.specs.Prelude.{◌≡◌, ◌≢◌, ◌<◌, ◌≤◌, ◌+◌, ◌==◌, ◌&&◌, true, false, ℕ, ℤ, length, vec_len, map, OnOk, IfOk};
-ghost use Rattle.std.specs.Prelude.{Bool, ◌++◌, vec_capacity, nat_lt, option_map, None, Some, IfSome, List, slice_get, slice_set};
+ghost use Rattle.std.specs.Prelude.{◌≡◌, ◌≢◌, ◌<◌, ◌≤◌, ◌+◌, ◌==◌, ◌&&◌, true, false, ℕ, ℤ, length};
+ghost use Rattle.std.specs.Prelude.{vec_len, map, OnOk, IfOk, Bool, ◌++◌, vec_capacity, nat_lt};
+ghost use Rattle.std.specs.Prelude.{option_map, None, Some, IfSome, List, slice_get, slice_set};
 ghost use Rattle.std.specs.List.{insert, remove};
 ghost use Rattle.std.specs.Ordering.{int_eq, nat_cmp};
 ghost use Rattle.std.specs.List.Sorted.{IsPartitionPoint};
@@ -17,8 +18,8 @@ use crate::stored::StoredReference;
 use std::alloc::{AllocError, Global};
 use std::cmp::Ordering;
 
-/// A row of an index: a type and key, and the place of a reference that has them. The key is an ID, or the print of a
-/// name.
+/// A row of an index: a type and key, and the place of a reference that has them. The key is an ID,
+/// or the print of a name.
 #[derive(Clone, Copy)]
 pub struct Row {
     /// The type, as a number.
@@ -55,8 +56,8 @@ pub fn is_at(row: &Row, kind: u32, key: i32) -> bool
 /// Returns the number of rows that stand before those of a type and key.
 fn rows_below(rows: &[Row], kind: u32, key: i32) -> usize
     ensures inside { result ≤ length rows.now }
-    ensures point { IsRising rows.now → IsPartitionPoint (λ r. nat_lt (rank_of r) (rank kind key) ≡ true)
-        (λ r. nat_lt (rank_of r) (rank kind key) ≡ false) rows.now result }
+    ensures point { IsRising rows.now → IsPartitionPoint (λ r. nat_lt (rank_of r) (rank kind key)
+        ≡ true) (λ r. nat_lt (rank_of r) (rank kind key) ≡ false) rows.now result }
 {
     rows.partition_point(|row| is_below(row, kind, key))
 }
@@ -75,7 +76,8 @@ pub fn place_told(rows: &[Row], kind: u32, key: i32) -> Option<usize>
 /// Puts rows in order. Rows of one type and key stay in theirs.
 fn put_in_order(rows: &mut Vec<Row>) -> Result<(), AllocError>
     ensures rising { OnOk result (IsRising rows.new.items) }
-    ensures tells { (kind : ℕ) (key : ℤ) → place_in kind key rows.new.items ≡ place_in kind key rows.old.items }
+    ensures tells { (kind : ℕ) (key : ℤ)
+        → place_in kind key rows.new.items ≡ place_in kind key rows.old.items }
 {
     rows.sort_by(|a, b| order(a, b))?;
     Ok(())
@@ -100,14 +102,16 @@ pub fn row_at(refs: &[StoredReference], place: usize) -> Row
 /// Returns the row by name of the reference at a place, if it has a name.
 pub fn named_row_at(refs: &[StoredReference], place: usize) -> Option<Row>
     requires { place < length refs.now }
-    ensures { IfSome (slice_get (map view_reference refs.now) place) (λ r. result ≡ named_row place r.kind r.stored.name) }
+    ensures { IfSome (slice_get (map view_reference refs.now) place) (λ r. result
+        ≡ named_row place r.kind r.stored.name) }
 {
     named_row_of(&refs[place], place)
 }
 
 /// Returns the row by name of a reference that is at a place, if it has a name.
 pub fn named_row_of(r: &StoredReference, place: usize) -> Option<Row>
-    ensures { result ≡ named_row place (view_reference r.now).kind (view_reference r.now).stored.name }
+    ensures { result
+        ≡ named_row place (view_reference r.now).kind (view_reference r.now).stored.name }
 {
     let kind = r.kind;
     match &r.rest.name {
@@ -123,7 +127,8 @@ pub fn named_row_of(r: &StoredReference, place: usize) -> Option<Row>
 /// Returns a row for each reference, in the order of the references.
 fn rows_of(alloc: Global, refs: &[StoredReference]) -> Result<Vec<Row>, AllocError>
     ensures { IfOk result (λ v. (kind : ℕ) (key : ℤ)
-        → place_in kind key v.items ≡ first_place (is_resource kind key) (map view_reference refs.now)) }
+        → place_in kind key v.items
+        ≡ first_place (is_resource kind key) (map view_reference refs.now)) }
 {
     let mut rows = Vec::with_capacity(alloc, refs.len())?;
     for i in 0..refs.len() {
@@ -154,7 +159,8 @@ fn note(rows: &mut Vec<Row>, row: Option<Row>) -> Result<(), AllocError>
 /// Returns a row for each reference that has a name, in the order of the references.
 fn named_rows_of(alloc: Global, refs: &[StoredReference]) -> Result<Vec<Row>, AllocError>
     ensures { IfOk result (λ v. (kind : ℕ) (key : ℤ)
-        → place_in kind key v.items ≡ first_place (is_printed kind key) (map view_reference refs.now)) }
+        → place_in kind key v.items
+        ≡ first_place (is_printed kind key) (map view_reference refs.now)) }
 {
     let mut rows = Vec::new(alloc);
     for i in 0..refs.len() {
@@ -193,19 +199,24 @@ fn raise(rows: &mut [Row], from: usize)
 /// Makes the places in all rows one higher that are `from` or higher.
 fn raise_all(rows: &mut Vec<Row>, from: usize)
     ensures items { rows.new.items ≡ map (moved (raised_within from)) rows.old.items }
-    ensures room { vec_len rows.old < vec_capacity rows.old → vec_len rows.new < vec_capacity rows.new }
+    ensures room { vec_len rows.old < vec_capacity rows.old
+        → vec_len rows.new < vec_capacity rows.new }
     ensures capacity { vec_capacity rows.old ≤ vec_capacity rows.new }
 {
     raise(rows.as_mut_slice(), from);
 }
 
-/// Makes the places in rows one higher that are `from` or higher. All places that are recorded are below `len`.
+/// Makes the places in rows one higher that are `from` or higher. All places that are recorded are
+/// below `len`.
 pub fn open_gap(rows: &mut Vec<Row>, from: usize, len: usize)
-    ensures room { vec_len rows.old < vec_capacity rows.old → vec_len rows.new < vec_capacity rows.new }
+    ensures room { vec_len rows.old < vec_capacity rows.old
+        → vec_len rows.new < vec_capacity rows.new }
     ensures rising { IsRising rows.old.items → IsRising rows.new.items }
     ensures tells { IsWithin len rows.old.items → (kind : ℕ) (key : ℤ)
-        → place_in kind key rows.new.items ≡ option_map (raised from) (place_in kind key rows.old.items) }
-    ensures weights { (f : ℕ → ℤ → ℕ) → row_weights f rows.new.items ≡ row_weights f rows.old.items }
+        → place_in kind key rows.new.items
+        ≡ option_map (raised from) (place_in kind key rows.old.items) }
+    ensures weights { (f : ℕ → ℤ → ℕ)
+        → row_weights f rows.new.items ≡ row_weights f rows.old.items }
     ensures capacity { vec_capacity rows.old ≤ vec_capacity rows.new }
 {
     if from < len {
@@ -254,11 +265,13 @@ fn put_row(rows: &mut Vec<Row>, row: Row)
 
 /// Sets the place in the first row of a type and key.
 pub fn set_row(rows: &mut Vec<Row>, row: Row)
-    ensures room { vec_len rows.old < vec_capacity rows.old → vec_len rows.new < vec_capacity rows.new }
+    ensures room { vec_len rows.old < vec_capacity rows.old
+        → vec_len rows.new < vec_capacity rows.new }
     ensures rising { IsRising rows.old.items → IsRising rows.new.items }
     ensures tells { place_in row.kind row.key rows.old.items ≢ None → IsRising rows.old.items
         → IsToldAs row.kind row.key (Some row.place) rows.old.items rows.new.items }
-    ensures weights { (f : ℕ → ℤ → ℕ) → row_weights f rows.new.items ≡ row_weights f rows.old.items }
+    ensures weights { (f : ℕ → ℤ → ℕ)
+        → row_weights f rows.new.items ≡ row_weights f rows.old.items }
     ensures capacity { vec_capacity rows.old ≤ vec_capacity rows.new }
 {
     let at = rows_below(rows.as_slice(), row.kind, row.key);
@@ -267,7 +280,8 @@ pub fn set_row(rows: &mut Vec<Row>, row: Row)
     }
 }
 
-/// Records the place of a row: sets it in the first row of its type and key, or puts in the row. There is room for it.
+/// Records the place of a row: sets it in the first row of its type and key, or puts in the row.
+/// There is room for it.
 fn tell(rows: &mut Vec<Row>, row: Row)
     ensures rising { IsRising rows.old.items → IsRising rows.new.items }
     ensures tells { vec_len rows.old < vec_capacity rows.old → IsRising rows.old.items
@@ -300,8 +314,8 @@ fn sooner(first: Option<usize>, place: usize) -> usize
     }
 }
 
-/// Puts in a row before all others of its type and key; where a sooner place is recorded for them, the row records that
-/// place. There is room for it.
+/// Puts in a row before all others of its type and key; where a sooner place is recorded for them,
+/// the row records that place. There is room for it.
 pub fn put_sooner(rows: &mut Vec<Row>, row: Row)
     ensures rising { IsRising rows.old.items → IsRising rows.new.items }
     ensures tells { vec_len rows.old < vec_capacity rows.old → IsRising rows.old.items
@@ -321,7 +335,8 @@ pub fn take_row(rows: &mut Vec<Row>, row: Row)
     ensures rising { IsRising rows.old.items → IsRising rows.new.items }
     ensures others { (k : ℕ) (i : ℤ) → (row.kind == k && int_eq row.key i) ≡ false
         → place_in k i rows.new.items ≡ place_in k i rows.old.items }
-    ensures weights { place_in row.kind row.key rows.old.items ≢ None → IsRising rows.old.items → (f : ℕ → ℤ → ℕ)
+    ensures weights { place_in row.kind row.key rows.old.items ≢ None → IsRising rows.old.items
+        → (f : ℕ → ℤ → ℕ)
         → row_weights f rows.new.items + f row.kind row.key ≡ row_weights f rows.old.items }
     ensures capacity { vec_capacity rows.old ≤ vec_capacity rows.new }
 {
@@ -331,7 +346,8 @@ pub fn take_row(rows: &mut Vec<Row>, row: Row)
     }
 }
 
-/// Records the place of a row, unless a sooner one is recorded for its type and key. There is room for a row.
+/// Records the place of a row, unless a sooner one is recorded for its type and key. There is room
+/// for a row.
 fn tell_sooner(rows: &mut Vec<Row>, row: Row)
     ensures rising { IsRising rows.old.items → IsRising rows.new.items }
     ensures tells { vec_len rows.old < vec_capacity rows.old → IsRising rows.old.items
@@ -345,7 +361,8 @@ fn tell_sooner(rows: &mut Vec<Row>, row: Row)
 
 /// Removes all rows of a type and key.
 fn drop_rows(rows: &mut Vec<Row>, kind: u32, key: i32)
-    ensures room { vec_len rows.old < vec_capacity rows.old → vec_len rows.new < vec_capacity rows.new }
+    ensures room { vec_len rows.old < vec_capacity rows.old
+        → vec_len rows.new < vec_capacity rows.new }
     ensures rising { IsRising rows.old.items → IsRising rows.new.items }
     ensures tells { IsToldAs kind key None rows.old.items rows.new.items }
 {
@@ -354,7 +371,8 @@ fn drop_rows(rows: &mut Vec<Row>, kind: u32, key: i32)
 
 /// Tells the first place of a type and key that the index has, or that there is none any more.
 fn tell_anew(rows: &mut Vec<Row>, kind: u32, key: i32, first: Option<usize>)
-    ensures room { vec_len rows.old < vec_capacity rows.old → vec_len rows.new < vec_capacity rows.new }
+    ensures room { vec_len rows.old < vec_capacity rows.old
+        → vec_len rows.new < vec_capacity rows.new }
     ensures rising { IsRising rows.old.items → IsRising rows.new.items }
     ensures tells { place_in kind key rows.old.items ≢ None → IsRising rows.old.items
         → IsToldAs kind key first rows.old.items rows.new.items }
@@ -365,10 +383,12 @@ fn tell_anew(rows: &mut Vec<Row>, kind: u32, key: i32, first: Option<usize>)
     }
 }
 
-/// Tells of a reference that was put in at a place; `len` references were there before. There is room for a row.
+/// Tells of a reference that was put in at a place; `len` references were there before. There is
+/// room for a row.
 pub fn enter(rows: &mut Vec<Row>, row: Row, len: usize)
     ensures { vec_len rows.old < vec_capacity rows.old → (test : ℕ → ℤ → Reference → Bool)
-        → (references : List Reference) (new : Reference) → length references ≡ len → row.place ≤ len
+        → (references : List Reference) (new : Reference) → length references ≡ len
+        → row.place ≤ len
         → IsAt test row.kind row.key new → IsIndex test rows.old.items references
         → IsIndex test rows.new.items (insert references row.place new) }
 {
@@ -376,8 +396,8 @@ pub fn enter(rows: &mut Vec<Row>, row: Row, len: usize)
     tell_sooner(rows, row);
 }
 
-/// Tells of a reference that was put in at a place, with its row, if it has one; `len` references were there before.
-/// There is room for a row.
+/// Tells of a reference that was put in at a place, with its row, if it has one; `len` references
+/// were there before. There is room for a row.
 pub fn enter_any(rows: &mut Vec<Row>, row: Option<Row>, place: usize, len: usize)
     requires { IfSome row (λ r. r.place ≡ place) }
     ensures { vec_len rows.old < vec_capacity rows.old → (test : ℕ → ℤ → Reference → Bool)
@@ -391,8 +411,8 @@ pub fn enter_any(rows: &mut Vec<Row>, row: Option<Row>, place: usize, len: usize
     }
 }
 
-/// Tells of a reference that was taken out at the place of a row; `first` is the first that is left of its type and
-/// key.
+/// Tells of a reference that was taken out at the place of a row; `first` is the first that is left
+/// of its type and key.
 pub fn leave(rows: &mut Vec<Row>, row: Row, first: Option<usize>)
     ensures { (test : ℕ → ℤ → Reference → Bool) (references : List Reference) (old : Reference)
         → slice_get references row.place ≡ Some old → IsAt test row.kind row.key old
@@ -404,8 +424,8 @@ pub fn leave(rows: &mut Vec<Row>, row: Row, first: Option<usize>)
     tell_anew(rows, row.kind, row.key, first);
 }
 
-/// Tells of a reference that got the key of a row in place of `key`; `first` is the first that is left of that other key.
-/// There is room for a row.
+/// Tells of a reference that got the key of a row in place of `key`; `first` is the first that is
+/// left of that other key. There is room for a row.
 pub fn enter_renamed(rows: &mut Vec<Row>, row: Row, key: i32, first: Option<usize>)
     ensures { vec_len rows.old < vec_capacity rows.old → (test : ℕ → ℤ → Reference → Bool)
         → (references : List Reference) (old new : Reference)
@@ -421,10 +441,12 @@ pub fn enter_renamed(rows: &mut Vec<Row>, row: Row, key: i32, first: Option<usiz
     }
 }
 
-/// Tells the index by name of a reference that was taken out at a place, with its row, if it had a name; `refs` are left.
+/// Tells the index by name of a reference that was taken out at a place, with its row, if it had a
+/// name; `refs` are left.
 pub fn leave_named(rows: &mut Vec<Row>, refs: &[StoredReference], row: Option<Row>, place: usize)
     requires { IfSome row (λ r. r.place ≡ place) }
-    ensures { (references : List Reference) (old : Reference) → slice_get references place ≡ Some old
+    ensures { (references : List Reference) (old : Reference)
+        → slice_get references place ≡ Some old
         → IsRowOf is_printed row old → map view_reference refs.now ≡ remove references place
         → IsIndex is_printed rows.old.items references
         → IsIndex is_printed rows.new.items (remove references place) }
@@ -435,10 +457,11 @@ pub fn leave_named(rows: &mut Vec<Row>, refs: &[StoredReference], row: Option<Ro
     }
 }
 
-/// Tells the index by name of a reference that got the print of a row in place of `key`; `refs` are the references
-/// with it. There is room for a row.
+/// Tells the index by name of a reference that got the print of a row in place of `key`; `refs` are
+/// the references with it. There is room for a row.
 fn enter_printed(rows: &mut Vec<Row>, refs: &[StoredReference], row: Row, key: i32)
-    ensures { vec_len rows.old < vec_capacity rows.old → (references : List Reference) (old new : Reference)
+    ensures { vec_len rows.old < vec_capacity rows.old
+        → (references : List Reference) (old new : Reference)
         → slice_get references row.place ≡ Some old → IsAt is_printed row.kind key old
         → IsAt is_printed row.kind row.key new
         → map view_reference refs.now ≡ slice_set references row.place new
@@ -451,11 +474,13 @@ fn enter_printed(rows: &mut Vec<Row>, refs: &[StoredReference], row: Row, key: i
     }
 }
 
-/// Tells the index by name of a reference that has a row now, and had `old`, or none; `refs` are the references with it.
-/// There is room for a row.
+/// Tells the index by name of a reference that has a row now, and had `old`, or none; `refs` are
+/// the references with it. There is room for a row.
 pub fn enter_named(rows: &mut Vec<Row>, refs: &[StoredReference], row: Row, old: Option<Row>)
-    ensures { vec_len rows.old < vec_capacity rows.old → (references : List Reference) (was new : Reference)
-        → slice_get references row.place ≡ Some was → IfSome old (λ r. r.kind ≡ row.kind) → IsRowOf is_printed old was
+    ensures { vec_len rows.old < vec_capacity rows.old
+        → (references : List Reference) (was new : Reference)
+        → slice_get references row.place ≡ Some was → IfSome old (λ r. r.kind ≡ row.kind)
+        → IsRowOf is_printed old was
         → IsAt is_printed row.kind row.key new
         → map view_reference refs.now ≡ slice_set references row.place new
         → IsIndex is_printed rows.old.items references

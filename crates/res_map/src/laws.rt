@@ -6,7 +6,8 @@ ghost use Rattle.fork_format.specs.Content.{Group as GroupValue, Content as Cont
 ghost use Rattle.fork_format.specs.Canonical.{has_refs, are_distinct};
 ghost use Rattle.res_map.specs.Map.{Reference, Map, stand_together, with_handle, content, map_of};
 
-/// The map of a content makes that content again: nothing of the content is lost when its file is opened.
+/// The map of a content makes that content again: nothing of the content is lost when its file is
+/// opened.
 #[tactic(auto, using(crate::proofs::Contents::content_told))]
 pub fn a_content_that_is_opened_is_told_again()
     ensures { (c : ContentValue) → are_distinct (map (λ (g : GroupValue). g.kind) c.groups) ≡ true

@@ -9,7 +9,8 @@ use crate::stored::{StoredName, StoredReference};
 use fork_format::{Ref, RefName};
 use mac_words::OsType;
 
-/// A reference of an open file: its type, what the file stores of it, and its handle, if it has one.
+/// A reference of an open file: its type, what the file stores of it, and its handle, if it
+/// has one.
 #[derive(Clone, Copy, Debug, PartialEq, Eq)]
 pub struct LentReference<'a> {
     /// The type.

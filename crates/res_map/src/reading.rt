@@ -76,7 +76,8 @@ fn read_group(
 
 /// Returns the references of groups, in order.
 pub fn read_groups(alloc: Global, groups: &[Group<'_>]) -> Result<Vec<StoredReference>, AllocError>
-    ensures { IfOk result (λ v. map view_reference v.items ≡ of_groups (map view_group groups.now)) }
+    ensures { IfOk result (λ v. map view_reference v.items
+        ≡ of_groups (map view_group groups.now)) }
 {
     let mut refs = Vec::new(alloc);
     for group in groups {
@@ -87,7 +88,8 @@ pub fn read_groups(alloc: Global, groups: &[Group<'_>]) -> Result<Vec<StoredRefe
 
 /// Returns the types of groups, as numbers.
 pub fn read_types(alloc: Global, groups: &[Group<'_>]) -> Result<Vec<u32>, AllocError>
-    ensures { IfOk result (λ v. v.items ≡ map (λ (g : GroupValue). g.kind) (map view_group groups.now)) }
+    ensures { IfOk result (λ v. v.items
+        ≡ map (λ (g : GroupValue). g.kind) (map view_group groups.now)) }
 {
     let mut types = Vec::with_capacity(alloc, groups.len())?;
     for group in groups {

@@ -1,17 +1,18 @@
 //! The resource map of one open file.
 
-ghost use Rattle.std.specs.Prelude.{◌≡◌, ◌<◌, ◌≤◌, ◌^◌, ℕ, IsTrue, Some, length, map, slice_get, slice_set, option_map};
-ghost use Rattle.std.specs.Prelude.{IfOk, IfSome, OnOk, OnErr};
-ghost use Rattle.std.specs.List.{list_all, remove};
+ghost use Rattle.std.specs.Prelude.{◌≡◌, ◌<◌, ◌≤◌, ◌^◌, ◌==◌, ℕ, IsTrue, Some, length, map};
+ghost use Rattle.std.specs.Prelude.{slice_get, slice_set, option_map, IfOk, IfSome, OnOk, OnErr};
+ghost use Rattle.std.specs.List.{list_all, list_any, remove};
 ghost use Rattle.byteorder.specs.Endian.{big_number};
 ghost use Rattle.fork_format.specs.Content.{Group as GroupValue};
 ghost use Rattle.fork_format.specs.Canonical.{has_refs, are_distinct};
 ghost use Rattle.fork_format.specs.View.{view};
-ghost use Rattle.windows.specs.Writes.{written};
+ghost use Rattle.memory_windows.specs.Writes.{written};
 ghost use Rattle.res_map.specs.Split.{split, place};
-ghost use Rattle.res_map.specs.Map.{Reference, Map, IsOrdered, is_of, is_resource, is_named, has_handle, types};
-ghost use Rattle.res_map.specs.Map.{of_type, nth, split_nth, map_of, with_handle, with_attrs, stored_anew, renamed};
-ghost use Rattle.res_map.specs.Map.{with_datum, resized_datum, added, new_reference};
+ghost use Rattle.res_map.specs.Map.{Reference, Map, IsOrdered, is_of, is_resource, is_named};
+ghost use Rattle.res_map.specs.Map.{has_handle, types, of_type, nth, split_nth, map_of};
+ghost use Rattle.res_map.specs.Map.{with_handle, with_attrs, stored_anew, renamed, with_datum};
+ghost use Rattle.res_map.specs.Map.{resized_datum, added, new_reference};
 ghost use Rattle.std.specs.Prelude.{vec_capacity};
 ghost use Rattle.res_map.specs.Index.{IsHolding, IsIndex, is_printed};
 ghost use Rattle.res_map.specs.View.{view_reference, view_lent};
@@ -29,8 +30,8 @@ use mac_words::{Attrs, Name, OsType};
 use std::alloc::{AllocError, Global};
 use std::marker::Model;
 
-/// The resource map of an open file: its references in order, each with its handle, if it has one. A reference is named
-/// by its place in that order, from 0.
+/// The resource map of an open file: its references in order, each with its handle, if it has one.
+/// A reference is named by its place in that order, from 0.
 ///
 /// The map holds the stored data of the resources, so the bytes of the file's fork may be released.
 ///
@@ -49,11 +50,12 @@ pub struct ResFile {
 impl Model for ResFile {
     ghost Value = { Map };
 
-    ghost view = { λ f. record { area = f.area; attrs = f.attrs; references = map view_reference f.refs.items } };
+    ghost view = { λ f.
+        record { area = f.area; attrs = f.attrs; references = map view_reference f.refs.items } };
 
-    // Each type stands once, in the order of the first references; the references of one type stand together; and the
-    // indexes record the place of the first reference of each type and ID, of each type and print of a name, and of
-    // each handle.
+    // Each type stands once, in the order of the first references; the references of one type stand
+    // together; and the indexes record the place of the first reference of each type and ID, of
+    // each type and print of a name, and of each handle.
     ghost invariant = { λ f. IsOrdered f.kinds.items (map view_reference f.refs.items)
         × IsIndex is_resource f.index.items (map view_reference f.refs.items)
         × IsIndex is_printed f.names.items (map view_reference f.refs.items)
@@ -63,7 +65,8 @@ impl Model for ResFile {
 impl ResFile {
     /// Returns the map of a content, as its file is opened. No reference has a handle.
     pub fn open(alloc: Global, content: &Content<'_>) -> Result<ResFile, AllocError>
-        requires types { IsTrue (are_distinct (map (λ (g : GroupValue). g.kind) (view content.now).groups)) }
+        requires types { IsTrue
+            (are_distinct (map (λ (g : GroupValue). g.kind) (view content.now).groups)) }
         requires references { IsTrue (list_all has_refs (view content.now).groups) }
         ensures { IfOk result (λ f. f ≡ map_of (view content.now)) }
     {
@@ -101,16 +104,18 @@ impl ResFile {
 
     /// Returns the place of the first reference of a type and ID.
     pub fn find(&self, ty: OsType, id: i16) -> Option<usize>
-        ensures { result ≡ option_map place (split (is_resource (big_number 4 ty.0) id) self.now.references) }
+        ensures { result
+            ≡ option_map place (split (is_resource (big_number 4 ty.0) id) self.now.references) }
     {
         place_told(self.index.as_slice(), kind_of(ty), id as i32)
     }
 
-    /// Returns the place of the first reference of a type and name. ASCII letters match in either case, and other bytes
-    /// are compared as they stand. A reference without a name matches no text; a reference with a name of no bytes
-    /// matches the empty text.
+    /// Returns the place of the first reference of a type and name. ASCII letters match in either
+    /// case, and other bytes are compared as they stand. A reference without a name matches no
+    /// text; a reference with a name of no bytes matches the empty text.
     pub fn find_named(&self, ty: OsType, name: &[u8]) -> Option<usize>
-        ensures { result ≡ option_map place (split (is_named (big_number 4 ty.0) name.now) self.now.references) }
+        ensures { result
+            ≡ option_map place (split (is_named (big_number 4 ty.0) name.now) self.now.references) }
     {
         place_called(
             self.names.as_slice(),
@@ -129,7 +134,8 @@ impl ResFile {
 
     /// Returns the place of the n-th reference of a type, from 1.
     pub fn find_nth(&self, ty: OsType, n: u32) -> Option<usize>
-        ensures { result ≡ option_map place (split_nth n (is_of (big_number 4 ty.0)) self.now.references) }
+        ensures { result
+            ≡ option_map place (split_nth n (is_of (big_number 4 ty.0)) self.now.references) }
     {
         nth_place(self.refs.as_slice(), kind_of(ty), n)
     }
@@ -153,9 +159,42 @@ impl ResFile {
 
     /// Returns the n-th type, from 1.
     pub fn nth_type(&self, n: u32) -> Option<OsType>
-        ensures { option_map (λ (t : OsType). big_number 4 t.0) result ≡ nth n (types self.now.references) }
+        ensures { option_map (λ (t : OsType). big_number 4 t.0) result
+            ≡ nth n (types self.now.references) }
     {
         nth_kind(self.kinds.as_slice(), n)
+    }
+
+    /// Returns the type at a place among the types, from 0.
+    pub fn type_at(&self, index: usize) -> OsType
+        requires { index < length (types self.now.references) }
+        ensures { slice_get (types self.now.references) index ≡ Some (big_number 4 result.0) }
+    {
+        type_of(self.kinds[index])
+    }
+
+    /// Reports whether the file has resources of a type.
+    pub fn has_type(&self, ty: OsType) -> bool
+        ensures { result
+            ≡ list_any (λ kind. kind == big_number 4 ty.0) (types self.now.references) }
+    {
+        has_kind(self.kinds.as_slice(), kind_of(ty))
+    }
+
+    /// Returns the attributes of the map.
+    ///
+    /// *More Macintosh Toolbox*, chapter 1, "Resource Fork Attributes".
+    pub fn map_attrs(&self) -> u16
+        ensures { result ≡ self.now.attrs }
+    {
+        self.attrs
+    }
+
+    /// Sets the attributes of the map.
+    pub fn set_map_attrs(&mut self, attrs: u16)
+        ensures { self.new ≡ record self.old { attrs = attrs } }
+    {
+        self.attrs = attrs;
     }
 
     /// Sets the handle of a reference, or takes it away.
@@ -188,31 +227,36 @@ impl ResFile {
         put_datum(&mut self.refs, index, datum);
     }
 
-    /// Writes bytes into the stored data of a reference, from an offset on; the data grows where they reach past its end.
-    /// The bytes that stand are copied only where the data has to grow past the room that it has. Where the host is out
-    /// of memory, the file is as it was.
+    /// Writes bytes into the stored data of a reference, from an offset on; the data grows where
+    /// they reach past its end. The bytes that stand are copied only where the data has to grow
+    /// past the room that it has. Where the host is out of memory, the file is as it was.
     ///
     /// *More Macintosh Toolbox*, chapter 1, "Reading and Writing Partial Resources".
     pub fn write_datum(&mut self, index: usize, from: usize, bytes: &[u8]) -> Result<(), AllocError>
         requires inside { index < length self.old.references }
-        requires within { IfSome (slice_get self.old.references index) (λ r. from ≤ length r.stored.datum) }
-        ensures written { OnOk result (IfSome (slice_get self.old.references index) (λ r. self.new ≡ record self.old {
-          references = slice_set self.old.references index (with_datum (written from bytes.now r.stored.datum) r);
-        })) }
+        requires within { IfSome (slice_get self.old.references index) (λ r. from
+            ≤ length r.stored.datum) }
+        ensures written { OnOk result
+            (IfSome (slice_get self.old.references index) (λ r. self.new ≡ record self.old {
+              references = slice_set self.old.references index
+                  (with_datum (written from bytes.now r.stored.datum) r);
+            })) }
         ensures kept { OnErr result (self.new ≡ self.old) }
     {
         put_bytes(&mut self.refs, index, from, bytes)
     }
 
-    /// Sets the size of the stored data of a reference: bytes are cut off, or new ones are 0. Where the host is out of
-    /// memory, the file is as it was.
+    /// Sets the size of the stored data of a reference: bytes are cut off, or new ones are 0. Where
+    /// the host is out of memory, the file is as it was.
     ///
     /// *More Macintosh Toolbox*, chapter 1, "Reading and Writing Partial Resources".
     pub fn resize_datum(&mut self, index: usize, size: usize) -> Result<(), AllocError>
         requires { index < length self.old.references }
-        ensures resized { OnOk result (IfSome (slice_get self.old.references index) (λ r. self.new ≡ record self.old {
-          references = slice_set self.old.references index (with_datum (resized_datum size r.stored.datum) r);
-        })) }
+        ensures resized { OnOk result
+            (IfSome (slice_get self.old.references index) (λ r. self.new ≡ record self.old {
+              references = slice_set self.old.references index
+                  (with_datum (resized_datum size r.stored.datum) r);
+            })) }
         ensures kept { OnErr result (self.new ≡ self.old) }
     {
         put_size(&mut self.refs, index, size)
@@ -227,9 +271,10 @@ impl ResFile {
         name: &Name,
     ) -> Result<(), AllocError>
         requires { index < length self.old.references }
-        ensures renamed { OnOk result (IfSome (slice_get self.old.references index) (λ r. self.new ≡ record self.old {
-          references = slice_set self.old.references index (renamed id name.now.0.items r);
-        })) }
+        ensures renamed { OnOk result
+            (IfSome (slice_get self.old.references index) (λ r. self.new ≡ record self.old {
+              references = slice_set self.old.references index (renamed id name.now.0.items r);
+            })) }
         ensures kept { OnErr result (self.new ≡ self.old) }
     {
         let own = name_of(alloc, name)?;
@@ -244,7 +289,8 @@ impl ResFile {
         )
     }
 
-    /// Removes a reference. The file no longer has its type where the reference was the last of the type.
+    /// Removes a reference. The file no longer has its type where the reference was the last of the
+    /// type.
     pub fn remove(&mut self, index: usize)
         requires { index < length self.old.references }
         ensures { self.new ≡ record self.old { references = remove self.old.references index } }
@@ -259,9 +305,10 @@ impl ResFile {
         );
     }
 
-    /// Adds a reference after the last one of its type; the first of a type is added as the last of all. The new
-    /// reference has a handle, is marked as changed, and has no stored data yet. An empty text gives the reference no
-    /// name. Where the host is out of memory, the file is as it was.
+    /// Adds a reference after the last one of its type; the first of a type is added as the last of
+    /// all. The new reference has a handle, is marked as changed, and has no stored data yet. An
+    /// empty text gives the reference no name. Where the host is out of memory, the file is as
+    /// it was.
     pub fn add(
         &mut self,
         alloc: Global,
@@ -271,7 +318,8 @@ impl ResFile {
         handle: usize,
     ) -> Result<(), AllocError>
         ensures added { OnOk result (self.new ≡ record self.old {
-          references = added (new_reference (big_number 4 ty.0) id name.now.0.items handle) self.old.references;
+          references = added (new_reference (big_number 4 ty.0) id name.now.0.items handle)
+              self.old.references;
         }) }
         ensures kept { OnErr result (self.new ≡ self.old) }
     {
@@ -285,6 +333,13 @@ impl ResFile {
             new,
         )
     }
+}
+
+/// Reports whether a type is among the types.
+fn has_kind(kinds: &[u32], kind: u32) -> bool
+    ensures { result ≡ list_any (λ k. k == kind) kinds.now }
+{
+    kinds.contains(&kind)
 }
 
 /// Returns the n-th of the types, from 1.

@@ -26,7 +26,8 @@ fn is_at(r: &StoredReference, kind: u32, id: i32) -> bool
 /// Returns the place of the first reference of a type and ID.
 #[tactic(auto, using(crate::proofs::Steps::found_here, crate::proofs::Steps::found_on))]
 pub fn place_of(refs: &[StoredReference], kind: u32, id: i32) -> Option<usize>
-    ensures { result ≡ option_map place (split (is_resource kind id) (map view_reference refs.now)) }
+    ensures { result
+        ≡ option_map place (split (is_resource kind id) (map view_reference refs.now)) }
 {
     for i in 0..refs.len() {
         if is_at(&refs[i], kind, id) {

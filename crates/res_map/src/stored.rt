@@ -22,8 +22,8 @@ pub struct Rest {
     pub handle: Option<usize>,
 }
 
-/// A reference. The part that a search by type and ID reads lies close to that of the next reference; the other part
-/// lies elsewhere in memory.
+/// A reference. The part that a search by type and ID reads lies close to that of the next
+/// reference; the other part lies elsewhere in memory.
 #[derive(Drop)]
 pub struct StoredReference {
     /// The type, as a number.

@@ -13,9 +13,9 @@ use fork_format::{Content, Group, Ref};
 use std::alloc::{AllocError, Global};
 
 impl ResFile {
-    /// Returns the content that the file's fork is to hold: for each reference the bytes that are given for it, or else
-    /// its stored data. No reference is changed. Names and bytes are lent. Returns an error where the host is out of
-    /// memory.
+    /// Returns the content that the file's fork is to hold: for each reference the bytes that are
+    /// given for it, or else its stored data. No reference is changed. Names and bytes are lent.
+    /// Returns an error where the host is out of memory.
     ///
     /// *More Macintosh Toolbox*, chapter 1, "UpdateResFile".
     pub fn content<'a>(
@@ -36,13 +36,14 @@ impl ResFile {
         })
     }
 
-    /// Stores the bytes that are given for references, and clears the resChanged of all references. No host memory is
-    /// taken.
+    /// Stores the bytes that are given for references, and clears the resChanged of all references.
+    /// No host memory is taken.
     ///
     /// *More Macintosh Toolbox*, chapter 1, "UpdateResFile".
     pub fn store_all(&mut self, fresh: Vec<Option<Vec<u8>>>)
         requires { length fresh.items ≡ length self.old.references }
-        ensures { self.new ≡ record self.old { references = all_anew (view_all fresh.items) self.old.references } }
+        ensures { self.new
+            ≡ record self.old { references = all_anew (view_all fresh.items) self.old.references } }
     {
         put_all(&mut self.refs, fresh);
     }
@@ -58,7 +59,8 @@ fn bytes_of<'a>(given: &'a Option<Vec<u8>>, stored: &'a [u8]) -> &'a [u8]
     }
 }
 
-/// Returns what is to be stored of a reference, with the bytes that are given for it, if there are any.
+/// Returns what is to be stored of a reference, with the bytes that are given for it, if there
+/// are any.
 fn ref_of<'a>(r: &'a StoredReference, given: &'a Option<Vec<u8>>) -> Ref<'a>
     ensures { view_ref result ≡ (stored_anew (view_bytes given.now) (view_reference r.now)).stored }
 {
@@ -145,7 +147,8 @@ fn put_given(r: &mut StoredReference, given: Option<Vec<u8>>)
 #[tactic(auto, using(crate::proofs::Anew::put_all))]
 fn put_all(refs: &mut Vec<StoredReference>, mut fresh: Vec<Option<Vec<u8>>>)
     requires { length fresh.items ≡ length refs.old.items }
-    ensures { map view_reference refs.new.items ≡ all_anew (view_all fresh.items) (map view_reference refs.old.items) }
+    ensures { map view_reference refs.new.items
+        ≡ all_anew (view_all fresh.items) (map view_reference refs.old.items) }
 {
     for i in 0..refs.len() {
         put_given(&mut refs[i], fresh[i].take());

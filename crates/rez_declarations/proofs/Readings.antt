@@ -11,8 +11,9 @@ use Rattle.rez_declarations.specs.declared.modified.Modified.{Modified}
 use Rattle.rez_types.specs.Fields.{NamedNumber, NamedText, Field}
 use Rattle.rez_declarations.specs.Drafting.{Draft, no_draft, closed}
 use Rattle.rez_declarations.specs.Parsing.{Parsing, ◌>>=◌, refused, lexeme, passed, is_mark, is_word_in}
-use Rattle.rez_declarations.specs.Declaring.{Cases, drafted_at, number_named, numbers_named, string_part, string_on, text_named, texts_named}
-use Rattle.rez_declarations.specs.Declaring.{modifier_in, with_modifier, modified, ends_here, field_read, fields_read, fields_in, case_read, cases_read}
+use Rattle.rez_declarations.specs.Declaring.{Cases, drafted_at, number_named, numbers_named, string_part, string_on, text_named}
+use Rattle.rez_declarations.specs.Declaring.{texts_named, modifier_in, with_modifier, modified, ends_here, field_read, fields_read}
+use Rattle.rez_declarations.specs.Declaring.{fields_in, case_read, cases_read}
 use Rattle.rez_types.proofs.Turns.{left, above}
 
 none_left : (n i : ℕ) → n ≤ i → n - i ≡ 0

@@ -9,8 +9,8 @@ use Rattle.rez_types.specs.Fields.{Part, Field, Run, Declaration}
 use Rattle.rez_types.specs.Decoding.{width_of}
 use Rattle.rez_types.specs.Whole.{bits_in, is_whole, has_whole_runs}
 use Rattle.rez_declarations.specs.Results.{◌>>=◌, unless}
-use Rattle.rez_declarations.specs.Sound.{no_fields, is_run, parts_judged, run_judged, longer, kind_judged, field_judged, fields_judged, each_counts}
-use Rattle.rez_declarations.specs.Sound.{limits_judged, block_judged, shapes_of, judged, fault_in, fault_of}
+use Rattle.rez_declarations.specs.Sound.{no_fields, is_run, parts_judged, run_judged, longer, kind_judged, field_judged, fields_judged}
+use Rattle.rez_declarations.specs.Sound.{each_counts, limits_judged, block_judged, shapes_of, judged, fault_in, fault_of}
 
 -- what both of two steps lead to
 bound : {A B : Type 0} (r : Result A Unsound) (f : A → Result B Unsound) (y : B) → (r >>= f) ≡ Ok y → (x : A) × (r ≡ Ok x) × (f x ≡ Ok y)

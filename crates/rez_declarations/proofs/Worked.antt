@@ -13,6 +13,7 @@ use Rattle.rez_types.specs.Decoding.{decoded_cstring, decoded_bytes, decoded_swi
 use Rattle.rez_types.specs.Encoding.{datum_of_values, encoded_run, encoded_fill, encoded_text, encoded_array, encoded_switch}
 use Rattle.rez_types.specs.Encoding.{write, next_value}
 use Rattle.rez_types.specs.Encoding as writing
+use Rattle.rez_types.proofs.Declared.{of_fields, with_block}
 use Rattle.rez_declarations.specs.Sound.{fault_of, judged, block_judged}
 
 -- integers of two bytes and of four, and an integer of a byte
@@ -21,14 +22,6 @@ integer = Integer 16 form.Signed []
 
 abbrev byte : Part
 byte = Integer 8 form.Signed []
-
--- a declaration of fields without blocks
-abbrev of_fields : List Field → Declaration
-of_fields fields = record { fields = fields; blocks = [] }
-
--- a declaration with one block
-abbrev with_block : List Field → List Field → Declaration
-with_block fields block = record { fields = fields; blocks = block ∷ [] }
 
 -- a string with its length before it
 abbrev pstring : Field
@@ -40,7 +33,8 @@ str_is : (values_of_datum (of_fields (pstring ∷ [])) (5 ∷ codes "Hello") ≡
     × (values_of_datum (of_fields (pstring ∷ [])) (6 ∷ codes "Hello") ≡ None)
     × (values_of_datum (of_fields (pstring ∷ [])) (4 ∷ codes "Hello") ≡ None)
     × (fault_of (of_fields (pstring ∷ [])) ≡ None)
-unfolding values_of_datum decoded_pstring decoded_bytes next next_number put datum_of_values encoded_text next_value write judged block_judged
+unfolding values_of_datum decoded_pstring decoded_bytes next next_number put datum_of_values encoded_text next_value write
+    judged block_judged
 str_is = (refl, refl, refl, refl, refl)
 
 -- type 'STR#' { integer = $$CountOf(StringArray); array StringArray { pstring; }; };
@@ -163,7 +157,8 @@ to_end_is : (values_of_datum to_end (65 ∷ 0 ∷ 0 ∷ [])
     × (values_of_datum to_end (65 ∷ []) ≡ None)
     × (datum_of_values to_end (value.Element ∷ value.Text (0 ∷ []) ∷ value.NoElement ∷ []) ≡ None)
     × (fault_of to_end ≡ None)
-unfolding values_of_datum decoded_cstring decoded_bytes next next_number put datum_of_values encoded_text encoded_array next_value write judged block_judged
+unfolding values_of_datum decoded_cstring decoded_bytes next next_number put datum_of_values encoded_text encoded_array next_value write
+    judged block_judged
 to_end_is = (refl, refl, refl, refl, refl)
 
 -- fills of bits, an alignment to four bytes, and the rest of the resource
@@ -171,8 +166,8 @@ abbrev fills : Declaration
 fills =
     of_fields (Run 1 (Integer 3 form.Binary [] ∷ FillBits 5 ∷ []) ∷ Align boundary.Long ∷ Text end.Resource true [] ∷ [])
 
-fills_are : (values_of_datum (of_fields (Run 1 (FillBits 4 ∷ Integer 4 form.Hex [] ∷ []) ∷ Align boundary.Long ∷ Text end.Resource true [] ∷ []))
-    (0x2B ∷ 0 ∷ 1 ∷ 0 ∷ 7 ∷ 8 ∷ [])
+fills_are : (values_of_datum (of_fields (Run 1 (FillBits 4 ∷ Integer 4 form.Hex [] ∷ []) ∷ Align boundary.Long ∷ Text end.Resource true []
+    ∷ [])) (0x2B ∷ 0 ∷ 1 ∷ 0 ∷ 7 ∷ 8 ∷ [])
     ≡ Some (value.Number 2 ∷ value.Number 11 ∷ value.Filled (0 ∷ 1 ∷ 0 ∷ []) ∷ value.Text (7 ∷ 8 ∷ []) ∷ []))
     × (datum_of_values fills (value.Number 5 ∷ value.Number 1 ∷ value.Filled [] ∷ value.Text (7 ∷ []) ∷ [])
     ≡ Some (0xA1 ∷ 0 ∷ 0 ∷ 0 ∷ 7 ∷ []))
@@ -206,7 +201,7 @@ unfolding judged block_judged
 refused = (refl, refl, refl, refl, refl, refl, refl, refl, refl, refl, refl, refl)
 
 -- a switch of two cases, whose keys stand there
-abbrev switch_of : List Field → List Field → Declaration
+abbrev switch_of : (one two : List Field) → Declaration
 switch_of one two = record {
   fields = Switch (record { before = 0; bytes = 1; below = 0; width = 8 }) (
       record { name = codes "One"; pattern = 1; block = 0 } ∷ record { name = codes "Two"; pattern = 2; block = 1 } ∷ []
@@ -244,7 +239,8 @@ limits : (fault_of (nested 7) ≡ None)
     × (fault_of (of_fields (replicate 512 Point)) ≡ None)
     × (fault_of (of_fields (replicate 513 Point)) ≡ Some fault.ManyFields)
     × (fault_of (with_block (Array [] (Fixed 65535) 0 ∷ Fill 256 ∷ []) (Text (end.Fixed 256) false [] ∷ [])) ≡ None)
-    × (fault_of (with_block (Array [] (Fixed 65535) 0 ∷ Fill 256 ∷ Point ∷ []) (Text (end.Fixed 256) false [] ∷ [])) ≡ Some fault.LongResource)
+    × (fault_of (with_block (Array [] (Fixed 65535) 0 ∷ Fill 256 ∷ Point ∷ []) (Text (end.Fixed 256) false [] ∷ []))
+    ≡ Some fault.LongResource)
     × (fault_of (with_block (Array [] (Fixed 0) 0 ∷ []) (pstring ∷ [])) ≡ Some fault.NoLength)
     × (fault_of (of_fields (Text end.Char false (record { name = codes "none"; text = [] } ∷ []) ∷ [])) ≡ Some fault.WrongText)
 unfolding judged block_judged

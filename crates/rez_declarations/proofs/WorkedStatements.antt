@@ -136,7 +136,8 @@ unfolding statement type_read declared marked named constant field_read integer_
 following_are = (refl, refl)
 
 -- type 'TYPE' as 'STR ';
-likened_is : statement (on_line 1 (Word (codes "type") ∷ Literal (codes "TYPE") ∷ Word (codes "as") ∷ Literal (codes "STR ") ∷ semicolon ∷ []))
+likened_is
+    : statement (on_line 1 (Word (codes "type") ∷ Literal (codes "TYPE") ∷ Word (codes "as") ∷ Literal (codes "STR ") ∷ semicolon ∷ []))
     ≡ Ok (type_number, As 0x53545220, [])
 unfolding statement type_read likened marked
 likened_is = refl

@@ -4,7 +4,8 @@ ghost use Rattle.std.specs.Prelude.{◌≡◌, ◌≤◌, [], IfSome, option_map
 ghost use Rattle.rez_types.specs.Leads.{same, flag, bytes_in};
 ghost use Rattle.rez_types.specs.View.{number_of, text_of, part_of, field_of};
 ghost use Rattle.rez_declarations.specs.Drafts.{draft_of};
-ghost use Rattle.rez_declarations.specs.Parses.{Parses, ParsesTo, Reads, RefusesDraft, parsing_of, numbers_in, texts_in};
+ghost use Rattle.rez_declarations.specs.Parses.{Parses, ParsesTo, Reads, RefusesDraft, parsing_of};
+ghost use Rattle.rez_declarations.specs.Parses.{numbers_in, texts_in};
 ghost use Rattle.rez_declarations.specs.Drafting.{with_part, with_fill};
 ghost use Rattle.rez_declarations.specs.Parsing.{lexeme};
 ghost use Rattle.rez_declarations.specs.Declaring as spec;
@@ -34,10 +35,12 @@ impl<'a> Parser<'a> {
         }
     }
 
-    /// Passes over the value of a named constant: after `=`, or one more than that of the one before it.
+    /// Passes over the value of a named constant: after `=`, or one more than that of the one
+    /// before it.
     #[tactic(auto, unfolding(crate::specs::Declaring::pattern_named))]
     fn take_pattern(&mut self, width: Width, following: u64) -> Result<u32, ReadFault>
-        ensures { ParsesTo same result (parsing_of self.new) (spec.pattern_named width.bits following (parsing_of self.old)) }
+        ensures { ParsesTo same result (parsing_of self.new)
+            (spec.pattern_named width.bits following (parsing_of self.old)) }
     {
         if self.is_mark(b'=') {
             self.pass();
@@ -52,7 +55,8 @@ impl<'a> Parser<'a> {
     /// Passes over a named constant.
     #[tactic(auto, unfolding(crate::specs::Declaring::number_named))]
     fn take_named_number(&mut self, width: Width, following: u64) -> Result<NamedNumber, ReadFault>
-        ensures { ParsesTo number_of result (parsing_of self.new) (spec.number_named width.bits following (parsing_of self.old)) }
+        ensures { ParsesTo number_of result (parsing_of self.new)
+            (spec.number_named width.bits following (parsing_of self.old)) }
     {
         let name = self.take_name()?;
         let pattern = self.take_pattern(width, following)?;
@@ -62,7 +66,8 @@ impl<'a> Parser<'a> {
     /// Passes over named constants, with commas between them.
     #[tactic(auto, using(crate::proofs::Readings::numbers_on, crate::proofs::Readings::numbers_end))]
     fn take_numbers(&mut self, width: Width) -> Result<Vec<NamedNumber>, ReadFault>
-        ensures { ParsesTo numbers_in result (parsing_of self.new) (spec.numbers_named 256 width.bits 0 [] (parsing_of self.old)) }
+        ensures { ParsesTo numbers_in result (parsing_of self.new)
+            (spec.numbers_named 256 width.bits 0 [] (parsing_of self.old)) }
     {
         let mut constants = Vec::new(self.alloc);
         let mut following: u64 = 0;
@@ -81,7 +86,8 @@ impl<'a> Parser<'a> {
     /// Passes over the named constants of an integer, where it has some.
     #[tactic(auto, unfolding(crate::specs::Declaring::numbers_of))]
     fn take_constants(&mut self, width: Width) -> Result<Vec<NamedNumber>, ReadFault>
-        ensures { ParsesTo numbers_in result (parsing_of self.new) (spec.numbers_of width.bits (parsing_of self.old)) }
+        ensures { ParsesTo numbers_in result (parsing_of self.new)
+            (spec.numbers_of width.bits (parsing_of self.old)) }
     {
         match self.word() {
             Some(_) => self.take_numbers(width),
@@ -115,7 +121,8 @@ impl<'a> Parser<'a> {
     /// Passes over the strings that follow one another, and returns them as one.
     #[tactic(auto, using(crate::proofs::Readings::strings_on), unfolding(crate::specs::Declaring::string_in))]
     fn take_string(&mut self) -> Result<Vec<u8>, ReadFault>
-        ensures { ParsesTo bytes_in result (parsing_of self.new) (spec.string_in (parsing_of self.old)) }
+        ensures { ParsesTo bytes_in result (parsing_of self.new)
+            (spec.string_in (parsing_of self.old)) }
     {
         let mut text = Vec::new(self.alloc);
         if self.string().is_none() {
@@ -135,7 +142,8 @@ impl<'a> Parser<'a> {
     /// Passes over a named string.
     #[tactic(auto, unfolding(crate::specs::Declaring::text_named))]
     fn take_named_text(&mut self) -> Result<NamedText, ReadFault>
-        ensures { ParsesTo text_of result (parsing_of self.new) (spec.text_named (parsing_of self.old)) }
+        ensures { ParsesTo text_of result (parsing_of self.new)
+            (spec.text_named (parsing_of self.old)) }
     {
         let name = self.take_name()?;
         self.take_mark(b'=', FaultKind::StringNeeded)?;
@@ -146,7 +154,8 @@ impl<'a> Parser<'a> {
     /// Passes over named strings, with commas between them.
     #[tactic(auto, using(crate::proofs::Readings::texts_on, crate::proofs::Readings::texts_end))]
     fn take_texts(&mut self) -> Result<Vec<NamedText>, ReadFault>
-        ensures { ParsesTo texts_in result (parsing_of self.new) (spec.texts_named 256 [] (parsing_of self.old)) }
+        ensures { ParsesTo texts_in result (parsing_of self.new)
+            (spec.texts_named 256 [] (parsing_of self.old)) }
     {
         let mut constants = Vec::new(self.alloc);
         for i in 0..MOST_CONSTANTS {
@@ -163,7 +172,8 @@ impl<'a> Parser<'a> {
     /// Passes over the named strings of a string, where it has some.
     #[tactic(auto, unfolding(crate::specs::Declaring::texts_of))]
     fn take_named_texts(&mut self) -> Result<Vec<NamedText>, ReadFault>
-        ensures { ParsesTo texts_in result (parsing_of self.new) (spec.texts_of (parsing_of self.old)) }
+        ensures { ParsesTo texts_in result (parsing_of self.new)
+            (spec.texts_of (parsing_of self.old)) }
     {
         match self.word() {
             Some(_) => self.take_texts(),
@@ -174,7 +184,8 @@ impl<'a> Parser<'a> {
     /// Passes over the name of an array, in parentheses.
     #[tactic(auto, unfolding(crate::specs::Declaring::name_in_parentheses))]
     fn take_array_name(&mut self) -> Result<Vec<u8>, ReadFault>
-        ensures { ParsesTo bytes_in result (parsing_of self.new) (spec.name_in_parentheses (parsing_of self.old)) }
+        ensures { ParsesTo bytes_in result (parsing_of self.new)
+            (spec.name_in_parentheses (parsing_of self.old)) }
     {
         self.take_mark(b'(', FaultKind::ParenthesisNeeded)?;
         let name = self.take_name()?;
@@ -197,8 +208,8 @@ impl<'a> Parser<'a> {
 
     /// Adds a part of a run.
     fn add_part(&mut self, draft: &mut BlockDraft, part: Part) -> Result<(), ReadFault>
-        ensures { Reads result (draft_of draft.new) (parsing_of self.new)
-            (spec.drafted_at (with_part (part_of part) (draft_of draft.old)) (parsing_of self.old)) }
+        ensures { Reads result (draft_of draft.new) (parsing_of self.new) (spec.drafted_at
+            (with_part (part_of part) (draft_of draft.old)) (parsing_of self.old)) }
     {
         match draft.add_part(part) {
             Ok(()) => Ok(()),
@@ -252,7 +263,8 @@ impl<'a> Parser<'a> {
         is_key: bool,
     ) -> Result<(), ReadFault>
         ensures { Reads result (draft_of draft.new) (parsing_of self.new)
-            (spec.fixed_read (lexeme (parsing_of self.old)) width.bits is_key (draft_of draft.old) (parsing_of self.old)) }
+            (spec.fixed_read (lexeme (parsing_of self.old)) width.bits is_key (draft_of draft.old)
+            (parsing_of self.old)) }
     {
         if let [
             Token {
@@ -347,7 +359,8 @@ impl<'a> Parser<'a> {
     /// Reads a fill, after the word `fill`.
     #[tactic(auto, unfolding(crate::specs::Declaring::fill_read))]
     pub fn read_fill(&mut self, draft: &mut BlockDraft) -> Result<(), ReadFault>
-        ensures { Reads result (draft_of draft.new) (parsing_of self.new) (spec.fill_read (draft_of draft.old) (parsing_of self.old)) }
+        ensures { Reads result (draft_of draft.new) (parsing_of self.new)
+            (spec.fill_read (draft_of draft.old) (parsing_of self.old)) }
     {
         let Some(bits) = self.unit() else {
             return Err(self.refuse(FaultKind::UnitNeeded));
@@ -384,7 +397,8 @@ impl<'a> Parser<'a> {
     /// Reads an alignment, after the word `align`.
     #[tactic(auto, unfolding(crate::specs::Declaring::align_read))]
     pub fn read_align(&mut self, draft: &mut BlockDraft) -> Result<(), ReadFault>
-        ensures { Reads result (draft_of draft.new) (parsing_of self.new) (spec.align_read (draft_of draft.old) (parsing_of self.old)) }
+        ensures { Reads result (draft_of draft.new) (parsing_of self.new)
+            (spec.align_read (draft_of draft.old) (parsing_of self.old)) }
     {
         let boundary = if self.is_word(b"word") {
             Boundary::Word

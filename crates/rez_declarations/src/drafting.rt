@@ -98,7 +98,8 @@ impl BlockDraft {
 
     /// Adds a field.
     pub fn add(&mut self, field: Field) -> Result<(), DraftFault>
-        ensures { Drafts result (draft_of self.new) (Ok (spec.with_field (field_of field) (draft_of self.old))) }
+        ensures { Drafts result (draft_of self.new)
+            (Ok (spec.with_field (field_of field) (draft_of self.old))) }
     {
         self.fields.push(field)?;
         Ok(())
@@ -133,7 +134,8 @@ impl BlockDraft {
     /// Ends an array that waits by the part after it, which has to be a constant of whole bytes.
     fn end_by(&mut self, part: &Part, array: WaitingArray) -> Result<(), DraftFault>
         requires { self.old.waiting ≡ None }
-        ensures { Drafts result (draft_of self.new) (spec.ended_by (part_of part.now) (waiting_of array) (draft_of self.old)) }
+        ensures { Drafts result (draft_of self.new)
+            (spec.ended_by (part_of part.now) (waiting_of array) (draft_of self.old)) }
     {
         let Part::Constant(constant) = part else {
             return Err(DraftFault::Unsound(Unsound::EndlessArray));
@@ -150,8 +152,8 @@ impl BlockDraft {
 
     /// Ends the array that waits, where one does, by the part after it.
     fn end_before(&mut self, part: &Part) -> Result<(), DraftFault>
-        ensures { Drafts result (draft_of self.new)
-            (spec.before_part (part_of part.now) (option_map waiting_of self.old.waiting) (draft_of self.old)) }
+        ensures { Drafts result (draft_of self.new) (spec.before_part (part_of part.now)
+            (option_map waiting_of self.old.waiting) (draft_of self.old)) }
     {
         match self.waiting.take() {
             None => Ok(()),
@@ -161,7 +163,8 @@ impl BlockDraft {
 
     /// Adds a part to its run, which then has so many bits.
     fn add_to_run(&mut self, part: Part, bits: u16) -> Result<(), DraftFault>
-        ensures { Drafts result (draft_of self.new) (spec.in_run (part_of part) bits (draft_of self.old)) }
+        ensures { Drafts result (draft_of self.new)
+            (spec.in_run (part_of part) bits (draft_of self.old)) }
     {
         if 32 < bits {
             return Err(DraftFault::Unsound(Unsound::PartialBytes));
@@ -181,7 +184,8 @@ impl BlockDraft {
 
     /// Adds a part of a run.
     pub fn add_part(&mut self, part: Part) -> Result<(), DraftFault>
-        ensures { Drafts result (draft_of self.new) (spec.with_part (part_of part) (draft_of self.old)) }
+        ensures { Drafts result (draft_of self.new)
+            (spec.with_part (part_of part) (draft_of self.old)) }
     {
         self.end_before(&part)?;
         let bits = self.bits as u16 + part.width() as u16;
@@ -233,7 +237,8 @@ impl BlockDraft {
         array: WaitingArray,
     ) -> Result<(), DraftFault>
         requires { self.old.waiting ≡ None }
-        ensures { Drafts result (draft_of self.new) (spec.array_ending length place (waiting_of array) (draft_of self.old)) }
+        ensures { Drafts result (draft_of self.new)
+            (spec.array_ending length place (waiting_of array) (draft_of self.old)) }
     {
         match length {
             Some(length) => match place {
@@ -250,9 +255,11 @@ impl BlockDraft {
         }
     }
 
-    /// Adds an array with a name, or with no bytes as its name, whose elements have the fields of a block.
+    /// Adds an array with a name, or with no bytes as its name, whose elements have the fields of a
+    /// block.
     pub fn add_array(&mut self, length: Option<u16>, array: WaitingArray) -> Result<(), DraftFault>
-        ensures { Drafts result (draft_of self.new) (spec.with_array length (waiting_of array) (draft_of self.old)) }
+        ensures { Drafts result (draft_of self.new)
+            (spec.with_array length (waiting_of array) (draft_of self.old)) }
     {
         self.check_whole()?;
         let name = array.name.as_slice();

@@ -45,7 +45,8 @@ fn key_part(part: &Part) -> Option<Constant>
 /// Returns the key among the parts of a run of so many bytes, after so many bytes of its case.
 fn key_among(before: u32, bytes: u8, parts: &[Part]) -> Option<CaseKey>
     requires { bytes ≤ 4 }
-    ensures { option_map key_of_held result ≡ spec.key_among before bytes (8 * bytes) (map part_of parts.now) }
+    ensures { option_map key_of_held result
+        ≡ spec.key_among before bytes (8 * bytes) (map part_of parts.now) }
 {
     let mut left = 8 * bytes;
     for part in parts {
@@ -107,7 +108,8 @@ pub(crate) fn judge_key(
     fields: &[Field],
     shape: Shape,
 ) -> Result<Shape, Unsound>
-    ensures { result ≡ spec.key_judged (place_of place.now) pattern (spec.key_after 0 (fields_of fields.now)) shape }
+    ensures { result ≡ spec.key_judged (place_of place.now) pattern
+        (spec.key_after 0 (fields_of fields.now)) shape }
 {
     let Some(key) = key_of(fields) else {
         return Err(Unsound::NoKey);

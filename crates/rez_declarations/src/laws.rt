@@ -15,10 +15,13 @@ pub fn sound_runs_are_whole()
     ensures { (d : Declaration) → fault_of d ≡ None → has_whole_runs d ≡ true }
 {}
 
-/// States that by each sound declaration the values of a resource's bytes are written as those bytes, where they are at most 16 MB.
+/// States that by each sound declaration the values of a resource's bytes are written as those
+/// bytes, where they are at most 16 MB.
 pub fn sound_declarations_keep_bytes()
-    ensures { (d : Declaration) (bytes : List ℕ) (values : List Value) → fault_of d ≡ None → AreBytes bytes
-        → length bytes ≤ 16777216 → values_of_datum d bytes ≡ Some values → datum_of_values d values ≡ Some bytes }
+    ensures { (d : Declaration) (bytes : List ℕ) (values : List Value) → fault_of d ≡ None
+        → AreBytes bytes
+        → length bytes ≤ 16777216 → values_of_datum d bytes ≡ Some values
+        → datum_of_values d values ≡ Some bytes }
 {
     what_is_read_is_written();
 }

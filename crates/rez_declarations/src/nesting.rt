@@ -4,7 +4,8 @@ ghost use Rattle.std.specs.Prelude.{◌≡◌, ◌≤◌, length, option_map, If
 ghost use Rattle.rez_types.specs.Leads.{bytes_in};
 ghost use Rattle.rez_types.specs.View.{place_of, fields_of};
 ghost use Rattle.rez_declarations.specs.Drafts.{draft_of};
-ghost use Rattle.rez_declarations.specs.Parses.{Parses, ParsesTo, Reads, parsing_of, fields_held, cases_of, same_size};
+ghost use Rattle.rez_declarations.specs.Parses.{Parses, ParsesTo, Reads, parsing_of, fields_held};
+ghost use Rattle.rez_declarations.specs.Parses.{cases_of, same_size};
 ghost use Rattle.rez_declarations.specs.Parsing.{lexeme};
 ghost use Rattle.rez_declarations.specs.Declaring as spec;
 
@@ -227,7 +228,8 @@ impl<'a> Parser<'a> {
 
     /// Passes over the name of an array, where it has one, and returns it.
     fn take_optional_name(&mut self) -> Result<Vec<u8>, ReadFault>
-        ensures { ParsesTo bytes_in result (parsing_of self.new) (spec.name_before (parsing_of self.old)) }
+        ensures { ParsesTo bytes_in result (parsing_of self.new)
+            (spec.name_before (parsing_of self.old)) }
     {
         match self.word() {
             Some(_) => self.take_name(),
@@ -237,7 +239,8 @@ impl<'a> Parser<'a> {
 
     /// Passes over the length of an array in brackets, where it has one, and returns it.
     fn take_length(&mut self) -> Result<Option<u16>, ReadFault>
-        ensures { ParsesTo same_size result (parsing_of self.new) (spec.length_before (parsing_of self.old)) }
+        ensures { ParsesTo same_size result (parsing_of self.new)
+            (spec.length_before (parsing_of self.old)) }
     {
         if !self.is_mark(b'[') {
             return Ok(None);
@@ -274,8 +277,8 @@ impl<'a> Parser<'a> {
         name: Vec<u8>,
         fields: Vec<Field>,
     ) -> Result<(), ReadFault>
-        ensures { Reads result (cases_of switch.new) (parsing_of self.new)
-            (spec.case_named name.items (fields_of fields.items) (cases_of switch.old) (parsing_of self.old)) }
+        ensures { Reads result (cases_of switch.new) (parsing_of self.new) (spec.case_named
+            name.items (fields_of fields.items) (cases_of switch.old) (parsing_of self.old)) }
     {
         let Some(key) = key_of(fields.as_slice()) else {
             return Err(self.refuse(FaultKind::Unsound(Unsound::NoKey)));
@@ -303,7 +306,8 @@ impl<'a> Parser<'a> {
         fields: Vec<Field>,
     ) -> Result<(), ReadFault>
         ensures { Reads result (draft_of draft.new) (parsing_of self.new)
-            (spec.array_with (same_size length) name.items (fields_of fields.items) (draft_of draft.old) (parsing_of self.old)) }
+            (spec.array_with (same_size length) name.items (fields_of fields.items)
+            (draft_of draft.old) (parsing_of self.old)) }
     {
         let block = self.blocks.len();
         self.blocks.push(Block { fields })?;
@@ -317,7 +321,8 @@ impl<'a> Parser<'a> {
     #[cycle(read)]
     #[tactic(auto, using(crate::proofs::Readings::deeper_on))]
     pub fn read_fields(&mut self, depth: u8, is_case: bool) -> Result<Vec<Field>, ReadFault>
-        ensures { ParsesTo fields_held result (parsing_of self.new) (spec.fields_in depth is_case (parsing_of self.old)) }
+        ensures { ParsesTo fields_held result (parsing_of self.new)
+            (spec.fields_in depth is_case (parsing_of self.old)) }
     {
         if depth == 0 {
             return Err(self.refuse(FaultKind::Unsound(Unsound::TooDeep)));
@@ -340,7 +345,8 @@ impl<'a> Parser<'a> {
         draft: &mut BlockDraft,
     ) -> Result<(), ReadFault>
         ensures { Reads result (draft_of draft.new) (parsing_of self.new)
-            (spec.fields_read (spec.fields_in depth) (length (parsing_of self.old).tokens) is_case (draft_of draft.old) (parsing_of self.old)) }
+            (spec.fields_read (spec.fields_in depth) (length (parsing_of self.old).tokens) is_case
+            (draft_of draft.old) (parsing_of self.old)) }
     {
         let most = self.tokens.len();
         for i in 0..most {
@@ -378,8 +384,8 @@ impl<'a> Parser<'a> {
         kind: Kind,
         draft: &mut BlockDraft,
     ) -> Result<(), ReadFault>
-        ensures { Reads result (draft_of draft.new) (parsing_of self.new)
-            (spec.kind_read (spec.fields_in depth) modified kind (draft_of draft.old) (parsing_of self.old)) }
+        ensures { Reads result (draft_of draft.new) (parsing_of self.new) (spec.kind_read
+            (spec.fields_in depth) modified kind (draft_of draft.old) (parsing_of self.old)) }
     {
         match kind {
             Kind::Boolean => self.read_integer(
@@ -410,7 +416,8 @@ impl<'a> Parser<'a> {
     /// Reads the fields between braces.
     #[cycle(read)]
     pub fn read_braces(&mut self, depth: u8) -> Result<Vec<Field>, ReadFault>
-        ensures { ParsesTo fields_held result (parsing_of self.new) (spec.in_braces (spec.fields_in depth) (parsing_of self.old)) }
+        ensures { ParsesTo fields_held result (parsing_of self.new)
+            (spec.in_braces (spec.fields_in depth) (parsing_of self.old)) }
     {
         self.take_mark(b'{', FaultKind::BraceNeeded)?;
         let fields = self.read_fields(depth, false)?;
@@ -449,7 +456,8 @@ impl<'a> Parser<'a> {
     #[tactic(auto, using(crate::proofs::Readings::cases_on))]
     fn read_cases(&mut self, depth: u8, switch: &mut SwitchDraft) -> Result<(), ReadFault>
         ensures { Reads result (cases_of switch.new) (parsing_of self.new)
-            (spec.cases_read (spec.fields_in depth) (length (parsing_of self.old).tokens) (cases_of switch.old) (parsing_of self.old)) }
+            (spec.cases_read (spec.fields_in depth) (length (parsing_of self.old).tokens)
+            (cases_of switch.old) (parsing_of self.old)) }
     {
         let most = self.tokens.len();
         for i in 0..most {

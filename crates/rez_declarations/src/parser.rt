@@ -53,7 +53,10 @@ impl<'a> Parser<'a> {
 
     /// Returns the fault that the tokens can't go on so.
     pub fn refuse(&self, kind: FaultKind) -> ReadFault
-        ensures { result ≡ refused.Text (record { line = spec.line_at (parsing_of self.now).tokens (parsing_of self.now).line; kind = kind }) }
+        ensures { result ≡ refused.Text (record {
+          line = spec.line_at (parsing_of self.now).tokens (parsing_of self.now).line;
+          kind = kind;
+        }) }
     {
         ReadFault::Text(TypeFault {
             line: self.next_line(),
@@ -92,7 +95,8 @@ impl<'a> Parser<'a> {
     #[tactic(auto, unfolding(crate::specs::Parsing::marked))]
     pub fn take_mark(&mut self, mark: u8, kind: FaultKind) -> Result<(), ReadFault>
         requires { 0 < mark }
-        ensures { Parses result (parsing_of self.new) (spec.marked mark kind (parsing_of self.old)) }
+        ensures { Parses result (parsing_of self.new)
+            (spec.marked mark kind (parsing_of self.old)) }
     {
         if !self.is_mark(mark) {
             return Err(self.refuse(kind));
@@ -103,7 +107,8 @@ impl<'a> Parser<'a> {
 
     /// Returns the next token, if it is a word.
     pub fn word(&self) -> Option<&'a [u8]>
-        ensures { option_map (λ w. w.now) result ≡ spec.word_in (spec.lexeme (parsing_of self.now)) }
+        ensures { option_map (λ w. w.now) result
+            ≡ spec.word_in (spec.lexeme (parsing_of self.now)) }
     {
         match self.tokens {
             [
@@ -130,7 +135,8 @@ impl<'a> Parser<'a> {
     /// Passes over a name, and returns it.
     #[tactic(auto, unfolding(crate::specs::Parsing::named))]
     pub fn take_name(&mut self) -> Result<Vec<u8>, ReadFault>
-        ensures { ParsesTo bytes_in result (parsing_of self.new) (spec.named (parsing_of self.old)) }
+        ensures { ParsesTo bytes_in result (parsing_of self.new)
+            (spec.named (parsing_of self.old)) }
     {
         let Some(word) = self.word() else {
             return Err(self.refuse(FaultKind::NameNeeded));
@@ -161,8 +167,8 @@ impl<'a> Parser<'a> {
 
     /// Passes over a number from `least` to `most`, and returns it.
     pub fn take_between(&mut self, least: u32, most: u32, kind: FaultKind) -> Result<u32, ReadFault>
-        ensures number { ParsesTo same result (parsing_of self.new)
-            (spec.between least most kind (spec.number_in (spec.lexeme (parsing_of self.old))) (parsing_of self.old)) }
+        ensures number { ParsesTo same result (parsing_of self.new) (spec.between least most kind
+            (spec.number_in (spec.lexeme (parsing_of self.old))) (parsing_of self.old)) }
         ensures least { IfOk result (λ n. least ≤ n) }
         ensures most { IfOk result (λ n. n ≤ most) }
     {
@@ -179,7 +185,8 @@ impl<'a> Parser<'a> {
     /// Passes over a number in brackets, from 1 on, and returns it.
     #[tactic(auto, unfolding(crate::specs::Parsing::bracketed))]
     pub fn take_bracketed(&mut self, most: u32, kind: FaultKind) -> Result<u32, ReadFault>
-        ensures number { ParsesTo same result (parsing_of self.new) (spec.bracketed most kind (parsing_of self.old)) }
+        ensures number { ParsesTo same result (parsing_of self.new)
+            (spec.bracketed most kind (parsing_of self.old)) }
         ensures least { IfOk result (λ n. 1 ≤ n) }
         ensures most { IfOk result (λ n. n ≤ most) }
     {
@@ -191,8 +198,8 @@ impl<'a> Parser<'a> {
 
     /// Passes over a number after a minus, and returns its bits.
     fn take_negative(&mut self, width: Width) -> Result<u32, ReadFault>
-        ensures { ParsesTo same result (parsing_of self.new)
-            (spec.negative_by width.bits (spec.number_in (spec.lexeme (parsing_of self.old))) (parsing_of self.old)) }
+        ensures { ParsesTo same result (parsing_of self.new) (spec.negative_by width.bits
+            (spec.number_in (spec.lexeme (parsing_of self.old))) (parsing_of self.old)) }
     {
         let Some(number) = self.number() else {
             return Err(self.refuse(FaultKind::ConstantNeeded));
@@ -205,7 +212,8 @@ impl<'a> Parser<'a> {
         Ok(((all - number as u64) % all) as u32)
     }
 
-    /// Returns the number of the next token, if it states a constant: a number, or up to four characters.
+    /// Returns the number of the next token, if it states a constant: a number, or up to four
+    /// characters.
     fn constant(&self) -> Option<u32>
         ensures { result ≡ spec.constant_in (spec.lexeme (parsing_of self.now)) }
     {
@@ -230,8 +238,8 @@ impl<'a> Parser<'a> {
 
     /// Passes over a constant without a minus, and returns it.
     fn take_positive(&mut self, width: Width) -> Result<u32, ReadFault>
-        ensures { ParsesTo same result (parsing_of self.new)
-            (spec.positive_by width.bits (spec.constant_in (spec.lexeme (parsing_of self.old))) (parsing_of self.old)) }
+        ensures { ParsesTo same result (parsing_of self.new) (spec.positive_by width.bits
+            (spec.constant_in (spec.lexeme (parsing_of self.old))) (parsing_of self.old)) }
     {
         let Some(number) = self.constant() else {
             return Err(self.refuse(FaultKind::ConstantNeeded));
@@ -246,7 +254,8 @@ impl<'a> Parser<'a> {
     /// Passes over a constant of so many bits, and returns its bits.
     #[tactic(auto, unfolding(crate::specs::Parsing::constant))]
     pub fn take_constant(&mut self, width: Width) -> Result<u32, ReadFault>
-        ensures { ParsesTo same result (parsing_of self.new) (spec.constant width.bits (parsing_of self.old)) }
+        ensures { ParsesTo same result (parsing_of self.new)
+            (spec.constant width.bits (parsing_of self.old)) }
     {
         if self.is_mark(b'-') {
             self.pass();

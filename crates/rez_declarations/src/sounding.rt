@@ -1,7 +1,8 @@
 //! Whether a declaration is sound.
 
 ghost use Rattle.std.specs.Prelude.{◌≡◌, [], map, IfOk};
-ghost use Rattle.rez_types.specs.View.{end_of, place_of, case_of, field_of, fields_of, blocks_of, declaration_of};
+ghost use Rattle.rez_types.specs.View.{end_of, place_of, case_of, field_of, fields_of, blocks_of};
+ghost use Rattle.rez_types.specs.View.{declaration_of};
 ghost use Rattle.rez_declarations.specs.Judging.{IsJudged, shapes_in};
 ghost use Rattle.rez_declarations.specs.Sound as spec;
 
@@ -101,7 +102,8 @@ fn judge_case(
     case: &Case,
     shape: Shape,
 ) -> Result<Shape, Unsound>
-    ensures { result ≡ spec.case_judged (blocks_of blocks.now) shapes.now (place_of place.now) (case_of case.now) shape }
+    ensures { result ≡ spec.case_judged (blocks_of blocks.now) shapes.now (place_of place.now)
+        (case_of case.now) shape }
 {
     let Some(inner) = shapes.get(case.block) else {
         return Err(Unsound::NoBlock);
@@ -122,7 +124,8 @@ fn judge_cases(
     cases: &[Case],
     shape: Shape,
 ) -> Result<Shape, Unsound>
-    ensures { result ≡ spec.cases_judged (blocks_of blocks.now) shapes.now (place_of place.now) (map case_of cases.now) shape }
+    ensures { result ≡ spec.cases_judged (blocks_of blocks.now) shapes.now (place_of place.now)
+        (map case_of cases.now) shape }
 {
     let mut judged = shape;
     for case in cases {
@@ -159,8 +162,8 @@ fn judge_switch(
     switch: &Switch,
     shape: Shape,
 ) -> Result<Shape, Unsound>
-    ensures { result ≡ spec.switch_judged (blocks_of blocks.now) shapes.now (place_of switch.now.key)
-        (map case_of switch.now.cases.items) shape }
+    ensures { result ≡ spec.switch_judged (blocks_of blocks.now) shapes.now
+        (place_of switch.now.key) (map case_of switch.now.cases.items) shape }
 {
     let cases = switch.cases.as_slice();
     if cases.is_empty() {
@@ -184,7 +187,8 @@ fn judge_field(
     rest: &[Field],
     shape: Shape,
 ) -> Result<Shape, Unsound>
-    ensures { result ≡ spec.field_judged (blocks_of blocks.now) shapes.now (field_of field.now) (fields_of rest.now) shape }
+    ensures { result ≡ spec.field_judged (blocks_of blocks.now) shapes.now (field_of field.now)
+        (fields_of rest.now) shape }
 {
     if shape.is_open {
         return Err(Unsound::NotLast);
@@ -203,7 +207,8 @@ fn judge_field(
 
 /// Judges fields in turn.
 fn judge_fields(blocks: &[Block], shapes: &[Shape], fields: &[Field]) -> Result<Shape, Unsound>
-    ensures { result ≡ spec.fields_judged (blocks_of blocks.now) shapes.now (fields_of fields.now) spec.no_fields }
+    ensures { result ≡ spec.fields_judged (blocks_of blocks.now) shapes.now
+        (fields_of fields.now) spec.no_fields }
 {
     let mut shape = Shape::none();
     let mut rest = fields;

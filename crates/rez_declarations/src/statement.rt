@@ -1,7 +1,8 @@
 //! Statements that declare types.
 
 ghost use Rattle.std.specs.Prelude.{◌≡◌, IfOk, option_map, map};
-ghost use Rattle.rez_declarations.specs.Parses.{Parses, ParsesTo, IsStatement, IsSound, parsing_of, token_of, stated_of, type_number};
+ghost use Rattle.rez_declarations.specs.Parses.{Parses, ParsesTo, IsStatement, IsSound, parsing_of};
+ghost use Rattle.rez_declarations.specs.Parses.{token_of, stated_of, type_number};
 ghost use Rattle.rez_declarations.specs.Parsing.{lexeme};
 ghost use Rattle.rez_declarations.specs.Declaring as spec;
 
@@ -59,7 +60,8 @@ impl<'a> Parser<'a> {
     /// Passes over a type, and returns it.
     #[tactic(auto, unfolding(crate::specs::Declaring::type_read))]
     fn take_type(&mut self) -> Result<[u8; 4], ReadFault>
-        ensures { ParsesTo type_number result (parsing_of self.new) (spec.type_read (parsing_of self.old)) }
+        ensures { ParsesTo type_number result (parsing_of self.new)
+            (spec.type_read (parsing_of self.old)) }
     {
         let Some(ty) = self.ty() else {
             return Err(self.refuse(FaultKind::TypeNeeded));
@@ -71,7 +73,8 @@ impl<'a> Parser<'a> {
     /// Reads the fields of a type, whose statement begins on a line.
     #[tactic(auto, unfolding(crate::specs::Declaring::declared))]
     fn read_declared(&mut self, line: usize) -> Result<TypeStated, ReadFault>
-        ensures stated { ParsesTo stated_of result (parsing_of self.new) (spec.declared line (parsing_of self.old)) }
+        ensures stated { ParsesTo stated_of result (parsing_of self.new)
+            (spec.declared line (parsing_of self.old)) }
         ensures sound { IfOk result IsSound }
     {
         let fields = self.read_braces(MOST_DEPTH)?;
@@ -90,7 +93,8 @@ impl<'a> Parser<'a> {
     /// Reads the type that a type is like.
     #[tactic(auto, unfolding(crate::specs::Declaring::likened))]
     fn read_likened(&mut self) -> Result<TypeStated, ReadFault>
-        ensures stated { ParsesTo stated_of result (parsing_of self.new) (spec.likened (parsing_of self.old)) }
+        ensures stated { ParsesTo stated_of result (parsing_of self.new)
+            (spec.likened (parsing_of self.old)) }
         ensures sound { IfOk result IsSound }
     {
         let other = self.take_type()?;
@@ -100,7 +104,8 @@ impl<'a> Parser<'a> {
 
     /// Reads what is said of a type, whose statement begins on a line.
     fn read_stated(&mut self, line: usize) -> Result<TypeStated, ReadFault>
-        ensures stated { ParsesTo stated_of result (parsing_of self.new) (spec.stated line (parsing_of self.old)) }
+        ensures stated { ParsesTo stated_of result (parsing_of self.new)
+            (spec.stated line (parsing_of self.old)) }
         ensures sound { IfOk result IsSound }
     {
         if self.is_word(b"as") {
@@ -123,12 +128,13 @@ impl<'a> Parser<'a> {
     }
 }
 
-/// Reads a statement that declares a type: `type TYPE { FIELD .. };`, or `type TYPE as TYPE;`. It may be followed by other tokens.
+/// Reads a statement that declares a type: `type TYPE { FIELD .. };`, or `type TYPE as TYPE;`. It
+/// may be followed by other tokens.
 ///
 /// # Errors
 ///
-/// Returns the line of the first token that can't stand there, and what is wrong with it, or why the declaration is not sound;
-/// `HostMemory` where the host is out of memory.
+/// Returns the line of the first token that can't stand there, and what is wrong with it, or why
+/// the declaration is not sound; `HostMemory` where the host is out of memory.
 #[tactic(auto, unfolding(crate::specs::Declaring::statement))]
 pub fn read_type<'a>(alloc: Global, tokens: &'a [Token]) -> Result<TypeStatement<'a>, ReadFault>
     ensures statement { IsStatement result (spec.statement (map token_of tokens.now)) }

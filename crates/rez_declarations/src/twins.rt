@@ -16,7 +16,8 @@ pub(crate) fn is_name(a: &[u8], b: &[u8]) -> bool
 
 /// Reports whether one of the constants has a name.
 fn is_among_numbers(name: &[u8], constants: &[NamedNumber]) -> bool
-    ensures { result ≡ list_any (spec.is_name name.now) (spec.number_names (map number_of constants.now)) }
+    ensures { result
+        ≡ list_any (spec.is_name name.now) (spec.number_names (map number_of constants.now)) }
 {
     constants.iter().any(|n| is_name(name, n.name.as_slice()))
 }
@@ -37,7 +38,8 @@ pub(crate) fn has_twin_numbers(constants: &[NamedNumber]) -> bool
 
 /// Reports whether one of the constants has a name.
 fn is_among_texts(name: &[u8], constants: &[NamedText]) -> bool
-    ensures { result ≡ list_any (spec.is_name name.now) (spec.text_names (map text_of constants.now)) }
+    ensures { result
+        ≡ list_any (spec.is_name name.now) (spec.text_names (map text_of constants.now)) }
 {
     constants.iter().any(|n| is_name(name, n.name.as_slice()))
 }

@@ -91,9 +91,9 @@ pub enum FaultKind {
 #[derive(Clone, Copy, Debug, PartialEq, Eq, Error)]
 #[error("line {line}: {kind}")]
 pub struct TypeFault {
-    /// The number of the line, from 1 on: that of the token that can't stand there, or of the last token. Of a declaration that
-    /// is not sound, it is the line of the token after what is wrong, or, where that is found once all is read, the line on which
-    /// the statement begins.
+    /// The number of the line, from 1 on: that of the token that can't stand there, or of the last
+    /// token. Of a declaration that is not sound, it is the line of the token after what is wrong,
+    /// or, where that is found once all is read, the line on which the statement begins.
     pub line: usize,
     /// What is wrong there.
     pub kind: FaultKind,

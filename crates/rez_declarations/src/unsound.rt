@@ -5,13 +5,15 @@ use thiserror::Error;
 /// Why a declaration does not say where each value begins and ends.
 #[derive(Clone, Copy, Debug, PartialEq, Eq, Error)]
 pub enum Unsound {
-    /// Bit strings, booleans and fills of bits side by side end amid a byte, or are more than 32 bits before they end at one.
+    /// Bit strings, booleans and fills of bits side by side end amid a byte, or are more than 32
+    /// bits before they end at one.
     #[error("bits that are not one to four whole bytes")]
     PartialBytes,
     /// A constant has more bits than its field.
     #[error("a constant of more bits than its field")]
     WideConstant,
-    /// Two constants of a field, two cases of a switch or two arrays of a block have one name, whatever its case.
+    /// Two constants of a field, two cases of a switch or two arrays of a block have one name,
+    /// whatever its case.
     #[error("two constants, cases or arrays of one name")]
     TwoNames,
     /// A fill has no bytes, or more than 256.

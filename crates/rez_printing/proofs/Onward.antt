@@ -1,6 +1,6 @@
 -- One more turn of a loop that counts.
-use Rattle.std.proofs.Common.{◌≡◌, ℕ, suc, ◌+◌, ◌-◌, ◌<◌, ◌≤◌, Option, Some, List, [], if◌then◌else◌, length, get_or}
-use Rattle.std.proofs.Common.{refl, ap, ◌∙◌, sym, append_assoc, arith}
+use Rattle.std.proofs.Common.{◌≡◌, ℕ, ◌+◌, ◌-◌, ◌<◌, ◌≤◌, Option, Some, List, [], if◌then◌else◌, length, get_or}
+use Rattle.std.proofs.Common.{refl, ap, ◌∙◌, sym, append_assoc}
 use Rattle.std.specs.Prelude.{◌++◌, take, drop, slice_get, option_map}
 use Rattle.std.proofs.lemmas.Option.{slice_get-map, slice_get_read, slice_get_past}
 use Rattle.rez_types.specs.declared.declaration.Block.{Block}
@@ -8,6 +8,7 @@ use Rattle.rez_types.specs.View.{block_of, blocks_of}
 use Rattle.rez_types.specs.Fields.{Field}
 use Rattle.rez_types.specs.Options.{◌>>=◌}
 use Rattle.rez_types.specs.Encoding.{more_in}
+use Rattle.rez_types.proofs.Turns.{left, above}
 use Rattle.rez_printing.specs.declared.layout.Layout.TheVariants as layout
 use Rattle.rez_printing.specs.declared.layout.Layout.{Layout}
 use Rattle.rez_printing.specs.Layouts.{gap_next}
@@ -15,14 +16,6 @@ use Rattle.rez_printing.specs.Pieces.{signed_number, row_text, more_rows}
 use Rattle.rez_printing.specs.Showing.{Showing, next_number, next_of, stated, with_gap, numbered, shown_numbers, shown_elements}
 use Rattle.rez_printing.specs.Showing.{shown_fields, shown_block}
 use Rattle.rez_printing.specs.TypeText.{block_text, fields_from, fields_text}
-
--- what is left of n turns before the i-th
-left : (n i : ℕ) → i < n → n - i ≡ suc (n - (i + 1))
-left n i h = omega arith
-
--- a number above 0
-above : (n : ℕ) → 0 < n → n ≡ suc (n - 1)
-above n h = omega arith
 
 pub numbers_on : (n i : ℕ) (s : Showing) → i < n → shown_numbers (n - i) s
     ≡ (next_number 16 s >>= λ (here, t). shown_numbers (n - (i + 1)) (stated (signed_number 16 here) layout.Flat t))

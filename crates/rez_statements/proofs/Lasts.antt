@@ -1,28 +1,14 @@
 -- The last declaration of a type, by its place.
-use Rattle.std.proofs.Common.{◌≡◌, ◌≢◌, ◌==◌, ◌⊎◌, inl, inr, ◌<◌, ◌≤◌, ℕ, zero, suc, Bool, true, false, cond, Option, Some, None}
-use Rattle.std.proofs.Common.{List, [], ◌∷◌, ◌++◌, length, map, nat_lt, slice_get, get_or, refl, sym, ap, ◌∙◌, subst, arith, ltb-true}
+use Rattle.std.proofs.Common.{◌≡◌, ◌==◌, ◌<◌, ◌≤◌, ℕ, zero, suc, Bool, true, false, cond, Option, Some, None}
+use Rattle.std.proofs.Common.{List, [], ◌∷◌, ◌++◌, length, map, slice_get, get_or, refl, sym, ap, ◌∙◌, subst, arith}
 use Rattle.std.specs.Ordering.{nat_cmp, is_eq}
-use Rattle.std.specs.declared.cmp.Ordering.TheVariants.{Less, Equal, Greater}
-use Rattle.std.proofs.lemmas.Bool.Decides.{eqb_tells}
+use Rattle.std.proofs.lemmas.Bool.Decides.{nat_tests}
 use Rattle.std.proofs.lemmas.Option.{slice_get_read, slice_get_past}
 use Rattle.rez_types.specs.Fields.{Declaration}
 use Rattle.rez_statements.specs.declared.table.DeclaredType.{DeclaredType}
 use Rattle.rez_statements.specs.Places.{last_place}
 use Rattle.rez_statements.specs.Types.{in_force}
 use Rattle.rez_statements.specs.View.{declared_of, shared}
-
--- two numbers are equal where their order is that of equal ones
-is_eq-nat_cmp : (k q : ℕ) → is_eq (nat_cmp k q) ≡ (k == q)
-is_eq-nat_cmp k q = cases (nat_lt k q) (k == q) (λ less. apart (ltb-true k q less) (eqb_tells k q))
-  where
-    apart : k < q → ((k == q ≡ true) × (k ≡ q)) ⊎ ((k == q ≡ false) × (k ≢ q)) → (k == q) ≡ false
-    apart less (inl e) = absurd (omega arith)
-    apart less (inr e) = e.0
-
-    cases : (a b : Bool) → (a ≡ true → b ≡ false) → is_eq (cond a Less (cond b Equal Greater)) ≡ b
-    cases true b h = sym (h refl)
-    cases false true h = refl
-    cases false false h = refl
 
 -- a declaration more
 push : (q : ℕ) (xs : List DeclaredType) (x : DeclaredType)
@@ -44,7 +30,8 @@ push q (y ∷ ys) x =
 pub last-push : (kind q n : ℕ) (xs : List DeclaredType) (x : DeclaredType) → x.kind ≡ kind → n ≡ length xs
     → cond (is_eq (nat_cmp kind q)) (Some n) (last_place q xs) ≡ last_place q (xs ++ x ∷ [])
 last-push kind q n xs x its size =
-    let of : is_eq (nat_cmp kind q) ≡ (x.kind == q) = is_eq-nat_cmp kind q ∙ ap (λ k. k == q) (sym its) in
+    let order : is_eq (nat_cmp kind q) ≡ (kind == q) = grind (arith, nat_tests) in
+    let of : is_eq (nat_cmp kind q) ≡ (x.kind == q) = order ∙ ap (λ k. k == q) (sym its) in
     ap (λ b. cond b (Some n) (last_place q xs)) of ∙ ap (λ m. cond (x.kind == q) (Some m) (last_place q xs)) size
     ∙ sym (push q xs x)
 

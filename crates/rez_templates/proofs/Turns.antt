@@ -1,10 +1,8 @@
 -- One more turn of a loop that reads items, and the last of some.
 use Rattle.std.proofs.Common.{◌≡◌, ℕ, zero, suc, ◌-◌, ◌<◌, Some, None, List, [], ◌∷◌, ◌++◌, ap, refl, ◌∙◌, length, arith}
 use Rattle.rez_types.specs.Options.{◌>>=◌}
+use Rattle.rez_types.proofs.Turns.{above}
 use Rattle.rez_templates.specs.Items.{Drafted, with_next, with_items, split_last}
-
-above : (n : ℕ) → 0 < n → n ≡ suc (n - 1)
-above n h = omega arith
 
 pub items_on : (n : ℕ) (rest : List ℕ) (d : Drafted) → 0 < n → 0 < length rest
     → with_items n rest d ≡ (with_next rest d >>= λ (e, more). with_items (n - 1) more e)

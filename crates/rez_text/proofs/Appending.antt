@@ -1,5 +1,5 @@
 -- Texts that are appended one after another, and lines that are appended one by one.
-use Rattle.std.proofs.Common.{◌≡◌, ◌<◌, ◌≤◌, ℕ, zero, suc, ◌+◌, ◌-◌, List, [], ◌∷◌, ◌++◌, length, take, drop, replicate, refl}
+use Rattle.std.proofs.Common.{◌≡◌, ◌<◌, ℕ, suc, ◌+◌, ◌-◌, List, [], ◌∷◌, ◌++◌, take, drop, replicate}
 use Rattle.std.proofs.Common.{sym, ap, ◌∙◌, arith, append_assoc}
 use Rattle.rez_text.specs.Printing.{line_count}
 
@@ -17,19 +17,6 @@ pub three : (old a b d one two new : List ℕ) → one ≡ old ++ a → two ≡ 
 three old a b d one two new h i j =
     j ∙ ap (λ l. l ++ d) (i ∙ ap (λ l. l ++ b) h) ∙ ap (λ l. l ++ d) (append_assoc old a b)
     ∙ append_assoc old (a ++ b) d
-
--- all bytes that there are
-pub take_all : (n : ℕ) (bytes : List ℕ) → length bytes ≤ n → take n bytes ≡ bytes
-take_all zero [] h = refl
-take_all zero (b ∷ bytes) h = absurd (omega arith)
-take_all (suc n) [] h = refl
-take_all (suc n) (b ∷ bytes) h = ap (λ l. b ∷ l) (take_all n bytes (omega arith))
-
-pub drop_all : (n : ℕ) (bytes : List ℕ) → length bytes ≤ n → drop n bytes ≡ []
-drop_all zero [] h = refl
-drop_all zero (b ∷ bytes) h = absurd (omega arith)
-drop_all (suc n) [] h = refl
-drop_all (suc n) (b ∷ bytes) h = drop_all n bytes (omega arith)
 
 -- a blank more
 pub one_blank : (i count : ℕ) (old new whole : List ℕ) → i < count → new ≡ old ++ 32 ∷ []

@@ -1,16 +1,16 @@
 -- Texts in UTF-8, which are read as the bytes of which they are made.
-use Rattle.std.proofs.Common.{◌≡◌, ◌<◌, ◌≤◌, ◌==◌, ◌&&◌, ◌||◌, ℕ, ◌+◌, Bool, true, false, cond, Result, Ok, Err, List, [], ◌∷◌, ◌++◌}
-use Rattle.std.proofs.Common.{length, take, drop, map, refl, sym, ap, ◌∙◌, arith, le-leb, nat_le}
-use Rattle.std.proofs.lemmas.Bool.{agree_below_at, and_right}
+use Rattle.std.proofs.Common.{◌≡◌, ◌≤◌, ◌&&◌, ℕ, ◌+◌, Bool, true, false, cond, Result, Ok, Err, List, [], ◌∷◌, ◌++◌, length, drop}
+use Rattle.std.proofs.Common.{map, refl, sym, ap, ◌∙◌, arith, le-leb, nat_le}
+use Rattle.std.proofs.lemmas.Bool.{and_right, or_right}
 use Rattle.std.proofs.lemmas.List.Concat.{flat_map-append}
 use Rattle.std.proofs.lemmas.Str.{is_utf8-from_IsUtf8}
-use Rattle.std.specs.Prelude.{codes, encode_utf8_all}
 use Rattle.std.specs.List.{flat_map}
 use Rattle.std.specs.Str.{is_utf8, all_scalars, chars}
+use Rattle.plain_laws.proofs.Bytes.{bytes-append}
 use Rattle.mac_roman.specs.Table.{char_of}
-use Rattle.mac_roman.specs.Roman.{bytes_of, to_roman, from_roman}
+use Rattle.mac_roman.specs.Roman.{bytes_of, from_roman}
 use Rattle.mac_roman.specs.Charset.{character}
-use Rattle.mac_roman.proofs.Encoding.{roman_again}
+use Rattle.mac_roman.proofs.Encoding.{roman_again, scalar_one}
 use Rattle.mac_roman.proofs.PlainText.{printed_whole}
 use Rattle.fork_format.specs.Content.{Content}
 use Rattle.fork_format.specs.Canonical.{clear}
@@ -23,15 +23,11 @@ use Rattle.rez_text.specs.Bytes.{AreBytes}
 use Rattle.rez_text.specs.Remarks.{after_blanks, begins, remarked, comment}
 use Rattle.rez_text.specs.Coding.{coding_words, coding_comment, order_mark, is_coded, as_roman, decoded, with_line}
 use Rattle.rez_text.specs.Lexing.{step, between, slash, in_comment, star}
-use Rattle.rez_text.specs.Reading.{finish, first_line, read_from, stated, read_made, read_roman, read, later, Wrong, Lacking, ReadFault}
-use Rattle.rez_text.specs.Reading.{unless_lacking}
-use Rattle.rez_text.proofs.Printed.{bytes_are, bytes_both}
-use Rattle.rez_text.proofs.Later.{further, moved, read_further}
+use Rattle.rez_text.specs.Reading.{finish, first_line, read_from, stated, read_made, read_roman, read, later, unless_lacking}
+use Rattle.rez_text.proofs.Printed.{bytes_are}
+use Rattle.rez_text.proofs.Later.{moved, read_further}
 
 -- Characters.
-
-scalar_one : (b : ℕ) → b < 256 → all_scalars (char_of b ∷ []) ≡ true
-scalar_one b small = agree_below_at (λ n. all_scalars (char_of n ∷ [])) (λ _. true) 256 b refl small
 
 scalars_all : (bytes : List ℕ) → AreBytes bytes → all_scalars (map char_of bytes) ≡ true
 scalars_all [] small = refl
@@ -67,16 +63,12 @@ comment_bytes = bytes_are coding_comment refl
 
 -- The text says that it is coded.
 
-or_other : (s t : Bool) → t ≡ true → (s || t) ≡ true
-or_other true t e = refl
-or_other false t e = e
-
 said_coded : (rest : List ℕ) → is_coded (coding_comment ++ rest) ≡ true
 unfolding is_coded
 said_coded rest =
     let text = coding_comment ++ rest in
     let long : 27 ≤ length text = omega arith in
-    or_other (begins order_mark text) (begins coding_words (after_blanks text)) (ap (λ t. t && true) (le-leb 27 (length text) long))
+    or_right (begins order_mark text) (begins coding_words (after_blanks text)) (ap (λ t. t && true) (le-leb 27 (length text) long))
 
 no_mark : (rest : List ℕ) → begins order_mark (coding_comment ++ rest) ≡ false
 no_mark rest = and_right (nat_le 3 (length (coding_comment ++ rest))) _ refl
@@ -89,7 +81,7 @@ pub coded_roman : (text : List ℕ) → AreBytes text → as_roman (coding_comme
 coded_roman text small =
     without_mark (from_roman text)
     ∙ ap decoded (sym (both_roman coding_comment text ∙ ap (λ l. l ++ from_roman text) comment_again))
-    ∙ decoded_again (coding_comment ++ text) (bytes_both coding_comment text comment_bytes small)
+    ∙ decoded_again (coding_comment ++ text) (bytes-append coding_comment text comment_bytes small)
 
 -- The comment states nothing.
 

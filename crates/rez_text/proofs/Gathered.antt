@@ -1,7 +1,7 @@
 -- The text of a statement is gathered as it stands.
 use Rattle.std.proofs.Common.{◌≡◌, ◌==◌, ℕ, Bool, true, false, cond, not, Ok, List, [], ◌∷◌, ◌++◌, length, refl, ap, ◌∙◌, sym, append_assoc}
 use Rattle.std.proofs.Common.{append-nil, eqb-true, arith}
-use Rattle.std.proofs.lemmas.Bool.{and_parts}
+use Rattle.std.proofs.lemmas.Bool.{and_parts, not-true}
 use Rattle.fork_format.specs.Content.{Ref}
 use Rattle.rez_text.specs.declared.mode.Mode.TheVariants as mode
 use Rattle.rez_text.specs.declared.mode.Place.{Place}
@@ -11,10 +11,6 @@ use Rattle.rez_text.specs.Tokens.{type_statement, resource_body}
 use Rattle.rez_text.specs.Scopes.{ends, scope_step, scope_after, keeps, ends_last}
 use Rattle.rez_text.specs.Lexing.{step, declaring, body}
 use Rattle.rez_text.proofs.Steps.{at, run, after}
-
-no : (t : Bool) → not t ≡ true → t ≡ false
-no true h = absurd (cc)
-no false h = refl
 
 -- Between the braces of a statement `resource`.
 
@@ -31,7 +27,7 @@ body_run [] r p g k d c kept = ap (λ l. Ok (at (mode.Body r) p l k d c)) (sym (
 body_run (b ∷ text) r p g k d c kept =
     let parts = and_parts (not (ends 125 1 b r)) (keeps 125 1 (scope_step b r) text) kept in
     after (at (mode.Body r) p g k d c) (at (mode.Body (scope_step b r)) p (g ++ b ∷ []) k d c) _ (b ∷ []) text
-    (body_step b r p g k d c (no (ends 125 1 b r) parts.0))
+    (body_step b r p g k d c (not-true (ends 125 1 b r) parts.0))
     (body_run text (scope_step b r) p (g ++ b ∷ []) k d c parts.1
     ∙ ap (λ l. Ok (at (mode.Body (scope_after (scope_step b r) text)) p l k d c)) (append_assoc g (b ∷ []) text))
 

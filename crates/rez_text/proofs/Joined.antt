@@ -2,7 +2,7 @@
 use Rattle.std.proofs.Common.{◌≡◌, ◌==◌, not, ℕ, true, false, cond, List, [], ◌∷◌, ◌++◌, map, length, nat_le, refl, ap, ◌∙◌, sym}
 use Rattle.std.proofs.Common.{append_assoc, append-nil, arith, rules}
 use Rattle.std.specs.List.{AllByRecursion, list_all}
-use Rattle.std.proofs.lemmas.Bool.{and_parts, not-true}
+use Rattle.std.proofs.lemmas.Bool.{and_parts, not-true, eq-eqb}
 use Rattle.fork_format.specs.Content.{Ref, Group}
 use Rattle.fork_format.specs.Canonical.{are_distinct, has_refs}
 use Rattle.rez_text.specs.State.{with_ref}
@@ -16,9 +16,6 @@ IsNew kind groups = AllByRecursion (λ (g : Group). (g.kind == kind) ≡ false) 
 abbrev group : ℕ → List Ref → Group
 group kind refs = record { kind = kind; refs = refs }
 
-same : (kind : ℕ) → (kind == kind) ≡ true
-same kind = search (rules, arith)
-
 first_ref : (kind : ℕ) (r : Ref) (groups : List Group) → IsNew kind groups
     → with_ref kind r groups ≡ groups ++ group kind (r ∷ []) ∷ []
 first_ref kind r [] new = refl
@@ -29,7 +26,7 @@ first_ref kind r (g ∷ groups) new =
 next_ref : (kind : ℕ) (r : Ref) (refs : List Ref) (groups : List Group) → IsNew kind groups
     → with_ref kind r (groups ++ group kind refs ∷ []) ≡ groups ++ group kind (refs ++ r ∷ []) ∷ []
 next_ref kind r refs [] new =
-    ap (λ v. cond v (group kind (refs ++ r ∷ []) ∷ []) (group kind refs ∷ with_ref kind r [])) (same kind)
+    ap (λ v. cond v (group kind (refs ++ r ∷ []) ∷ []) (group kind refs ∷ with_ref kind r [])) (eq-eqb kind kind refl)
 next_ref kind r refs (g ∷ groups) new =
     ap (λ v. cond v (group g.kind (g.refs ++ r ∷ []) ∷ (groups ++ group kind refs ∷ []))
     (g ∷ with_ref kind r (groups ++ group kind refs ∷ []))) new.0

@@ -1,10 +1,11 @@
 -- The lines of a resource's data: what is printed is read again.
-use Rattle.std.proofs.Common.{◌≡◌, ◌≤◌, ◌==◌, ℕ, zero, suc, ◌+◌, ◌-◌, ◌*◌, ◌/◌, ◌<◌, Bool, true, false, ◌&&◌, Ok, List, [], ◌∷◌, ◌++◌}
+use Rattle.std.proofs.Common.{◌≡◌, ◌==◌, ℕ, zero, suc, ◌+◌, ◌-◌, ◌*◌, ◌/◌, ◌<◌, Bool, true, false, ◌&&◌, Ok, List, [], ◌∷◌, ◌++◌}
 use Rattle.std.proofs.Common.{length, take, drop, codes, refl, ap, ◌∙◌, sym, arith, append_assoc, append-nil}
 use Rattle.std.proofs.Math.Seq.{take-add}
 use Rattle.std.proofs.lemmas.Bool.{agree_below_at}
 use Rattle.std.specs.Prelude.{not}
 use Rattle.std.specs.List.{AllByRecursion, flat_map, list_all}
+use Rattle.std.proofs.lemmas.List.{take_all}
 use Rattle.rez_text.specs.declared.lettering.Lettering.{Lettering}
 use Rattle.rez_text.specs.declared.lettering.Lettering.TheVariants.{Plain, Roman}
 use Rattle.mac_roman.specs.declared.charset.Charset.TheVariants.{Ascii, Utf8}
@@ -20,6 +21,8 @@ use Rattle.rez_text.specs.Bytes.{AreBytes}
 use Rattle.rez_text.specs.Printing.{shown, grouped, margin, hex_column, text_column, data_line, data_lines, line_count}
 use Rattle.rez_text.proofs.Steps.{at, run, after, blanks}
 use Rattle.rez_text.proofs.Digits.{grouped_run}
+use Rattle.plain_laws.proofs.Bytes.{bytes-take, bytes-drop}
+use Rattle.plain_laws.proofs.Elements.{each-append}
 
 -- a text that no comment ends in
 abbrev pub NoStar : List ℕ → Type 0
@@ -49,10 +52,6 @@ no_star (b ∷ text) h =
     let p = parts b (b == 42) (list_all (λ (d : ℕ). not (d == 42)) text) refl h in
     (p.0, no_star text p.1)
 
-no_star_either : (xs ys : List ℕ) → NoStar xs → NoStar ys → NoStar (xs ++ ys)
-no_star_either [] ys one other = other
-no_star_either (x ∷ xs) ys one other = (one.0, no_star_either xs ys one.1 other)
-
 -- in no lettering a byte is shown as a `*`
 one_no_star : (lettering : Lettering) (b : ℕ) → b < 256 → NoStar (shown lettering b)
 unfolding lib.Utf8.encode
@@ -66,7 +65,7 @@ one_no_star Roman b small = no_star (shown Roman b)
 shown_no_star : (lettering : Lettering) (bytes : List ℕ) → AreBytes bytes → NoStar (flat_map (shown lettering) bytes)
 shown_no_star lettering [] small = tt
 shown_no_star lettering (b ∷ bytes) small =
-    no_star_either (shown lettering b) (flat_map (shown lettering) bytes) (one_no_star lettering b small.0)
+    each-append (λ b. (b == 42) ≡ false) (shown lettering b) (flat_map (shown lettering) bytes) (one_no_star lettering b small.0)
     (shown_no_star lettering bytes small.1)
 
 comment_opens : (k : ℕ) (d : Ref) (c : Said)
@@ -126,16 +125,6 @@ data_line_run lettering bytes k d c small =
     (blanks (54 - (3 + 2 * length bytes + (length bytes - 1) / 2)) place.Data [] k (with_datum d bytes) c))
     (text_column_run lettering bytes k (with_datum d bytes) c small)
 
-pub bytes_take : (n : ℕ) (bytes : List ℕ) → AreBytes bytes → AreBytes (take n bytes)
-bytes_take zero bytes small = tt
-bytes_take (suc n) [] small = tt
-bytes_take (suc n) (b ∷ bytes) small = (small.0, bytes_take n bytes small.1)
-
-pub bytes_drop : (n : ℕ) (bytes : List ℕ) → AreBytes bytes → AreBytes (drop n bytes)
-bytes_drop zero bytes small = small
-bytes_drop (suc n) [] small = tt
-bytes_drop (suc n) (b ∷ bytes) small = bytes_drop n bytes small.1
-
 -- more data, and then more
 twice : (d : Ref) (xs ys zs : List ℕ) → xs ++ ys ≡ zs → with_datum (with_datum d xs) ys ≡ with_datum d zs
 twice d xs ys zs e =
@@ -156,15 +145,9 @@ lines_run lettering (suc n) bytes k d c small =
     let whole : take 16 bytes ++ take (16 * n) (drop 16 bytes) ≡ take (16 * suc n) bytes =
     sym (take-add 16 (16 * n) bytes) ∙ ap (λ m. take m bytes) grown in
     after s t _ (data_line lettering (take 16 bytes)) (data_lines lettering n (drop 16 bytes))
-    (data_line_run lettering (take 16 bytes) k d c (bytes_take 16 bytes small))
-    (lines_run lettering n (drop 16 bytes) k (with_datum d (take 16 bytes)) c (bytes_drop 16 bytes small)
+    (data_line_run lettering (take 16 bytes) k d c (bytes-take 16 bytes small))
+    (lines_run lettering n (drop 16 bytes) k (with_datum d (take 16 bytes)) c (bytes-drop 16 bytes small)
     ∙ ap (λ r. Ok (at mode.Between place.Data [] k r c)) (twice d (take 16 bytes) _ _ whole))
-
-take_all : (n : ℕ) (bytes : List ℕ) → length bytes ≤ n → take n bytes ≡ bytes
-take_all zero [] h = refl
-take_all zero (b ∷ bytes) h = absurd (omega arith)
-take_all (suc n) [] h = refl
-take_all (suc n) (b ∷ bytes) h = ap (λ l. b ∷ l) (take_all n bytes (omega arith))
 
 -- all lines have all bytes
 pub all_lines : (bytes : List ℕ) → take (16 * line_count bytes) bytes ≡ bytes

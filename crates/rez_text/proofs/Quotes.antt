@@ -5,8 +5,8 @@ use Rattle.std.proofs.Common.{rules}
 use Rattle.std.proofs.lemmas.Bool.{agree_below_at}
 use Rattle.std.specs.List.{flat_map}
 use Rattle.byteorder.specs.Endian.{big_number, big_bytes}
-use Rattle.byteorder.specs.Numbers.{big_number-reads_back}
 use Rattle.fork_format.specs.Content.{Ref}
+use Rattle.fork_format.proofs.Standing.{kind_again}
 use Rattle.mac_words.specs.Digits.{upper_digit}
 use Rattle.mac_roman.specs.declared.charset.Charset.TheVariants.{Ascii}
 use Rattle.rez_text.specs.declared.lettering.Lettering.{Lettering}
@@ -181,13 +181,6 @@ type_closes : (g : List ℕ) (d : Ref) (c : Said) → (length g == 4) ≡ true
 unfolding step quoted type_token
 type_closes g d c e = rw e refl
 
-pub kind_bytes : (kind : ℕ) → AreBytes (big_bytes 4 kind)
-kind_bytes kind = search (rules, arith)
-
-kind_again : (kind : ℕ) → kind < 2 ^ 32 → big_number 4 (big_bytes 4 kind) ≡ kind
-kind_again kind small =
-    ap (big_number 4) (sym (append-nil (big_bytes 4 kind))) ∙ big_number-reads_back 4 kind [] small
-
 pub type_run : (kind : ℕ) (d : Ref) (c : Said) → kind < 2 ^ 32
     → run (Ok (at mode.Between place.Type [] 0 d c)) (type_literal kind)
     ≡ Ok (at mode.Between place.Parenthesis [] kind d c)
@@ -199,5 +192,5 @@ type_run kind d c small =
     let u = at (mode.Quoted quotes.Single) place.Type text 0 d c in
     after s u _ (39 ∷ [] ++ flat_map (escaped (Plain Ascii) 39) text) (39 ∷ [])
     (after s t _ (39 ∷ []) (flat_map (escaped (Plain Ascii) 39) text) (type_opens d c)
-    (escaped_all (Plain Ascii) text quotes.Single place.Type [] 0 d c (kind_bytes kind)))
+    (escaped_all (Plain Ascii) text quotes.Single place.Type [] 0 d c (search (rules, arith))))
     (type_closes text d c refl ∙ ap (λ n. Ok (at mode.Between place.Parenthesis [] n d c)) (kind_again kind small))

@@ -20,8 +20,10 @@ use Rattle.rez_text.specs.Printing.{byte_hex, gap, grouped, line_count, attribut
 use Rattle.rez_text.specs.Printing.{area_lines, area_remark}
 use Rattle.rez_text.proofs.Steps.{at, run, after}
 use Rattle.rez_text.proofs.Digits.{digit_value, digit_no_blank, digit_no_star, halves}
-use Rattle.rez_text.proofs.Lines.{NoStar, comment_run, bytes_take, bytes_drop, all_lines}
+use Rattle.rez_text.proofs.Lines.{NoStar, comment_run, all_lines}
 use Rattle.rez_text.proofs.Statements.{saying, outside}
+use Rattle.plain_laws.proofs.Bytes.{bytes-take, bytes-drop}
+use Rattle.plain_laws.proofs.Elements.{each-append}
 
 -- Hexadecimal digits in a comment.
 
@@ -63,15 +65,11 @@ lines_from (suc n) xs bytes rest small =
     let whole : front ++ take (16 * n) behind ≡ take (16 * suc n) xs =
     sym (take-add 16 (16 * n) xs) ∙ ap (λ m. take m xs) grown in
     ap (hex_from None bytes) (append_assoc (grouped 0 front) (area_lines n behind) rest)
-    ∙ grouped_from front 0 bytes (area_lines n behind ++ rest) (bytes_take 16 xs small)
-    ∙ lines_from n behind (bytes ++ front) rest (bytes_drop 16 xs small)
+    ∙ grouped_from front 0 bytes (area_lines n behind ++ rest) (bytes-take 16 xs small)
+    ∙ lines_from n behind (bytes ++ front) rest (bytes-drop 16 xs small)
     ∙ ap (λ l. hex_from None l rest) (append_assoc bytes front (take (16 * n) behind) ∙ ap (λ l. bytes ++ l) whole)
 
 -- No digit ends a comment.
-
-no_star_append : (xs ys : List ℕ) → NoStar xs → NoStar ys → NoStar (xs ++ ys)
-no_star_append [] ys front behind = behind
-no_star_append (x ∷ xs) ys front behind = (front.0, no_star_append xs ys front.1 behind)
 
 byte_no_star : (b : ℕ) → b < 256 → NoStar (byte_hex b)
 byte_no_star b small =
@@ -86,8 +84,8 @@ gap_no_star n =
 grouped_no_star : (xs : List ℕ) (n : ℕ) → AreBytes xs → NoStar (grouped n xs)
 grouped_no_star [] n small = tt
 grouped_no_star (b ∷ xs) n small =
-    no_star_append (gap n ++ byte_hex b) (grouped (n + 1) xs)
-    (no_star_append (gap n) (byte_hex b) (gap_no_star n) (byte_no_star b small.0))
+    each-append (λ b. (b == 42) ≡ false) (gap n ++ byte_hex b) (grouped (n + 1) xs)
+    (each-append (λ b. (b == 42) ≡ false) (gap n) (byte_hex b) (gap_no_star n) (byte_no_star b small.0))
     (grouped_no_star xs (n + 1) small.1)
 
 lines_no_star : (n : ℕ) (xs : List ℕ) → AreBytes xs → NoStar (area_lines n xs)
@@ -96,8 +94,8 @@ lines_no_star (suc n) xs small = (
   refl,
   (
     refl,
-    no_star_append (grouped 0 (take 16 xs)) (area_lines n (drop 16 xs))
-        (grouped_no_star (take 16 xs) 0 (bytes_take 16 xs small)) (lines_no_star n (drop 16 xs) (bytes_drop 16 xs small)),
+    each-append (λ b. (b == 42) ≡ false) (grouped 0 (take 16 xs)) (area_lines n (drop 16 xs))
+        (grouped_no_star (take 16 xs) 0 (bytes-take 16 xs small)) (lines_no_star n (drop 16 xs) (bytes-drop 16 xs small)),
   ),
 )
 

@@ -20,23 +20,18 @@ use Rattle.rez_text.proofs.Statements.{outside, saying, headed, arguments_run}
 use Rattle.rez_text.proofs.Gathered.{body_run, body_closes, declaring_run}
 
 -- what is said within a statement `resource`
-abbrev in_resource : List ℕ → ℕ → List Group → List Declared → Files → Said
-in_resource area attrs groups types files = record {
-  content = record { area = area; attrs = attrs; groups = groups };
-  types = types;
-  form = forms.Resource;
-  files = files;
-}
+abbrev in_resource : Said → Said
+in_resource c = record { content = c.content; types = c.types; form = forms.Resource; files = c.files }
 
 resource_opens : (area : List ℕ) (attrs : ℕ) (groups : List Group) (types : List Declared) (files : Files)
     → run (Ok (outside area attrs groups types files)) (codes "resource ")
-    ≡ Ok (at mode.Between place.Type [] 0 no_ref (in_resource area attrs groups types files))
+    ≡ Ok (at mode.Between place.Type [] 0 no_ref (in_resource (saying area attrs groups types files)))
 unfolding step between in_word word
 resource_opens area attrs groups types files = refl
 
 body_opens : (k : ℕ) (d : Ref) (area : List ℕ) (attrs : ℕ) (groups : List Group) (types : List Declared) (files : Files)
-    → run (Ok (at mode.Between place.Brace [] k d (in_resource area attrs groups types files))) (32 ∷ 123 ∷ [])
-    ≡ Ok (at (mode.Body inside) place.Brace [] k d (in_resource area attrs groups types files))
+    → run (Ok (at mode.Between place.Brace [] k d (in_resource (saying area attrs groups types files)))) (32 ∷ 123 ∷ [])
+    ≡ Ok (at (mode.Body inside) place.Brace [] k d (in_resource (saying area attrs groups types files)))
 unfolding step between mark
 body_opens k d area attrs groups types files = refl
 
@@ -51,7 +46,7 @@ unfolding resource_body
 body_stated at_end text bytes k d c e = rw e refl
 
 resource_closes : (k : ℕ) (d : Ref) (area : List ℕ) (attrs : ℕ) (groups : List Group) (types : List Declared) (files : Files)
-    → run (Ok (at mode.Between place.Semicolon [] k d (in_resource area attrs groups types files))) (codes ";\n\n")
+    → run (Ok (at mode.Between place.Semicolon [] k d (in_resource (saying area attrs groups types files)))) (codes ";\n\n")
     ≡ Ok (outside area attrs (with_ref k d groups) types files)
 unfolding step between mark
 resource_closes k d area attrs groups types files = refl
@@ -65,7 +60,7 @@ pub resource_run : (lettering : Lettering) (kind : ℕ) (r : Ref) (text area : L
     ++ attributes_argument r.attrs ++ codes ") {" ++ text ++ codes "};\n\n")
     ≡ Ok (outside area attrs (with_ref kind r groups) types files)
 resource_run lettering kind r text area attrs groups types files small limits bytes kept stated =
-    let c = in_resource area attrs groups types files in
+    let c = in_resource (saying area attrs groups types files) in
     let s = outside area attrs groups types files in
     let t = at mode.Between place.Brace [] kind (headed r) c in
     let u = at (mode.Body inside) place.Brace [] kind (headed r) c in

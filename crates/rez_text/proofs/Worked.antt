@@ -1,9 +1,9 @@
 -- Worked sources, on the definitions alone.
-use Rattle.std.proofs.Common.{◌≡◌, ℕ, ℤ, true, false, pos, negsuc, Option, Some, None, Ok, Err, List, [], ◌∷◌, ◌++◌, replicate, codes, refl}
-use Rattle.std.proofs.Common.{ap}
+use Rattle.std.proofs.Common.{◌≡◌, ℕ, true, false, pos, negsuc, Some, None, Ok, Err, List, [], ◌∷◌, ◌++◌, replicate, codes, refl, ap}
 use Rattle.std.specs.Fmt.{digits}
 use Rattle.mac_roman.specs.declared.charset.Charset.TheVariants.{Ascii, Utf8}
-use Rattle.fork_format.specs.Content.{Ref, Group, Content}
+use Rattle.fork_format.specs.Content.{Group, Content}
+use Rattle.fork_format.proofs.Vectors.{a_ref}
 use Rattle.rez_statements.specs.declared.fault.StatementFault.{StatementFault}
 use Rattle.rez_statements.specs.Types.{Declared, with_type}
 use Rattle.rez_text.specs.declared.fault.FaultKind.TheVariants as faults
@@ -28,10 +28,6 @@ use Rattle.rez_text.specs.Tokens.{of_text}
 -- a content of these groups
 abbrev of_groups : List Group → Content
 of_groups groups = record { area = replicate 240 0; attrs = 0; groups = groups }
-
--- a resource
-abbrev a_ref : ℤ → Option (List ℕ) → ℕ → List ℕ → Ref
-a_ref id text attrs bytes = record { id = id; name = text; attrs = attrs; datum = bytes }
 
 -- a type is the number of its four bytes
 abbrev str : ℕ
@@ -247,7 +243,8 @@ long_name = refl
 
 -- two statements that take a file each, between them one that takes none; fewer files than are named; more than are named
 files_taken : (read [] ((1 ∷ 2 ∷ []) ∷ (3 ∷ []) ∷ [])
-    (codes "read 'STR ' (1, \"a\", locked) \"one\";\ndata 'STR ' (2) {};\nREAD 'STR ' (3) /* here */ \"t\\'o\" ;") ≡ Ok (of_groups (record {
+    (codes "read 'STR ' (1, \"a\", locked) \"one\";\ndata 'STR ' (2) {};\nREAD 'STR ' (3) /* here */ \"t\\'o\" ;")
+    ≡ Ok (of_groups (record {
       kind = str;
       refs =
           a_ref (pos 1) (Some (codes "a")) 16 (1 ∷ 2 ∷ []) ∷

@@ -1,11 +1,9 @@
-use Rattle.std.specs.Prelude.{ℕ, ◌<◌, IfSome, List}
+use Rattle.std.specs.Prelude.{IfSome}
 use Rattle.std.specs.List.{AllByRecursion}
+pub use Rattle.plain_laws.specs.Bytes.{AreBytes}
 use Rattle.fork_format.specs.Content.{Ref, Group, Content}
 
 -- A content of bytes: each byte is a number below 256, as every content is that a program holds.
-
-abbrev pub AreBytes : List ℕ → Type 0
-AreBytes bytes = AllByRecursion (λ (b : ℕ). b < 256) bytes
 
 -- The name and the data of a resource are bytes.
 pub record HasBytes (r : Ref) : Type 0 where

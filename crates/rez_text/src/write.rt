@@ -152,7 +152,7 @@ fn push_data_line(out: &mut Vec<u8>, lettering: Lettering, bytes: &[u8]) -> Resu
 }
 
 /// Returns the first 16 bytes, or all that there are, and the bytes after them.
-#[tactic(auto, using(crate::proofs::Appending::take_all, crate::proofs::Appending::drop_all))]
+#[tactic(auto, using(std::proofs::lemmas::List::take_all, std::proofs::lemmas::List::drop_all))]
 fn first_line(bytes: &[u8]) -> (&[u8], &[u8])
     requires { 0 < length bytes.now }
     ensures line { result.0.now ≡ take 16 bytes.now }

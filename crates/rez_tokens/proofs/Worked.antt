@@ -38,7 +38,8 @@ unfolding lexed step_on finished step between slash in_comment comment star line
 a_type = refl
 
 -- numbers of each kind, and the greatest ones
-numbers : (lexed (codes "010 $1f 0X2A 0b101 0") ≡ Ok (at 1 (Number 10) ∷ at 1 (Number 31) ∷ at 1 (Number 42) ∷ at 1 (Number 5) ∷ at 1 (Number 0) ∷ []))
+numbers : (lexed (codes "010 $1f 0X2A 0b101 0")
+    ≡ Ok (at 1 (Number 10) ∷ at 1 (Number 31) ∷ at 1 (Number 42) ∷ at 1 (Number 5) ∷ at 1 (Number 0) ∷ []))
     × (lexed (codes "4294967295") ≡ Ok (alone (Number 4294967295)))
     × (lexed (codes "$FFFFFFFF") ≡ Ok (alone (Number 4294967295)))
     × (lexed (codes "4294967296") ≡ Err (1, faults.NumberOutOfRange))
@@ -49,7 +50,8 @@ unfolding lexed step_on finished step between slash in_comment comment star line
 numbers = (refl, refl, refl, refl, refl, refl)
 
 -- each escape, in both kinds of quotes; a byte from 128 on; an apostrophe in a string
-escapes : (lexed (34 ∷ codes "\\n\\r\\t\\b\\f\\v\\?\\\"\\'\\\\" ++ 34 ∷ []) ≡ Ok (alone (Text (13 ∷ 10 ∷ 9 ∷ 8 ∷ 12 ∷ 11 ∷ 127 ∷ 34 ∷ 39 ∷ 92 ∷ []))))
+escapes : (lexed (34 ∷ codes "\\n\\r\\t\\b\\f\\v\\?\\\"\\'\\\\" ++ 34 ∷ [])
+    ≡ Ok (alone (Text (13 ∷ 10 ∷ 9 ∷ 8 ∷ 12 ∷ 11 ∷ 127 ∷ 34 ∷ 39 ∷ 92 ∷ []))))
     × (lexed (39 ∷ codes "\\0x4A\\0XfF\\$20\\0b01000001\\0d065\\101\\060" ++ 39 ∷ [])
     ≡ Ok (alone (Literal (74 ∷ 255 ∷ 32 ∷ 65 ∷ 65 ∷ 65 ∷ 48 ∷ []))))
     × (lexed (34 ∷ 39 ∷ 200 ∷ 34 ∷ []) ≡ Ok (alone (Text (39 ∷ 200 ∷ []))))

@@ -45,8 +45,9 @@ pub enum TokenFault {
 #[derive(Clone, Copy, Debug, PartialEq, Eq, Error)]
 #[error("line {line}: {kind}")]
 pub struct TokenFaultAt {
-    /// The number of the line, from 1 on: the line of the byte at which the text can't go on; of a string or a comment that does
-    /// not end, the line on which it begins. CR, LF, and CR with LF, each end a line.
+    /// The number of the line, from 1 on: the line of the byte at which the text can't go on; of a
+    /// string or a comment that does not end, the line on which it begins. CR, LF, and CR with LF,
+    /// each end a line.
     pub line: usize,
     /// What is wrong there.
     pub kind: TokenFault,

@@ -9,7 +9,8 @@ use std::alloc::{AllocError, Global};
 
 /// Returns the bytes that hexadecimal digits write, with any blanks between digits.
 fn hex_bytes(alloc: Global, text: &[u8]) -> Result<Option<Vec<u8>>, AllocError>
-    ensures { IfOk result (λ found. option_map (λ v. v.items) found ≡ spec.hex_from None [] text.now) }
+    ensures { IfOk result (λ found. option_map (λ v. v.items) found
+        ≡ spec.hex_from None [] text.now) }
 {
     let mut bytes = Vec::new(alloc);
     let mut waiting = None;

@@ -4,7 +4,8 @@ ghost use Rattle.std.specs.Prelude.{◌≡◌, Ok};
 ghost use Rattle.rez_tokens.specs.Digits.{digit_in};
 ghost use Rattle.rez_tokens.specs.Tokens.{Number, Hex};
 ghost use Rattle.rez_tokens.specs.View.{lexeme_of};
-ghost use Rattle.rez_tokens.specs.State.{state_of, start, in_mode, gather as gathered, passed, with_token, Leads};
+ghost use Rattle.rez_tokens.specs.State.{state_of, start, in_mode, gather as gathered, passed};
+ghost use Rattle.rez_tokens.specs.State.{with_token, Leads};
 ghost use Rattle.rez_tokens.specs.Lexing as spec;
 
 use crate::digits::{byte_of, ends_line, hex_value, is_blank, is_digit, is_letter};
@@ -68,7 +69,8 @@ impl Lexer {
 
     /// Adds a token.
     pub fn add(&mut self, lexeme: Lexeme) -> Result<(), StepFault>
-        ensures { Leads result (state_of self.new) (Ok (with_token (lexeme_of lexeme) (state_of self.old))) }
+        ensures { Leads result (state_of self.new)
+            (Ok (with_token (lexeme_of lexeme) (state_of self.old))) }
     {
         self.tokens.push(Token {
             line: self.begun,
@@ -177,7 +179,8 @@ impl Lexer {
 
     #[tactic(auto, unfolding(crate::specs::Lexing::line_comment))]
     pub fn line_comment(&mut self, byte: u8) -> Result<(), StepFault>
-        ensures { Leads result (state_of self.new) (Ok (spec.line_comment byte (state_of self.old))) }
+        ensures { Leads result (state_of self.new)
+            (Ok (spec.line_comment byte (state_of self.old))) }
     {
         if ends_line(byte) {
             self.go_on(Mode::Between);
@@ -199,7 +202,8 @@ impl Lexer {
 
     #[tactic(auto, unfolding(crate::specs::Lexing::in_name))]
     pub fn in_name(&mut self, name: Name, byte: u8) -> Result<(), StepFault>
-        ensures { Leads result (state_of self.new) (Ok (spec.in_name name byte (state_of self.old))) }
+        ensures { Leads result (state_of self.new)
+            (Ok (spec.in_name name byte (state_of self.old))) }
     {
         if is_letter(byte) || is_digit(byte) {
             self.gather(byte, Mode::Name(name))
@@ -220,7 +224,8 @@ impl Lexer {
 
     #[tactic(auto, unfolding(crate::specs::Lexing::number))]
     pub fn number(&mut self, radix: Radix, number: u32, byte: u8) -> Result<(), StepFault>
-        ensures { Leads result (state_of self.new) (spec.number radix number byte (state_of self.old)) }
+        ensures { Leads result (state_of self.new)
+            (spec.number radix number byte (state_of self.old)) }
     {
         let Some(digit) = radix.value(byte) else {
             return self.end_number(number, byte);
@@ -297,7 +302,8 @@ impl Lexer {
 
     /// Ends a hexadecimal string.
     fn end_hex(&mut self) -> Result<(), StepFault>
-        ensures { Leads result (state_of self.new) (Ok (with_token (Hex self.old.gathered.items) (state_of self.old))) }
+        ensures { Leads result (state_of self.new)
+            (Ok (with_token (Hex self.old.gathered.items) (state_of self.old))) }
     {
         let bytes = self.take_gathered();
         self.add(Lexeme::Hex(bytes))

@@ -92,6 +92,7 @@ pub(crate) enum Mode {
     Escape(Quote),
     /// There, after `\0`.
     EscapeZero(Quote),
-    /// There, in an escape by a number: how many digits are to come, and what those before them write.
+    /// There, in an escape by a number: how many digits are to come, and what those before them
+    /// write.
     EscapeNumber(Quote, Radix, u8, u8),
 }

@@ -66,7 +66,8 @@ impl Lexer {
         number: u8,
         byte: u8,
     ) -> Result<(), StepFault>
-        ensures { Leads result (state_of self.new) (spec.escape_number quote radix left number byte (state_of self.old)) }
+        ensures { Leads result (state_of self.new)
+            (spec.escape_number quote radix left number byte (state_of self.old)) }
     {
         let Some(digit) = radix.value(byte) else {
             return Err(StepFault::Wrong(TokenFault::NotAnEscape));
@@ -102,7 +103,8 @@ impl Lexer {
 
     #[tactic(auto, unfolding(crate::specs::Lexing::escape_zero))]
     pub fn escape_zero(&mut self, quote: Quote, byte: u8) -> Result<(), StepFault>
-        ensures { Leads result (state_of self.new) (spec.escape_zero quote byte (state_of self.old)) }
+        ensures { Leads result (state_of self.new)
+            (spec.escape_zero quote byte (state_of self.old)) }
     {
         if byte == b'x' || byte == b'X' {
             self.go_on(Mode::EscapeNumber(quote, Radix::Hexadecimal, 2, 0));

@@ -3,7 +3,8 @@
 ghost use Rattle.std.specs.Prelude.{◌≡◌, ◌<◌, ◌≤◌, ◌+◌, ◌-◌, ◌^◌};
 ghost use Rattle.rez_tokens.specs.State.{state_of, Leads};
 ghost use Rattle.rez_tokens.specs.Lexing as spec;
-ghost use Rattle.rez_tokens.specs.Reading.{line_of as line_of_byte, step_on, begun_in, finished, lexed, Ends, Lexes, fault_at};
+ghost use Rattle.rez_tokens.specs.Reading.{line_of as line_of_byte, step_on, begun_in, finished};
+ghost use Rattle.rez_tokens.specs.Reading.{lexed, Ends, Lexes, fault_at};
 
 use crate::fault::{StepFault, TextFault, TokenFault, TokenFaultAt};
 use crate::lexer::Lexer;
@@ -119,8 +120,8 @@ impl Lexer {
 ///
 /// # Errors
 ///
-/// Returns the line of the first place where the text can't go on, and what is wrong there; `HostMemory` where the host is out of
-/// memory.
+/// Returns the line of the first place where the text can't go on, and what is wrong there;
+/// `HostMemory` where the host is out of memory.
 #[tactic(auto, unfolding(crate::specs::Reading::lexed))]
 pub fn tokens(alloc: Global, text: &[u8]) -> Result<Vec<Token>, TextFault>
     ensures { Lexes result (lexed text.now) }

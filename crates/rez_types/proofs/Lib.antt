@@ -5,3 +5,4 @@ pub mod UndoneRuns
 pub mod UndoneTexts
 pub mod UndoneArrays
 pub mod UndoneFields
+pub mod Declared

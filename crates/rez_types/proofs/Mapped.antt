@@ -1,16 +1,13 @@
 -- Tests over the values of a list.
-use Rattle.std.proofs.Common.{◌≡◌, ℕ, ◌+◌, Bool, not, cond, ◌||◌, Option, Some, None, nat_lt, List, [], ◌∷◌, map}
+use Rattle.std.proofs.Common.{◌≡◌, ℕ, Bool, not, cond, ◌||◌, Option, Some, None, nat_lt, List, [], ◌∷◌, map}
 use Rattle.std.proofs.Common.{refl, ap, ap₂}
 use Rattle.std.proofs.lemmas.List.{length-map}
-use Rattle.std.specs.List.{list_any, position, prefix_len}
+use Rattle.std.specs.List.{list_any, position}
+use Rattle.plain_laws.proofs.Mapped.{prefix_len-map}
 
 pub any_map : {X Y : Type 0} (f : X → Y) (p : Y → Bool) (xs : List X) → list_any p (map f xs) ≡ list_any (λ x. p (f x)) xs
 any_map f p [] = refl
 any_map f p (x ∷ xs) = ap (λ r. p (f x) || r) (any_map f p xs)
-
-pub prefix_map : {X Y : Type 0} (f : X → Y) (p : Y → Bool) (xs : List X) → prefix_len p (map f xs) ≡ prefix_len (λ x. p (f x)) xs
-prefix_map f p [] = refl
-prefix_map f p (x ∷ xs) = ap (λ n. cond {A = ℕ} (p (f x)) (1 + n) 0) (prefix_map f p xs)
 
 -- the place as it is found from a number and a length
 found : ℕ → ℕ → Option ℕ
@@ -18,4 +15,4 @@ found at size = cond (nat_lt at size) (Some at) None
 
 pub position_map : {X Y : Type 0} (f : X → Y) (p : Y → Bool) (xs : List X) → position p (map f xs) ≡ position (λ x. p (f x)) xs
 unfolding found
-position_map f p xs = ap₂ found (prefix_map f (λ y. not (p y)) xs) (length-map xs f)
+position_map f p xs = ap₂ found (prefix_len-map f (λ y. not (p y)) xs) (length-map xs f)

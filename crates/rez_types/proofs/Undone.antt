@@ -45,8 +45,12 @@ put_is v s t h = let g = given_is _ _ _ h in sym g.1
 pub putting : (v : Value) (s t : Decoding) → put v s ≡ Some t
     → (s.rest ≡ t.rest) × (s.at ≡ t.at) × (t.values ≡ s.values ++ v ∷ []) × (t.counts ≡ s.counts)
 putting v s t h =
-    let e = put_is v s t h in
-    (sym (ap (λ (u : Decoding). u.rest) e), sym (ap (λ (u : Decoding). u.at) e), ap (λ (u : Decoding). u.values) e, ap (λ (u : Decoding). u.counts) e)
+    let e = put_is v s t h in (
+      sym (ap (λ (u : Decoding). u.rest) e),
+      sym (ap (λ (u : Decoding). u.at) e),
+      ap (λ (u : Decoding). u.values) e,
+      ap (λ (u : Decoding). u.counts) e,
+    )
 
 -- the next bytes
 pub record Next (n : ℕ) (s t : Decoding) (here : List ℕ) : Type 0 where

@@ -1,6 +1,6 @@
 -- Arrays that are read are written again.
-use Rattle.std.proofs.Common.{◌≡◌, ℕ, zero, suc, ◌+◌, ◌≤◌, ◌<◌, ◌%◌, ◌==◌, ◌&&◌, Option, Some, None, Bool, true, false, List, [], ◌∷◌, ◌++◌, length, nat_le, if◌then◌else◌}
-use Rattle.std.proofs.Common.{refl, sym, ap, subst, ◌∙◌, arith, append_assoc, length-append}
+use Rattle.std.proofs.Common.{◌≡◌, ℕ, zero, suc, ◌+◌, ◌≤◌, ◌<◌, ◌%◌, ◌==◌, ◌&&◌, Option, Some, None, Bool, true, false, List, [], ◌∷◌, ◌++◌}
+use Rattle.std.proofs.Common.{length, nat_le, if◌then◌else◌, refl, sym, ap, subst, ◌∙◌, arith, append_assoc, length-append}
 use Rattle.std.specs.Prelude.{slice_get}
 use Rattle.std.proofs.lemmas.List.{append-nil}
 use Rattle.std.proofs.lemmas.Bool.{eqb-true, eq-eqb, leb-true, le-leb, not_from_false, true≢false}
@@ -37,15 +37,18 @@ pub record ElementsUndone (step : Encoding → Option Encoding) (end : ArrayEnd)
       ≡ Some (count + number, writer after (before ++ here) s.counts)
 
 -- no further element
-last_on : (step : Encoding → Option Encoding) (end : ArrayEnd) (count most : ℕ) (before : List ℕ) (after : List Value) (counts : List ℕ) → 0 < most
-    → encoded_elements step end count most (writer (value.NoElement ∷ after) before counts) ≡ Some (count + 0, writer after (before ++ []) counts)
+last_on : (step : Encoding → Option Encoding) (end : ArrayEnd) (count most : ℕ) (before : List ℕ) (after : List Value) (counts : List ℕ)
+    → 0 < most
+    → encoded_elements step end count most (writer (value.NoElement ∷ after) before counts)
+    ≡ Some (count + 0, writer after (before ++ []) counts)
 unfolding next_value
 last_on step end count zero before after counts h = absurd (omega arith)
 last_on step end count (suc most) before after counts h =
     let none : count + 0 ≡ count = omega arith in
     rw (none, append-nil before) refl
 
-last_undone : (step : Encoding → Option Encoding) (end : ArrayEnd) (s t : Decoding) → put value.NoElement s ≡ Some t → ElementsUndone step end s t
+last_undone : (step : Encoding → Option Encoding) (end : ArrayEnd) (s t : Decoding) → put value.NoElement s ≡ Some t
+    → ElementsUndone step end s t
 last_undone step end s t h =
     let e = putting value.NoElement s t h in
     record {
@@ -67,8 +70,8 @@ element_on : (step : Encoding → Option Encoding) (end : ArrayEnd) (here before
 element_on step end here before values after counts later h is = rw (h, drop-append_seam before here, is) refl
 
 -- an element before others
-more_on : (step : Encoding → Option Encoding) (end : ArrayEnd) (count most number : ℕ) (here before next : List ℕ) (values others after : List Value)
-    (counts : List ℕ)
+more_on : (step : Encoding → Option Encoding) (end : ArrayEnd) (count most number : ℕ) (here before next : List ℕ)
+    (values others after : List Value) (counts : List ℕ)
     → encoded_element step end (writer values before counts) ≡ Some (writer others (before ++ here) counts)
     → encoded_elements step end (count + 1) most (writer others (before ++ here) counts)
     ≡ Some (count + 1 + number, writer after (before ++ here ++ next) counts)
@@ -106,7 +109,8 @@ more_written step end s u v t same place one kept is rest count (suc most) befor
     (element_on step end one.here before values others s.counts s.counts step_on is) rest_on
 
 more_undone : (step : Encoding → Option Encoding) (end : ArrayEnd) (s u v t : Decoding) → put value.Element s ≡ Some u
-    → (one : Undone step u v) → v.counts ≡ u.counts → is_element end one.here ≡ true → ElementsUndone step end v t → ElementsUndone step end s t
+    → (one : Undone step u v) → v.counts ≡ u.counts → is_element end one.here ≡ true → ElementsUndone step end v t
+    → ElementsUndone step end s t
 more_undone step end s u v t added one kept is rest =
     let e = putting value.Element s u added in
     record {
@@ -146,7 +150,8 @@ not_begun n number xs ys true e h =
     let long : n ≤ length xs = leb-true n (length xs) parts.0 in
     let longer : n ≤ length (xs ++ ys) = omega (arith, length-append xs ys) in
     let same : big_number n (xs ++ ys) ≡ number = big_from-append n xs ys long ∙ eqb-true (big_number n xs) number parts.1 in
-    let does : begins n number (xs ++ ys) ≡ true = rw (le-leb n (length (xs ++ ys)) longer) (eq-eqb (big_number n (xs ++ ys)) number same) in
+    let does : begins n number (xs ++ ys) ≡ true =
+    rw (le-leb n (length (xs ++ ys)) longer) (eq-eqb (big_number n (xs ++ ys)) number same) in
     absurd (true≢false (sym does ∙ h))
   where
     both_true : (a b : Bool) → (a && b) ≡ true → (a ≡ true) × (b ≡ true)
@@ -165,7 +170,8 @@ until_more : (block : Decoding → Option Decoding) (step : Encoding → Option 
     → (next : Decoding → Option Decoding) (s t : Decoding) → AreBytes s.rest
     → ((v : Decoding) → AreBytes v.rest → next v ≡ Some t → ElementsUndone step end v t)
     → (ended : Bool) → ends_before end s.rest ≡ ended
-    → (if ended then put value.NoElement s else (put value.Element s >>= λ u. block u >>= λ v. next v)) ≡ Some t → ElementsUndone step end s t
+    → (if ended then put value.NoElement s else (put value.Element s >>= λ u. block u >>= λ v. next v)) ≡ Some t
+    → ElementsUndone step end s t
 until_more block step end b next s t held rest true e h = last_undone step end s t h
 until_more block step end b next s t held rest false e h =
     let p = bound (put value.Element s) (λ (u : Decoding). block u >>= λ (v : Decoding). next v) t h in
@@ -206,7 +212,8 @@ all_undone step end s t r may = record {
 }
 
 -- a count says how many they are
-counted_so : (place number n : ℕ) (counts : List ℕ) → slice_get counts place ≡ Some n → number ≡ n → may_have (Counted place) counts number ≡ true
+counted_so : (place number n : ℕ) (counts : List ℕ) → slice_get counts place ≡ Some n → number ≡ n
+    → may_have (Counted place) counts number ≡ true
 counted_so place number n counts there same = rw (there, may_have) (eq-eqb number n same)
 
 pub array_undone : (block : Decoding → Option Decoding) (step : Encoding → Option Encoding) (end : ArrayEnd) → BlockUndone block step

@@ -1,10 +1,10 @@
 -- Fields and resources that are read are written again.
-use Rattle.std.proofs.Common.{◌≡◌, ℕ, zero, suc, ◌+◌, ◌*◌, ◌≤◌, ◌%◌, ◌==◌, ◌&&◌, Option, Some, Bool, true, false, List, [], ◌∷◌, ◌++◌, length, nat_le}
+use Rattle.std.proofs.Common.{◌≡◌, ℕ, zero, suc, ◌+◌, ◌*◌, ◌≤◌, ◌%◌, ◌==◌, Option, Some, true, List, [], ◌∷◌, ◌++◌, length, nat_le}
 use Rattle.std.proofs.Common.{refl, sym, ap, subst, ◌∙◌, arith, append_assoc}
 use Rattle.std.specs.Prelude.{slice_get}
 use Rattle.std.specs.List.{list_all, position}
-use Rattle.std.proofs.lemmas.List.{append-nil}
-use Rattle.std.proofs.lemmas.Bool.{eqb-true, leb-true}
+use Rattle.std.proofs.lemmas.List.{append-nil, nil_from_length}
+use Rattle.std.proofs.lemmas.Bool.{eqb-true, leb-true, and_parts}
 use Rattle.rez_types.specs.declared.declaration.Boundary.{Boundary}
 use Rattle.rez_types.specs.declared.declaration.Boundary.TheVariants as boundary
 use Rattle.rez_types.specs.Fields.{KeyPlace, Case, Field, Run, Fill, Align, Text, Point, Rect, Array, Switch, Declaration}
@@ -13,17 +13,13 @@ use Rattle.rez_types.specs.Values.{Value}
 use Rattle.rez_types.specs.Options.{◌>>=◌, given}
 use Rattle.rez_types.specs.Decoding.{Decoding, put, multiple, padding, key_in, has_key, decoded_switch, decoded_field, decoded_fields}
 use Rattle.rez_types.specs.Decoding.{with_counts, decoded_alone, decoded, unread, values_of_datum}
-use Rattle.rez_types.specs.Encoding.{Encoding, next_value, encoded_fill, encoded_switch, encoded_field, encoded_fields, encoded_alone, encoded, unwritten, datum_of_values}
+use Rattle.rez_types.specs.Encoding.{Encoding, next_value, encoded_fill, encoded_switch, encoded_field, encoded_fields, encoded_alone}
+use Rattle.rez_types.specs.Encoding.{encoded, unwritten, datum_of_values}
 use Rattle.rez_types.specs.Whole.{AreBytes, bits_in, is_whole, has_whole_runs}
 use Rattle.rez_types.proofs.Undone.{Undone, writer, bound, some_is, given_is, putting, left_bytes, as_it_is, both, none}
 use Rattle.rez_types.proofs.UndoneRuns.{run_undone, coordinates_undone}
 use Rattle.rez_types.proofs.UndoneTexts.{fill_undone, text_undone}
 use Rattle.rez_types.proofs.UndoneArrays.{BlockUndone, array_undone}
-
--- two tests that hold
-both_hold : (a b : Bool) → (a && b) ≡ true → (a ≡ true) × (b ≡ true)
-both_hold true b h = (refl, h)
-both_hold false b h = absurd (cc)
 
 -- a case is written before its fields
 case_on : (inner : ℕ → Encoding → Option Encoding) (cases : List Case) (place : ℕ) (c : Case) (values : List Value) (before counts : List ℕ)
@@ -66,7 +62,8 @@ same_padding : (to : Boundary) (at place : ℕ) → place % 4 ≡ at → padding
 same_padding boundary.Word at place h = omega arith
 same_padding boundary.Long at place h = omega arith
 
-align_undone : (inner : ℕ → Encoding → Option Encoding) (to : Boundary) (s t : Decoding) → Undone (encoded_fill (padding (multiple to) s.at)) s t
+align_undone : (inner : ℕ → Encoding → Option Encoding) (to : Boundary) (s t : Decoding)
+    → Undone (encoded_fill (padding (multiple to) s.at)) s t
     → Undone (encoded_field inner (Align to)) s t
 align_undone inner to s t u = record {
   here = u.here;
@@ -75,14 +72,15 @@ align_undone inner to s t u = record {
   values = u.values;
   at = u.at;
   written = λ before after at room.
-      ap (λ (n : ℕ). encoded_fill n (writer (u.said ++ after) before s.counts)) (same_padding to s.at (length before) at) ∙ u.written before after at room;
+      ap (λ (n : ℕ). encoded_fill n (writer (u.said ++ after) before s.counts)) (same_padding to s.at (length before) at)
+      ∙ u.written before after at room;
 }
 
 field_undone : (read : ℕ → Decoding → Option Decoding) (step : ℕ → Encoding → Option Encoding)
     → ((block : ℕ) → BlockUndone (read block) (step block)) → (f : Field) (s t : Decoding) → is_whole f ≡ true → AreBytes s.rest
     → decoded_field read f s ≡ Some t → Undone (encoded_field step f) s t
 field_undone read step inner (Run bytes parts) s t whole held h =
-    let w = both_hold (nat_le bytes 4) (bits_in parts == 8 * bytes) whole in
+    let w = and_parts (nat_le bytes 4) (bits_in parts == 8 * bytes) whole in
     run_undone bytes parts s t (leb-true bytes 4 w.0) (eqb-true (bits_in parts) (8 * bytes) w.1) held h
 field_undone read step inner (Fill bytes) s t whole held h = fill_undone bytes s t h
 field_undone read step inner (Align to) s t whole held h = align_undone step to s t (fill_undone (padding (multiple to) s.at) s t h)
@@ -93,11 +91,12 @@ field_undone read step inner (Array name end block) s t whole held h = array_und
 field_undone read step inner (Switch key cases) s t whole held h = switch_undone read step inner key cases s t held h
 
 fields_undone : (read : ℕ → Decoding → Option Decoding) (step : ℕ → Encoding → Option Encoding)
-    → ((block : ℕ) → BlockUndone (read block) (step block)) → (fields : List Field) (s t : Decoding) → list_all is_whole fields ≡ true → AreBytes s.rest
+    → ((block : ℕ) → BlockUndone (read block) (step block)) → (fields : List Field) (s t : Decoding) → list_all is_whole fields ≡ true
+    → AreBytes s.rest
     → decoded_fields read fields s ≡ Some t → Undone (encoded_fields step fields) s t
 fields_undone read step inner [] s t whole held h = subst (λ (u : Decoding). Undone (λ e. Some e) s u) (some_is h) (none s)
 fields_undone read step inner (f ∷ fields) s t whole held h =
-    let w = both_hold (is_whole f) (list_all is_whole fields) whole in
+    let w = and_parts (is_whole f) (list_all is_whole fields) whole in
     let a = bound (decoded_field read f s) (λ (u : Decoding). decoded_fields read fields u) t h in
     let first = field_undone read step inner f s a.0 w.0 held a.1 in
     both (encoded_field step f) (encoded_fields step fields) s a.0 t first
@@ -133,14 +132,16 @@ alone_undone read step inner fields whole = record {
 }
 
 -- a block of whole runs is one
-found_whole : (blocks : List (List Field)) (block : ℕ) (fields : List Field) → list_all (λ (b : List Field). list_all is_whole b) blocks ≡ true
+found_whole : (blocks : List (List Field)) (block : ℕ) (fields : List Field)
+    → list_all (λ (b : List Field). list_all is_whole b) blocks ≡ true
     → slice_get blocks block ≡ Some fields → list_all is_whole fields ≡ true
 found_whole [] block fields whole there = absurd (cc)
 found_whole (b ∷ blocks) zero fields whole there =
     subst (λ (f : List Field). list_all is_whole f ≡ true) (some_is there)
-    (both_hold (list_all is_whole b) (list_all (λ (b : List Field). list_all is_whole b) blocks) whole).0
+    (and_parts (list_all is_whole b) (list_all (λ (b : List Field). list_all is_whole b) blocks) whole).0
 found_whole (b ∷ blocks) (suc block) fields whole there =
-    found_whole blocks block fields (both_hold (list_all is_whole b) (list_all (λ (b : List Field). list_all is_whole b) blocks) whole).1 there
+    found_whole blocks block fields
+    (and_parts (list_all is_whole b) (list_all (λ (b : List Field). list_all is_whole b) blocks) whole).1 there
 
 block_on : (depth : ℕ) (blocks : List (List Field)) (block : ℕ) (fields : List Field) (e : Encoding) → slice_get blocks block ≡ Some fields
     → encoded_alone (encoded depth blocks) fields e ≡ encoded (suc depth) blocks block e
@@ -152,30 +153,29 @@ block_undone zero blocks whole block = record { undone = λ s t held h. absurd (
 block_undone (suc depth) blocks whole block = record {
   undone = λ s t held h.
       let a = bound (slice_get blocks block) (λ (fields : List Field). decoded_alone (decoded depth blocks) fields s) t h in
-      let b = alone_undone (decoded depth blocks) (encoded depth blocks) (block_undone depth blocks whole) a.0 (found_whole blocks block a.0 whole a.1) in
-      as_it_is (encoded_alone (encoded depth blocks) a.0) (encoded (suc depth) blocks block) s t (λ e. block_on depth blocks block a.0 e a.1)
-      (b.undone s t held a.2);
+      let b = alone_undone (decoded depth blocks) (encoded depth blocks) (block_undone depth blocks whole) a.0
+      (found_whole blocks block a.0 whole a.1) in
+      as_it_is (encoded_alone (encoded depth blocks) a.0) (encoded (suc depth) blocks block) s t
+      (λ e. block_on depth blocks block a.0 e a.1) (b.undone s t held a.2);
   counts = λ s t h.
       let a = bound (slice_get blocks block) (λ (fields : List Field). decoded_alone (decoded depth blocks) fields s) t h in
-      let b = alone_undone (decoded depth blocks) (encoded depth blocks) (block_undone depth blocks whole) a.0 (found_whole blocks block a.0 whole a.1) in
+      let b = alone_undone (decoded depth blocks) (encoded depth blocks) (block_undone depth blocks whole) a.0
+      (found_whole blocks block a.0 whole a.1) in
       b.counts s t a.2;
 }
 
 -- what is read of bytes is written as those bytes
-no_more : {A : Type 0} (xs : List A) → length xs ≡ 0 → xs ≡ []
-no_more [] h = refl
-no_more (x ∷ xs) h = absurd (omega arith)
-
 pub datum_undone : (d : Declaration) (bytes : List ℕ) (values : List Value) → has_whole_runs d ≡ true → AreBytes bytes
     → length bytes ≤ 16777216 → values_of_datum d bytes ≡ Some values → datum_of_values d values ≡ Some bytes
 unfolding values_of_datum datum_of_values
 datum_undone d bytes values whole held few h =
-    let w = both_hold (list_all is_whole d.fields) (list_all (λ (b : List Field). list_all is_whole b) d.blocks) whole in
-    let a = bound (decoded_fields (decoded 8 d.blocks) d.fields (unread bytes)) (λ (s : Decoding). given (length s.rest == 0) s.values) values h in
+    let w = and_parts (list_all is_whole d.fields) (list_all (λ (b : List Field). list_all is_whole b) d.blocks) whole in
+    let a =
+    bound (decoded_fields (decoded 8 d.blocks) d.fields (unread bytes)) (λ (s : Decoding). given (length s.rest == 0) s.values) values h in
     let t = a.0 in
     let g = given_is (length t.rest == 0) t.values values a.2 in
     let u = fields_undone (decoded 8 d.blocks) (encoded 8 d.blocks) (block_undone 8 d.blocks w.1) d.fields (unread bytes) t w.0 held a.1 in
-    let end : t.rest ≡ [] = no_more t.rest (eqb-true (length t.rest) 0 g.0) in
+    let end : t.rest ≡ [] = nil_from_length t.rest (eqb-true (length t.rest) 0 g.0) in
     let all : bytes ≡ u.here = u.rest ∙ ap (λ (xs : List ℕ). u.here ++ xs) end ∙ append-nil u.here in
     let said : u.said ++ [] ≡ values = append-nil u.said ∙ sym u.values ∙ g.1 in
     let room : 0 + length u.here ≤ 16777216 = omega (arith, ap length all) in

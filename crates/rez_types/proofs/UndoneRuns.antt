@@ -1,6 +1,6 @@
 -- Runs and coordinates that are read are written again.
-use Rattle.std.proofs.Common.{◌≡◌, ℕ, zero, suc, ◌+◌, ◌-◌, ◌*◌, ◌/◌, ◌%◌, ◌^◌, ◌≤◌, ◌<◌, Some, Bool, true, false, List, [], ◌∷◌, ◌++◌, length, nat_lt}
-use Rattle.std.proofs.Common.{refl, sym, ap, ap₂, subst, ◌∙◌, arith, append_assoc}
+use Rattle.std.proofs.Common.{◌≡◌, ℕ, zero, suc, ◌+◌, ◌-◌, ◌*◌, ◌/◌, ◌%◌, ◌^◌, ◌≤◌, ◌<◌, Some, Bool, true, false, List, [], ◌∷◌, ◌++◌}
+use Rattle.std.proofs.Common.{length, nat_lt, refl, sym, ap, ap₂, subst, ◌∙◌, arith, append_assoc}
 use Rattle.std.proofs.Math.Nat.{div-div-eq-div-mul, div-eq_of_lt, div-le_self, div-one, mod-eq_of_lt, mod-lt, mod_self, add-mod_right}
 use Rattle.std.proofs.lemmas.Nat.{pow-add, pow_pos, div-add-mod'}
 use Rattle.std.proofs.Math.Pow.{pow_mono}
@@ -11,12 +11,14 @@ use Rattle.rez_types.specs.Fields.{Part, Integer, Constant, Count, FillBits}
 use Rattle.rez_types.specs.Values as value
 use Rattle.rez_types.specs.Values.{Value}
 use Rattle.rez_types.specs.Options.{◌>>=◌}
-use Rattle.rez_types.specs.Decoding.{Decoding, put, next, next_number, width_of, bits_of, counted, with_count, decoded_part, decoded_parts, decoded_run}
-use Rattle.rez_types.specs.Decoding.{decoded_coordinates}
+use Rattle.rez_types.specs.Decoding.{Decoding, put, next, next_number, width_of, bits_of, counted, with_count, decoded_part, decoded_parts}
+use Rattle.rez_types.specs.Decoding.{decoded_run, decoded_coordinates}
 use Rattle.rez_types.specs.Encoding as writing
-use Rattle.rez_types.specs.Encoding.{Encoding, write, next_value, stated, joined, encoded_part, encoded_parts, encoded_run, encoded_coordinates}
+use Rattle.rez_types.specs.Encoding.{Encoding, write, next_value, stated, joined, encoded_part, encoded_parts, encoded_run}
+use Rattle.rez_types.specs.Encoding.{encoded_coordinates}
 use Rattle.rez_types.specs.Whole.{AreBytes, bits_in}
-use Rattle.rez_types.proofs.Undone.{Undone, Next, writer, bound, given_is, some_is, next_is, moved, write_on, putting, taken, as_it_is, one_by_one, bytes_before, left_bytes, both, none}
+use Rattle.rez_types.proofs.Undone.{Undone, Next, writer, bound, given_is, some_is, next_is, moved, write_on, putting, taken, as_it_is}
+use Rattle.rez_types.proofs.Undone.{one_by_one, bytes_before, left_bytes, both, none}
 
 -- the bytes of the number of up to four bytes
 pub bytes_again : (xs : List ℕ) → length xs ≤ 4 → AreBytes xs → big_bytes (length xs) (big_number (length xs) xs) ≡ xs
@@ -197,14 +199,16 @@ run_undone bytes parts s t few all held h =
     let few_here : length here ≤ 4 = omega (arith, n.1.size) in
     let is : number ≡ big_number (length here) here = n.2 ∙ ap (λ (k : ℕ). big_number k here) (sym n.1.size) in
     let below : number < 2 ^ (8 * bytes) =
-    subst (λ (k : ℕ). number < 2 ^ (8 * k)) n.1.size (subst (λ (k : ℕ). k < 2 ^ (8 * length here)) (sym is) (number_below here few_here held_here)) in
+    subst (λ (k : ℕ). number < 2 ^ (8 * k)) n.1.size
+    (subst (λ (k : ℕ). k < 2 ^ (8 * length here)) (sym is) (number_below here few_here held_here)) in
     let bits : 8 * bytes ≤ 32 = omega arith in
     let most : 2 ^ (8 * bytes) ≤ 2 ^ 32 = pow_mono bits in
     let small : number < 2 ^ 32 = omega arith in
     let p = parts_undone number (8 * bytes) parts u t small all b.2 in
     let none : number / 2 ^ (8 * bytes) ≡ 0 = div-eq_of_lt below in
     let again : big_bytes bytes number ≡ here =
-    ap (λ (k : ℕ). big_bytes k number) (sym n.1.size) ∙ ap (λ (k : ℕ). big_bytes (length here) k) is ∙ bytes_again here few_here held_here in
+    ap (λ (k : ℕ). big_bytes k number) (sym n.1.size) ∙ ap (λ (k : ℕ). big_bytes (length here) k) is
+    ∙ bytes_again here few_here held_here in
     record {
       here = here;
       said = p.said;
@@ -214,7 +218,8 @@ run_undone bytes parts s t few all held h =
       written = λ before after at room.
           let parts_on : encoded_parts 0 parts (writer (p.said ++ after) before s.counts) ≡ Some (number, writer after before t.counts) =
           ap (λ (k : ℕ). encoded_parts k parts (writer (p.said ++ after) before s.counts)) (sym none)
-          ∙ ap (λ (counts : List ℕ). encoded_parts (number / 2 ^ (8 * bytes)) parts (writer (p.said ++ after) before counts)) (sym n.1.counts)
+          ∙ ap (λ (counts : List ℕ). encoded_parts (number / 2 ^ (8 * bytes)) parts (writer (p.said ++ after) before counts))
+          (sym n.1.counts)
           ∙ p.written before after in
           rw (parts_on, again) (write_on here before after t.counts room);
     }
@@ -229,9 +234,11 @@ coordinate s u t number read added held =
     let few_here : length here ≤ 4 = omega (arith, n.1.size) in
     let is : number ≡ big_number (length here) here = n.2 ∙ ap (λ (k : ℕ). big_number k here) (sym n.1.size) in
     let small : number < 2 ^ 16 =
-    subst (λ (k : ℕ). number < 2 ^ (8 * k)) n.1.size (subst (λ (k : ℕ). k < 2 ^ (8 * length here)) (sym is) (number_below here few_here held_here)) in
+    subst (λ (k : ℕ). number < 2 ^ (8 * k)) n.1.size
+    (subst (λ (k : ℕ). k < 2 ^ (8 * length here)) (sym is) (number_below here few_here held_here)) in
     let again : big_bytes 2 number ≡ here =
-    ap (λ (k : ℕ). big_bytes k number) (sym n.1.size) ∙ ap (λ (k : ℕ). big_bytes (length here) k) is ∙ bytes_again here few_here held_here in
+    ap (λ (k : ℕ). big_bytes k number) (sym n.1.size) ∙ ap (λ (k : ℕ). big_bytes (length here) k) is
+    ∙ bytes_again here few_here held_here in
     taken (λ e. writing.next_number 16 e >>= λ (p : ℕ × Encoding). write (big_bytes 2 p.0) p.1) 2 (value.Number number) s u t here n.1 added
     (λ before after counts. rw (number_on 16 number after before counts small, again) refl)
 

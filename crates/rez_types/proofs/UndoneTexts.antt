@@ -1,6 +1,6 @@
 -- Fills and strings that are read are written again.
-use Rattle.std.proofs.Common.{◌≡◌, ℕ, suc, ◌+◌, ◌*◌, ◌^◌, ◌≤◌, ◌<◌, cond, Some, None, Bool, true, false, not, List, [], ◌∷◌, ◌++◌, length, nat_lt}
-use Rattle.std.proofs.Common.{refl, sym, ap, subst, ◌∙◌, arith, append_assoc, length-append}
+use Rattle.std.proofs.Common.{◌≡◌, ℕ, suc, ◌+◌, ◌*◌, ◌^◌, ◌≤◌, ◌<◌, cond, Some, None, Bool, true, false, not, List, [], ◌∷◌, ◌++◌, length}
+use Rattle.std.proofs.Common.{nat_lt, refl, sym, ap, subst, ◌∙◌, arith, append_assoc, length-append}
 use Rattle.std.specs.List.{position, prefix_len}
 use Rattle.std.proofs.lemmas.Bool.{eqb-true, eq-eqb, le-ltb}
 use Rattle.byteorder.specs.Endian.{big_number}
@@ -9,7 +9,8 @@ use Rattle.rez_types.specs.declared.declaration.TextEnd.TheVariants as end
 use Rattle.rez_types.specs.Values as value
 use Rattle.rez_types.specs.Values.{Value}
 use Rattle.rez_types.specs.Options.{◌>>=◌}
-use Rattle.rez_types.specs.Decoding.{Decoding, put, next, next_number, decoded_fill, decoded_bytes, decoded_pstring, decoded_cstring, decoded_text, is_zero}
+use Rattle.rez_types.specs.Decoding.{Decoding, put, next, next_number, decoded_fill, decoded_bytes, decoded_pstring, decoded_cstring}
+use Rattle.rez_types.specs.Decoding.{decoded_text, is_zero}
 use Rattle.rez_types.specs.Encoding.{Encoding, write, next_value, encoded_fill, encoded_text, written_text, has_no_zero}
 use Rattle.rez_types.specs.Whole.{AreBytes}
 use Rattle.rez_types.proofs.Undone.{Undone, writer, bound, some_is, next_is, moved, write_on, putting, taken, bytes_before}
@@ -32,7 +33,8 @@ bytes_undone end n s t written h =
     let b = bound (next n s) (λ (p : List ℕ × Decoding). put (value.Text p.0) p.1) t h in
     let here = b.0.0 in
     let next = next_is n s b.0.1 here b.1 in
-    taken (encoded_text end) n (value.Text here) s b.0.1 t here next b.2 (λ before after counts. written here (writer after before counts) next.size)
+    taken (encoded_text end) n (value.Text here) s b.0.1 t here next b.2 (λ before after counts.
+    written here (writer after before counts) next.size)
 
 -- one byte is its number
 one_byte : (xs : List ℕ) → length xs ≡ 1 → xs ≡ big_number 1 xs ∷ []
@@ -50,7 +52,13 @@ pstring_on text first before after counts is short room =
     let second_room : length (before ++ first) + length text ≤ 16777216 =
     omega (arith, length-append first text, length-append before first) in
     let few : nat_lt 255 (length text) ≡ false = le-ltb 255 (length text) (omega arith) in
-    rw (few, is, write_on first before after counts first_room, write_on text (before ++ first) after counts second_room, append_assoc before first text)
+    rw (
+      few,
+      is,
+      write_on first before after counts first_room,
+      write_on text (before ++ first) after counts second_room,
+      append_assoc before first text,
+    )
     refl
 
 -- a string after a byte with its length
@@ -78,7 +86,8 @@ pstring_undone s t held h =
     record {
       here = first ++ text;
       said = value.Text text ∷ [];
-      rest = n.1.rest ∙ ap (λ (xs : List ℕ). first ++ xs) (second.rest ∙ ap (λ (xs : List ℕ). text ++ xs) e.0) ∙ sym (append_assoc first text t.rest);
+      rest = n.1.rest ∙ ap (λ (xs : List ℕ). first ++ xs) (second.rest ∙ ap (λ (xs : List ℕ). text ++ xs) e.0)
+          ∙ sym (append_assoc first text t.rest);
       values = e.2 ∙ ap (λ (xs : List Value). xs ++ value.Text text ∷ []) (second.values ∙ n.1.values);
       at = λ before at.
           rw (← append_assoc before first text)
@@ -117,7 +126,8 @@ zero_first : (mark ys : List ℕ) → length mark ≡ 1 → prefix_len (λ b. no
 zero_first [] ys h k = absurd (omega arith)
 zero_first (x ∷ []) ys h k = zero_test x ys (is_zero x) refl k
   where
-    zero_test : (x : ℕ) (ys : List ℕ) (b : Bool) → is_zero x ≡ b → cond (not b) (1 + prefix_len (λ b. not (is_zero b)) ys) 0 ≡ 0 → x ∷ [] ≡ 0 ∷ []
+    zero_test : (x : ℕ) (ys : List ℕ) (b : Bool) → is_zero x ≡ b → cond (not b) (1 + prefix_len (λ b. not (is_zero b)) ys) 0 ≡ 0
+        → x ∷ [] ≡ 0 ∷ []
     zero_test x ys true e k = ap (λ (y : ℕ). y ∷ []) (eqb-true x 0 e)
     zero_test x ys false e k = absurd (omega arith)
 zero_first (x ∷ y ∷ xs) ys h k = absurd (omega arith)
@@ -139,7 +149,13 @@ cstring_on text mark before after counts no_zero is room =
     let first_room : length before + length text ≤ 16777216 = omega (arith, length-append text mark) in
     let second_room : length (before ++ text) + length mark ≤ 16777216 =
     omega (arith, length-append text mark, length-append before text) in
-    rw (no_zero, ← is, write_on text before after counts first_room, write_on mark (before ++ text) after counts second_room, append_assoc before text mark)
+    rw (
+      no_zero,
+      ← is,
+      write_on text before after counts first_room,
+      write_on mark (before ++ text) after counts second_room,
+      append_assoc before text mark,
+    )
     refl
 
 -- a string that a byte of 0 ends

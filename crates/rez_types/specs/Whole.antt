@@ -1,5 +1,6 @@
-use Rattle.std.specs.Prelude.{ℕ, ◌+◌, ◌*◌, ◌<◌, ◌==◌, ◌&&◌, nat_le, Bool, true, List, [], ◌∷◌}
-use Rattle.std.specs.List.{AllByRecursion, list_all}
+use Rattle.std.specs.Prelude.{ℕ, ◌+◌, ◌*◌, ◌==◌, ◌&&◌, nat_le, Bool, true, List, [], ◌∷◌}
+use Rattle.std.specs.List.{list_all}
+pub use Rattle.plain_laws.specs.Bytes.{AreBytes}
 use Rattle.rez_types.specs.Fields.{Part, Field, Run, Declaration}
 use Rattle.rez_types.specs.Decoding.{width_of}
 
@@ -18,7 +19,3 @@ is_whole field = true
 -- All runs of a declaration do.
 abbrev pub has_whole_runs : Declaration → Bool
 has_whole_runs d = list_all is_whole d.fields && list_all (λ fields. list_all is_whole fields) d.blocks
-
--- Bytes are numbers below 256.
-abbrev pub AreBytes : List ℕ → Type 0
-AreBytes bytes = AllByRecursion (λ (b : ℕ). b < 256) bytes

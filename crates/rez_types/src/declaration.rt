@@ -1,8 +1,8 @@
-//! Declarations of types, as Rez reads them after `type`: *Macintosh Programmer's Workshop: Building and Managing Programs
-//! in MPW*, chapter "Rez".
+//! Declarations of types, as Rez reads them after `type`: *Macintosh Programmer's Workshop:
+//! Building and Managing Programs in MPW*, chapter "Rez".
 //!
-//! The fields of a declaration stand in a list. Those of its arrays' elements and of its switches' cases stand in lists of
-//! their own, its blocks, which an array and a case name by their place.
+//! The fields of a declaration stand in a list. Those of its arrays' elements and of its switches'
+//! cases stand in lists of their own, its blocks, which an array and a case name by their place.
 
 ghost use Rattle.std.specs.Prelude.{◌≤◌};
 
@@ -94,7 +94,8 @@ pub enum Part {
     Fill(Width),
 }
 
-/// Bit strings, bytes, integers and fills of bits side by side, which together are one to four whole bytes.
+/// Bit strings, bytes, integers and fills of bits side by side, which together are one to four
+/// whole bytes.
 #[derive(Drop)]
 pub struct Run {
     /// How many bytes they are.
@@ -154,7 +155,8 @@ pub struct Stop {
 pub enum ArrayEnd {
     /// It has so many elements: `array [n]`.
     Fixed(u16),
-    /// A count of its block has the number of its elements: the first count of the block is 0, the next is 1.
+    /// A count of its block has the number of its elements: the first count of the block is 0, the
+    /// next is 1.
     Counted(usize),
     /// A constant after it ends it.
     Constant(Stop),
@@ -215,7 +217,8 @@ pub enum Field {
     Run(Run),
     /// So many bytes that no statement states.
     Fill(u16),
-    /// Bytes up to a boundary, counted from the first byte of the resource on, that no statement states.
+    /// Bytes up to a boundary, counted from the first byte of the resource on, that no statement
+    /// states.
     Align(Boundary),
     /// A string.
     Text(Text),

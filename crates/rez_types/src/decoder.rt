@@ -76,7 +76,8 @@ fn counted(count: Count, bits: u32) -> u32
     }
 }
 
-/// Returns how many bytes there are from a place, by how many bytes it is past a multiple of four, to a boundary.
+/// Returns how many bytes there are from a place, by how many bytes it is past a multiple of four,
+/// to a boundary.
 pub(crate) fn padding(boundary: Boundary, phase: usize) -> usize
     ensures { result ≡ spec.padding (spec.multiple boundary) phase }
 {
@@ -132,7 +133,8 @@ impl<'a> Decoder<'a> {
     /// Adds a value.
     #[tactic(auto, unfolding(crate::specs::Decoding::put))]
     pub fn put(&mut self, value: Value) -> Result<(), CodingFault>
-        ensures { LeadsTo result (decoding_of self.new) (spec.put (value_of value) (decoding_of self.old)) }
+        ensures { LeadsTo result (decoding_of self.new)
+            (spec.put (value_of value) (decoding_of self.old)) }
     {
         if MOST_VALUES <= self.values.len() {
             return Err(CodingFault::Misfit);
@@ -145,7 +147,8 @@ impl<'a> Decoder<'a> {
     #[tactic(auto, unfolding(crate::specs::Decoding::next_number, crate::specs::Decoding::next))]
     pub fn next_number(&mut self, count: u8) -> Result<u32, CodingFault>
         requires few { count ≤ 4 }
-        ensures { Gives same result (decoding_of self.new) (spec.next_number count (decoding_of self.old)) }
+        ensures { Gives same result (decoding_of self.new)
+            (spec.next_number count (decoding_of self.old)) }
     {
         let length = count as usize;
         if self.rest.len() < length {
@@ -160,7 +163,8 @@ impl<'a> Decoder<'a> {
     /// Passes over the next bytes, and returns them.
     #[tactic(auto, unfolding(crate::specs::Decoding::next))]
     fn next(&mut self, count: usize) -> Result<Vec<u8>, CodingFault>
-        ensures { Gives bytes_in result (decoding_of self.new) (spec.next count (decoding_of self.old)) }
+        ensures { Gives bytes_in result (decoding_of self.new)
+            (spec.next count (decoding_of self.old)) }
     {
         if self.rest.len() < count {
             return Err(CodingFault::Misfit);
@@ -173,7 +177,8 @@ impl<'a> Decoder<'a> {
 
     /// Takes a count of the block.
     fn take_count(&mut self, count: Count, bits: u32) -> Result<(), CodingFault>
-        ensures { LeadsTo result (decoding_of self.new) (spec.decoded_part (part_of (parts.Count count)) bits (decoding_of self.old)) }
+        ensures { LeadsTo result (decoding_of self.new)
+            (spec.decoded_part (part_of (parts.Count count)) bits (decoding_of self.old)) }
     {
         let number = counted(count, bits);
         self.counts.push(number)?;
@@ -182,7 +187,8 @@ impl<'a> Decoder<'a> {
 
     /// Takes a part of a run, by its bits.
     fn take_part(&mut self, part: &Part, bits: u32) -> Result<(), CodingFault>
-        ensures { LeadsTo result (decoding_of self.new) (spec.decoded_part (part_of part.now) bits (decoding_of self.old)) }
+        ensures { LeadsTo result (decoding_of self.new)
+            (spec.decoded_part (part_of part.now) bits (decoding_of self.old)) }
     {
         match part {
             Part::Integer(_) => self.put(Value::Number(bits)),
@@ -216,8 +222,8 @@ impl<'a> Decoder<'a> {
     /// Takes a run.
     #[tactic(auto, unfolding(crate::specs::Decoding::decoded_run))]
     pub fn take_run(&mut self, run: &Run) -> Result<(), CodingFault>
-        ensures { LeadsTo result (decoding_of self.new)
-            (spec.decoded_run run.now.bytes (map part_of run.now.parts.items) (decoding_of self.old)) }
+        ensures { LeadsTo result (decoding_of self.new) (spec.decoded_run run.now.bytes
+            (map part_of run.now.parts.items) (decoding_of self.old)) }
     {
         let number = self.next_number(run.bytes)?;
         self.take_parts(number, run.bytes, run.parts.as_slice())
@@ -226,7 +232,8 @@ impl<'a> Decoder<'a> {
     /// Takes the bytes of a fill or an alignment.
     #[tactic(auto, unfolding(crate::specs::Decoding::decoded_fill))]
     pub fn take_fill(&mut self, count: usize) -> Result<(), CodingFault>
-        ensures { LeadsTo result (decoding_of self.new) (spec.decoded_fill count (decoding_of self.old)) }
+        ensures { LeadsTo result (decoding_of self.new)
+            (spec.decoded_fill count (decoding_of self.old)) }
     {
         let bytes = self.next(count)?;
         self.put(Value::Filled(bytes))
@@ -235,7 +242,8 @@ impl<'a> Decoder<'a> {
     /// Takes a string of so many bytes.
     #[tactic(auto, unfolding(crate::specs::Decoding::decoded_bytes))]
     fn take_bytes(&mut self, count: usize) -> Result<(), CodingFault>
-        ensures { LeadsTo result (decoding_of self.new) (spec.decoded_bytes count (decoding_of self.old)) }
+        ensures { LeadsTo result (decoding_of self.new)
+            (spec.decoded_bytes count (decoding_of self.old)) }
     {
         let bytes = self.next(count)?;
         self.put(Value::Text(bytes))
@@ -244,7 +252,8 @@ impl<'a> Decoder<'a> {
     /// Takes a string after a byte with its length.
     #[tactic(auto, unfolding(crate::specs::Decoding::decoded_pstring))]
     fn take_pstring(&mut self) -> Result<(), CodingFault>
-        ensures { LeadsTo result (decoding_of self.new) (spec.decoded_pstring (decoding_of self.old)) }
+        ensures { LeadsTo result (decoding_of self.new)
+            (spec.decoded_pstring (decoding_of self.old)) }
     {
         let count = self.next_number(1)?;
         self.take_bytes(count as usize)
@@ -253,7 +262,8 @@ impl<'a> Decoder<'a> {
     /// Takes a string that a byte of 0 ends.
     #[tactic(auto, unfolding(crate::specs::Decoding::decoded_cstring))]
     fn take_cstring(&mut self) -> Result<(), CodingFault>
-        ensures { LeadsTo result (decoding_of self.new) (spec.decoded_cstring (decoding_of self.old)) }
+        ensures { LeadsTo result (decoding_of self.new)
+            (spec.decoded_cstring (decoding_of self.old)) }
     {
         let Some(count) = place_of_zero(self.rest) else {
             return Err(CodingFault::Misfit);
@@ -265,7 +275,8 @@ impl<'a> Decoder<'a> {
 
     /// Takes a string.
     pub fn take_text(&mut self, end: TextEnd) -> Result<(), CodingFault>
-        ensures { LeadsTo result (decoding_of self.new) (spec.decoded_text end (decoding_of self.old)) }
+        ensures { LeadsTo result (decoding_of self.new)
+            (spec.decoded_text end (decoding_of self.old)) }
     {
         match end {
             TextEnd::Pascal => self.take_pstring(),
@@ -279,7 +290,8 @@ impl<'a> Decoder<'a> {
     /// Takes so many coordinates.
     #[tactic(auto, using(crate::proofs::Turns::coordinates_on))]
     pub fn take_coordinates(&mut self, count: u8) -> Result<(), CodingFault>
-        ensures { LeadsTo result (decoding_of self.new) (spec.decoded_coordinates count (decoding_of self.old)) }
+        ensures { LeadsTo result (decoding_of self.new)
+            (spec.decoded_coordinates count (decoding_of self.old)) }
     {
         for i in 0..count {
             let number = self.next_number(2)?;

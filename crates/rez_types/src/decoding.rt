@@ -2,7 +2,8 @@
 
 ghost use Rattle.std.specs.Prelude.{◌≡◌, [], length, map, option_map, slice_get};
 ghost use Rattle.std.specs.List.{position};
-ghost use Rattle.rez_types.specs.View.{fields_of, field_of, blocks_of, end_of, place_of, case_of, declaration_of};
+ghost use Rattle.rez_types.specs.View.{fields_of, field_of, blocks_of, end_of, place_of, case_of};
+ghost use Rattle.rez_types.specs.View.{declaration_of};
 ghost use Rattle.rez_types.specs.Leads.{LeadsTo, Returns, decoding_of, values_in};
 ghost use Rattle.rez_types.specs.Decoding as spec;
 
@@ -62,7 +63,8 @@ fn place_with(pattern: u32, cases: &[Case]) -> Option<usize>
 
 /// Returns the fields of a block.
 pub(crate) fn fields_in(blocks: &[Block], block: usize) -> Option<&[Field]>
-    ensures { option_map (λ fields. fields_of fields.now) result ≡ slice_get (blocks_of blocks.now) block }
+    ensures { option_map (λ fields. fields_of fields.now) result
+        ≡ slice_get (blocks_of blocks.now) block }
 {
     let found = blocks.get(block)?;
     Some(found.fields.as_slice())
@@ -108,8 +110,8 @@ impl<'a> Decoder<'a> {
         blocks: &[Block],
         fields: &[Field],
     ) -> Result<(), CodingFault>
-        ensures { LeadsTo result (decoding_of self.new)
-            (spec.decoded_alone (spec.decoded depth (blocks_of blocks.now)) (fields_of fields.now) (decoding_of self.old)) }
+        ensures { LeadsTo result (decoding_of self.new) (spec.decoded_alone (spec.decoded depth
+            (blocks_of blocks.now)) (fields_of fields.now) (decoding_of self.old)) }
     {
         let outer = self.begin_block();
         self.take_fields(depth, blocks, fields)?;
@@ -125,8 +127,8 @@ impl<'a> Decoder<'a> {
         blocks: &[Block],
         fields: &[Field],
     ) -> Result<(), CodingFault>
-        ensures { LeadsTo result (decoding_of self.new)
-            (spec.decoded_fields (spec.decoded depth (blocks_of blocks.now)) (fields_of fields.now) (decoding_of self.old)) }
+        ensures { LeadsTo result (decoding_of self.new) (spec.decoded_fields (spec.decoded depth
+            (blocks_of blocks.now)) (fields_of fields.now) (decoding_of self.old)) }
     {
         for field in fields {
             self.take_field(depth, blocks, field)?;
@@ -137,8 +139,8 @@ impl<'a> Decoder<'a> {
     /// Takes a field.
     #[cycle(decode)]
     fn take_field(&mut self, depth: u8, blocks: &[Block], field: &Field) -> Result<(), CodingFault>
-        ensures { LeadsTo result (decoding_of self.new)
-            (spec.decoded_field (spec.decoded depth (blocks_of blocks.now)) (field_of field.now) (decoding_of self.old)) }
+        ensures { LeadsTo result (decoding_of self.new) (spec.decoded_field (spec.decoded depth
+            (blocks_of blocks.now)) (field_of field.now) (decoding_of self.old)) }
     {
         match field {
             Field::Run(run) => self.take_run(run),
@@ -166,8 +168,8 @@ impl<'a> Decoder<'a> {
         end: ArrayEnd,
         block: usize,
     ) -> Result<(), CodingFault>
-        ensures { LeadsTo result (decoding_of self.new)
-            (spec.decoded_array (spec.decoded depth (blocks_of blocks.now) block) (end_of end) (decoding_of self.old)) }
+        ensures { LeadsTo result (decoding_of self.new) (spec.decoded_array
+            (spec.decoded depth (blocks_of blocks.now) block) (end_of end) (decoding_of self.old)) }
     {
         match end {
             ArrayEnd::Fixed(count) => self.take_elements(depth, blocks, block, count as u32),
@@ -193,8 +195,8 @@ impl<'a> Decoder<'a> {
         block: usize,
         count: u32,
     ) -> Result<(), CodingFault>
-        ensures { LeadsTo result (decoding_of self.new)
-            (spec.decoded_elements (spec.decoded depth (blocks_of blocks.now) block) count (decoding_of self.old)) }
+        ensures { LeadsTo result (decoding_of self.new) (spec.decoded_elements
+            (spec.decoded depth (blocks_of blocks.now) block) count (decoding_of self.old)) }
     {
         for i in 0..count {
             self.put(Value::Element)?;
@@ -214,8 +216,8 @@ impl<'a> Decoder<'a> {
         end: ArrayEnd,
     ) -> Result<(), CodingFault>
         ensures { LeadsTo result (decoding_of self.new)
-            (spec.decoded_until (spec.decoded depth (blocks_of blocks.now) block) (end_of end) (length self.old.rest.now)
-            (decoding_of self.old)) }
+            (spec.decoded_until (spec.decoded depth (blocks_of blocks.now) block) (end_of end)
+            (length self.old.rest.now) (decoding_of self.old)) }
     {
         let most = self.rest.len();
         for i in 0..most {
@@ -243,8 +245,8 @@ impl<'a> Decoder<'a> {
         cases: &[Case],
     ) -> Result<(), CodingFault>
         ensures { LeadsTo result (decoding_of self.new)
-            (spec.decoded_switch (spec.decoded depth (blocks_of blocks.now)) (place_of key.now) (map case_of cases.now)
-            (decoding_of self.old)) }
+            (spec.decoded_switch (spec.decoded depth (blocks_of blocks.now)) (place_of key.now)
+            (map case_of cases.now) (decoding_of self.old)) }
     {
         let Some(pattern) = key_in(key, self.rest) else {
             return Err(CodingFault::Misfit);
@@ -264,8 +266,8 @@ impl<'a> Decoder<'a> {
 ///
 /// # Errors
 ///
-/// Returns `Misfit` where the bytes are none of the declared type, or have more than 1,048,576 values; `HostMemory` where the
-/// host is out of memory.
+/// Returns `Misfit` where the bytes are none of the declared type, or have more than 1,048,576
+/// values; `HostMemory` where the host is out of memory.
 #[tactic(auto, unfolding(crate::specs::Decoding::values_of_datum))]
 pub fn decode(
     alloc: Global,

@@ -1,6 +1,7 @@
 //! A writer of a resource's bytes: the fields that hold no others.
 
-ghost use Rattle.std.specs.Prelude.{◌≡◌, ◌<◌, ◌≤◌, ◌*◌, ◌^◌, length, map, replicate, Some, None, IfSome, IfNone};
+ghost use Rattle.std.specs.Prelude.{◌≡◌, ◌<◌, ◌≤◌, ◌*◌, ◌^◌, length, map, replicate, Some, None};
+ghost use Rattle.std.specs.Prelude.{IfSome, IfNone};
 ghost use Rattle.byteorder.specs.Endian.{big_bytes};
 ghost use Rattle.rez_types.specs.declared.declaration.TextEnd.TheVariants as ends;
 ghost use Rattle.rez_types.specs.View.{part_of, value_of, values_of};
@@ -80,7 +81,8 @@ impl<'a> Encoder<'a> {
     /// Writes bytes.
     #[tactic(auto, unfolding(crate::specs::Encoding::write))]
     pub fn write(&mut self, more: &[u8]) -> Result<(), CodingFault>
-        ensures { LeadsTo result (encoding_of self.new) (spec.write more.now (encoding_of self.old)) }
+        ensures { LeadsTo result (encoding_of self.new)
+            (spec.write more.now (encoding_of self.old)) }
     {
         if !self.has_room(more.len()) {
             return Err(CodingFault::Misfit);
@@ -92,7 +94,8 @@ impl<'a> Encoder<'a> {
     /// Writes bytes of 0.
     #[tactic(auto, unfolding(crate::specs::Encoding::write))]
     fn write_zeros(&mut self, count: usize) -> Result<(), CodingFault>
-        ensures { LeadsTo result (encoding_of self.new) (spec.write (replicate count 0) (encoding_of self.old)) }
+        ensures { LeadsTo result (encoding_of self.new)
+            (spec.write (replicate count 0) (encoding_of self.old)) }
     {
         if !self.has_room(count) {
             return Err(CodingFault::Misfit);
@@ -122,7 +125,8 @@ impl<'a> Encoder<'a> {
     #[tactic(auto, unfolding(crate::specs::Encoding::next_number))]
     pub fn next_number(&mut self, width: u8) -> Result<u32, CodingFault>
         requires { width ≤ 32 }
-        ensures { Gives same result (encoding_of self.new) (spec.next_number width (encoding_of self.old)) }
+        ensures { Gives same result (encoding_of self.new)
+            (spec.next_number width (encoding_of self.old)) }
     {
         let Some(value) = self.next_value() else {
             return Err(CodingFault::Misfit);
@@ -155,9 +159,11 @@ impl<'a> Encoder<'a> {
         Ok(stated(count, *number))
     }
 
-    /// Passes over the value of a part of a run, where it has one, and returns the bits of the part.
+    /// Passes over the value of a part of a run, where it has one, and returns the bits of the
+    /// part.
     fn next_bits(&mut self, part: &Part) -> Result<u32, CodingFault>
-        ensures { Gives same result (encoding_of self.new) (spec.encoded_part (part_of part.now) (encoding_of self.old)) }
+        ensures { Gives same result (encoding_of self.new)
+            (spec.encoded_part (part_of part.now) (encoding_of self.old)) }
     {
         match part {
             Part::Integer(integer) => self.next_number(integer.width.bits),
@@ -169,7 +175,8 @@ impl<'a> Encoder<'a> {
 
     /// Passes over the values of a run's parts, and returns the number of the run.
     fn next_parts(&mut self, parts: &[Part]) -> Result<u32, CodingFault>
-        ensures { Gives same result (encoding_of self.new) (spec.encoded_parts 0 (map part_of parts.now) (encoding_of self.old)) }
+        ensures { Gives same result (encoding_of self.new)
+            (spec.encoded_parts 0 (map part_of parts.now) (encoding_of self.old)) }
     {
         let mut number = 0;
         for part in parts {
@@ -182,7 +189,8 @@ impl<'a> Encoder<'a> {
     /// Writes the lowest bytes of a number, the highest of them first.
     fn write_number(&mut self, count: u8, number: u32) -> Result<(), CodingFault>
         requires { count ≤ 4 }
-        ensures { LeadsTo result (encoding_of self.new) (spec.write (big_bytes count number) (encoding_of self.old)) }
+        ensures { LeadsTo result (encoding_of self.new)
+            (spec.write (big_bytes count number) (encoding_of self.old)) }
     {
         let bytes = number.to_be_bytes();
         self.write(&bytes[4 - count as usize..])
@@ -191,8 +199,8 @@ impl<'a> Encoder<'a> {
     /// Writes a run.
     #[tactic(auto, unfolding(crate::specs::Encoding::encoded_run))]
     pub fn write_run(&mut self, run: &Run) -> Result<(), CodingFault>
-        ensures { LeadsTo result (encoding_of self.new)
-            (spec.encoded_run run.now.bytes (map part_of run.now.parts.items) (encoding_of self.old)) }
+        ensures { LeadsTo result (encoding_of self.new) (spec.encoded_run run.now.bytes
+            (map part_of run.now.parts.items) (encoding_of self.old)) }
     {
         let number = self.next_parts(run.parts.as_slice())?;
         self.write_number(run.bytes, number)
@@ -201,7 +209,8 @@ impl<'a> Encoder<'a> {
     /// Writes a fill or an alignment of so many bytes.
     #[tactic(auto, unfolding(crate::specs::Encoding::encoded_fill))]
     pub fn write_fill(&mut self, count: usize) -> Result<(), CodingFault>
-        ensures { LeadsTo result (encoding_of self.new) (spec.encoded_fill count (encoding_of self.old)) }
+        ensures { LeadsTo result (encoding_of self.new)
+            (spec.encoded_fill count (encoding_of self.old)) }
     {
         let Some(value) = self.next_value() else {
             return Err(CodingFault::Misfit);
@@ -218,8 +227,8 @@ impl<'a> Encoder<'a> {
 
     /// Writes an alignment.
     pub fn write_padding(&mut self, boundary: Boundary) -> Result<(), CodingFault>
-        ensures { LeadsTo result (encoding_of self.new)
-            (spec.encoded_fill (padded (multiple boundary) (length self.old.bytes.items)) (encoding_of self.old)) }
+        ensures { LeadsTo result (encoding_of self.new) (spec.encoded_fill
+            (padded (multiple boundary) (length self.old.bytes.items)) (encoding_of self.old)) }
     {
         let count = padding(boundary, self.bytes.len());
         self.write_fill(count)
@@ -263,7 +272,8 @@ impl<'a> Encoder<'a> {
 
     /// Writes the bytes of a string.
     fn write_bytes(&mut self, end: TextEnd, text: &[u8]) -> Result<(), CodingFault>
-        ensures { LeadsTo result (encoding_of self.new) (spec.written_text end text.now (encoding_of self.old)) }
+        ensures { LeadsTo result (encoding_of self.new)
+            (spec.written_text end text.now (encoding_of self.old)) }
     {
         match end {
             TextEnd::Pascal => self.write_pstring(text),
@@ -277,7 +287,8 @@ impl<'a> Encoder<'a> {
     /// Writes a string.
     #[tactic(auto, unfolding(crate::specs::Encoding::encoded_text))]
     pub fn write_text(&mut self, end: TextEnd) -> Result<(), CodingFault>
-        ensures { LeadsTo result (encoding_of self.new) (spec.encoded_text end (encoding_of self.old)) }
+        ensures { LeadsTo result (encoding_of self.new)
+            (spec.encoded_text end (encoding_of self.old)) }
     {
         let Some(value) = self.next_value() else {
             return Err(CodingFault::Misfit);
@@ -291,7 +302,8 @@ impl<'a> Encoder<'a> {
     /// Writes so many coordinates.
     #[tactic(auto, using(crate::proofs::Turns::written_on))]
     pub fn write_coordinates(&mut self, count: u8) -> Result<(), CodingFault>
-        ensures { LeadsTo result (encoding_of self.new) (spec.encoded_coordinates count (encoding_of self.old)) }
+        ensures { LeadsTo result (encoding_of self.new)
+            (spec.encoded_coordinates count (encoding_of self.old)) }
     {
         for i in 0..count {
             let number = self.next_number(16)?;

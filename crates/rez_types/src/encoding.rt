@@ -1,7 +1,8 @@
 //! The bytes of a resource's values.
 
 ghost use Rattle.std.specs.Prelude.{◌≡◌, [], length, map, drop};
-ghost use Rattle.rez_types.specs.View.{fields_of, field_of, blocks_of, end_of, case_of, declaration_of, values_of};
+ghost use Rattle.rez_types.specs.View.{fields_of, field_of, blocks_of, end_of, case_of};
+ghost use Rattle.rez_types.specs.View.{declaration_of, values_of};
 ghost use Rattle.rez_types.specs.Leads.{LeadsTo, Gives, Returns, encoding_of, same, flag, bytes_in};
 ghost use Rattle.rez_types.specs.Encoding as spec;
 
@@ -13,7 +14,8 @@ use crate::value::Value;
 use std::alloc::Global;
 use std::mem::replace;
 
-/// Reports whether the bytes after the first ones are those of an element, which do not end its array.
+/// Reports whether the bytes after the first ones are those of an element, which do not end its
+/// array.
 fn is_element(end: ArrayEnd, before: usize, bytes: &[u8]) -> bool
     ensures { result ≡ spec.is_element (end_of end) (drop before bytes.now) }
 {
@@ -28,7 +30,8 @@ fn is_element(end: ArrayEnd, before: usize, bytes: &[u8]) -> bool
     }
 }
 
-/// Reports whether an array that ends so may have so many elements, where its block has these counts.
+/// Reports whether an array that ends so may have so many elements, where its block has these
+/// counts.
 fn may_have(end: ArrayEnd, counts: &[u32], count: usize) -> bool
     ensures { result ≡ spec.may_have (end_of end) counts.now count }
 {
@@ -46,7 +49,8 @@ fn may_have(end: ArrayEnd, counts: &[u32], count: usize) -> bool
 impl<'a> Encoder<'a> {
     /// Passes over the value that tells whether another element follows.
     fn next_more(&mut self) -> Result<bool, CodingFault>
-        ensures { Gives flag result (encoding_of self.new) (spec.next_of spec.more_in (encoding_of self.old)) }
+        ensures { Gives flag result (encoding_of self.new)
+            (spec.next_of spec.more_in (encoding_of self.old)) }
     {
         let Some(value) = self.next_value() else {
             return Err(CodingFault::Misfit);
@@ -60,7 +64,8 @@ impl<'a> Encoder<'a> {
 
     /// Passes over a case, and returns its place.
     fn next_case(&mut self) -> Result<usize, CodingFault>
-        ensures { Gives same result (encoding_of self.new) (spec.next_of spec.case_in (encoding_of self.old)) }
+        ensures { Gives same result (encoding_of self.new)
+            (spec.next_of spec.case_in (encoding_of self.old)) }
     {
         let Some(value) = self.next_value() else {
             return Err(CodingFault::Misfit);
@@ -110,8 +115,8 @@ impl<'a> Encoder<'a> {
         blocks: &[Block],
         fields: &[Field],
     ) -> Result<(), CodingFault>
-        ensures { LeadsTo result (encoding_of self.new)
-            (spec.encoded_alone (spec.encoded depth (blocks_of blocks.now)) (fields_of fields.now) (encoding_of self.old)) }
+        ensures { LeadsTo result (encoding_of self.new) (spec.encoded_alone (spec.encoded depth
+            (blocks_of blocks.now)) (fields_of fields.now) (encoding_of self.old)) }
     {
         let outer = self.begin_block();
         self.write_fields(depth, blocks, fields)?;
@@ -127,8 +132,8 @@ impl<'a> Encoder<'a> {
         blocks: &[Block],
         fields: &[Field],
     ) -> Result<(), CodingFault>
-        ensures { LeadsTo result (encoding_of self.new)
-            (spec.encoded_fields (spec.encoded depth (blocks_of blocks.now)) (fields_of fields.now) (encoding_of self.old)) }
+        ensures { LeadsTo result (encoding_of self.new) (spec.encoded_fields (spec.encoded depth
+            (blocks_of blocks.now)) (fields_of fields.now) (encoding_of self.old)) }
     {
         for field in fields {
             self.write_field(depth, blocks, field)?;
@@ -139,8 +144,8 @@ impl<'a> Encoder<'a> {
     /// Writes a field.
     #[cycle(encode)]
     fn write_field(&mut self, depth: u8, blocks: &[Block], field: &Field) -> Result<(), CodingFault>
-        ensures { LeadsTo result (encoding_of self.new)
-            (spec.encoded_field (spec.encoded depth (blocks_of blocks.now)) (field_of field.now) (encoding_of self.old)) }
+        ensures { LeadsTo result (encoding_of self.new) (spec.encoded_field (spec.encoded depth
+            (blocks_of blocks.now)) (field_of field.now) (encoding_of self.old)) }
     {
         match field {
             Field::Run(run) => self.write_run(run),
@@ -164,8 +169,8 @@ impl<'a> Encoder<'a> {
         end: ArrayEnd,
         block: usize,
     ) -> Result<(), CodingFault>
-        ensures { LeadsTo result (encoding_of self.new)
-            (spec.encoded_array (spec.encoded depth (blocks_of blocks.now) block) (end_of end) (encoding_of self.old)) }
+        ensures { LeadsTo result (encoding_of self.new) (spec.encoded_array
+            (spec.encoded depth (blocks_of blocks.now) block) (end_of end) (encoding_of self.old)) }
     {
         let count = self.write_elements(depth, blocks, end, block)?;
         if may_have(end, self.counts.as_slice(), count) {
@@ -208,8 +213,8 @@ impl<'a> Encoder<'a> {
         end: ArrayEnd,
         block: usize,
     ) -> Result<(), CodingFault>
-        ensures { LeadsTo result (encoding_of self.new)
-            (spec.encoded_element (spec.encoded depth (blocks_of blocks.now) block) (end_of end) (encoding_of self.old)) }
+        ensures { LeadsTo result (encoding_of self.new) (spec.encoded_element
+            (spec.encoded depth (blocks_of blocks.now) block) (end_of end) (encoding_of self.old)) }
     {
         let before = self.bytes.len();
         self.write_block(depth, blocks, block)?;
@@ -229,8 +234,8 @@ impl<'a> Encoder<'a> {
         blocks: &[Block],
         cases: &[Case],
     ) -> Result<(), CodingFault>
-        ensures { LeadsTo result (encoding_of self.new)
-            (spec.encoded_switch (spec.encoded depth (blocks_of blocks.now)) (map case_of cases.now) (encoding_of self.old)) }
+        ensures { LeadsTo result (encoding_of self.new) (spec.encoded_switch (spec.encoded depth
+            (blocks_of blocks.now)) (map case_of cases.now) (encoding_of self.old)) }
     {
         let place = self.next_case()?;
         let Some(case) = cases.get(place) else {
@@ -244,8 +249,8 @@ impl<'a> Encoder<'a> {
 ///
 /// # Errors
 ///
-/// Returns `Misfit` where the values are none of the declared type, where an element would end its array, or where the bytes are
-/// more than 16 MB; `HostMemory` where the host is out of memory.
+/// Returns `Misfit` where the values are none of the declared type, where an element would end its
+/// array, or where the bytes are more than 16 MB; `HostMemory` where the host is out of memory.
 #[tactic(auto, unfolding(crate::specs::Encoding::datum_of_values))]
 pub fn encode(
     alloc: Global,

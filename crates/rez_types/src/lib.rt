@@ -1,5 +1,5 @@
-//! Declarations of types in the language of Rez, and resources by them: the values of a resource's bytes, and the bytes of
-//! values.
+//! Declarations of types in the language of Rez, and resources by them: the values of a resource's
+//! bytes, and the bytes of values.
 #![tactic(auto)]
 
 mod declaration;

@@ -7,6 +7,7 @@ use Rattle.rez_types.specs.Fields.{NamedNumber, Integer, Constant, Count, FillBi
 use Rattle.rez_types.specs.Fields.{Field, Run, Fill, Align, Text, Rect, Array, Switch, Declaration}
 use Rattle.rez_types.specs.Values as value
 use Rattle.rez_types.specs.Values.{Value}
+use Rattle.rez_types.proofs.Declared.{of_fields, with_block}
 use Rattle.rez_tokens.specs.Tokens as token
 use Rattle.rez_tokens.specs.Tokens.{Token, Lexeme}
 use Rattle.rez_values.specs.declared.fault.ValueFault.TheVariants as faults
@@ -33,12 +34,6 @@ semicolon = token.Mark 59
 
 abbrev minus : Lexeme
 minus = token.Mark 45
-
-abbrev of_fields : List Field → Declaration
-of_fields fields = record { fields = fields; blocks = [] }
-
-abbrev with_block : List Field → List Field → Declaration
-with_block fields block = record { fields = fields; blocks = block ∷ [] }
 
 abbrev named : List ℕ → ℕ → NamedNumber
 named name pattern = record { name = name; pattern = pattern }

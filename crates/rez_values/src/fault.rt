@@ -15,7 +15,8 @@ pub enum ValueFault {
     /// No number stands where an integer without constants is stated.
     #[error("a number is needed")]
     NumberNeeded,
-    /// Neither a number nor the name of a constant stands where an integer with constants is stated.
+    /// Neither a number nor the name of a constant stands where an integer with constants is
+    /// stated.
     #[error("a number is needed, or the name of a constant of its field")]
     NumberOrNameNeeded,
     /// A number has more bits than its field, which has so many.
@@ -69,8 +70,8 @@ pub enum ValueFault {
     /// A statement states more than 2^20 values.
     #[error("a resource has at most 1048576 values")]
     ManyValues,
-    /// The declaration of the type names a block or a count that it does not have, or blocks stand more than 8 deep in it. A
-    /// declaration that was read is none of this kind.
+    /// The declaration of the type names a block or a count that it does not have, or blocks stand
+    /// more than 8 deep in it. A declaration that was read is none of this kind.
     #[error("the declaration of the type is not sound")]
     Unsound,
 }

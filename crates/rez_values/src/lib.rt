@@ -1,4 +1,5 @@
-//! The values that a statement `resource` states, taken from its tokens by the declaration of its type.
+//! The values that a statement `resource` states, taken from its tokens by the declaration of its
+//! type.
 #![tactic(auto)]
 
 mod fault;

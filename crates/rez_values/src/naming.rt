@@ -83,7 +83,8 @@ pub fn number_named(form: Form, constants: &[NamedNumber], word: &[u8]) -> Optio
 
 /// Returns the string that a word stands for.
 pub fn text_named<'c>(word: &[u8], constants: &'c [NamedText]) -> Option<&'c [u8]>
-    ensures { option_map (λ t. t.now) result ≡ spec.text_named word.now (map text_of constants.now) }
+    ensures { option_map (λ t. t.now) result
+        ≡ spec.text_named word.now (map text_of constants.now) }
 {
     let Some(place) = place_of_text(word, constants) else {
         return None;

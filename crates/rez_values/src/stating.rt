@@ -62,7 +62,8 @@ fn filled_at(tokens: &[Token]) -> Option<&[u8]>
 
 /// Returns the bytes of a fill of so many bytes, if they are the first token.
 fn fill_at(count: usize, tokens: &[Token]) -> Option<&[u8]>
-    ensures { option_map (λ b. b.now) result ≡ spec.filled_as (spec.has_length count) (tokens_of tokens.now) }
+    ensures { option_map (λ b. b.now) result
+        ≡ spec.filled_as (spec.has_length count) (tokens_of tokens.now) }
 {
     let Some(bytes) = filled_at(tokens) else {
         return None;
@@ -86,7 +87,8 @@ fn multiple(boundary: Boundary) -> usize
 
 /// Returns the bytes of an alignment, if they are the first token.
 fn alignment_at(boundary: Boundary, tokens: &[Token]) -> Option<&[u8]>
-    ensures { option_map (λ b. b.now) result ≡ spec.filled_as (spec.is_shorter (multiple boundary)) (tokens_of tokens.now) }
+    ensures { option_map (λ b. b.now) result
+        ≡ spec.filled_as (spec.is_shorter (multiple boundary)) (tokens_of tokens.now) }
 {
     let Some(bytes) = filled_at(tokens) else {
         return None;
@@ -108,7 +110,8 @@ fn fits_bits(width: Width, bytes: &[u8]) -> bool
 
 /// Returns the bytes of a fill of so many bits, if they are the first token.
 fn fill_bits_at(width: Width, tokens: &[Token]) -> Option<&[u8]>
-    ensures fill { option_map (λ b. b.now) result ≡ spec.filled_as (spec.fits_bits width.bits) (tokens_of tokens.now) }
+    ensures fill { option_map (λ b. b.now) result
+        ≡ spec.filled_as (spec.fits_bits width.bits) (tokens_of tokens.now) }
     ensures few { IfSome result (λ b. length b.now ≤ 4) }
 {
     let Some(bytes) = filled_at(tokens) else {
@@ -203,8 +206,8 @@ impl<'a> Taker<'a> {
 
     /// Passes over what states an integer, and returns its bits.
     fn take_integer_number(&mut self, integer: &Integer) -> Result<u32, TakeFault>
-        ensures { TakesTo same result (taking_of self.new)
-            (spec.integer_by integer.now.width.bits integer.now.form (map number_of integer.now.constants.items)
+        ensures { TakesTo same result (taking_of self.new) (spec.integer_by integer.now.width.bits
+            integer.now.form (map number_of integer.now.constants.items)
             (lexeme (taking_of self.old)) (taking_of self.old)) }
     {
         let constants = integer.constants.as_slice();
@@ -233,9 +236,8 @@ impl<'a> Taker<'a> {
     /// Takes an integer.
     #[tactic(auto, unfolding(crate::specs::Stating::integer_taken))]
     fn take_integer(&mut self, integer: &Integer) -> Result<(), TakeFault>
-        ensures { Takes result (taking_of self.new)
-            (spec.integer_taken integer.now.width.bits integer.now.form (map number_of integer.now.constants.items)
-            (taking_of self.old)) }
+        ensures { Takes result (taking_of self.new) (spec.integer_taken integer.now.width.bits
+            integer.now.form (map number_of integer.now.constants.items) (taking_of self.old)) }
     {
         self.separate(ValueFault::SeparatorNeeded)?;
         let number = self.take_integer_number(integer)?;
@@ -245,7 +247,8 @@ impl<'a> Taker<'a> {
     /// Notes where a count stands, whose number is put there later.
     #[tactic(auto, unfolding(crate::specs::Stating::count_taken))]
     fn take_count(&mut self, count: Count) -> Result<(), TakeFault>
-        ensures { Takes result (taking_of self.new) (spec.count_taken count.width.bits (taking_of self.old)) }
+        ensures { Takes result (taking_of self.new)
+            (spec.count_taken count.width.bits (taking_of self.old)) }
     {
         let place = self.values.len();
         self.put(Value::Count(0))?;
@@ -259,7 +262,8 @@ impl<'a> Taker<'a> {
     /// Takes a fill of bits.
     #[tactic(auto, unfolding(crate::specs::Stating::fill_bits_taken))]
     fn take_fill_bits(&mut self, width: Width) -> Result<(), TakeFault>
-        ensures { Takes result (taking_of self.new) (spec.fill_bits_taken width.bits (taking_of self.old)) }
+        ensures { Takes result (taking_of self.new)
+            (spec.fill_bits_taken width.bits (taking_of self.old)) }
     {
         let Some(bytes) = fill_bits_at(width, self.tokens) else {
             return self.put(Value::Number(0));
@@ -270,7 +274,8 @@ impl<'a> Taker<'a> {
 
     /// Takes a part of a run.
     fn take_part(&mut self, part: &Part) -> Result<(), TakeFault>
-        ensures { Takes result (taking_of self.new) (spec.part_taken (part_of part.now) (taking_of self.old)) }
+        ensures { Takes result (taking_of self.new)
+            (spec.part_taken (part_of part.now) (taking_of self.old)) }
     {
         match part {
             Part::Integer(integer) => self.take_integer(integer),
@@ -282,7 +287,8 @@ impl<'a> Taker<'a> {
 
     /// Takes the parts of a run in turn.
     pub fn take_parts(&mut self, parts: &[Part]) -> Result<(), TakeFault>
-        ensures { Takes result (taking_of self.new) (spec.parts_taken (map part_of parts.now) (taking_of self.old)) }
+        ensures { Takes result (taking_of self.new)
+            (spec.parts_taken (map part_of parts.now) (taking_of self.old)) }
     {
         for part in parts {
             self.take_part(part)?;
@@ -292,7 +298,8 @@ impl<'a> Taker<'a> {
 
     /// Takes the bytes of a fill or an alignment, which are the very next token.
     fn take_filled(&mut self, bytes: &[u8]) -> Result<(), TakeFault>
-        ensures { Takes result (taking_of self.new) (put (value.Filled bytes.now) (past (taking_of self.old))) }
+        ensures { Takes result (taking_of self.new)
+            (put (value.Filled bytes.now) (past (taking_of self.old))) }
     {
         let bytes = Vec::from_slice(self.alloc, bytes)?;
         self.pass_one();
@@ -301,7 +308,8 @@ impl<'a> Taker<'a> {
 
     /// Adds the value of a fill of so many bytes of 0.
     fn put_zeros(&mut self, count: usize) -> Result<(), TakeFault>
-        ensures { Takes result (taking_of self.new) (put (value.Filled (replicate count 0)) (taking_of self.old)) }
+        ensures { Takes result (taking_of self.new)
+            (put (value.Filled (replicate count 0)) (taking_of self.old)) }
     {
         let mut zeros = Vec::new(self.alloc);
         zeros.resize(count, 0)?;
@@ -322,7 +330,8 @@ impl<'a> Taker<'a> {
     /// Takes an alignment.
     #[tactic(auto, unfolding(crate::specs::Stating::align_taken))]
     pub fn take_alignment(&mut self, boundary: Boundary) -> Result<(), TakeFault>
-        ensures { Takes result (taking_of self.new) (spec.align_taken boundary (taking_of self.old)) }
+        ensures { Takes result (taking_of self.new)
+            (spec.align_taken boundary (taking_of self.old)) }
     {
         match alignment_at(boundary, self.tokens) {
             Some(bytes) => self.take_filled(bytes),
@@ -365,7 +374,8 @@ impl<'a> Taker<'a> {
         named: Option<&[u8]>,
     ) -> Result<Vec<u8>, TakeFault>
         ensures { TakesTo bytes_in result (taking_of self.new)
-            (spec.text_by_name (map text_of constants.now) (option_map (λ b. b.now) named.entry) (taking_of self.old)) }
+            (spec.text_by_name (map text_of constants.now) (option_map (λ b. b.now) named.entry)
+            (taking_of self.old)) }
     {
         let Some(text) = named else {
             return Err(self.refuse(text_needed(constants)));
@@ -377,8 +387,8 @@ impl<'a> Taker<'a> {
 
     /// Passes over what states a string, and returns its bytes.
     fn take_text_bytes(&mut self, constants: &[NamedText]) -> Result<Vec<u8>, TakeFault>
-        ensures { TakesTo bytes_in result (taking_of self.new)
-            (spec.text_by (map text_of constants.now) (lexeme (taking_of self.old)) (taking_of self.old)) }
+        ensures { TakesTo bytes_in result (taking_of self.new) (spec.text_by
+            (map text_of constants.now) (lexeme (taking_of self.old)) (taking_of self.old)) }
     {
         match self.bare() {
             [
@@ -405,8 +415,8 @@ impl<'a> Taker<'a> {
     /// Takes a string.
     #[tactic(auto, unfolding(crate::specs::Stating::text_taken))]
     pub fn take_text(&mut self, text: &Text) -> Result<(), TakeFault>
-        ensures { Takes result (taking_of self.new)
-            (spec.text_taken text.now.end (map text_of text.now.constants.items) (taking_of self.old)) }
+        ensures { Takes result (taking_of self.new) (spec.text_taken text.now.end
+            (map text_of text.now.constants.items) (taking_of self.old)) }
     {
         self.separate(ValueFault::SeparatorNeeded)?;
         let mut here = self.fault(ValueFault::StringNeeded);
@@ -421,7 +431,8 @@ impl<'a> Taker<'a> {
     /// Takes so many coordinates.
     #[tactic(auto, using(crate::proofs::Turns::coordinates_on))]
     fn take_coordinates(&mut self, kind: ValueFault, count: u8) -> Result<(), TakeFault>
-        ensures { Takes result (taking_of self.new) (spec.coordinates_taken kind count (taking_of self.old)) }
+        ensures { Takes result (taking_of self.new)
+            (spec.coordinates_taken kind count (taking_of self.old)) }
     {
         for i in 0..count {
             self.separate(kind)?;
@@ -434,7 +445,8 @@ impl<'a> Taker<'a> {
     /// Takes a point or a rectangle, by the number of its coordinates.
     #[tactic(auto, unfolding(crate::specs::Stating::corners_taken))]
     pub fn take_corners(&mut self, kind: ValueFault, count: u8) -> Result<(), TakeFault>
-        ensures { Takes result (taking_of self.new) (spec.corners_taken kind count (taking_of self.old)) }
+        ensures { Takes result (taking_of self.new)
+            (spec.corners_taken kind count (taking_of self.old)) }
     {
         self.separate(ValueFault::SeparatorNeeded)?;
         self.open(kind)?;

@@ -145,7 +145,8 @@ impl<'a> Taker<'a> {
 
     /// Returns the same fault as the reason why no values were taken.
     pub fn refuse(&self, kind: ValueFault) -> TakeFault
-        ensures { result ≡ given.Wrong (record { line = spec.line (taking_of self.now); kind = kind }) }
+        ensures { result
+            ≡ given.Wrong (record { line = spec.line (taking_of self.now); kind = kind }) }
     {
         TakeFault::Wrong(self.fault(kind))
     }
@@ -285,7 +286,8 @@ impl<'a> Taker<'a> {
     /// Adds a value.
     #[tactic(auto, unfolding(crate::specs::Taking::put))]
     pub fn put(&mut self, value: Value) -> Result<(), TakeFault>
-        ensures { Takes result (taking_of self.new) (spec.put (value_of value) (taking_of self.old)) }
+        ensures { Takes result (taking_of self.new)
+            (spec.put (value_of value) (taking_of self.old)) }
     {
         if MOST_VALUES <= self.values.len() {
             return Err(self.refuse(ValueFault::ManyValues));
@@ -312,8 +314,8 @@ impl<'a> Taker<'a> {
 
     /// Passes over a number after a minus, and returns its bits.
     fn take_negative(&mut self, width: Width, kind: ValueFault) -> Result<u32, TakeFault>
-        ensures { TakesTo same result (taking_of self.new)
-            (spec.negative_by width.bits kind (spec.number_in (spec.lexeme (taking_of self.old))) (taking_of self.old)) }
+        ensures { TakesTo same result (taking_of self.new) (spec.negative_by width.bits kind
+            (spec.number_in (spec.lexeme (taking_of self.old))) (taking_of self.old)) }
     {
         let Some(number) = self.number() else {
             return Err(self.refuse(kind));
@@ -327,8 +329,8 @@ impl<'a> Taker<'a> {
 
     /// Passes over a number without a minus, and returns it.
     fn take_positive(&mut self, width: Width, kind: ValueFault) -> Result<u32, TakeFault>
-        ensures { TakesTo same result (taking_of self.new)
-            (spec.positive_by width.bits kind (spec.number_in (spec.lexeme (taking_of self.old))) (taking_of self.old)) }
+        ensures { TakesTo same result (taking_of self.new) (spec.positive_by width.bits kind
+            (spec.number_in (spec.lexeme (taking_of self.old))) (taking_of self.old)) }
     {
         let Some(number) = self.number() else {
             return Err(self.refuse(kind));
@@ -343,7 +345,8 @@ impl<'a> Taker<'a> {
     /// Passes over a number of so many bits, and returns its bits.
     #[tactic(auto, unfolding(crate::specs::Taking::number))]
     pub fn take_number(&mut self, width: Width, kind: ValueFault) -> Result<u32, TakeFault>
-        ensures { TakesTo same result (taking_of self.new) (spec.number width.bits kind (taking_of self.old)) }
+        ensures { TakesTo same result (taking_of self.new)
+            (spec.number width.bits kind (taking_of self.old)) }
     {
         if self.is_mark(b'-') {
             self.pass();

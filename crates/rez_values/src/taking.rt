@@ -2,7 +2,8 @@
 
 ghost use Rattle.std.specs.Prelude.{◌≡◌, [], length, map, option_map, slice_get};
 ghost use Rattle.rez_types.specs.Leads.{same};
-ghost use Rattle.rez_types.specs.View.{fields_of, field_of, blocks_of, end_of, case_of, declaration_of};
+ghost use Rattle.rez_types.specs.View.{fields_of, field_of, blocks_of, end_of, case_of};
+ghost use Rattle.rez_types.specs.View.{declaration_of};
 ghost use Rattle.rez_values.specs.View.{Takes, TakesTo, Returns, taking_of, place_of, values_in};
 ghost use Rattle.rez_tokens.specs.View.{token_of};
 ghost use Rattle.rez_values.specs.Taking.{lexeme};
@@ -21,7 +22,8 @@ const MOST_DEPTH: u8 = 8;
 
 /// Returns the fields of a block.
 fn fields_in(blocks: &[Block], block: usize) -> Option<&[Field]>
-    ensures { option_map (λ fields. fields_of fields.now) result ≡ slice_get (blocks_of blocks.now) block }
+    ensures { option_map (λ fields. fields_of fields.now) result
+        ≡ slice_get (blocks_of blocks.now) block }
 {
     let found = blocks.get(block)?;
     Some(found.fields.as_slice())
@@ -30,7 +32,8 @@ fn fields_in(blocks: &[Block], block: usize) -> Option<&[Field]>
 impl<'a> Taker<'a> {
     /// Sets the value of a count.
     fn set_count(&mut self, number: u32, count: CountPlace)
-        ensures { taking_of self.new ≡ spec.with_count number (place_of count) (taking_of self.old) }
+        ensures { taking_of self.new
+            ≡ spec.with_count number (place_of count) (taking_of self.old) }
     {
         if count.place < self.values.len() {
             self.values[count.place] = Value::Count(number);
@@ -49,7 +52,8 @@ impl<'a> Taker<'a> {
 
     /// Counts the elements of an array.
     fn count_by(&mut self, number: usize, count: Option<CountPlace>) -> Result<(), TakeFault>
-        ensures { Takes result (taking_of self.new) (spec.counted_by number (option_map place_of count) (taking_of self.old)) }
+        ensures { Takes result (taking_of self.new)
+            (spec.counted_by number (option_map place_of count) (taking_of self.old)) }
     {
         let Some(count) = count else {
             return Err(self.refuse(ValueFault::Unsound));
@@ -63,7 +67,8 @@ impl<'a> Taker<'a> {
 
     /// Counts the elements of an array that ends so.
     fn count(&mut self, end: ArrayEnd, number: usize) -> Result<(), TakeFault>
-        ensures { Takes result (taking_of self.new) (spec.counted (end_of end) number (taking_of self.old)) }
+        ensures { Takes result (taking_of self.new)
+            (spec.counted (end_of end) number (taking_of self.old)) }
     {
         match end {
             ArrayEnd::Fixed(count) => {
@@ -108,7 +113,8 @@ impl<'a> Taker<'a> {
 
     /// Ends a block: the counts are again those of the block around it.
     fn end_block(&mut self, outer: Vec<CountPlace>)
-        ensures { taking_of self.new ≡ spec.with_counts (map place_of outer.items) (taking_of self.old) }
+        ensures { taking_of self.new
+            ≡ spec.with_counts (map place_of outer.items) (taking_of self.old) }
     {
         self.counts = outer;
     }
@@ -132,8 +138,8 @@ impl<'a> Taker<'a> {
     /// Takes the fields of a block, which has counts of its own.
     #[cycle(take)]
     fn take_alone(&mut self, depth: u8, blocks: &[Block], fields: &[Field]) -> Result<(), TakeFault>
-        ensures { Takes result (taking_of self.new)
-            (spec.taken_alone (spec.block_taken depth (blocks_of blocks.now)) (fields_of fields.now) (taking_of self.old)) }
+        ensures { Takes result (taking_of self.new) (spec.taken_alone (spec.block_taken depth
+            (blocks_of blocks.now)) (fields_of fields.now) (taking_of self.old)) }
     {
         let outer = self.begin_block();
         self.take_fields(depth, blocks, fields)?;
@@ -149,8 +155,8 @@ impl<'a> Taker<'a> {
         blocks: &[Block],
         fields: &[Field],
     ) -> Result<(), TakeFault>
-        ensures { Takes result (taking_of self.new)
-            (spec.fields_taken (spec.block_taken depth (blocks_of blocks.now)) (fields_of fields.now) (taking_of self.old)) }
+        ensures { Takes result (taking_of self.new) (spec.fields_taken (spec.block_taken depth
+            (blocks_of blocks.now)) (fields_of fields.now) (taking_of self.old)) }
     {
         for field in fields {
             self.take_field(depth, blocks, field)?;
@@ -161,8 +167,8 @@ impl<'a> Taker<'a> {
     /// Takes a field.
     #[cycle(take)]
     fn take_field(&mut self, depth: u8, blocks: &[Block], field: &Field) -> Result<(), TakeFault>
-        ensures { Takes result (taking_of self.new)
-            (spec.field_taken (spec.block_taken depth (blocks_of blocks.now)) (field_of field.now) (taking_of self.old)) }
+        ensures { Takes result (taking_of self.new) (spec.field_taken (spec.block_taken depth
+            (blocks_of blocks.now)) (field_of field.now) (taking_of self.old)) }
     {
         match field {
             Field::Run(run) => self.take_parts(run.parts.as_slice()),
@@ -186,8 +192,8 @@ impl<'a> Taker<'a> {
         end: ArrayEnd,
         block: usize,
     ) -> Result<(), TakeFault>
-        ensures { Takes result (taking_of self.new)
-            (spec.array_taken (spec.block_taken depth (blocks_of blocks.now) block) (end_of end) (taking_of self.old)) }
+        ensures { Takes result (taking_of self.new) (spec.array_taken (spec.block_taken depth
+            (blocks_of blocks.now) block) (end_of end) (taking_of self.old)) }
     {
         self.separate(ValueFault::SeparatorNeeded)?;
         self.open(ValueFault::ArrayNeeded)?;
@@ -224,8 +230,8 @@ impl<'a> Taker<'a> {
     #[cycle(take)]
     #[tactic(auto, unfolding(crate::specs::Taken::element_taken))]
     fn take_element(&mut self, depth: u8, blocks: &[Block], block: usize) -> Result<(), TakeFault>
-        ensures { Takes result (taking_of self.new)
-            (spec.element_taken (spec.block_taken depth (blocks_of blocks.now) block) (taking_of self.old)) }
+        ensures { Takes result (taking_of self.new) (spec.element_taken
+            (spec.block_taken depth (blocks_of blocks.now) block) (taking_of self.old)) }
     {
         self.begin_element();
         self.put(Value::Element)?;
@@ -236,8 +242,8 @@ impl<'a> Taker<'a> {
     #[cycle(take)]
     #[tactic(auto, unfolding(crate::specs::Taken::switch_taken))]
     fn take_switch(&mut self, depth: u8, blocks: &[Block], cases: &[Case]) -> Result<(), TakeFault>
-        ensures { Takes result (taking_of self.new)
-            (spec.switch_taken (spec.block_taken depth (blocks_of blocks.now)) (map case_of cases.now) (taking_of self.old)) }
+        ensures { Takes result (taking_of self.new) (spec.switch_taken (spec.block_taken depth
+            (blocks_of blocks.now)) (map case_of cases.now) (taking_of self.old)) }
     {
         self.separate(ValueFault::SeparatorNeeded)?;
         let place = self.case(cases);
@@ -253,9 +259,8 @@ impl<'a> Taker<'a> {
         cases: &[Case],
         place: Option<usize>,
     ) -> Result<(), TakeFault>
-        ensures { Takes result (taking_of self.new)
-            (spec.case_taken (spec.block_taken depth (blocks_of blocks.now)) (map case_of cases.now) place
-            (taking_of self.old)) }
+        ensures { Takes result (taking_of self.new) (spec.case_taken (spec.block_taken depth
+            (blocks_of blocks.now)) (map case_of cases.now) place (taking_of self.old)) }
     {
         let Some(place) = place else {
             return Err(self.refuse(ValueFault::CaseNeeded));
@@ -288,15 +293,16 @@ impl<'a> Taker<'a> {
 ///
 /// # Errors
 ///
-/// Returns `Wrong` where the tokens state no values of the type, with the line of the token that can't stand there;
-/// `HostMemory` where the host is out of memory.
+/// Returns `Wrong` where the tokens state no values of the type, with the line of the token that
+/// can't stand there; `HostMemory` where the host is out of memory.
 #[tactic(auto, unfolding(crate::specs::Taken::taken))]
 pub fn take(
     alloc: Global,
     declaration: &Declaration,
     tokens: &[Token],
 ) -> Result<Vec<Value>, TakeFault>
-    ensures { Returns values_in result (spec.taken (declaration_of declaration.now) (map token_of tokens.now)) }
+    ensures { Returns values_in result
+        (spec.taken (declaration_of declaration.now) (map token_of tokens.now)) }
 {
     let mut taker = Taker::new(alloc, tokens);
     taker.take_fields(

@@ -1,4 +1,4 @@
-use Rattle.std.proofs.Common.{◌≡◌, ℕ, Bool, true, false, refl, List, [], ◌∷◌, cond, Some}
+use Rattle.std.proofs.Common.{◌≡◌, ◌∙◌, ℕ, Bool, true, false, refl, ap, List, [], ◌∷◌, cond, Some}
 use Rattle.std.specs.Cmp.Lexicographic.{slice_cmp}
 use Rattle.std.specs.declared.cmp.Ordering.{Ordering}
 use Rattle.std.specs.declared.cmp.Ordering.TheVariants.{Less, Equal, Greater}
@@ -6,9 +6,11 @@ use Rattle.std.specs.Ordering.{nat_cmp, match_ordering}
 use Rattle.std.proofs.lemmas.Bool.{and_parts}
 use Rattle.std.specs.Prelude.{bytes_eq, unwrap_or}
 use Rattle.std.specs.Map.{lookup}
+use Rattle.mac_words.specs.declared.call.Call.{Call}
+use Rattle.script_text.specs.Argument.{Value}
 use Rattle.script_text.specs.declared.word.CallWord.{CallWord}
 use Rattle.script_text.specs.declared.word.CallWord.TheVariants as word
-use Rattle.script_text.specs.Call.{meant, may_stand}
+use Rattle.script_text.specs.Call.{meant, may_stand, spoken, word_of}
 use Rattle.script_text.specs.Named.{put_named}
 use Rattle.script_text.specs.Script.{AllAllowed, are_allowed, block_of}
 use Rattle.script_text.specs.declared.script.Line.{Line}
@@ -47,3 +49,8 @@ allowed_put name lines (b ∷ blocks) all one =
 pub meant_stands : (w : CallWord) → may_stand (meant w) ≡ may_stand w
 meant_stands word.NewHandleClear = refl
 meant_stands _ = refl
+
+-- and so a call may stand in one just where a word that names it may
+pub spoken_stands : (w : CallWord) (call : Call) (values : List Value) → spoken call ≡ (meant w, values)
+    → may_stand (word_of call) ≡ may_stand w
+spoken_stands w call values says = ap (λ (s : CallWord × List Value). may_stand s.0) says ∙ meant_stands w

@@ -20,7 +20,8 @@ found word.Memory = refl
 found _ = refl
 
 -- a job is its memory, its inputs in the order of their lines, and its events
-good : job_of (codes "# first\nmemory 4096\n\napp one \"f1\" \"s1\"\nsystem \"s\"\r\napp two \"\" \"s2\"\nfile two $446f63 \"d\"\nlaunch two\nstep one\nturn one\nrest\nquit two")
+good : job_of (codes
+    "# first\nmemory 4096\n\napp one \"f1\" \"s1\"\nsystem \"s\"\r\napp two \"\" \"s2\"\nfile two $446f63 \"d\"\nlaunch two\nstep one\nturn one\nrest\nquit two")
     ≡ Ok (record {
       memory = 4096;
       inputs = App (codes "one") (codes "f1") (codes "s1") ∷ System (codes "s") ∷ App (codes "two") [] (codes "s2")

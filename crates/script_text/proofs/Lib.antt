@@ -3,7 +3,7 @@ mod Cutting
 pub mod Naming
 mod Shown
 mod Spelled
-mod Rows
+pub mod Rows
 mod BlockRows
 mod ResourceRows
 mod SegmentRows
@@ -13,3 +13,4 @@ mod JobKept
 mod JobRows
 mod Utf8
 pub mod Allowed
+pub mod Numerals

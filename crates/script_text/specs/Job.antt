@@ -3,7 +3,7 @@ use Rattle.std.specs.Prelude.{Result, Ok, Err, List, [], ◌∷◌, ◌++◌, ma
 use Rattle.std.specs.List.{list_any, filter_map, position_from}
 use Rattle.std.specs.Option.{ok_or, is_none}
 use Rattle.std.specs.Str.Lines.{lines}
-use Rattle.windows.specs.declared.list.TheConstants.{GREATEST_MEMORY}
+use Rattle.memory_windows.specs.declared.list.TheConstants.{GREATEST_MEMORY}
 use Rattle.script_text.specs.declared.fault.FaultKind.{FaultKind}
 use Rattle.script_text.specs.declared.fault.FaultKind.TheVariants.{BadArgument}
 use Rattle.script_text.specs.declared.job.Event.{Event}

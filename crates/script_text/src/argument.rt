@@ -2,11 +2,12 @@
 
 ghost use Rattle.std.specs.Prelude.{◌≡◌, Some, is_some, IfOk};
 ghost use Rattle.std.specs.List.{list_all};
-ghost use Rattle.script_text.specs.Argument.{Kind, Label as LabelKind, Size, Id, Byte, ResType, Bytes, File, Text};
-ghost use Rattle.script_text.specs.Argument.{Switch, Value, Letters, Number, Signed, Raw, Flag};
-ghost use Rattle.script_text.specs.Argument.{is_label_byte as is_label_byte_of, begins_label as begins_label_of, label};
-ghost use Rattle.script_text.specs.Argument.{number, number_within, id, digit, byte_at, hex_bytes, bytes as bytes_of};
-ghost use Rattle.script_text.specs.Argument.{of_utf8, path, value};
+ghost use Rattle.script_text.specs.Argument.{Kind, Label as LabelKind, Size, Id, Byte, ResType};
+ghost use Rattle.script_text.specs.Argument.{Bytes, File, Text, Switch, Value, Letters, Number};
+ghost use Rattle.script_text.specs.Argument.{Signed, Raw, Flag, is_label_byte as is_label_byte_of};
+ghost use Rattle.script_text.specs.Argument.{begins_label as begins_label_of, label, number};
+ghost use Rattle.script_text.specs.Argument.{number_within, id, digit, byte_at, hex_bytes};
+ghost use Rattle.script_text.specs.Argument.{bytes as bytes_of, of_utf8, path, value};
 ghost use Rattle.std.specs.Option.{option_map};
 ghost use Rattle.script_text.specs.Reading.{Finds};
 
@@ -38,14 +39,16 @@ fn has_label_bytes(token: &[u8]) -> bool
     token.iter().all(|b| is_label_byte(*b))
 }
 
-/// Reports whether a token is a name of 1 to 63 letters, digits and underscores that begins with no digit.
+/// Reports whether a token is a name of 1 to 63 letters, digits and underscores that begins with no
+/// digit.
 pub fn is_label(token: &[u8]) -> bool
     ensures { result ≡ is_some (label token.now) }
 {
     begins_label(token) && has_label_bytes(token) && token.len() <= 63
 }
 
-/// Returns the number that a token writes in one to `most` decimal digits, if it is at most `limit`.
+/// Returns the number that a token writes in one to `most` decimal digits, if it is at most
+/// `limit`.
 pub fn number_in(token: &[u8], most: usize, limit: u32) -> Option<u32>
     ensures { result ≡ number most limit token.now }
 {
@@ -110,7 +113,7 @@ pub fn byte_of(high: u8, low: u8) -> Option<u8>
 fn hex_in(alloc: Global, digits: &[u8]) -> Result<Option<Vec<u8>>, AllocError>
     ensures { IfOk result (λ found. Finds (λ v. v.items) found (hex_bytes digits.now)) }
 {
-    let mut found = Vec::new(alloc);
+    let mut found = Vec::with_capacity(alloc, digits.len() / 2)?;
     let mut rest = digits;
     while let [high, low, more @ ..] = rest {
         match byte_of(*high, *low) {

@@ -9,8 +9,8 @@ use crate::fault::FaultKind;
 use crate::token::{first_token, trim};
 use std::alloc::Global;
 
-/// Reads the argument at the front of a text, and returns it with the text after it; a bad argument where there is
-/// none of this type.
+/// Reads the argument at the front of a text, and returns it with the text after it; a bad argument
+/// where there is none of this type.
 #[tactic(auto, unfolding(crate::specs::Argument::argument))]
 pub fn first<A: Argument + Drop>(alloc: Global, text: &[u8]) -> Result<(A, &[u8]), FaultKind>
     ensures { Gives (λ x. (A.seen x.0, x.1.now)) result (argument A.kind text.now) }
@@ -22,7 +22,8 @@ pub fn first<A: Argument + Drop>(alloc: Global, text: &[u8]) -> Result<(A, &[u8]
     }
 }
 
-/// Reads the path at the front of a text, and returns it with the text after it; a bad argument where there is none.
+/// Reads the path at the front of a text, and returns it with the text after it; a bad argument
+/// where there is none.
 #[tactic(auto, unfolding(crate::specs::Argument::argument))]
 pub fn path(text: &[u8]) -> Result<(&str, &[u8]), FaultKind>
     ensures { Gives (λ x. (Raw x.0.now, x.1.now)) result (argument Path text.now) }
@@ -56,7 +57,8 @@ pub fn last_path(text: &[u8]) -> Result<&str, FaultKind>
 
 /// Reads two paths, after which the text must be at its end.
 pub fn two_paths(text: &[u8]) -> Result<(&str, &str), FaultKind>
-    ensures { Gives (λ x. Raw x.0.now ∷ Raw x.1.now ∷ []) result (arguments (Path ∷ Path ∷ []) text.now) }
+    ensures { Gives (λ x. Raw x.0.now ∷ Raw x.1.now ∷ []) result
+        (arguments (Path ∷ Path ∷ []) text.now) }
 {
     let (path, rest) = path(text)?;
     let other = last_path(rest)?;
@@ -77,7 +79,8 @@ pub fn two<A: Argument + Drop, B: Argument + Drop>(
     alloc: Global,
     text: &[u8],
 ) -> Result<(A, B), FaultKind>
-    ensures { Gives (λ x. A.seen x.0 ∷ B.seen x.1 ∷ []) result (arguments (A.kind ∷ B.kind ∷ []) text.now) }
+    ensures { Gives (λ x. A.seen x.0 ∷ B.seen x.1 ∷ []) result
+        (arguments (A.kind ∷ B.kind ∷ []) text.now) }
 {
     let (a, rest) = first(alloc, text)?;
     let b = one(alloc, rest)?;

@@ -11,8 +11,8 @@ use std::alloc::{AllocError, Global};
 use std::collections::BTreeMap;
 use std::marker::Model;
 
-/// Grow-zone scripts in the order of their names, each with its lines. Names are compared, not hashed: no choice of
-/// names makes a look-up slow.
+/// Grow-zone scripts in the order of their names, each with its lines. Names are compared, not
+/// hashed: no choice of names makes a look-up slow.
 #[derive(Debug, Drop)]
 pub struct Blocks {
     lines: BTreeMap<Label, Vec<Line>>,
@@ -41,7 +41,8 @@ impl Blocks {
         self.lines.contains_key(name)
     }
 
-    /// Returns the lines of the grow-zone script of this name; no lines where there is no such script.
+    /// Returns the lines of the grow-zone script of this name; no lines where there is no such
+    /// script.
     pub fn lines(&self, name: &Label) -> &[Line]
         ensures { result.now ≡ block_of name.now.0.items self.now }
     {
@@ -51,7 +52,8 @@ impl Blocks {
         }
     }
 
-    /// Adds a grow-zone script, in place of one of the same name. Nothing is added where the host is out of memory.
+    /// Adds a grow-zone script, in place of one of the same name. Nothing is added where the host
+    /// is out of memory.
     pub fn add(&mut self, name: Label, lines: Vec<Line>) -> Result<(), AllocError>
         ensures added { OnOk result (self.new ≡ put_named name.0.items lines.items self.old) }
         ensures unchanged { OnErr result (self.new ≡ self.old) }

@@ -1,9 +1,9 @@
-//! The lines of desk.log, which records when applications were launched, how they ended, and which forks they wrote.
-//! Each function `write_*` appends to a text; where the host is out of memory, the text stays as it was. The functions
-//! `push_*` may then leave a part of what they append.
+//! The lines of desk.log, which records when applications were launched, how they ended, and which
+//! forks they wrote. Each function `write_*` appends to a text; where the host is out of memory,
+//! the text stays as it was. The functions `push_*` may then leave a part of what they append.
 
-ghost use Rattle.std.specs.Prelude.{◌≡◌, ◌+◌, ◌≤◌, ◌++◌, OnOk, OnErr, IsOk, codes, decimal, length, take};
-ghost use Rattle.std.specs.Prelude.{vec_len, vec_capacity};
+ghost use Rattle.std.specs.Prelude.{◌≡◌, ◌+◌, ◌≤◌, ◌++◌, OnOk, OnErr, IsOk, codes, decimal, length};
+ghost use Rattle.std.specs.Prelude.{take, vec_len, vec_capacity};
 ghost use Rattle.script_text.specs.DeskLog.{launch_of, refusal_of, end_of, fork_of};
 ghost use Rattle.script_text.specs.Transcript.{hex};
 
@@ -12,15 +12,17 @@ use itoa::Buffer;
 use mac_words::{FileName, Label, OsErr};
 use std::alloc::AllocError;
 
-/// The room, in bytes, that is enough for what stands beside an application's name in the line of its launch, of a
-/// launch that was refused, or of its end.
+/// The room, in bytes, that is enough for what stands beside an application's name in the line of
+/// its launch, of a launch that was refused, or of its end.
 pub const APP_ROOM: usize = 64;
 
 /// Appends the line of a launch.
 fn push_launch(text: &mut Vec<u8>, name: &Label, size: u32) -> Result<(), AllocError>
-    ensures line { OnOk result (text.new.items ≡ text.old.items ++ launch_of name.now.0.items size) }
+    ensures line { OnOk result (text.new.items
+        ≡ text.old.items ++ launch_of name.now.0.items size) }
     ensures front { OnErr result (take (vec_len text.old) text.new.items ≡ text.old.items) }
-    ensures room { vec_len text.old + length name.now.0.items + APP_ROOM ≤ vec_capacity text.old → IsOk result }
+    ensures room { vec_len text.old + length name.now.0.items + APP_ROOM ≤ vec_capacity text.old
+        → IsOk result }
 {
     text.extend_from_slice(b"launch ")?;
     text.extend_from_slice(name.0.as_slice())?;
@@ -30,11 +32,14 @@ fn push_launch(text: &mut Vec<u8>, name: &Label, size: u32) -> Result<(), AllocE
     Ok(())
 }
 
-/// Appends the line of a launch: `launch`, the application's name, 0 and the partition's size in bytes.
+/// Appends the line of a launch: `launch`, the application's name, 0 and the partition's size in
+/// bytes.
 pub fn write_app_launch(text: &mut Vec<u8>, name: &Label, size: u32) -> Result<(), AllocError>
-    ensures line { OnOk result (text.new.items ≡ text.old.items ++ launch_of name.now.0.items size) }
+    ensures line { OnOk result (text.new.items
+        ≡ text.old.items ++ launch_of name.now.0.items size) }
     ensures unchanged { OnErr result (text.new.items ≡ text.old.items) }
-    ensures room { vec_len text.old + length name.now.0.items + APP_ROOM ≤ vec_capacity text.old → IsOk result }
+    ensures room { vec_len text.old + length name.now.0.items + APP_ROOM ≤ vec_capacity text.old
+        → IsOk result }
 {
     let len = text.len();
     let appended = push_launch(text, name, size);
@@ -43,9 +48,11 @@ pub fn write_app_launch(text: &mut Vec<u8>, name: &Label, size: u32) -> Result<(
 
 /// Appends the line of a launch that was refused.
 fn push_refusal(text: &mut Vec<u8>, name: &Label, code: OsErr) -> Result<(), AllocError>
-    ensures line { OnOk result (text.new.items ≡ text.old.items ++ refusal_of name.now.0.items code.0) }
+    ensures line { OnOk result (text.new.items
+        ≡ text.old.items ++ refusal_of name.now.0.items code.0) }
     ensures front { OnErr result (take (vec_len text.old) text.new.items ≡ text.old.items) }
-    ensures room { vec_len text.old + length name.now.0.items + APP_ROOM ≤ vec_capacity text.old → IsOk result }
+    ensures room { vec_len text.old + length name.now.0.items + APP_ROOM ≤ vec_capacity text.old
+        → IsOk result }
 {
     text.extend_from_slice(b"launch ")?;
     text.extend_from_slice(name.0.as_slice())?;
@@ -55,11 +62,14 @@ fn push_refusal(text: &mut Vec<u8>, name: &Label, code: OsErr) -> Result<(), All
     Ok(())
 }
 
-/// Appends the line of a launch that was refused: `launch`, the application's name and the result code.
+/// Appends the line of a launch that was refused: `launch`, the application's name and the result
+/// code.
 pub fn write_app_refusal(text: &mut Vec<u8>, name: &Label, code: OsErr) -> Result<(), AllocError>
-    ensures line { OnOk result (text.new.items ≡ text.old.items ++ refusal_of name.now.0.items code.0) }
+    ensures line { OnOk result (text.new.items
+        ≡ text.old.items ++ refusal_of name.now.0.items code.0) }
     ensures unchanged { OnErr result (text.new.items ≡ text.old.items) }
-    ensures room { vec_len text.old + length name.now.0.items + APP_ROOM ≤ vec_capacity text.old → IsOk result }
+    ensures room { vec_len text.old + length name.now.0.items + APP_ROOM ≤ vec_capacity text.old
+        → IsOk result }
 {
     let len = text.len();
     let appended = push_refusal(text, name, code);
@@ -70,7 +80,8 @@ pub fn write_app_refusal(text: &mut Vec<u8>, name: &Label, code: OsErr) -> Resul
 fn push_end(text: &mut Vec<u8>, name: &Label, code: OsErr) -> Result<(), AllocError>
     ensures line { OnOk result (text.new.items ≡ text.old.items ++ end_of name.now.0.items code.0) }
     ensures front { OnErr result (take (vec_len text.old) text.new.items ≡ text.old.items) }
-    ensures room { vec_len text.old + length name.now.0.items + APP_ROOM ≤ vec_capacity text.old → IsOk result }
+    ensures room { vec_len text.old + length name.now.0.items + APP_ROOM ≤ vec_capacity text.old
+        → IsOk result }
 {
     text.extend_from_slice(b"end ")?;
     text.extend_from_slice(name.0.as_slice())?;
@@ -84,7 +95,8 @@ fn push_end(text: &mut Vec<u8>, name: &Label, code: OsErr) -> Result<(), AllocEr
 pub fn write_app_end(text: &mut Vec<u8>, name: &Label, code: OsErr) -> Result<(), AllocError>
     ensures line { OnOk result (text.new.items ≡ text.old.items ++ end_of name.now.0.items code.0) }
     ensures unchanged { OnErr result (text.new.items ≡ text.old.items) }
-    ensures room { vec_len text.old + length name.now.0.items + APP_ROOM ≤ vec_capacity text.old → IsOk result }
+    ensures room { vec_len text.old + length name.now.0.items + APP_ROOM ≤ vec_capacity text.old
+        → IsOk result }
 {
     let len = text.len();
     let appended = push_end(text, name, code);
@@ -135,9 +147,9 @@ fn push_fork(
     Ok(())
 }
 
-/// Appends the line of a fork that was written: `fork`, the application's name, the number of the file among the
-/// application's files, from 0, the file's name as `$` and hexadecimal digits in lower case, and the fork's length in
-/// bytes.
+/// Appends the line of a fork that was written: `fork`, the application's name, the number of the
+/// file among the application's files, from 0, the file's name as `$` and hexadecimal digits in
+/// lower case, and the fork's length in bytes.
 pub fn write_app_fork(
     text: &mut Vec<u8>,
     name: &Label,

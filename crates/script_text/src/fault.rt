@@ -10,12 +10,14 @@ use thiserror::Error;
 /// What is wrong with a line, or with the host.
 #[derive(Clone, Copy, Debug, PartialEq, Eq, Error)]
 pub enum FaultKind {
-    /// The line's first word is no call, or no word of a job. Outside a grow-zone script `end` is no call.
+    /// The line's first word is no call, or no word of a job. Outside a grow-zone script `end` is
+    /// no call.
     #[error("the first word is not known")]
     UnknownCall,
-    /// An argument is missing, is one too many, or is not spelled as its kind asks; the name of a new grow-zone
-    /// script is used already, or is `none`; a `grow` has no `end`, or `SetGrowZone` names a grow-zone script that is
-    /// not there. In a job, a line that may not stand where it does has this fault too.
+    /// An argument is missing, is one too many, or is not spelled as its kind asks; the name of a
+    /// new grow-zone script is used already, or is `none`; a `grow` has no `end`, or `SetGrowZone`
+    /// names a grow-zone script that is not there. In a job, a line that may not stand where it
+    /// does has this fault too.
     #[error("an argument is missing or wrong, or the line may not stand here")]
     BadArgument,
     /// The call may not stand in a grow-zone script, or is a `grow` in one.
@@ -30,7 +32,8 @@ pub enum FaultKind {
 }
 
 impl FaultKind {
-    /// Returns the number by which an error line names the fault: 1 to 5, in the order of the variants.
+    /// Returns the number by which an error line names the fault: 1 to 5, in the order of the
+    /// variants.
     pub fn number(self) -> u8
         ensures { result ≡ number_of self }
     {
@@ -60,7 +63,8 @@ impl<T: Drop> From<AllocFailed<T>> for FaultKind {
     }
 }
 
-/// Why a script or a job could not be read: its first faulty line, and what is wrong with that line.
+/// Why a script or a job could not be read: its first faulty line, and what is wrong with that
+/// line.
 #[derive(Clone, Copy, Debug, PartialEq, Eq, Error)]
 #[error("line {line}: {kind}")]
 pub struct ScriptFault {

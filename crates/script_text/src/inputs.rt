@@ -1,7 +1,9 @@
 //! The inputs of a job, and which input may follow which.
 
-ghost use Rattle.std.specs.Prelude.{◌≡◌, ◌<◌, ◌++◌, ◌∷◌, List, [], map, length, IsTrue, IfSome, OnOk, OnErr};
-ghost use Rattle.script_text.specs.Job.{Input as Stated, input_seen, app_names, app_named, may_follow};
+ghost use Rattle.std.specs.Prelude.{◌≡◌, ◌<◌, ◌++◌, ◌∷◌, List, [], map, length, IsTrue, IfSome};
+ghost use Rattle.std.specs.Prelude.{OnOk, OnErr};
+ghost use Rattle.script_text.specs.Job.{Input as Stated, input_seen, app_names, app_named};
+ghost use Rattle.script_text.specs.Job.{may_follow};
 ghost use Rattle.script_text.specs.Known.{IsKnown};
 
 use crate::job::Input;
@@ -36,7 +38,8 @@ impl<'t> Inputs<'t> {
         }
     }
 
-    /// Returns the number of the application of this name, counted from 0 in the order of the `app` lines.
+    /// Returns the number of the application of this name, counted from 0 in the order of the `app`
+    /// lines.
     pub fn find_app(&self, wanted: &[u8]) -> Option<usize>
         ensures named { result ≡ app_named wanted.now self.now }
         ensures below { IfSome result (λ number. number < length (app_names self.now)) }
@@ -44,8 +47,8 @@ impl<'t> Inputs<'t> {
         self.owners.find(wanted)
     }
 
-    /// Reports whether an input may follow these: a job has at most one System file, 64 applications, and 256 files of
-    /// each application with its fork, all of names that are new.
+    /// Reports whether an input may follow these: a job has at most one System file, 64
+    /// applications, and 256 files of each application with its fork, all of names that are new.
     pub fn fits(&self, input: &Input) -> bool
         ensures { result ≡ may_follow self.now (input_seen input.now) }
     {

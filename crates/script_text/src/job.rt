@@ -51,7 +51,8 @@ pub enum Event {
     Turn(usize),
     /// The application quits.
     Quit(usize),
-    /// The running applications make one turn each, in the order of their lines, again and again until none runs.
+    /// The running applications make one turn each, in the order of their lines, again and again
+    /// until none runs.
     Rest,
 }
 
@@ -85,20 +86,22 @@ fn read_lines<'t>(alloc: Global, text: &'t [u8]) -> Result<JobLines<'t>, ScriptF
     Ok(reader)
 }
 
-/// Reads a job. Its lines and tokens are those of a script. The first line that is not skipped is `memory N`. Then
-/// follow, in any order, `system PATH`, `app NAME FORK SCRIPT` and `file NAME FILE PATH`, each name defined before
-/// its use, and after them all the events: `launch NAME`, `step NAME`, `turn NAME`, `quit NAME` and `rest`. Paths are
-/// UTF-8 in quotes, and may be empty.
+/// Reads a job. Its lines and tokens are those of a script. The first line that is not skipped is
+/// `memory N`. Then follow, in any order, `system PATH`, `app NAME FORK SCRIPT` and
+/// `file NAME FILE PATH`, each name defined before its use, and after them all the events:
+/// `launch NAME`, `step NAME`, `turn NAME`, `quit NAME` and `rest`. Paths are UTF-8 in quotes, and
+/// may be empty.
 ///
 /// # Errors
 ///
-/// Returns the first faulty line with its fault. In a line, a length over 65,535 bytes comes first, then an unknown
-/// first word, then a bad argument. A line that may not stand where it does is a bad argument: any line but `memory`
-/// as the first, a second `memory` or `system`, and an input after an event. So is a memory that is not a multiple of
-/// 16 from 512 to 134,217,728, a 65th application, a 256th `file` line of one application, an application's name that
-/// is used already or is not defined, and a file's name that its application has already, the application's own name
-/// among them. A job without a line to read is a bad argument at line 1. The fault is `HostMemory` where the host is
-/// out of memory.
+/// Returns the first faulty line with its fault. In a line, a length over 65,535 bytes comes first,
+/// then an unknown first word, then a bad argument. A line that may not stand where it does is a
+/// bad argument: any line but `memory` as the first, a second `memory` or `system`, and an input
+/// after an event. So is a memory that is not a multiple of 16 from 512 to 134,217,728, a 65th
+/// application, a 256th `file` line of one application, an application's name that is used already
+/// or is not defined, and a file's name that its application has already, the application's own
+/// name among them. A job without a line to read is a bad argument at line 1. The fault is
+/// `HostMemory` where the host is out of memory.
 #[tactic(auto, using(crate::proofs::JobInputs::files_in_order), unfolding(crate::specs::Job::job_of))]
 pub fn read_job<'t>(alloc: Global, text: &'t [u8]) -> Result<JobText<'t>, ScriptFault>
     ensures job { GivesAt job_seen result (job_of text.now) }
@@ -106,7 +109,8 @@ pub fn read_job<'t>(alloc: Global, text: &'t [u8]) -> Result<JobText<'t>, Script
     // The memory of the job is in its limits.
     ensures memory { IfOk result (λ job. IsMemory job.memory) }
 
-    // Each input may follow those before it: a file's application stands above the file, and each name is new.
+    // Each input may follow those before it: a file's application stands above the file, and each
+    // name is new.
     ensures order { IfOk result (λ job. AreInOrder (map input_seen job.inputs.items)) }
 
     // The job has at most 64 applications, whose names differ.
@@ -116,7 +120,8 @@ pub fn read_job<'t>(alloc: Global, text: &'t [u8]) -> Result<JobText<'t>, Script
     ensures files { IfOk result (λ job. AreFiles (map input_seen job.inputs.items)) }
 
     // The events of the job are of the job's own applications.
-    ensures events { IfOk result (λ job. AreEventsOf (map input_seen job.inputs.items) job.events.items) }
+    ensures events { IfOk result (λ job.
+        AreEventsOf (map input_seen job.inputs.items) job.events.items) }
 {
     let reader = read_lines(alloc, text)?;
     match reader.memory {

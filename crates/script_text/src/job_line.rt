@@ -13,8 +13,8 @@ use crate::token::{first_blank, trim};
 use mac_words::{FileName, Label};
 use std::alloc::Global;
 
-/// What a line of a job states. Applications are named, whether or not they stand above; paths are lent from the line,
-/// and may be empty.
+/// What a line of a job states. Applications are named, whether or not they stand above; paths are
+/// lent from the line, and may be empty.
 #[derive(Drop)]
 pub enum JobLine<'t> {
     /// The size of the memory in bytes.
@@ -131,7 +131,8 @@ fn read_words<'t>(alloc: Global, token: &[u8], rest: &'t [u8]) -> Result<JobLine
 ///
 /// # Errors
 ///
-/// Returns the line's fault: a length over 65,535 bytes comes first, then an unknown first word, then a bad argument.
+/// Returns the line's fault: a length over 65,535 bytes comes first, then an unknown first word,
+/// then a bad argument.
 #[tactic(auto, unfolding(crate::specs::Stating::job_line))]
 pub fn read_job_line<'t>(alloc: Global, line: &'t [u8]) -> Result<Option<JobLine<'t>>, FaultKind>
     ensures { Gives (option_map line_seen) result (job_line line.now) }

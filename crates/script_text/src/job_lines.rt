@@ -4,8 +4,10 @@ ghost use Rattle.std.specs.Prelude.{◌≡◌, ◌<◌, length, IsTrue, IfOk, On
 ghost use Rattle.std.specs.Option.{ok_or};
 ghost use Rattle.script_text.specs.declared.fault.FaultKind.TheVariants.{BadArgument};
 ghost use Rattle.script_text.specs.declared.job_lines.Refusal.TheVariants as refusals;
-ghost use Rattle.script_text.specs.Job.{Above, Adds, app_named, app_names, input_seen, is_memory as is_memory_size, nothing};
-ghost use Rattle.script_text.specs.Job.{of_app, with_event, with_input, with_line, with_size, with_stated, File as FileInput};
+ghost use Rattle.script_text.specs.Job.{Above, Adds, app_named, app_names, input_seen};
+ghost use Rattle.script_text.specs.Job.{is_memory as is_memory_size, nothing, of_app, with_event};
+ghost use Rattle.script_text.specs.Job.{with_input, with_line, with_size, with_stated};
+ghost use Rattle.script_text.specs.Job.{File as FileInput};
 ghost use Rattle.script_text.specs.JobFacts.{is_event_of};
 ghost use Rattle.script_text.specs.Inner.{IsJobKept};
 ghost use Rattle.script_text.specs.Reading.{Gives};
@@ -16,9 +18,9 @@ use crate::inputs::Inputs;
 use crate::job::{Event, Input};
 use crate::job_line::{JobLine, read_job_line};
 use mac_words::{FileName, Label};
+use memory_windows::GREATEST_MEMORY;
 use std::alloc::{AllocError, AllocFailed, Global};
 use std::marker::Model;
-use windows::GREATEST_MEMORY;
 
 /// The least memory of a job in bytes.
 const LEAST_MEMORY: u32 = 512;
@@ -94,7 +96,8 @@ impl<'t> Model for JobLines<'t> {
     ghost invariant = { λ r. IsJobKept r.memory r.inputs r.events.items };
 }
 
-/// Reports whether a job may have a memory of `size` bytes: a multiple of 16 from 512 to 134,217,728.
+/// Reports whether a job may have a memory of `size` bytes: a multiple of 16 from 512 to
+/// 134,217,728.
 fn is_memory(size: u32) -> bool
     ensures { result ≡ is_memory_size size }
 {
@@ -162,8 +165,8 @@ impl<'t> JobLines<'t> {
 
     /// Adds a file of the application that is named so.
     fn add_file(&mut self, owner: &Label, name: FileName, path: &'t str) -> Result<(), Refusal>
-        ensures read { Adds (λ _. self.new) result
-            (of_app self.old owner.now.0.items (λ app. with_input self.old (FileInput app name.0.items path.now))) }
+        ensures read { Adds (λ _. self.new) result (of_app self.old owner.now.0.items (λ app.
+            with_input self.old (FileInput app name.0.items path.now))) }
         ensures unchanged { OnErr result (self.new ≡ self.old) }
     {
         let app = self.find_app(owner)?;
@@ -186,7 +189,8 @@ impl<'t> JobLines<'t> {
 
     /// Returns the number of the application of this name.
     fn find_app(&self, name: &Label) -> Result<usize, Refusal>
-        ensures found { Adds (λ app. app) result (ok_or (app_named name.now.0.items self.now.inputs) BadArgument) }
+        ensures found { Adds (λ app. app) result
+            (ok_or (app_named name.now.0.items self.now.inputs) BadArgument) }
         ensures below { IfOk result (λ app. app < length (app_names self.now.inputs)) }
     {
         match self.inputs.find_app(name.0.as_slice()) {

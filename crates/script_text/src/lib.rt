@@ -1,5 +1,5 @@
-//! The texts: reads scripts and jobs, and writes the lines of transcripts and of desk.log, exactly as the definitions
-//! in specs/ say.
+//! The texts: reads scripts and jobs, and writes the lines of transcripts and of desk.log, exactly
+//! as the definitions in specs/ say.
 #![tactic(auto)]
 
 mod argument;

@@ -45,7 +45,7 @@ static OF_NINE: [CallWord; 8] = [
     CallWord::Unique1ID,
 ];
 
-static OF_TEN: [CallWord; 14] = [
+static OF_TEN: [CallWord; 17] = [
     CallWord::DisposePtr,
     CallWord::HandToHand,
     CallWord::PtrAndHand,
@@ -60,6 +60,9 @@ static OF_TEN: [CallWord; 14] = [
     CallWord::SetResInfo,
     CallWord::SetResLoad,
     CallWord::HandleZone,
+    CallWord::CountTypes,
+    CallWord::GetIndType,
+    CallWord::PtrToXHand,
 ];
 
 static OF_ELEVEN: [CallWord; 16] = [
@@ -107,12 +110,14 @@ static OF_FOURTEEN: [CallWord; 6] = [
     CallWord::GetIndResource,
 ];
 
-static OF_FIFTEEN: [CallWord; 5] = [
+static OF_FIFTEEN: [CallWord; 7] = [
     CallWord::Count1Resources,
     CallWord::Get1IndResource,
     CallWord::ReleaseResource,
     CallWord::ChangedResource,
     CallWord::SetResourceSize,
+    CallWord::GetResFileAttrs,
+    CallWord::SetResFileAttrs,
 ];
 
 static OF_SIXTEEN: [CallWord; 2] = [CallWord::ReallocateHandle, CallWord::GetNamedResource];
@@ -125,8 +130,8 @@ static OF_TWENTY: [CallWord; 1] = [CallWord::WritePartialResource];
 
 static OF_TWENTY_ONE: [CallWord; 1] = [CallWord::GetResourceSizeOnDisk];
 
-/// Returns the words of `length` letters, among which a token of that length is searched for first. A word that is
-/// missing here is found nevertheless, since all words are searched afterwards.
+/// Returns the words of `length` letters, among which a token of that length is searched for first.
+/// A word that is missing here is found nevertheless, since all words are searched afterwards.
 pub fn likely(length: usize) -> &'static [CallWord] {
     match length {
         3 => &OF_THREE,

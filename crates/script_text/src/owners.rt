@@ -1,10 +1,11 @@
 //! The applications of a job, found by name, each with the names of its files.
 
-ghost use Rattle.std.specs.Prelude.{◌≡◌, ◌<◌, ◌++◌, ◌∷◌, ◌||◌, [], map, length, bytes_eq, OnOk, OnErr, IfOk, IfSome};
+ghost use Rattle.std.specs.Prelude.{◌≡◌, ◌<◌, ◌++◌, ◌∷◌, ◌||◌, [], map, length, bytes_eq, OnOk};
+ghost use Rattle.std.specs.Prelude.{OnErr, IfOk, IfSome};
 ghost use Rattle.std.specs.List.{position_from};
 ghost use Rattle.script_text.specs.Job.{input_seen, has_name};
-ghost use Rattle.script_text.specs.Known.{Known, KnownApp, none_known, known_names, known_with, with_file, with_file_at};
-ghost use Rattle.script_text.specs.Known.{may_have, may_have_at, may_join};
+ghost use Rattle.script_text.specs.Known.{Known, KnownApp, none_known, known_names, known_with};
+ghost use Rattle.script_text.specs.Known.{with_file, with_file_at, may_have, may_have_at, may_join};
 
 use crate::job::Input;
 use indexmap::IndexSet;
@@ -19,8 +20,8 @@ fn copy_of(name: &FileName) -> Result<FileName, AllocError>
     name.clone()
 }
 
-/// An application's name, and the names of the files that lines give to it, in the order of the lines. There are at most
-/// 255 of them, so no choice of names makes a look-up slow.
+/// An application's name, and the names of the files that lines give to it, in the order of the
+/// lines. There are at most 255 of them, so no choice of names makes a look-up slow.
 #[derive(Drop)]
 struct Owner {
     name: Label,
@@ -30,7 +31,8 @@ struct Owner {
 impl Model for Owner {
     ghost Value = { KnownApp };
 
-    ghost view = { λ o. record { name = o.name.0.items; files = map (λ f. f.0.items) o.files.keys } };
+    ghost view = { λ o.
+        record { name = o.name.0.items; files = map (λ f. f.0.items) o.files.keys } };
 }
 
 impl Owner {
@@ -53,7 +55,8 @@ impl Owner {
 
     /// Reports whether the application has a file of this name, its fork among its files.
     fn has(&self, name: &FileName) -> bool
-        ensures { result ≡ (bytes_eq name.now.0.items self.now.name || has_name name.now.0.items self.now.files) }
+        ensures { result ≡ (bytes_eq name.now.0.items self.now.name
+            || has_name name.now.0.items self.now.files) }
     {
         self.is_named(name.0.as_slice()) || self.files.contains(name)
     }
@@ -128,7 +131,8 @@ fn add_owner(alloc: Global, owners: &mut Vec<Owner>, name: &Label) -> Result<(),
 
 /// Adds a file to the application of this number, if there is one.
 fn add_file(owners: &mut Vec<Owner>, number: usize, name: &FileName) -> Result<(), AllocError>
-    ensures added { OnOk result (owners.new.items ≡ with_file_at number name.now.0.items owners.old.items) }
+    ensures added { OnOk result (owners.new.items
+        ≡ with_file_at number name.now.0.items owners.old.items) }
     ensures unchanged { OnErr result (owners.new.items ≡ owners.old.items) }
 {
     if number < owners.len() {
@@ -137,7 +141,8 @@ fn add_file(owners: &mut Vec<Owner>, number: usize, name: &FileName) -> Result<(
     Ok(())
 }
 
-/// Whether the inputs of a job have a System file, and their applications in the order of their lines.
+/// Whether the inputs of a job have a System file, and their applications in the order of their
+/// lines.
 #[derive(Drop)]
 pub struct Owners {
     alloc: Global,
@@ -163,7 +168,8 @@ impl Owners {
         }
     }
 
-    /// Returns the number of the application of this name, counted from 0 in the order of the `app` lines.
+    /// Returns the number of the application of this name, counted from 0 in the order of the `app`
+    /// lines.
     pub fn find(&self, name: &[u8]) -> Option<usize>
         ensures named { result ≡ position_from (bytes_eq name.now) 0 (known_names self.now.apps) }
         ensures below { IfSome result (λ number. number < length self.now.apps) }

@@ -2,8 +2,8 @@
 
 ghost use Rattle.std.specs.Prelude.{◌≡◌, true, IfOk};
 ghost use Rattle.std.specs.Str.Lines.{lines};
-ghost use Rattle.script_text.specs.Script.{ScriptParts, AllAllowed, NoneIsUnused, are_allowed, block_of};
-ghost use Rattle.script_text.specs.Script.{read_from, no_lines, script_of, spelled};
+ghost use Rattle.script_text.specs.Script.{ScriptParts, AllAllowed, NoneIsUnused, are_allowed};
+ghost use Rattle.script_text.specs.Script.{block_of, read_from, no_lines, script_of, spelled};
 ghost use Rattle.script_text.specs.Reading.{GivesAt};
 
 use crate::blocks::Blocks;
@@ -54,7 +54,8 @@ impl Script {
         &self.steps
     }
 
-    /// Returns the lines of the grow-zone script of this name; no lines where there is no such script.
+    /// Returns the lines of the grow-zone script of this name; no lines where there is no such
+    /// script.
     #[tactic(auto, using(crate::proofs::Allowed::block_allowed))]
     pub fn block(&self, name: &Label) -> &[Line]
         ensures lines { result.now ≡ block_of name.now.0.items self.now.blocks }
@@ -65,8 +66,8 @@ impl Script {
         self.blocks.lines(name)
     }
 
-    /// Returns a digest of all bytes of the script's text. A map that hashes by it has no look-up slow, since no names
-    /// can be chosen by a digest that depends on them.
+    /// Returns a digest of all bytes of the script's text. A map that hashes by it has no look-up
+    /// slow, since no names can be chosen by a digest that depends on them.
     pub fn digest(&self) -> u64 {
         self.digest
     }
@@ -98,18 +99,20 @@ fn digest_of(text: &[u8]) -> u64 {
     hasher.finish()
 }
 
-/// Reads a script. A line ends with LF; a CR right before the LF is dropped, and the last LF may be missing. Tokens
-/// are separated by spaces or tabs. A line without tokens, or whose first token begins with `#`, is skipped. Every
-/// other line is the name of a call and its arguments, or belongs to a grow-zone script: a line `grow NAME`, lines of
-/// calls, which are no steps, and a line `end`. The name of a grow-zone script is new, and is not `none`.
+/// Reads a script. A line ends with LF; a CR right before the LF is dropped, and the last LF may be
+/// missing. Tokens are separated by spaces or tabs. A line without tokens, or whose first token
+/// begins with `#`, is skipped. Every other line is the name of a call and its arguments, or
+/// belongs to a grow-zone script: a line `grow NAME`, lines of calls, which are no steps, and a
+/// line `end`. The name of a grow-zone script is new, and is not `none`.
 ///
 /// # Errors
 ///
-/// Returns the first faulty line with its fault. In a line, a length over 65,535 bytes comes first, then an unknown
-/// call (such as `end` outside a grow-zone script), then a call that a grow-zone script may not hold (such as
-/// `grow`), then a bad argument. Where no line is faulty, the first `grow` without `end`, or the first `SetGrowZone`
-/// whose grow-zone script is nowhere in the text, is a bad argument; `SetGrowZone none` never is. The fault is
-/// `HostMemory` where the host is out of memory.
+/// Returns the first faulty line with its fault. In a line, a length over 65,535 bytes comes first,
+/// then an unknown call (such as `end` outside a grow-zone script), then a call that a grow-zone
+/// script may not hold (such as `grow`), then a bad argument. Where no line is faulty, the first
+/// `grow` without `end`, or the first `SetGrowZone` whose grow-zone script is nowhere in the text,
+/// is a bad argument; `SetGrowZone none` never is. The fault is `HostMemory` where the host is out
+/// of memory.
 #[tactic(auto, unfolding(crate::specs::Script::script_of))]
 pub fn read_script(alloc: Global, text: &[u8]) -> Result<Script, ScriptFault>
     ensures script { GivesAt spelled result (script_of text.now) }

@@ -1,10 +1,12 @@
 //! What the lines of a script state, line after line.
 
-ghost use Rattle.std.specs.Prelude.{◌≡◌, false, ◌&&◌, not, is_some, map, OnErr, OnOk, codes, bytes_eq};
+ghost use Rattle.std.specs.Prelude.{◌≡◌, false, ◌&&◌, not, is_some, map, OnErr, OnOk, codes};
+ghost use Rattle.std.specs.Prelude.{bytes_eq};
 ghost use Rattle.std.specs.Option.{option_map};
 ghost use Rattle.script_text.specs.Call.{is_allowed};
-ghost use Rattle.script_text.specs.Script.{Above, begun_seen, blocks_seen, call_at, ended, end_at, grow_at, is_begun, is_there};
-ghost use Rattle.script_text.specs.Script.{first_missing, lesser, no_lines, read_at, said_as, sets_missing, statement};
+ghost use Rattle.script_text.specs.Script.{Above, begun_seen, blocks_seen, call_at, ended, end_at};
+ghost use Rattle.script_text.specs.Script.{grow_at, is_begun, is_there, first_missing, lesser};
+ghost use Rattle.script_text.specs.Script.{no_lines, read_at, said_as, sets_missing, statement};
 ghost use Rattle.script_text.specs.Script.{unfinished, with_statement, with_token};
 ghost use Rattle.script_text.specs.Inner.{IsKept};
 ghost use Rattle.script_text.specs.Reading.{Gives, OnFault};
@@ -96,7 +98,8 @@ impl ScriptLines {
     /// Adds a call as a step, or as a line of the grow-zone script whose `end` is still to come.
     fn add(&mut self, line: Line) -> Result<(), AllocError>
         requires { (is_some self.old.begun && not (is_allowed line.call)) ≡ false }
-        ensures added { OnOk result (self.new ≡ with_statement (statement line) self.old self.old.begun) }
+        ensures added { OnOk result (self.new
+            ≡ with_statement (statement line) self.old self.old.begun) }
         ensures unchanged { OnErr result (self.new ≡ self.old) }
     {
         match &mut self.begun {
@@ -167,7 +170,8 @@ impl ScriptLines {
     /// Reads a line by its first token and the rest of the line.
     #[tactic(auto, unfolding(crate::specs::Script::with_token))]
     fn read_words(&mut self, number: usize, token: &[u8], rest: &[u8]) -> Result<(), FaultKind>
-        ensures read { Gives (λ _. self.new) result (with_token number self.old token.now rest.now) }
+        ensures read { Gives (λ _. self.new) result
+            (with_token number self.old token.now rest.now) }
         ensures unchanged { OnFault result (self.new ≡ self.old) }
     {
         match token {
@@ -184,8 +188,8 @@ impl ScriptLines {
     ///
     /// # Errors
     ///
-    /// Returns the line's fault: a length over 65,535 bytes comes first, then an unknown call, then a call that may not
-    /// stand in a grow-zone script, then a bad argument.
+    /// Returns the line's fault: a length over 65,535 bytes comes first, then an unknown call, then
+    /// a call that may not stand in a grow-zone script, then a bad argument.
     #[tactic(auto, unfolding(crate::specs::Script::read_at))]
     pub fn read(&mut self, number: usize, line: &[u8]) -> Result<(), FaultKind>
         ensures read { Gives (λ _. self.new) result (read_at number self.old line.now) }
@@ -222,8 +226,8 @@ impl ScriptLines {
         }
     }
 
-    /// Returns the number of the first line that sets a grow-zone script that is not there, or that is a `grow` line
-    /// without `end`.
+    /// Returns the number of the first line that sets a grow-zone script that is not there, or that
+    /// is a `grow` line without `end`.
     pub(crate) fn unfinished(&self) -> Option<usize>
         ensures { result ≡ unfinished self.now }
     {

@@ -2,7 +2,8 @@
 
 ghost use Rattle.std.specs.Prelude.{◌≡◌, ◌==◌, not};
 ghost use Rattle.std.specs.List.{position};
-ghost use Rattle.script_text.specs.Token.{place, is_blank, after_blanks, token_len, may_end, token_at};
+ghost use Rattle.script_text.specs.Token.{place, is_blank, after_blanks, token_len, may_end};
+ghost use Rattle.script_text.specs.Token.{token_at};
 ghost use Rattle.script_text.specs.Reading.{Gives};
 
 use crate::fault::FaultKind;
@@ -69,8 +70,8 @@ fn ends_token(text: &[u8]) -> bool
     }
 }
 
-/// Returns the token at the front of a text, and the text after it; a bad argument where the token does not end at a
-/// blank or at the end of the text.
+/// Returns the token at the front of a text, and the text after it; a bad argument where the token
+/// does not end at a blank or at the end of the text.
 #[tactic(auto, unfolding(crate::specs::Token::token_at))]
 pub fn first_token(text: &[u8]) -> Result<(&[u8], &[u8]), FaultKind>
     ensures { Gives (λ cut. (cut.0.now, cut.1.now)) result (token_at text.now) }

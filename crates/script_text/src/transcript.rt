@@ -1,13 +1,14 @@
-//! The lines of a transcript. Each function `write_*` appends to a text; where the host is out of memory, the text stays
-//! as it was. The functions `push_*` may then leave a part of what they append.
+//! The lines of a transcript. Each function `write_*` appends to a text; where the host is out of
+//! memory, the text stays as it was. The functions `push_*` may then leave a part of what they
+//! append.
 
-ghost use Rattle.std.specs.Prelude.{◌≡◌, ◌+◌, ◌<◌, ◌≤◌, [], ◌++◌, OnOk, OnErr, IsOk, map, length, take};
-ghost use Rattle.std.specs.Prelude.{vec_len, vec_capacity};
+ghost use Rattle.std.specs.Prelude.{◌≡◌, ◌+◌, ◌<◌, ◌≤◌, [], ◌++◌, OnOk, OnErr, IsOk, map, length};
+ghost use Rattle.std.specs.Prelude.{take, vec_len, vec_capacity};
 ghost use Rattle.std.specs.Option.{option_map};
 ghost use Rattle.std.specs.Fmt.{signed_decimal};
-ghost use Rattle.script_text.specs.Transcript.{Number, Bytes, hex, shown_all, bytes_shown, type_shown};
-ghost use Rattle.script_text.specs.Transcript.{name_shown, values_of, launch_line, end_line, call_at, outcome};
-ghost use Rattle.script_text.specs.Transcript.{reply_line, grow_line};
+ghost use Rattle.script_text.specs.Transcript.{Number, Bytes, hex, shown_all, bytes_shown};
+ghost use Rattle.script_text.specs.Transcript.{type_shown, name_shown, values_of, launch_line};
+ghost use Rattle.script_text.specs.Transcript.{end_line, call_at, outcome, reply_line, grow_line};
 
 use crate::word::CallWord;
 use itoa::Buffer;
@@ -20,15 +21,16 @@ pub const LAUNCH_ROOM: usize = 64;
 /// The room, in bytes, that is enough for the last line of a transcript.
 pub const END_ROOM: usize = 48;
 
-/// The room, in bytes, that is enough for what the line of a call has beside the line's number and the call's name,
-/// where the reply has no values: a blank, the result code and a line feed, and the `+` of a grow-zone script's line.
+/// The room, in bytes, that is enough for what the line of a call has beside the line's number and
+/// the call's name, where the reply has no values: a blank, the result code and a line feed, and
+/// the `+` of a grow-zone script's line.
 pub const CODE_ROOM: usize = 48;
 
 /// The most bytes of a number in decimal.
 const NUMBER_ROOM: usize = 40;
 
-/// Returns `appended`, which says how appending to a text went. If it failed, the text is cut back to the `len` bytes
-/// that it had before.
+/// Returns `appended`, which says how appending to a text went. If it failed, the text is cut back
+/// to the `len` bytes that it had before.
 pub(crate) fn cut_if_failed(
     text: &mut Vec<u8>,
     len: usize,
@@ -92,7 +94,8 @@ pub fn write_hex(text: &mut Vec<u8>, bytes: &[u8]) -> Result<(), AllocError>
 }
 
 fn push_numbers(text: &mut Vec<u8>, numbers: &[i64]) -> Result<(), AllocError>
-    ensures values { OnOk result (text.new.items ≡ text.old.items ++ shown_all (map Number numbers.now)) }
+    ensures values { OnOk result (text.new.items
+        ≡ text.old.items ++ shown_all (map Number numbers.now)) }
     ensures front { OnErr result (take (vec_len text.old) text.new.items ≡ text.old.items) }
     ensures capacity { vec_capacity text.old ≤ vec_capacity text.new }
     ensures nothing { map Number numbers.now ≡ [] → IsOk result }
@@ -119,7 +122,8 @@ fn push_bytes(text: &mut Vec<u8>, bytes: Option<&[u8]>) -> Result<(), AllocError
 }
 
 fn push_type(text: &mut Vec<u8>, ty: &Option<OsType>) -> Result<(), AllocError>
-    ensures values { OnOk result (text.new.items ≡ text.old.items ++ shown_all (type_shown ty.now)) }
+    ensures values { OnOk result (text.new.items
+        ≡ text.old.items ++ shown_all (type_shown ty.now)) }
     ensures front { OnErr result (take (vec_len text.old) text.new.items ≡ text.old.items) }
     ensures capacity { vec_capacity text.old ≤ vec_capacity text.new }
     ensures nothing { type_shown ty.now ≡ [] → IsOk result }
@@ -131,7 +135,8 @@ fn push_type(text: &mut Vec<u8>, ty: &Option<OsType>) -> Result<(), AllocError>
 }
 
 fn push_name(text: &mut Vec<u8>, name: &Option<Box<Name>>) -> Result<(), AllocError>
-    ensures values { OnOk result (text.new.items ≡ text.old.items ++ shown_all (name_shown name.now)) }
+    ensures values { OnOk result (text.new.items
+        ≡ text.old.items ++ shown_all (name_shown name.now)) }
     ensures front { OnErr result (take (vec_len text.old) text.new.items ≡ text.old.items) }
     ensures capacity { vec_capacity text.old ≤ vec_capacity text.new }
     ensures nothing { name_shown name.now ≡ [] → IsOk result }
@@ -218,8 +223,8 @@ pub fn write_end(text: &mut Vec<u8>, code: OsErr) -> Result<(), AllocError>
     cut_if_failed(text, len, appended)
 }
 
-/// Returns the room, in bytes, that is enough for the line of a call whose reply has no values, also in a grow-zone
-/// script.
+/// Returns the room, in bytes, that is enough for the line of a call whose reply has no values,
+/// also in a grow-zone script.
 pub fn line_room(line: usize, word: CallWord) -> usize
     ensures { result ≡ length (call_at line word) + CODE_ROOM }
 {
@@ -231,7 +236,8 @@ fn push_call(text: &mut Vec<u8>, line: usize, word: CallWord) -> Result<(), Allo
     ensures call { OnOk result (text.new.items ≡ text.old.items ++ call_at line word) }
     ensures front { OnErr result (take (vec_len text.old) text.new.items ≡ text.old.items) }
     ensures capacity { vec_capacity text.old ≤ vec_capacity text.new }
-    ensures room { vec_len text.old + length (call_at line word) ≤ vec_capacity text.old → IsOk result }
+    ensures room { vec_len text.old + length (call_at line word) ≤ vec_capacity text.old
+        → IsOk result }
 {
     text.extend_from_slice(Buffer::new().format(line).as_bytes())?;
     text.push(b' ')?;
@@ -242,7 +248,8 @@ fn push_call(text: &mut Vec<u8>, line: usize, word: CallWord) -> Result<(), Allo
 /// Appends a blank, a result code and, after code 0, the values.
 fn push_outcome(text: &mut Vec<u8>, reply: &Reply, bytes: Option<&[u8]>) -> Result<(), AllocError>
     ensures outcome { OnOk result (text.new.items
-        ≡ text.old.items ++ outcome reply.now.code.0 (values_of reply.now (option_map (λ b. b.now) bytes.entry))) }
+        ≡ text.old.items
+        ++ outcome reply.now.code.0 (values_of reply.now (option_map (λ b. b.now) bytes.entry))) }
     ensures front { OnErr result (take (vec_len text.old) text.new.items ≡ text.old.items) }
     ensures capacity { vec_capacity text.old ≤ vec_capacity text.new }
     ensures room { vec_len text.old + 1 + NUMBER_ROOM ≤ vec_capacity text.old
@@ -268,9 +275,11 @@ fn push_reply(
     bytes: Option<&[u8]>,
 ) -> Result<(), AllocError>
     ensures line { OnOk result (text.new.items ≡ text.old.items
-        ++ reply_line line word reply.now.code.0 (values_of reply.now (option_map (λ b. b.now) bytes.entry))) }
+        ++ reply_line line word reply.now.code.0
+        (values_of reply.now (option_map (λ b. b.now) bytes.entry))) }
     ensures front { OnErr result (take (vec_len text.old) text.new.items ≡ text.old.items) }
-    ensures room { vec_len text.old + length (call_at line word) + 2 + NUMBER_ROOM ≤ vec_capacity text.old
+    ensures room { vec_len text.old + length (call_at line word) + 2 + NUMBER_ROOM
+        ≤ vec_capacity text.old
         → values_of reply.now (option_map (λ b. b.now) bytes.entry) ≡ [] → IsOk result }
 {
     push_call(text, line, word)?;
@@ -279,9 +288,9 @@ fn push_reply(
     Ok(())
 }
 
-/// Appends the line of a call: the number of its line, its name, the reply's result code and, after code 0, its
-/// values: the numbers in decimal, then the type, the name and `bytes`, which the call shows, each as `$` and
-/// hexadecimal digits in lower case.
+/// Appends the line of a call: the number of its line, its name, the reply's result code and, after
+/// code 0, its values: the numbers in decimal, then the type, the name and `bytes`, which the call
+/// shows, each as `$` and hexadecimal digits in lower case.
 pub fn write_reply(
     text: &mut Vec<u8>,
     line: usize,
@@ -290,7 +299,8 @@ pub fn write_reply(
     bytes: Option<&[u8]>,
 ) -> Result<(), AllocError>
     ensures line { OnOk result (text.new.items ≡ text.old.items
-        ++ reply_line line word reply.now.code.0 (values_of reply.now (option_map (λ b. b.now) bytes.entry))) }
+        ++ reply_line line word reply.now.code.0
+        (values_of reply.now (option_map (λ b. b.now) bytes.entry))) }
     ensures unchanged { OnErr result (text.new.items ≡ text.old.items) }
     ensures room { vec_len text.old + length (call_at line word) + CODE_ROOM ≤ vec_capacity text.old
         → values_of reply.now (option_map (λ b. b.now) bytes.entry) ≡ [] → IsOk result }
@@ -309,7 +319,8 @@ fn push_grow_reply(
     bytes: Option<&[u8]>,
 ) -> Result<(), AllocError>
     ensures line { OnOk result (text.new.items ≡ text.old.items
-        ++ grow_line line word reply.now.code.0 (values_of reply.now (option_map (λ b. b.now) bytes.entry))) }
+        ++ grow_line line word reply.now.code.0
+        (values_of reply.now (option_map (λ b. b.now) bytes.entry))) }
     ensures front { OnErr result (take (vec_len text.old) text.new.items ≡ text.old.items) }
     ensures room { vec_len text.old + length (call_at line word) + CODE_ROOM ≤ vec_capacity text.old
         → values_of reply.now (option_map (λ b. b.now) bytes.entry) ≡ [] → IsOk result }
@@ -319,7 +330,8 @@ fn push_grow_reply(
     Ok(())
 }
 
-/// Appends the line of a call of a grow-zone script: a `+`, and the line that `write_reply` appends.
+/// Appends the line of a call of a grow-zone script: a `+`, and the line that `write_reply`
+/// appends.
 pub fn write_grow_reply(
     text: &mut Vec<u8>,
     line: usize,
@@ -328,7 +340,8 @@ pub fn write_grow_reply(
     bytes: Option<&[u8]>,
 ) -> Result<(), AllocError>
     ensures line { OnOk result (text.new.items ≡ text.old.items
-        ++ grow_line line word reply.now.code.0 (values_of reply.now (option_map (λ b. b.now) bytes.entry))) }
+        ++ grow_line line word reply.now.code.0
+        (values_of reply.now (option_map (λ b. b.now) bytes.entry))) }
     ensures unchanged { OnErr result (text.new.items ≡ text.old.items) }
     ensures room { vec_len text.old + length (call_at line word) + CODE_ROOM ≤ vec_capacity text.old
         → values_of reply.now (option_map (λ b. b.now) bytes.entry) ≡ [] → IsOk result }

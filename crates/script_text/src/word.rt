@@ -1,7 +1,8 @@
 //! The words of the calls.
 
 ghost use Rattle.std.specs.Prelude.{◌≡◌, [], ◌∷◌, true, Some, IfOk, IfSome, bytes_eq};
-ghost use Rattle.script_text.specs.Call.{spelling, kinds, meant, spoken, word_of, may_stand, word_spelled, call_read};
+ghost use Rattle.script_text.specs.Call.{spelling, kinds, meant, spoken, word_of, may_stand};
+ghost use Rattle.script_text.specs.Call.{word_spelled, call_read};
 ghost use Rattle.script_text.specs.Reading.{Gives};
 ghost use Rattle.script_text.specs.declared.word.CallWord as declared;
 
@@ -35,6 +36,7 @@ pub enum CallWord {
     PtrToHand,
     HandAndHand,
     PtrAndHand,
+    PtrToXHand,
     NewPtr,
     DisposePtr,
     GetPtrSize,
@@ -61,7 +63,11 @@ pub enum CallWord {
     Get1Resource,
     GetNamedResource,
     Get1NamedResource,
+    GetResFileAttrs,
+    SetResFileAttrs,
+    CountTypes,
     Count1Types,
+    GetIndType,
     Get1IndType,
     CountResources,
     Count1Resources,
@@ -105,9 +111,10 @@ pub enum CallWord {
     InlineGetHandleSize,
 }
 
-/// The calls by the part of the toolbox that they belong to: for each its word, the enums that hold the call, what reads its
-/// arguments, and a line of help. After them stand the other names of calls, each with the word of the call that it names. The
-/// list at the end has the words of the calls that a grow-zone script may hold.
+/// The calls by the part of the toolbox that they belong to: for each its word, the enums that hold
+/// the call, what reads its arguments, and a line of help. After them stand the other names of
+/// calls, each with the word of the call that it names. The list at the end has the words of the
+/// calls that a grow-zone script may hold.
 macro_rules! calls {
     ($part:ident $($given:expr),*) => {
         $part! { $($given),* ;
@@ -152,6 +159,8 @@ macro_rules! calls {
                     "appends the bytes of a to b";
                 PtrAndHand = Heap HeapCall two(h, bytes)
                     "appends bytes to the block";
+                PtrToXHand = Heap HeapCall two(h, bytes)
+                    "replaces the bytes of the block, which gets their size";
             }
             "The Memory Manager, nonrelocatable blocks" {
                 NewPtr = Heap HeapCall two(p, size)
@@ -210,8 +219,16 @@ macro_rules! calls {
                     "fetches by type and name, along the search path";
                 Get1NamedResource = Resource ResourceCall three(h, type, text)
                     "fetches by type and name, from the current file only";
+                GetResFileAttrs = Resource ResourceCall one(n)
+                    "returns mapReadOnly (128) and mapChanged (32) of an open file, summed";
+                SetResFileAttrs = Resource ResourceCall two(n, byte)
+                    "sets mapReadOnly (128) and mapChanged (32) of an open file";
+                CountTypes = Resource ResourceCall none()
+                    "counts the resource types of all open files together";
                 Count1Types = Resource ResourceCall none()
                     "counts the resource types of the current file";
+                GetIndType = Resource ResourceCall one(n)
+                    "returns the n-th type of all open files together, from 1";
                 Get1IndType = Resource ResourceCall one(n)
                     "returns the n-th type of the current file, from 1";
                 CountResources = Resource ResourceCall one(type)
@@ -452,14 +469,16 @@ macro_rules! is_held {
     };
 }
 
-/// The calls as a person reads them: a line for each, with the names of its arguments and what the call does, below the line of
-/// the part of the toolbox. Then the lines that make a grow-zone script and the calls that it may hold, and the result codes.
+/// The calls as a person reads them: a line for each, with the names of its arguments and what the
+/// call does, below the line of the part of the toolbox. Then the lines that make a grow-zone
+/// script and the calls that it may hold, and the result codes.
 pub const CALLS: &str = calls!(listed);
 
 /// The words of all calls, in the order of the tables.
-pub static WORDS: [CallWord; 88] = calls!(words);
+pub static WORDS: [CallWord; 93] = calls!(words);
 
-/// Returns the word that a token spells, if the word is one of the few of the token's length that are tried first.
+/// Returns the word that a token spells, if the word is one of the few of the token's length that
+/// are tried first.
 fn likely_word(token: &[u8]) -> Option<CallWord>
     ensures { IfSome result (λ word. bytes_eq (spelling word) token.now ≡ true) }
 {
@@ -520,7 +539,7 @@ impl CallWord {
     }
 
     /// Makes the call of a word that takes no argument. The text must then be blank.
-    #[tactic(auto, using(crate::proofs::Allowed::meant_stands))]
+    #[tactic(auto, using(crate::proofs::Allowed::spoken_stands))]
     fn of_none<F: FnOnce() -> Call>(self, text: &[u8], make: F) -> Result<Call, FaultKind>
         requires callable { F.IsAlwaysCallable make }
         requires kinds { kinds self ≡ [] }
@@ -533,7 +552,7 @@ impl CallWord {
     }
 
     /// Reads the one argument of a word from a text and makes the call.
-    #[tactic(auto, using(crate::proofs::Allowed::meant_stands))]
+    #[tactic(auto, using(crate::proofs::Allowed::spoken_stands))]
     fn of_one<A: Argument + Drop, F: FnOnce(A) -> Call>(
         self,
         alloc: Global,
@@ -542,7 +561,8 @@ impl CallWord {
     ) -> Result<Call, FaultKind>
         requires callable { F.IsAlwaysCallable make }
         requires kinds { kinds self ≡ A.kind ∷ [] }
-        requires made { (a : A) → (call : Call) → F.post make a call → spoken call ≡ (meant self, A.seen a ∷ []) }
+        requires made { (a : A) → (call : Call) → F.post make a call
+            → spoken call ≡ (meant self, A.seen a ∷ []) }
         ensures call { Gives spoken result (call_read self text.now) }
         ensures word { IfOk result (λ call. may_stand (word_of call) ≡ may_stand self) }
     {
@@ -551,7 +571,7 @@ impl CallWord {
     }
 
     /// Reads the two arguments of a word from a text and makes the call.
-    #[tactic(auto, using(crate::proofs::Allowed::meant_stands))]
+    #[tactic(auto, using(crate::proofs::Allowed::spoken_stands))]
     fn of_two<A: Argument + Drop, B: Argument + Drop, F: FnOnce(A, B) -> Call>(
         self,
         alloc: Global,
@@ -560,7 +580,8 @@ impl CallWord {
     ) -> Result<Call, FaultKind>
         requires callable { F.IsAlwaysCallable make }
         requires kinds { kinds self ≡ A.kind ∷ B.kind ∷ [] }
-        requires made { (a : A) → (b : B) → (call : Call) → F.post make a b call → spoken call ≡ (meant self, A.seen a ∷ B.seen b ∷ []) }
+        requires made { (a : A) → (b : B) → (call : Call) → F.post make a b call
+            → spoken call ≡ (meant self, A.seen a ∷ B.seen b ∷ []) }
         ensures call { Gives spoken result (call_read self text.now) }
         ensures word { IfOk result (λ call. may_stand (word_of call) ≡ may_stand self) }
     {
@@ -569,7 +590,7 @@ impl CallWord {
     }
 
     /// Reads the three arguments of a word from a text and makes the call.
-    #[tactic(auto, using(crate::proofs::Allowed::meant_stands))]
+    #[tactic(auto, using(crate::proofs::Allowed::spoken_stands))]
     fn of_three<
         A: Argument + Drop,
         B: Argument + Drop,
@@ -578,7 +599,8 @@ impl CallWord {
     >(self, alloc: Global, text: &[u8], make: F) -> Result<Call, FaultKind>
         requires callable { F.IsAlwaysCallable make }
         requires kinds { kinds self ≡ A.kind ∷ B.kind ∷ C.kind ∷ [] }
-        requires made { (a : A) → (b : B) → (c : C) → (call : Call) → F.post make a b c call → spoken call ≡ (meant self, A.seen a ∷ B.seen b ∷ C.seen c ∷ []) }
+        requires made { (a : A) → (b : B) → (c : C) → (call : Call) → F.post make a b c call
+            → spoken call ≡ (meant self, A.seen a ∷ B.seen b ∷ C.seen c ∷ []) }
         ensures call { Gives spoken result (call_read self text.now) }
         ensures word { IfOk result (λ call. may_stand (word_of call) ≡ may_stand self) }
     {
@@ -587,7 +609,7 @@ impl CallWord {
     }
 
     /// Reads the four arguments of a word from a text and makes the call.
-    #[tactic(auto, using(crate::proofs::Allowed::meant_stands))]
+    #[tactic(auto, using(crate::proofs::Allowed::spoken_stands))]
     fn of_four<
         A: Argument + Drop,
         B: Argument + Drop,
@@ -597,7 +619,9 @@ impl CallWord {
     >(self, alloc: Global, text: &[u8], make: F) -> Result<Call, FaultKind>
         requires callable { F.IsAlwaysCallable make }
         requires kinds { kinds self ≡ A.kind ∷ B.kind ∷ C.kind ∷ D.kind ∷ [] }
-        requires made { (a : A) → (b : B) → (c : C) → (d : D) → (call : Call) → F.post make a b c d call → spoken call ≡ (meant self, A.seen a ∷ B.seen b ∷ C.seen c ∷ D.seen d ∷ []) }
+        requires made { (a : A) → (b : B) → (c : C) → (d : D)
+            → (call : Call) → F.post make a b c d call
+            → spoken call ≡ (meant self, A.seen a ∷ B.seen b ∷ C.seen c ∷ D.seen d ∷ []) }
         ensures call { Gives spoken result (call_read self text.now) }
         ensures word { IfOk result (λ call. may_stand (word_of call) ≡ may_stand self) }
     {

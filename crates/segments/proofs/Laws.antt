@@ -22,7 +22,7 @@ use Rattle.heap_calls.proofs.Promises.Knowing.{Known}
 use Rattle.heap_calls.proofs.Promises.FewSearches.{unsearched}
 use Rattle.heap_calls.proofs.Steps.Segments.{held-known, loosened-known, held-locked, loosened-locked, held-nonrelocatable}
 use Rattle.heap_calls.proofs.Steps.Segments.{loosened-nonrelocatable, held-bytes, loosened-bytes, held-has, loosened-has}
-use Rattle.heap_calls.proofs.Steps.Segments.{held-masters, loosened-masters, held-roles, loosened-roles}
+use Rattle.heap_calls.proofs.Steps.Segments.{held-masters, loosened-masters}
 use Rattle.res_calls.specs.Fetch.{Managers, Reads, Fetched}
 use Rattle.res_calls.specs.Fetch as fetching
 use Rattle.res_calls.specs.Own.{own_datum, own_handle, fetch_own}
@@ -31,7 +31,7 @@ use Rattle.res_calls.specs.Sound.{Sound}
 use Rattle.res_calls.specs.Rows.{bars, with_memory}
 use Rattle.res_calls.proofs.Walks.Own.{own-known, own-locked, own-nonrelocatable, own-purgeable, own-bytes, own-masters}
 use Rattle.res_calls.proofs.Walks.Own.{own-searches, own-fits, own-no_more, own-busy, own-code, own-window, own-files}
-use Rattle.res_calls.proofs.Walks.Own.{own-elsewhere, own-owns, own-sound, own-unread, own-refused}
+use Rattle.res_calls.proofs.Walks.Own.{own-elsewhere, own-owns, own-sound, own-unread}
 use Rattle.res_calls.proofs.Walks.Place.{moved, answer_moved}
 use Rattle.segments.specs.Table.{Entry, can_load, unloaded}
 use Rattle.segments.specs.Calls.{Program, Answer, Called, done, refused, held, load_fetched, load_by}
@@ -231,12 +231,6 @@ served-unread c p = served-goes (λ wants reads s. wants ≡ true → reads ≡ 
     (λ n t full wants. let refusal = full wants in own-unread code_type n p.managers refusal.0 refusal.1)
     (λ n k wants. cc) c (λ k same wants. refl)
 
-pub served-wanting : (c : SegmentCall) (p : Program) → (served c p).wants ≡ true
-    → (served c p).after.managers.resources ≡ p.managers.resources
-served-wanting c p = served-goes (λ wants reads s. wants ≡ true → s.resources ≡ p.managers.resources) p (λ wants. refl)
-    (λ n t full wants. let refusal = full wants in (own-refused code_type n p.managers refusal.0 refusal.1).1)
-    (λ n k wants. cc) c (λ k same wants. refl)
-
 -- the count of searches always fits
 pub served-fits : (c : SegmentCall) (p : Program) → 0 < count is_masters p.managers.memory.heap.zone
     → p.managers.memory.log.searches < 2 ^ 64 → (served c p).after.managers.memory.log.searches < 2 ^ 64
@@ -264,22 +258,6 @@ pub served-files : (c : SegmentCall) (p : Program)
     → (served c p).after.managers.resources.files ≡ p.managers.resources.files
 served-files c p = served-goes (λ wants reads s. s.resources.files ≡ p.managers.resources.files) p refl
     (λ n wants full. own-files code_type n p.managers) (λ n k. own-files code_type n p.managers) c (λ k same. refl)
-
--- each resource has its own handle after it, and what holds of the open files holds
-same-roles : (s : Managers) (m : Memory)
-    → ((h : ℕ) → resource_role_at h m.heap ≡ resource_role_at h s.memory.heap) → Owns s → Owns (with_memory m s)
-same-roles s m roles owns = record {
-  apart = owns.apart;
-  owned = λ h. owns.owned h ∙ sym (roles h);
-  numbered = owns.numbered;
-}
-
-pub served-owns : (c : SegmentCall) (p : Program) → Owns p.managers → Owns (served c p).after.managers
-served-owns c p owns = served-goes (λ wants reads s. Owns s) p owns
-    (λ n wants full. own-owns code_type n p.managers owns)
-    (λ n k. same-roles (fetched n p).after _ (held-roles k (fetched n p).after.memory.heap)
-    (own-owns code_type n p.managers owns))
-    c (λ k same. same-roles p.managers _ (loosened-roles k p.managers.memory.heap) owns)
 
 pub served-sound : (c : SegmentCall) (p : Program) → Sound p.managers.resources
     → Sound (served c p).after.managers.resources

@@ -99,19 +99,3 @@ pub called_first : (i : ℕ) (p : Program) (e : StoredEntry) (n : ℤ) (result :
     → IsCalled (call_loading n (load_seg n p)) result after → IsCalled (call_entry i p) result after
 called_first i p e n result after here of is called =
     subst (λ (a : Answer Called). IsCalled a result after) (sym (called_entry i p e n false here of is)) called
-
--- a segment that was loaded to be called
-pub called_loading : (n : ℤ) (a : Answer Fetched) (read : Bool) (after : Program) → IsLoaded a (Ok read) after
-    → let c : CalledSegment = record { segment = n; read = read } in IsCalled (call_loading n a) (Ok c) after
-called_loading n a read after (read_so, left) = (by_reply a.reply read_so, left)
-  where
-    by_reply : (r : Result Fetched OsErr) → reads_of r ≡ Ok (times read)
-        → (called n r) ≡ Ok (record { segment = n; read = times read })
-    by_reply (Ok f) e = cc
-    by_reply (Err code) e = cc
-
-pub called_refused : (n : ℤ) (a : Answer Fetched) (refusal : Refusal) (reading : Option ℕ) (wants : Bool)
-    (after : Program) → IsUnloaded a refusal reading wants after
-    → IsUnloaded (call_loading n a) refusal reading wants after
-called_refused n a (Code code) reading wants after (reply, again, room, left) = (ap (called n) reply, again, room, left)
-called_refused n a HostMemory reading wants after said = tt

@@ -20,12 +20,6 @@ drop-here [] at x e = cc
 drop-here (y ∷ xs) zero x e = let same : y ≡ x = cc in ap (λ z. z ∷ xs) same
 drop-here (y ∷ xs) (suc at) x e = drop-here xs at x e
 
-drop-past : {A : Type 0} (xs : List A) (at : ℕ) → slice_get xs at ≡ None → drop at xs ≡ []
-drop-past [] zero e = refl
-drop-past [] (suc at) e = refl
-drop-past (y ∷ xs) zero e = cc
-drop-past (y ∷ xs) (suc at) e = drop-past xs at e
-
 -- an item that passes, with those behind it
 pub own_on : {A : Type 0} (test : A → Bool) (xs : List A) (at n : ℕ) (x : A) → slice_get xs at ≡ Some x
     → test x ≡ true → own test at (suc n) xs ≡ own test (suc at) n xs
@@ -47,13 +41,6 @@ own_stops test xs at n x here fails =
     none : (t : Bool) → (t && false) ≡ false
     none true = refl
     none false = refl
-
--- and the end of the list
-pub own_past : {A : Type 0} (test : A → Bool) (xs : List A) (at n : ℕ) → slice_get xs at ≡ None
-    → own test at (suc n) xs ≡ false
-own_past test xs at n past =
-    ap (λ l. length (take (suc n) l) == suc n && list_all test (take (suc n) l)) (drop-past xs at past)
-    ∙ ap (λ t. t && true) (eqb-zero-suc n)
 
 -- no entry more is loaded
 pub loaded-none : (at : ℕ) (table : List Entry) → loaded_from at 0 table ≡ table

@@ -12,37 +12,37 @@ use Rattle.res_calls.specs.Fetch.{Fetched}
 use Rattle.res_calls.specs.Own.{own_datum, fetch_own}
 use Rattle.res_calls.proofs.GoneElsewhere.{own-elsewhere}
 use Rattle.segments.specs.Asked.{served, tell_loaded, tell_called}
-use Rattle.segments.specs.Calls.{Program, Answer, code_type, load_seg, load_datum, load_by, load_fetched, called, call_entry, call_through}
+use Rattle.segments.specs.Calls.{Program, code_type, load_seg, load_datum, load_by, load_fetched, called, call_entry, call_through}
 use Rattle.segments.specs.Calls.{call_found}
 use Rattle.segments.specs.Calls.{refused}
 use Rattle.segments.specs.Gone.{load_gone, through_gone, entry_gone, gone_for}
 use Rattle.segments.specs.Table.{Entry, can_load}
 use Rattle.segments.proofs.Laws.{told-refused, program_moved}
 
--- an answer that is refused only by a system error
-abbrev OnlyFatal : {T : Type 0} → Answer T → Type 0
-OnlyFatal a = (code : OsErr) → a.reply ≡ Err code → code ≡ SYSTEM_ERROR
+-- a reply that refuses only by a system error
+abbrev OnlyFatal : {T : Type 0} → Result T OsErr → Type 0
+OnlyFatal reply = (code : OsErr) → reply ≡ Err code → code ≡ SYSTEM_ERROR
 
 -- a load that is refused is so by a system error
-load-fatal : (n : ℤ) (p : Program) → OnlyFatal (load_seg n p)
+load-fatal : (n : ℤ) (p : Program) → OnlyFatal (load_seg n p).reply
 load-fatal n p = by_zero (int_eq n (pos 0))
   where
     by_fit : (code : List ℕ) (f : Fetched) (t : Bool) → can_load n code p.table ≡ t
-        → OnlyFatal (load_fetched n code f (fetch_own code_type n p.managers) p.table)
+        → OnlyFatal (load_fetched n code f (fetch_own code_type n p.managers) p.table).reply
     by_fit code f true fits = rw fits (λ why is. cc)
     by_fit code f false fits = rw fits (λ why is. cc)
 
     by_reply : (code : List ℕ) (r : Result Fetched OsErr)
-        → OnlyFatal (load_by n code r (fetch_own code_type n p.managers) p.table)
+        → OnlyFatal (load_by n code r (fetch_own code_type n p.managers) p.table).reply
     by_reply code (Err refusal) = λ why is. cc
     by_reply code (Ok f) = by_fit code f (can_load n code p.table) refl
 
-    by_datum : (o : Option (List ℕ)) → OnlyFatal (load_datum n o p)
+    by_datum : (o : Option (List ℕ)) → OnlyFatal (load_datum n o p).reply
     by_datum None = λ why is. cc
     by_datum (Some code) = by_reply code (fetch_own code_type n p.managers).reply
 
     by_zero : (t : Bool) → OnlyFatal (cond t (refused SYSTEM_ERROR p)
-        (load_datum n (own_datum code_type n p.managers.resources) p))
+        (load_datum n (own_datum code_type n p.managers.resources) p)).reply
     by_zero true = λ why is. cc
     by_zero false = by_datum (own_datum code_type n p.managers.resources)
 

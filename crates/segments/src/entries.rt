@@ -39,7 +39,8 @@ fn half(bytes: &[u8], at: usize) -> u16
     BigEndian::read_u16(&bytes[at..])
 }
 
-/// Returns the segment of the entry at an offset of 'CODE' 0; `None` where the entry is not of the unloaded form.
+/// Returns the segment of the entry at an offset of 'CODE' 0; `None` where the entry is not of the
+/// unloaded form.
 fn segment_at(code: &[u8], at: usize) -> Option<i16>
     requires { at + 8 ≤ length code.now }
     ensures { result ≡ (table.entry_at code.now at).segment }
@@ -62,7 +63,8 @@ fn entry_at(code: &[u8], at: usize) -> Entry
     }
 }
 
-/// Returns the number of entries of 'CODE' 0: as many as both the table's length and the resource hold.
+/// Returns the number of entries of 'CODE' 0: as many as both the table's length and the resource
+/// hold.
 fn entries_of(code: &[u8]) -> usize
     requires { 16 ≤ length code.now }
     ensures count { result ≡ table.entries_of code.now }
@@ -141,9 +143,9 @@ fn are_own(entries: &[Entry], named: Named, segment: i16) -> bool
     true
 }
 
-/// Returns the entries that a segment's resource names in its first 4 bytes, where the segment can be loaded: the
-/// resource has 4 bytes and is not of the far model, the offset of the first entry is a multiple of 8, and the
-/// entries are all in the table and belong to the segment.
+/// Returns the entries that a segment's resource names in its first 4 bytes, where the segment can
+/// be loaded: the resource has 4 bytes and is not of the far model, the offset of the first entry
+/// is a multiple of 8, and the entries are all in the table and belong to the segment.
 pub fn named_by(code: &[u8], entries: &[Entry], segment: i16) -> Option<Named>
     ensures named { result ≡ named_by segment code.now (view_entries entries.now) }
     ensures small { IfSome result (λ n. n.first + n.count < 2 ^ 32) }
@@ -178,7 +180,8 @@ fn load_entry(entries: &mut [Entry], at: usize)
 /// Loads entries that follow one another.
 pub fn load_entries(entries: &mut [Entry], named: Named)
     requires { named.first + named.count < 2 ^ 32 }
-    ensures { view_entries entries.new ≡ loaded_from named.first named.count (view_entries entries.old) }
+    ensures { view_entries entries.new
+        ≡ loaded_from named.first named.count (view_entries entries.old) }
 {
     for i in 0..named.count {
         load_entry(entries, named.first + i);

@@ -28,7 +28,8 @@ pub struct Shown {
 pub struct Unloaded {
     /// Why the segment was not loaded, or not called.
     pub refusal: Refusal,
-    /// The number of the empty handle into whose block the segment would have been read again, if there is one.
+    /// The number of the empty handle into whose block the segment would have been read again, if
+    /// there is one.
     pub reading: Option<usize>,
     /// Whether the segment's block found no room.
     pub wants_room: bool,

@@ -16,8 +16,8 @@ use mac_words::OsErr;
 use std::alloc::{AllocError, Global};
 use std::marker::Model;
 
-/// The jump table of an application, through which its segments call one another. The table takes no room in the
-/// zone.
+/// The jump table of an application, through which its segments call one another. The table takes
+/// no room in the zone.
 ///
 /// *Inside Macintosh: Processes*, chapter 7, "The Jump Table".
 #[derive(Drop)]
@@ -36,8 +36,9 @@ impl Model for JumpTable {
 }
 
 impl JumpTable {
-    /// Reads the jump table of 'CODE' 0, with no segment loaded: as many entries as both the table's length and the
-    /// resource hold, and no entry where there is no 'CODE' 0, or fewer than 16 bytes of it.
+    /// Reads the jump table of 'CODE' 0, with no segment loaded: as many entries as both the
+    /// table's length and the resource hold, and no entry where there is no 'CODE' 0, or fewer than
+    /// 16 bytes of it.
     ///
     /// *Inside Macintosh: Processes*, chapter 7, "The Jump Table Segment".
     pub fn read(alloc: Global, code: Option<&[u8]>) -> Result<JumpTable, AllocError>
@@ -80,10 +81,12 @@ impl JumpTable {
         unload_entries(&mut self.entries, segment);
     }
 
-    /// `ShowEntry`: returns the segment of an entry, counted from 0, and whether the entry is loaded. Returns -30001
-    /// (profileErr) where there is no such entry, or where the entry belongs to no segment.
+    /// `ShowEntry`: returns the segment of an entry, counted from 0, and whether the entry is
+    /// loaded. Returns -30001 (profileErr) where there is no such entry, or where the entry belongs
+    /// to no segment.
     pub fn show(&self, index: u32) -> Result<Shown, OsErr>
-        ensures { (s : Managers) → (show_entry index (record { managers = s; table = self.now })).reply
+        ensures { (s : Managers)
+            → (show_entry index (record { managers = s; table = self.now })).reply
             ≡ shown_as result }
     {
         let Some(entry) = self.entry(index) else {

@@ -2,7 +2,7 @@ use Rattle.std.specs.Prelude.{ℕ, ◌==◌, Bool, false, Option, Some, None, Li
 use Rattle.std.specs.Prelude.{slice_get, unwrap_or, if◌then◌else◌}
 use Rattle.std.specs.List.{find, flat_map}
 use Rattle.std.specs.Option.{option_map}
-use Rattle.heap_view.specs.Line.{Line}
+use Rattle.zone_drawing.specs.Line.{Line}
 
 -- What a step moved and purged, by the zone before it and after it. Inside Macintosh: Memory, chapter 1, "Heap
 -- Management".

@@ -4,17 +4,17 @@ ghost use Rattle.std.specs.Prelude.{◌≡◌, ◌++◌, ℕ, List, IfOk, OnOk, 
 ghost use Rattle.std.specs.BTreeMap.{get};
 ghost use Rattle.std.specs.Ordering.{nat_cmp};
 ghost use Rattle.std.specs.List.{flat_map};
-ghost use Rattle.heap_view.specs.View.{view_line};
+ghost use Rattle.zone_drawing.specs.View.{view_line};
 ghost use Rattle.transcript_words.specs.Changes.{Placed as placed_block, placed_at, placed};
 ghost use Rattle.transcript_words.specs.Changes.{place_of, is_handle, name_words, moved_words};
 ghost use Rattle.transcript_words.specs.Changes.{purged_words, change_words, change_by, changes};
 ghost use Rattle.transcript_words.specs.View.{view_placed, view_standing};
 
-use heap_view::BlockLine;
 use itoa::Buffer;
 use mac_words::Label;
 use std::alloc::{AllocError, Global};
 use std::collections::BTreeMap;
+use zone_drawing::BlockLine;
 
 /// The block of a handle or a pointer at a moment.
 #[derive(Drop)]

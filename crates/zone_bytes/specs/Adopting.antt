@@ -1,8 +1,8 @@
 -- A nonrelocatable block that becomes the block of a handle.
 use Rattle.std.specs.Prelude.{◌≡◌, ℕ, ◌+◌, ◌==◌, List, ◌∷◌, length}
 use Rattle.mac_words.specs.Size.{padded}
-use Rattle.windows.specs.Writes.{written}
-use Rattle.heap_words.specs.Words.{word, word_at, header}
+use Rattle.memory_windows.specs.Writes.{written}
+use Rattle.block_headers.specs.Words.{word, word_at, header}
 use Rattle.block_store.specs.declared.flags.Flags.{Flags}
 use Rattle.block_store.specs.Block.{Block, Relocatable}
 use Rattle.zone_bytes.specs.Layout.{flag_word}

@@ -1,7 +1,7 @@
 -- The blocks that bytes spell.
 use Rattle.std.specs.Prelude.{ℕ, ◌+◌, ◌-◌, ◌%◌, zero, suc, List, [], ◌∷◌, drop, length, nat_le}
-use Rattle.windows.specs.Writes.{piece}
-use Rattle.heap_words.specs.Words.{word_at}
+use Rattle.memory_windows.specs.Writes.{piece}
+use Rattle.block_headers.specs.Words.{word_at}
 use Rattle.block_store.specs.declared.flags.Flags.{Flags}
 use Rattle.block_store.specs.Block.{Block, Free, Nonrelocatable, Masters, Relocatable, size}
 

@@ -1,7 +1,7 @@
 -- Flags that are set in a header.
 use Rattle.std.specs.Prelude.{ℕ, ◌+◌, ◌%◌, ◌==◌, false, if◌then◌else◌, List}
-use Rattle.windows.specs.Writes.{written}
-use Rattle.heap_words.specs.Words.{word, word_at}
+use Rattle.memory_windows.specs.Writes.{written}
+use Rattle.block_headers.specs.Words.{word, word_at}
 use Rattle.block_store.specs.declared.flags.Flags.{Flags}
 use Rattle.zone_bytes.specs.Layout.{flag_word}
 

@@ -1,7 +1,7 @@
 -- The layout of a zone in bytes.
 use Rattle.std.specs.Prelude.{ℕ, List}
-use Rattle.windows.specs.declared.Window.{Window}
-use Rattle.windows.specs.Writes.{piece}
+use Rattle.memory_windows.specs.declared.Window.{Window}
+use Rattle.memory_windows.specs.Writes.{piece}
 use Rattle.block_store.specs.Block.{Block}
 use Rattle.block_store.specs.Slot.{Slot}
 use Rattle.zone_bytes.specs.Table.{Lays}

@@ -1,13 +1,13 @@
 -- A block that is laid at a place, and what is left of the bytes above it.
 use Rattle.std.specs.Prelude.{◌≡◌, ℕ, ◌+◌, ◌-◌, ◌%◌, ◌≤◌, nat_lt, if◌then◌else◌, List, [], ◌∷◌, length, replicate}
-use Rattle.windows.specs.Writes.{written}
-use Rattle.heap_words.specs.Words.{word}
-use Rattle.heap_words.specs.Headers.{header_bytes}
-use Rattle.heap_words.specs.declared.header.Header.{Header}
+use Rattle.memory_windows.specs.Writes.{written}
+use Rattle.block_headers.specs.Words.{word}
+use Rattle.block_headers.specs.Headers.{header_bytes}
+use Rattle.block_headers.specs.declared.header.Header.{Header}
 use Rattle.block_store.specs.Block.{Block, Free, Nonrelocatable, Masters, Relocatable, free_of}
 use Rattle.block_store.specs.declared.measures.TheConstants.{GREATEST_ZONE}
 use Rattle.mac_words.specs.Size.{padded}
-use Rattle.heap_words.specs.declared.header.Tag.TheVariants as tag
+use Rattle.block_headers.specs.declared.header.Tag.TheVariants as tag
 
 -- The bytes in which those from `at` up to `top` are one free block, if there are any.
 abbrev pub left_over : ℕ → ℕ → List ℕ → List ℕ

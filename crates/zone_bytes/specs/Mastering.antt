@@ -1,8 +1,8 @@
 -- Another master pointer block, whose slots precede the unused slots.
 use Rattle.std.specs.Prelude.{◌≡◌, ℕ, ◌+◌, ◌-◌, ◌*◌, ◌%◌, ◌≤◌, ◌<◌, ◌⊎◌, ◌&&◌, ◌==◌, nat_le, if◌then◌else◌, suc, Bool}
 use Rattle.std.specs.Prelude.{List, [], ◌∷◌}
-use Rattle.windows.specs.Writes.{piece}
-use Rattle.heap_words.specs.Words.{word, header}
+use Rattle.memory_windows.specs.Writes.{piece}
+use Rattle.block_headers.specs.Words.{word, header}
 use Rattle.block_store.specs.Slot.{Slot, Unused}
 use Rattle.zone_bytes.specs.Splicing.{SameOutside}
 use Rattle.zone_bytes.specs.Fresh.{slots_from}

@@ -2,7 +2,7 @@
 use Rattle.std.specs.Prelude.{◌≡◌, ℕ, ◌+◌, ◌-◌, ◌≤◌, ◌<◌, ◌⊎◌, zero, suc, Bool, true, false, nat_le, nat_lt}
 use Rattle.std.specs.Prelude.{if◌then◌else◌, List, []}
 use Rattle.std.specs.Prelude.{◌∷◌, ◌++◌, length, take, drop}
-use Rattle.windows.specs.Writes.{piece}
+use Rattle.memory_windows.specs.Writes.{piece}
 use Rattle.block_store.specs.Block.{Block, free_of, free_sum, is_mover, size, sizes}
 use Rattle.block_store.specs.Run.{in_run, movers, settle}
 use Rattle.block_store.specs.Inner.Packing.{Loose}

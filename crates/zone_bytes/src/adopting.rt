@@ -1,7 +1,7 @@
 //! A nonrelocatable block becomes the block of a handle.
 
 ghost use Rattle.std.specs.Prelude.{◌≡◌, ◌+◌, ◌%◌, ◌≤◌, ◌<◌, ◌∷◌, ℕ, List, length};
-ghost use Rattle.heap_words.specs.Words.{word_at};
+ghost use Rattle.block_headers.specs.Words.{word_at};
 ghost use Rattle.block_store.specs.declared.flags.Flags.{Flags};
 ghost use Rattle.block_store.specs.Block.{Block, Nonrelocatable, Relocatable};
 ghost use Rattle.zone_bytes.specs.Stepping.{left_in, IsOnWay};
@@ -12,8 +12,8 @@ use crate::carving::kept_flags;
 use crate::flagging::flag_bits;
 use crate::raw_walk::walk_from;
 use crate::words::{read_header, read_word, write_header, write_word};
+use block_headers::{Header, Tag};
 use block_store::{Flags, Seen, Walk};
-use heap_words::{Header, Tag};
 use raw_region::Part;
 
 /// The block of a handle: its place, its flags, and its logical size.
@@ -30,7 +30,8 @@ pub fn block_of_slot(part: &Part, slot: u32) -> SlotBlock
     requires leads { LeadsHere slot part.now.bytes }
     ensures place { result.place ≡ word_at slot part.now.bytes }
     ensures block { (flags : Flags) (content : List ℕ) (above : List Block) →
-        left_in (word_at slot part.now.bytes) part.now.bytes ≡ Relocatable slot flags content ∷ above →
+        left_in (word_at slot part.now.bytes) part.now.bytes
+        ≡ Relocatable slot flags content ∷ above →
         (result.flags ≡ flags) × (result.length ≡ length content) }
 {
     let place = read_word(part, slot);
@@ -44,8 +45,8 @@ pub fn block_of_slot(part: &Part, slot: u32) -> SlotBlock
     }
 }
 
-/// Makes the nonrelocatable block at `place` the block of a slot whose handle was empty. The resource flag of the
-/// handle is kept.
+/// Makes the nonrelocatable block at `place` the block of a slot whose handle was empty. The
+/// resource flag of the handle is kept.
 pub fn adopt(part: &mut Part, place: u32, slot: u32, flags: Flags)
     requires way { IsOnWay place part.old.bytes }
     requires some { place < length part.old.bytes }

@@ -6,9 +6,10 @@ ghost use Rattle.zone_bytes.specs.Edges.{AreEdges, Starts};
 
 use std::alloc::Global;
 
-/// Places at which relocatable blocks of a run begin once the run is packed: for each page above the run's first page,
-/// the lowest such place at or above the page's bottom. The walk that moves the blocks notes these edges, so that
-/// landmarks are laid without another walk. Where the host refuses their room, no edges are noted.
+/// Places at which relocatable blocks of a run begin once the run is packed: for each page above
+/// the run's first page, the lowest such place at or above the page's bottom. The walk that moves
+/// the blocks notes these edges, so that landmarks are laid without another walk. Where the host
+/// refuses their room, no edges are noted.
 #[derive(Drop)]
 pub struct Edges {
     places: Vec<u32>,
@@ -34,8 +35,8 @@ impl Edges {
         }
     }
 
-    /// Removes all edges. The edges to be noted from now on are the first one at or above `bottom`, where a page
-    /// begins, and then one for each page above.
+    /// Removes all edges. The edges to be noted from now on are the first one at or above `bottom`,
+    /// where a page begins, and then one for each page above.
     pub fn restart(&mut self, bottom: u32, page: u32)
         ensures { (base : ℕ) → AreEdges self.new base [] }
     {
@@ -58,7 +59,8 @@ impl Edges {
 
     /// Returns the edge of the given number, counted from the lowest edge.
     pub fn get(&self, number: usize) -> Option<u32>
-        ensures { IfSome result (λ place. (base : ℕ) (blocks : List Block) → AreEdges self.now base blocks →
+        ensures { IfSome result (λ place. (base : ℕ) (blocks : List Block)
+            → AreEdges self.now base blocks →
             Starts place base blocks) }
     {
         if number < self.count && number < self.places.len() {

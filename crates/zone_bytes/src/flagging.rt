@@ -1,15 +1,15 @@
 //! The flags in a header.
 
 ghost use Rattle.std.specs.Prelude.{◌≡◌, ◌<◌, ◌≤◌, ◌%◌, ◌==◌, false, length, nat_le};
-ghost use Rattle.heap_words.specs.Headers.{tag_number};
+ghost use Rattle.block_headers.specs.Headers.{tag_number};
 ghost use Rattle.zone_bytes.specs.Flagged.{flagged};
 ghost use Rattle.zone_bytes.specs.Layout.{flag_word};
 ghost use Rattle.zone_bytes.specs.Stepping.{IsOnWay};
 ghost use Rattle.zone_bytes.specs.Beside.{KeepsPlace};
 
 use crate::words::{read_header, write_word};
+use block_headers::{LOCKED, PURGEABLE, RESOURCE, Tag};
 use block_store::Flags;
-use heap_words::{LOCKED, PURGEABLE, RESOURCE, Tag};
 use raw_region::Part;
 
 /// Returns the number of the flags: `LOCKED` for a locked block, `PURGEABLE` for a purgeable one.
@@ -38,7 +38,8 @@ fn moves(tag: Tag) -> bool
     }
 }
 
-/// Sets the flags of the block at `place`, if it is a relocatable block; its resource flag keeps its value.
+/// Sets the flags of the block at `place`, if it is a relocatable block; its resource flag keeps
+/// its value.
 pub fn flag_at(part: &mut Part, place: u32, flags: Flags)
     requires way { IsOnWay place part.old.bytes }
     requires some { place < length part.old.bytes }

@@ -12,7 +12,8 @@ use raw_region::Part;
 
 /// Makes the bytes a fresh zone: a master pointer block with 64 unused slots, and one free block.
 pub fn make_fresh(part: &mut Part, end: u32)
-    requires { (length part.old.bytes ≡ end) × (end % 16 ≡ 0) × (LEAST_ZONE ≤ end) × (end ≤ GREATEST_ZONE) }
+    requires { (length part.old.bytes ≡ end) × (end % 16 ≡ 0) × (LEAST_ZONE ≤ end)
+        × (end ≤ GREATEST_ZONE) }
     ensures same { KeepsPlace part.old part.new }
     ensures lays { Lays part.new.bytes (fresh end) fresh_slots all_slots }
 {

@@ -7,15 +7,16 @@ ghost use Rattle.zone_bytes.specs.Joining.{LeadsUp};
 ghost use Rattle.zone_bytes.specs.Stepping.{left_in};
 
 use crate::words::read_header;
-use heap_words::Tag;
+use block_headers::Tag;
 use raw_region::Part;
 
-/// Returns the place of the free block that ends at `place`, by a walk from the lower place `from`; `place` itself if
-/// there is no such block.
+/// Returns the place of the free block that ends at `place`, by a walk from the lower place `from`;
+/// `place` itself if there is no such block.
 pub fn last_free_below(part: &Part, from: u32, place: u32) -> u32
     requires up { LeadsUp from place part.now.bytes }
     requires inside { place ≤ length part.now.bytes }
-    ensures { (below above : List Block) → left_in 0 part.now.bytes ≡ below ++ above → sizes below ≡ place
+    ensures { (below above : List Block) → left_in 0 part.now.bytes ≡ below ++ above
+        → sizes below ≡ place
         → result + last_free 0 below ≡ place }
 {
     let mut at = from;

@@ -1,5 +1,5 @@
-//! The zone of a store of blocks in the bytes of a part: how its blocks and its master pointers lie, and the passes
-//! that read and write them.
+//! The zone of a store of blocks in the bytes of a part: how its blocks and its master pointers
+//! lie, and the passes that read and write them.
 #![tactic(auto)]
 
 mod adopting;

@@ -2,7 +2,7 @@
 
 ghost use Rattle.std.specs.Prelude.{◌≡◌, ◌+◌, ◌*◌, ◌/◌, ◌∷◌, Bool, List, if◌then◌else◌};
 ghost use Rattle.std.specs.Option.{option_map};
-ghost use Rattle.heap_words.specs.Words.{word_at};
+ghost use Rattle.block_headers.specs.Words.{word_at};
 ghost use Rattle.block_store.specs.Block.{Block, sizes, is_relocatable};
 ghost use Rattle.block_store.specs.Room.{spot};
 ghost use Rattle.block_store.specs.Slot.{Used, set_slot, is_resource};
@@ -14,8 +14,8 @@ ghost use Rattle.zone_bytes.specs.Table.{Table, Lays};
 use crate::flagging::has_resource_flag;
 use crate::raw_walk::{RawWalk, walk_from};
 use crate::words::{read_word, write_slot, write_word};
+use block_headers::{EMPTY, EMPTY_RESOURCE, PURGEABLE, RESOURCE, SlotWord};
 use block_store::Walk;
-use heap_words::{EMPTY, EMPTY_RESOURCE, PURGEABLE, RESOURCE, SlotWord};
 use raw_region::Part;
 
 /// Returns the flags of a header with the resource flag set or cleared.
@@ -58,7 +58,8 @@ pub fn slot_resource(part: &Part, slot: u32) -> bool
     }
 }
 
-/// Sets or clears the resource flag of a handle: in its slot if the handle is empty, else in its block's header.
+/// Sets or clears the resource flag of a handle: in its slot if the handle is empty, else in its
+/// block's header.
 pub fn mark_slot(part: &mut Part, slot: u32, resource: bool)
     requires { (t : Table) × IsHandle part.old.bytes t slot }
     ensures same { KeepsPlace part.old part.new }
@@ -77,7 +78,8 @@ pub fn mark_slot(part: &mut Part, slot: u32, resource: bool)
 /// Returns a walk over the blocks above the block at `place`.
 pub fn walk_above<'a>(part: &'a Part, place: u32) -> RawWalk<'a>
     requires { IsOnWay place part.now.bytes }
-    ensures { (b : Block) (above : List Block) → left_in place part.now.bytes ≡ b ∷ above → result ≡ above }
+    ensures { (b : Block) (above : List Block) → left_in place part.now.bytes ≡ b ∷ above
+        → result ≡ above }
 {
     let mut walk = walk_from(part, place);
     let _here = walk.next_block();

@@ -1,6 +1,7 @@
 //! A master pointer block is put into a free block.
 
-ghost use Rattle.std.specs.Prelude.{◌≡◌, ◌+◌, ◌%◌, ◌≤◌, ◌<◌, ◌++◌, ℕ, IsTrue, IsSomeAnd, IfSome, length};
+ghost use Rattle.std.specs.Prelude.{◌≡◌, ◌+◌, ◌%◌, ◌≤◌, ◌<◌, ◌++◌, ℕ, IsTrue, IsSomeAnd, IfSome};
+ghost use Rattle.std.specs.Prelude.{length};
 ghost use Rattle.block_store.specs.Block.{Masters, is_room};
 ghost use Rattle.block_store.specs.Room.{spot_at, filled};
 ghost use Rattle.block_store.specs.declared.measures.TheConstants.{MASTERS_SIZE, GREATEST_ZONE};
@@ -14,12 +15,12 @@ ghost use Rattle.zone_bytes.specs.Beside.{KeepsPlace};
 use crate::placing::{lay_block, size_at};
 use crate::slots::unused_before;
 use crate::words::write_slot;
+use block_headers::{Header, Tag};
 use block_store::{HEADER_SIZE, MASTERS_SIZE};
-use heap_words::{Header, Tag};
 use raw_region::Part;
 
-/// Chains the 64 slots of the master pointer block at `place`: each holds the place of the next one, and the last one
-/// holds the place `first`.
+/// Chains the 64 slots of the master pointer block at `place`: each holds the place of the next
+/// one, and the last one holds the place `first`.
 fn thread_slots(part: &mut Part, place: u32, first: u32)
     requires even { place % 4 ≡ 0 }
     requires inside { place + MASTERS_SIZE ≤ length part.old.bytes }
@@ -27,7 +28,8 @@ fn thread_slots(part: &mut Part, place: u32, first: u32)
     requires first { first < GREATEST_ZONE }
     ensures same { KeepsPlace part.old part.new }
     ensures thread { Thread first part.new.bytes (slots_at place) }
-    ensures outside { SameOutside (place + 16) (place + MASTERS_SIZE) part.old.bytes part.new.bytes }
+    ensures outside { SameOutside (place + 16)
+        (place + MASTERS_SIZE) part.old.bytes part.new.bytes }
 {
     let mut slot = place + MASTERS_SIZE - 4;
     write_slot(part, slot, unused_before(first));
@@ -37,8 +39,8 @@ fn thread_slots(part: &mut Part, place: u32, first: u32)
     }
 }
 
-/// Lays a master pointer block at `place`, whose slots are chained and end with `first`. The rest of the `size` bytes
-/// there becomes a free block.
+/// Lays a master pointer block at `place`, whose slots are chained and end with `first`. The rest
+/// of the `size` bytes there becomes a free block.
 pub(crate) fn lay_masters(part: &mut Part, place: u32, size: u32, first: u32)
     requires whole { (place % 16 ≡ 0) × (size % 16 ≡ 0) }
     requires room { (MASTERS_SIZE ≤ size) × (place + size ≤ length part.old.bytes) }
@@ -59,13 +61,14 @@ pub(crate) fn lay_masters(part: &mut Part, place: u32, size: u32, first: u32)
     thread_slots(part, place, first);
 }
 
-/// Puts a master pointer block of 64 slots at the lower end of the free block at `place`. The new slots precede the
-/// unused ones, of which `first` is the first.
+/// Puts a master pointer block of 64 slots at the lower end of the free block at `place`. The new
+/// slots precede the unused ones, of which `first` is the first.
 ///
 /// *Inside Macintosh: Memory*, chapter 2, "Allocating Master Pointers".
 pub fn add_masters(part: &mut Part, place: u32, first: u32)
     requires sound { (unused : ℕ) × IsSound part.old.bytes first unused }
-    requires room { IsSomeAnd (spot_at place (zone_in part.old.bytes)) (λ s. IsTrue (is_room MASTERS_SIZE s.here)) }
+    requires room { IsSomeAnd (spot_at place (zone_in part.old.bytes)) (λ s.
+        IsTrue (is_room MASTERS_SIZE s.here)) }
     ensures same { KeepsPlace part.old part.new }
     ensures lays { (unused : ℕ) (i : IsSound part.old.bytes first unused) →
         IfSome (spot_at place (zone_in part.old.bytes)) (λ s. Lays part.new.bytes (filled Masters s)

@@ -6,7 +6,7 @@ ghost use Rattle.zone_bytes.specs.Pointing.{IsMoved, Pointed};
 ghost use Rattle.zone_bytes.specs.Beside.{KeepsPlace};
 
 use crate::words::{read_header, write_word};
-use heap_words::Tag;
+use block_headers::Tag;
 use raw_region::Part;
 
 /// Makes the slots of the blocks from `place` to `stop` lead to these blocks.

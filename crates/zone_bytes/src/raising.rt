@@ -13,8 +13,9 @@ use crate::settling::{PackedRun, pack_until, settle_run};
 use crate::words::write_word;
 use raw_region::Part;
 
-/// Moves the blocks of a packed run up by `gap`; their slots lead to their new places already. The run's free block
-/// was from `top` to `stop`: `gap` of its bytes are below the blocks after the move.
+/// Moves the blocks of a packed run up by `gap`; their slots lead to their new places already. The
+/// run's free block was from `top` to `stop`: `gap` of its bytes are below the blocks after the
+/// move.
 fn lift_blocks(part: &mut Part, place: u32, top: u32, stop: u32, gap: u32)
     ghost lay: { Lay }
     requires { MayRaise lay place top stop gap part.old.bytes }
@@ -46,16 +47,18 @@ fn settle_above(part: &mut Part, edges: &mut Edges, packed: PackedRun, gap: u32)
     settle_run(part, edges, packed.top + gap)
 }
 
-/// Packs the run at `place`, and raises its relocatable blocks by `gap`, so that `gap` free bytes are below them. Only
-/// the lowest blocks are moved up, those with no more than `gap` free bytes among them; the others move down to where
-/// they are to lie. The new places of the blocks are noted as edges. Returns the place at which the run ends.
+/// Packs the run at `place`, and raises its relocatable blocks by `gap`, so that `gap` free bytes
+/// are below them. Only the lowest blocks are moved up, those with no more than `gap` free bytes
+/// among them; the others move down to where they are to lie. The new places of the blocks are
+/// noted as edges. Returns the place at which the run ends.
 pub fn raise_run(part: &mut Part, edges: &mut Edges, place: u32, gap: u32) -> u32
     ghost lay: { Lay }
     requires { (part.old.bytes ≡ lay.bytes) × MayLift lay place gap × EndsRun lay.above }
     ensures same { KeepsPlace part.old part.new }
     ensures lifted { Lifted lay gap part.new.bytes }
     ensures stop { result ≡ place + sizes lay.run }
-    ensures edges { AreEdges edges.old (place + gap) [] → AreEdges edges.new (place + gap) (movers lay.run) }
+    ensures edges { AreEdges edges.old (place + gap) []
+        → AreEdges edges.new (place + gap) (movers lay.run) }
 {
     let packed = pack_until(part, edges, place, gap, gap);
     if packed.top <= place {

@@ -1,18 +1,19 @@
 //! A walk over the blocks of a zone in the bytes of a part.
 
 ghost use Rattle.std.specs.Prelude.{◌≡◌, ◌<◌, length};
-ghost use Rattle.heap_words.specs.Headers.{tag_number};
+ghost use Rattle.block_headers.specs.Headers.{tag_number};
 ghost use Rattle.zone_bytes.specs.Stepping.{header_seen, left_in, IsOnWay, Steps};
 
 use crate::words::read_header;
+use block_headers::{Header, LOCKED, PURGEABLE, Tag};
 use block_store::{Flags, Seen, Walk};
-use heap_words::{Header, LOCKED, PURGEABLE, Tag};
 use raw_region::Part;
 use std::marker::Model;
 
 /// Returns the block that a header describes, without its content.
 pub fn seen_of(header: Header) -> Seen
-    ensures { result ≡ header_seen (tag_number header.tag) header.size header.logical header.slot header.flags }
+    ensures { result
+        ≡ header_seen (tag_number header.tag) header.size header.logical header.slot header.flags }
 {
     let flags = Flags {
         locked: header.flags >= LOCKED,

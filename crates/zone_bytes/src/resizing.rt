@@ -16,7 +16,7 @@ use crate::carving::padded_size;
 use crate::contents::has_content;
 use crate::placing::lay_block;
 use crate::words::read_header;
-use heap_words::{Header, Tag};
+use block_headers::{Header, Tag};
 use raw_region::Part;
 
 /// Returns the size of the free block that begins at a place, or 0 if no free block begins there.
@@ -44,8 +44,9 @@ pub struct ResizedBlock {
     pub top: u32,
 }
 
-/// Gives the block at `place` another size: cuts the block where it stands, or lets it grow into the free block that
-/// follows it. New bytes are 0. `free` is the number of free bytes of the zone before.
+/// Gives the block at `place` another size: cuts the block where it stands, or lets it grow into
+/// the free block that follows it. New bytes are 0. `free` is the number of free bytes of the zone
+/// before.
 pub fn resize_block(part: &mut Part, place: u32, bytes: u32, free: u32) -> ResizedBlock
     requires sound { (first : ℕ) × (unused : ℕ) × IsSound part.old.bytes first unused }
     requires free { free ≡ free_sum (zone_in part.old.bytes) }
@@ -53,10 +54,12 @@ pub fn resize_block(part: &mut Part, place: u32, bytes: u32, free: u32) -> Resiz
         (size (resized bytes s.here) ≤ size s.here) ⊎ IsSome (grow_up (resized bytes s.here) s)) }
     ensures same { KeepsPlace part.old part.new }
     ensures cut { (first unused : ℕ) (i : IsSound part.old.bytes first unused) →
-        IfSome (spot_at place (zone_in part.old.bytes)) (λ s. size (resized bytes s.here) ≤ size s.here →
+        IfSome (spot_at place (zone_in part.old.bytes)) (λ s.
+        size (resized bytes s.here) ≤ size s.here →
         Lays part.new.bytes (filled (resized bytes s.here) s) (slot_in part.old.bytes) i.unused) }
     ensures grown { (first unused : ℕ) (i : IsSound part.old.bytes first unused) →
-        IfSome (spot_at place (zone_in part.old.bytes)) (λ s. size s.here < size (resized bytes s.here) →
+        IfSome (spot_at place (zone_in part.old.bytes)) (λ s.
+        size s.here < size (resized bytes s.here) →
         IfSome (grow_up (resized bytes s.here) s) (λ after.
         Lays part.new.bytes after (slot_in part.old.bytes) i.unused)) }
     ensures free { result.free ≡ free_sum (zone_in part.new.bytes) }

@@ -1,18 +1,20 @@
 //! The relocatable blocks of a run are moved down.
 
-ghost use Rattle.std.specs.Prelude.{◌≡◌, ◌+◌, ◌-◌, ◌%◌, ◌≤◌, ◌<◌, ◌^◌, length, nat_lt, if◌then◌else◌, true};
-ghost use Rattle.windows.specs.Writes.{written, piece};
-ghost use Rattle.heap_words.specs.Headers.{tag_number};
-ghost use Rattle.heap_words.specs.Words.{word};
+ghost use Rattle.std.specs.Prelude.{◌≡◌, ◌+◌, ◌-◌, ◌%◌, ◌≤◌, ◌<◌, ◌^◌, length, nat_lt};
+ghost use Rattle.std.specs.Prelude.{if◌then◌else◌, true};
+ghost use Rattle.memory_windows.specs.Writes.{written, piece};
+ghost use Rattle.block_headers.specs.Headers.{tag_number};
+ghost use Rattle.block_headers.specs.Words.{word};
 ghost use Rattle.block_store.specs.Block.{sizes};
 ghost use Rattle.block_store.specs.Run.{movers};
 ghost use Rattle.zone_bytes.specs.Edges.{Noted};
-ghost use Rattle.zone_bytes.specs.Settling.{Lay, IsRunFrom, EndsRun, runs_on, PackedUntil, Settled, gone_to};
+ghost use Rattle.zone_bytes.specs.Settling.{Lay, IsRunFrom, EndsRun, runs_on, PackedUntil, Settled};
+ghost use Rattle.zone_bytes.specs.Settling.{gone_to};
 ghost use Rattle.zone_bytes.specs.Beside.{KeepsPlace};
 
 use crate::edges::Edges;
 use crate::words::{read_header, write_word};
-use heap_words::{Header, LOCKED, Tag};
+use block_headers::{Header, LOCKED, Tag};
 use raw_region::Part;
 
 /// More free bytes than a run has: so many are never enough before the run ends.
@@ -29,8 +31,8 @@ pub struct PackedRun {
     pub stop: u32,
 }
 
-/// Moves a block of `size` bytes down, and makes its slot lead to the place `gap` above the block's new place. Returns
-/// 1 if the block moved down, else 0.
+/// Moves a block of `size` bytes down, and makes its slot lead to the place `gap` above the block's
+/// new place. Returns 1 if the block moved down, else 0.
 fn move_block(part: &mut Part, from: u32, to: u32, size: u32, slot: u32, gap: u32) -> u32
     requires down { to ≤ from }
     requires inside { from + size ≤ length part.old.bytes }
@@ -39,7 +41,8 @@ fn move_block(part: &mut Part, from: u32, to: u32, size: u32, slot: u32, gap: u3
     requires fits { to + gap < 2 ^ 32 }
     ensures same { KeepsPlace part.old part.new }
     ensures bytes { part.new.bytes
-        ≡ written slot (word (to + gap)) (written to (piece from size part.old.bytes) part.old.bytes) }
+        ≡ written slot (word (to + gap))
+        (written to (piece from size part.old.bytes) part.old.bytes) }
     ensures moves { result ≡ (if nat_lt 0 (from - to) then 1 else 0) }
 {
     if to < from {
@@ -53,8 +56,8 @@ fn move_block(part: &mut Part, from: u32, to: u32, size: u32, slot: u32, gap: u3
     0
 }
 
-/// Reports whether the block of a header belongs to a run of movable blocks: the block is free, or relocatable and
-/// unlocked.
+/// Reports whether the block of a header belongs to a run of movable blocks: the block is free, or
+/// relocatable and unlocked.
 fn is_in_run(header: Header) -> bool
     ensures { result ≡ runs_on (tag_number header.tag) header.flags }
 {
@@ -65,8 +68,8 @@ fn is_in_run(header: Header) -> bool
     }
 }
 
-/// Reports whether blocks that were packed from `place` up to `to` have at least `enough` free bytes above them, up to
-/// `from`.
+/// Reports whether blocks that were packed from `place` up to `to` have at least `enough` free
+/// bytes above them, up to `from`.
 fn is_enough(place: u32, to: u32, from: u32, enough: u32) -> bool
     requires { to ≤ from }
     ensures { result ≡ true → (place < to) × (enough ≤ from - to) }
@@ -74,9 +77,10 @@ fn is_enough(place: u32, to: u32, from: u32, enough: u32) -> bool
     place < to && enough <= from - to
 }
 
-/// Moves relocatable blocks of the run at `place` down, makes their slots lead to the places `gap` above them, and
-/// makes the bytes between them and the rest of the run one free block. The walk itself finds the run's end, and ends
-/// before it if the free block has `enough` bytes. The future places of the blocks are noted as edges.
+/// Moves relocatable blocks of the run at `place` down, makes their slots lead to the places `gap`
+/// above them, and makes the bytes between them and the rest of the run one free block. The walk
+/// itself finds the run's end, and ends before it if the free block has `enough` bytes. The future
+/// places of the blocks are noted as edges.
 pub(crate) fn pack_until(
     part: &mut Part,
     edges: &mut Edges,
@@ -90,7 +94,8 @@ pub(crate) fn pack_until(
     requires ends { EndsRun lay.above }
     requires gap { gap ≤ length lay.bytes }
     ensures same { KeepsPlace part.old part.new }
-    ensures packed { PackedUntil lay place gap enough result.lowered result.top result.stop part.new.bytes }
+    ensures packed { PackedUntil lay place gap enough result.lowered result.top result.stop
+        part.new.bytes }
     ensures edges { Noted edges.old edges.new (place + gap) (movers (gone_to lay result.stop)) }
 {
     let end = part.len() as u32;
@@ -122,8 +127,8 @@ pub(crate) fn pack_until(
     }
 }
 
-/// Moves the relocatable blocks of the run at `place` down, and makes the rest of the run one free block. The new
-/// places of the blocks are noted as edges.
+/// Moves the relocatable blocks of the run at `place` down, and makes the rest of the run one free
+/// block. The new places of the blocks are noted as edges.
 pub fn settle_run(part: &mut Part, edges: &mut Edges, place: u32) -> PackedRun
     ghost lay: { Lay }
     requires bytes { part.old.bytes ≡ lay.bytes }

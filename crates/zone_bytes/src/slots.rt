@@ -1,17 +1,19 @@
 //! The list of unused slots.
 
-ghost use Rattle.std.specs.Prelude.{◌≡◌, ◌+◌, ◌*◌, ◌≤◌, ◌<◌, ◌∷◌, ◌^◌, List, ℕ, false, length, IfSome, IfNone, []};
+ghost use Rattle.std.specs.Prelude.{◌≡◌, ◌+◌, ◌*◌, ◌≤◌, ◌<◌, ◌∷◌, ◌^◌, List, ℕ, false, length};
+ghost use Rattle.std.specs.Prelude.{IfSome, IfNone, []};
 ghost use Rattle.block_store.specs.Slot.{Used, Unused, set_slot};
 ghost use Rattle.zone_bytes.specs.Table.{Table, MayGive, Lays, first_of};
 ghost use Rattle.zone_bytes.specs.Beside.{KeepsPlace};
-ghost use Rattle.heap_words.specs.Slots.{IsSlotWord, slot_number};
+ghost use Rattle.block_headers.specs.Slots.{IsSlotWord, slot_number};
 ghost use Rattle.block_store.specs.declared.measures.TheConstants.{GREATEST_ZONE};
 
 use crate::words::{read_slot, write_slot};
-use heap_words::SlotWord;
+use block_headers::SlotWord;
 use raw_region::Part;
 
-/// Returns the word of an unused slot that is followed in the list by the slot `next`; by none if `next` is 0.
+/// Returns the word of an unused slot that is followed in the list by the slot `next`; by none if
+/// `next` is 0.
 pub(crate) fn unused_before(next: u32) -> SlotWord
     requires { next < GREATEST_ZONE }
     ensures slot { IsSlotWord result }
@@ -24,13 +26,14 @@ pub(crate) fn unused_before(next: u32) -> SlotWord
     }
 }
 
-/// Takes the slot `first` from the list of unused slots, for an empty handle. Returns the slot that follows it in the
-/// list.
+/// Takes the slot `first` from the list of unused slots, for an empty handle. Returns the slot that
+/// follows it in the list.
 pub fn take_slot(part: &mut Part, first: u32) -> u32
     requires { (t : Table) × Lays part.old.bytes t.blocks t.slots (first ∷ t.unused) }
     ensures same { KeepsPlace part.old part.new }
     ensures lays { (t : Table) → Lays part.old.bytes t.blocks t.slots (first ∷ t.unused)
-        → Lays part.new.bytes t.blocks (set_slot t.slots first (Used false)) t.unused × (result ≡ first_of t.unused) }
+        → Lays part.new.bytes t.blocks (set_slot t.slots first (Used false)) t.unused
+        × (result ≡ first_of t.unused) }
 {
     let SlotWord::Unused(next) = read_slot(part, first) else {
         unreachable!()

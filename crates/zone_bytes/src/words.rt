@@ -1,13 +1,13 @@
 //! Words, headers and slots of a zone, by places of 32 bits.
 
 ghost use Rattle.std.specs.Prelude.{◌≡◌, ◌+◌, ◌%◌, ◌≤◌, ◌<◌, ◌^◌, length};
-ghost use Rattle.windows.specs.Writes.{written};
-ghost use Rattle.heap_words.specs.Headers.{header_bytes, tag_number};
-ghost use Rattle.heap_words.specs.Slots.{IsSlotNumber, IsSlotWord, slot_number};
-ghost use Rattle.heap_words.specs.Words.{word, word_at};
+ghost use Rattle.memory_windows.specs.Writes.{written};
+ghost use Rattle.block_headers.specs.Headers.{header_bytes, tag_number};
+ghost use Rattle.block_headers.specs.Slots.{IsSlotNumber, IsSlotWord, slot_number};
+ghost use Rattle.block_headers.specs.Words.{word, word_at};
 ghost use Rattle.zone_bytes.specs.Beside.{KeepsPlace};
 
-use heap_words::{Header, SlotWord};
+use block_headers::{Header, SlotWord};
 use raw_region::Part;
 
 /// Reads the word at a place.
@@ -15,7 +15,7 @@ pub fn read_word(part: &Part, at: u32) -> u32
     requires { (at % 4 ≡ 0) × (at + 4 ≤ length part.now.bytes) }
     ensures { result ≡ word_at at part.now.bytes }
 {
-    heap_words::read_word(part, at as usize)
+    block_headers::read_word(part, at as usize)
 }
 
 /// Writes the word at a place.
@@ -24,7 +24,7 @@ pub fn write_word(part: &mut Part, at: u32, number: u32)
     ensures same { KeepsPlace part.old part.new }
     ensures bytes { part.new.bytes ≡ written at (word number) part.old.bytes }
 {
-    heap_words::write_word(part, at as usize, number);
+    block_headers::write_word(part, at as usize, number);
 }
 
 /// Reads the header at a place.
@@ -38,7 +38,7 @@ pub fn read_header(part: &Part, at: u32) -> Header
     ensures slot { result.slot ≡ word_at (at + 8) part.now.bytes }
     ensures flags { result.flags ≡ word_at (at + 12) part.now.bytes }
 {
-    heap_words::read_header(part, at)
+    block_headers::read_header(part, at)
 }
 
 /// Writes a header at a place.
@@ -49,7 +49,7 @@ pub fn write_header(part: &mut Part, at: u32, header: Header)
     ensures same { KeepsPlace part.old part.new }
     ensures bytes { part.new.bytes ≡ written at (header_bytes header) part.old.bytes }
 {
-    heap_words::write_header(part, at, header);
+    block_headers::write_header(part, at, header);
 }
 
 /// Reads the slot at a place.
@@ -59,7 +59,7 @@ pub fn read_slot(part: &Part, at: u32) -> SlotWord
     ensures number { slot_number result ≡ word_at at part.now.bytes }
     ensures kept { IsSlotWord result }
 {
-    heap_words::read_slot(part, at)
+    block_headers::read_slot(part, at)
 }
 
 /// Writes the slot at a place.
@@ -69,5 +69,5 @@ pub fn write_slot(part: &mut Part, at: u32, slot: SlotWord)
     ensures same { KeepsPlace part.old part.new }
     ensures bytes { part.new.bytes ≡ written at (word (slot_number slot)) part.old.bytes }
 {
-    heap_words::write_slot(part, at, slot);
+    block_headers::write_slot(part, at, slot);
 }

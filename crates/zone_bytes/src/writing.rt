@@ -1,7 +1,7 @@
 //! The bytes of a block are read and written.
 
 ghost use Rattle.std.specs.Prelude.{◌≡◌, ◌+◌, ◌≤◌, length};
-ghost use Rattle.windows.specs.Writes.{written, piece};
+ghost use Rattle.memory_windows.specs.Writes.{written, piece};
 ghost use Rattle.zone_bytes.specs.Beside.{KeepsPlace};
 
 use raw_region::Part;

@@ -1,7 +1,7 @@
 //! The room above the block of a handle, and the run of such a block.
 
 ghost use Rattle.std.specs.Prelude.{◌≡◌, ◌+◌, ◌%◌, ◌≤◌, ◌&&◌, ℕ, IfSome, is_some, length};
-ghost use Rattle.heap_words.specs.Words.{word_at};
+ghost use Rattle.block_headers.specs.Words.{word_at};
 ghost use Rattle.block_store.specs.Block.{is_relocatable};
 ghost use Rattle.block_store.specs.Find.{FindsLowestRun};
 ghost use Rattle.block_store.specs.Grow.{taken};
@@ -21,7 +21,8 @@ use zone_bytes::read_word;
 
 /// Reads the word of a slot. Returns 0 for a number that is the place of no word.
 fn word_of_slot(part: &Part, slot: u32) -> u32
-    ensures { slot % 4 ≡ 0 → slot + 4 ≤ length part.now.bytes → result ≡ word_at slot part.now.bytes }
+    ensures { slot % 4 ≡ 0 → slot + 4 ≤ length part.now.bytes
+        → result ≡ word_at slot part.now.bytes }
 {
     if slot % 4 != 0 || part.len() < slot as usize + 4 {
         return 0;
@@ -29,9 +30,9 @@ fn word_of_slot(part: &Part, slot: u32) -> u32
     read_word(part, slot)
 }
 
-/// Reports whether a free block of at least `bytes` bytes follows the block of a slot in the zone as it stands, by a
-/// walk from the landmark at or below that block. Any number may be asked for as a slot: if it leads to no block, the
-/// walk goes on to the zone's end.
+/// Reports whether a free block of at least `bytes` bytes follows the block of a slot in the zone
+/// as it stands, by a walk from the landmark at or below that block. Any number may be asked for as
+/// a slot: if it leads to no block, the walk goes on to the zone's end.
 pub fn has_room_above(part: &Part, marks: &Landmarks, slot: u32, bytes: u32) -> bool
     requires sound { (first : ℕ) × (unused : ℕ) × IsSound part.now.bytes first unused }
     requires marks { AreOf marks.now (zone_in part.now.bytes) }
@@ -43,13 +44,14 @@ pub fn has_room_above(part: &Part, marks: &Landmarks, slot: u32, bytes: u32) -> 
 }
 
 impl Landmarks {
-    /// Returns the place of the run of a slot's block, where the run has `bytes` free bytes. The search begins at the
-    /// landmark at or below that block, if the tallies of the blocks below the landmark say which run goes on there.
+    /// Returns the place of the run of a slot's block, where the run has `bytes` free bytes. The
+    /// search begins at the landmark at or below that block, if the tallies of the blocks below the
+    /// landmark say which run goes on there.
     pub fn run_of(&self, part: &Part, slot: u32, bytes: u32) -> Option<u32>
         requires sound { (first : ℕ) × (unused : ℕ) × IsSound part.now.bytes first unused }
         requires marks { AreOf self.now (zone_in part.now.bytes) }
-        ensures { FindsLowestRun (λ run. has (is_relocatable slot) run && has_free bytes run) (zone_in part.now.bytes)
-            result }
+        ensures { FindsLowestRun (λ run. has (is_relocatable slot) run && has_free bytes run)
+            (zone_in part.now.bytes) result }
     {
         let place = word_of_slot(part, slot);
         let scan = run_below(&self.marks, &self.groups, part, place, u32::MAX);

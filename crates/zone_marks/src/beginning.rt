@@ -1,12 +1,14 @@
-//! The state of a search for a run after blocks that the search passed by their landmarks' tallies. The search for a run
-//! after all purges begins there: the blocks below the lowest one that may be purged are not walked over.
+//! The state of a search for a run after blocks that the search passed by their landmarks' tallies.
+//! The search for a run after all purges begins there: the blocks below the lowest one that may be
+//! purged are not walked over.
 
 ghost use Rattle.std.specs.Prelude.{◌≡◌, ◌≤◌, ◌<◌, ℕ, List, length, IfSome};
 ghost use Rattle.block_store.specs.Block.{Block};
 ghost use Rattle.zone_bytes.specs.Decode.{zone_in};
 ghost use Rattle.zone_bytes.specs.Lawful.{IsSound};
 ghost use Rattle.zone_bytes.specs.Changes.{Begins};
-ghost use Rattle.zone_marks.specs.Searching.{HasCome, HasMarks, IsKnown, IsPassed, IsPiece, IsStretch, begun, place_at};
+ghost use Rattle.zone_marks.specs.Searching.{HasCome, HasMarks, IsKnown, IsPassed, IsPiece};
+ghost use Rattle.zone_marks.specs.Searching.{IsStretch, begun, place_at};
 ghost use Rattle.zone_bytes.specs.Stepping.{left_in};
 ghost use Rattle.zone_summary.specs.Searches.{begun_in};
 ghost use Rattle.zone_summary.specs.Stretches.{best};
@@ -20,9 +22,10 @@ use raw_region::Part;
 use zone_bytes::step_at;
 use zone_summary::{Counting, Stretch};
 
-/// What is known of the blocks below the place `at`, which were passed: their summary in runs. From the place `end` on
-/// none of them ends a run; if one ends a run, the last one that does is between the places `barred` and `end`. The
-/// landmark at `index` stands at the place `at`; if there is no such landmark, the place is the zone's end.
+/// What is known of the blocks below the place `at`, which were passed: their summary in runs. From
+/// the place `end` on none of them ends a run; if one ends a run, the last one that does is between
+/// the places `barred` and `end`. The landmark at `index` stands at the place `at`; if there is no
+/// such landmark, the place is the zone's end.
 #[derive(Clone, Copy, Drop)]
 pub struct Passed {
     pub runs: Stretch,
@@ -41,8 +44,9 @@ const NOTHING: Passed = Passed {
     index: 0,
 };
 
-/// Takes a search past the stretches of the landmarks below the index `above`. The `tally` is that of their blocks. Returns
-/// `None` if their summary in runs isn't known, or if a run has `bytes` free bytes with them.
+/// Takes a search past the stretches of the landmarks below the index `above`. The `tally` is that
+/// of their blocks. Returns `None` if their summary in runs isn't known, or if a run has `bytes`
+/// free bytes with them.
 pub fn pass_up_to(
     marks: &[Landmark],
     part: &Part,
@@ -54,8 +58,8 @@ pub fn pass_up_to(
     requires sound { (first : ℕ) × (unused : ℕ) × IsSound part.now.bytes first unused }
     requires inside { above ≤ length marks.now }
     requires come { HasCome bytes marks.now part.now.bytes passed }
-    requires stretch { IsStretch counting.Runs tally passed.at (place_at above marks.now part.now.bytes)
-        part.now.bytes }
+    requires stretch { IsStretch counting.Runs tally passed.at
+        (place_at above marks.now part.now.bytes) part.now.bytes }
     ensures above { IfSome result (λ p. p.index ≡ above) }
     ensures come { IfSome result (λ p. HasCome bytes marks.now part.now.bytes p) }
 {
@@ -97,8 +101,9 @@ pub fn begun_at(place: u32, purges: u32) -> RunScan
     }
 }
 
-/// Takes a search past the stretches of a group, if the search is at the first of the group's landmarks and none of them
-/// has an index of `last` or above; else past the stretch of one landmark. Returns `None` if neither can be passed.
+/// Takes a search past the stretches of a group, if the search is at the first of the group's
+/// landmarks and none of them has an index of `last` or above; else past the stretch of one
+/// landmark. Returns `None` if neither can be passed.
 fn pass_far(
     marks: &[Landmark],
     groups: &[Group],
@@ -126,8 +131,8 @@ fn pass_far(
     pass_up_to(marks, part, passed, tally, passed.index + 1, bytes)
 }
 
-/// Returns what is known of the blocks from the bottom on, as far as no run of them has `bytes` free bytes, up to the
-/// landmark at the index `last`, or to the zone's end.
+/// Returns what is known of the blocks from the bottom on, as far as no run of them has `bytes`
+/// free bytes, up to the landmark at the index `last`, or to the zone's end.
 pub fn passed_below(
     marks: &[Landmark],
     groups: &[Group],
@@ -152,12 +157,14 @@ pub fn passed_below(
     passed
 }
 
-/// Returns the bottom of the run that goes on at the place `to`; returns `from` if the run has blocks below `from`.
+/// Returns the bottom of the run that goes on at the place `to`; returns `from` if the run has
+/// blocks below `from`.
 fn run_start(part: &Part, from: u32, to: u32) -> u32
     requires sound { (first : ℕ) × (unused : ℕ) × IsSound part.now.bytes first unused }
     requires begins { Begins from 0 (zone_in part.now.bytes) }
     requires to { Begins to from (left_in from part.now.bytes) }
-    ensures { (here : List Block) → IsPiece from to part.now.bytes here → result ≡ begun_in from from here }
+    ensures { (here : List Block) → IsPiece from to part.now.bytes here
+        → result ≡ begun_in from from here }
 {
     let mut place = from;
     let mut start = from;
@@ -171,11 +178,13 @@ fn run_start(part: &Part, from: u32, to: u32) -> u32
     start
 }
 
-/// Returns the state of a search from the bottom on, with no purges, after the blocks that it passed.
+/// Returns the state of a search from the bottom on, with no purges, after the blocks that it
+/// passed.
 fn after_passed(part: &Part, passed: Passed) -> RunScan
     requires sound { (first : ℕ) × (unused : ℕ) × IsSound part.now.bytes first unused }
     requires passed { IsPassed part.now.bytes passed }
-    ensures { (bytes to : ℕ) → best passed.runs < bytes → passed.at ≤ to → IsKnown bytes to part.now.bytes result }
+    ensures { (bytes to : ℕ) → best passed.runs < bytes → passed.at ≤ to
+        → IsKnown bytes to part.now.bytes result }
 {
     RunScan {
         left: 0,
@@ -186,8 +195,9 @@ fn after_passed(part: &Part, passed: Passed) -> RunScan
     }
 }
 
-/// Returns the state of a search from the bottom on, with no purges. The search is at a landmark at or below the place
-/// `from`: the last one up to which it is known that no run has `bytes` free bytes.
+/// Returns the state of a search from the bottom on, with no purges. The search is at a landmark at
+/// or below the place `from`: the last one up to which it is known that no run has `bytes` free
+/// bytes.
 pub fn run_below(
     marks: &[Landmark],
     groups: &[Group],

@@ -1,8 +1,10 @@
-//! The least number of purges after which a run has enough free bytes. The lowest run that has them after all blocks that
-//! may be purged were purged is the first to have them: all such blocks below it are purged, and as few of its own as serve.
-//! The run of a block that is not purged stays where it is, so the same is counted for it.
+//! The least number of purges after which a run has enough free bytes. The lowest run that has them
+//! after all blocks that may be purged were purged is the first to have them: all such blocks below
+//! it are purged, and as few of its own as serve. The run of a block that is not purged stays where
+//! it is, so the same is counted for it.
 
-ghost use Rattle.std.specs.Prelude.{◌≡◌, ◌≤◌, ◌<◌, ◌+◌, ◌^◌, ◌++◌, ℕ, List, Some, IfSome, MatchOption, true, false};
+ghost use Rattle.std.specs.Prelude.{◌≡◌, ◌≤◌, ◌<◌, ◌+◌, ◌^◌, ◌++◌, ℕ, List, Some, IfSome};
+ghost use Rattle.std.specs.Prelude.{MatchOption, true, false};
 ghost use Rattle.block_store.specs.Block.{Block, count, is_relocatable, sizes};
 ghost use Rattle.block_store.specs.Find.{FindsLowestRun};
 ghost use Rattle.block_store.specs.Run.{has_free};
@@ -32,7 +34,8 @@ use block_store::{
 use raw_region::Part;
 use zone_summary::Counting;
 
-/// Returns the number of blocks that may be purged, of those of a walk that begin in the first `bytes` bytes.
+/// Returns the number of blocks that may be purged, of those of a walk that begin in the first
+/// `bytes` bytes.
 fn count_in<W: Walk>(walk: &mut W, bytes: u32, sparing: Sparing) -> u32
     requires { sizes (W.rest walk.old) < 2 ^ 32 }
     ensures is { result ≡ count_within (spared sparing) bytes (opened sparing (W.rest walk.old)) }
@@ -72,8 +75,8 @@ fn count_for<W: Walk>(walk: &mut W, bytes: u32, sparing: Sparing) -> u32
     total
 }
 
-/// Returns how many of the lowest blocks that may be purged, of the run at which a walk begins, free `bytes` bytes; `None`
-/// where all of them free fewer.
+/// Returns how many of the lowest blocks that may be purged, of the run at which a walk begins,
+/// free `bytes` bytes; `None` where all of them free fewer.
 fn count_in_run<W: Walk>(walk: &mut W, bytes: u32, sparing: Sparing) -> Option<u32>
     requires { sizes (W.rest walk.old) < 2 ^ 32 }
     ensures is { result ≡ run_purges_for (spared sparing) 0 bytes (W.rest walk.old) }
@@ -124,7 +127,8 @@ fn free_at(marks: &[Landmark], groups: &[Group], part: &Part, run: u32, sparing:
     }
 }
 
-/// Returns the number of blocks below the run at `run` that may be purged, where no block below `from` may be.
+/// Returns the number of blocks below the run at `run` that may be purged, where no block below
+/// `from` may be.
 fn count_below(part: &Part, from: u32, run: u32, sparing: Sparing) -> u32
     requires sound { (first : ℕ) × (unused : ℕ) × IsSound part.now.bytes first unused }
     requires begins { Begins from 0 (zone_in part.now.bytes) }
@@ -139,14 +143,15 @@ fn count_below(part: &Part, from: u32, run: u32, sparing: Sparing) -> u32
 }
 
 impl Landmarks {
-    /// Returns the least number of purges after which a run has at least `bytes` free bytes, where no run has them
-    /// before any purge; `None` where no purges serve.
+    /// Returns the least number of purges after which a run has at least `bytes` free bytes, where
+    /// no run has them before any purge; `None` where no purges serve.
     #[tactic(auto, using(crate::proofs::Searches::RunStarting::first_begins))]
     pub fn fewest_purges(&self, part: &Part, bytes: u32, sparing: Sparing) -> Option<u32>
         requires sound { (first : ℕ) × (unused : ℕ) × IsSound part.now.bytes first unused }
         requires marks { AreOf self.now (zone_in part.now.bytes) }
         requires unserved { serves bytes sparing (zone_in part.now.bytes) 0 ≡ false }
-        ensures { MatchOption result ((purges : ℕ) → serves bytes sparing (zone_in part.now.bytes) purges ≡ false)
+        ensures { MatchOption result
+            ((purges : ℕ) → serves bytes sparing (zone_in part.now.bytes) purges ≡ false)
             (λ fewest. IsFewest (serves bytes sparing (zone_in part.now.bytes)) fewest) }
     {
         let (marks, groups) = (&self.marks, &self.groups);
@@ -156,8 +161,9 @@ impl Landmarks {
         Some(below + count_for(&mut walk_at(part, run), lacks, sparing))
     }
 
-    /// Returns the least number of purges after which the run of a master pointer's block has at least `bytes` free
-    /// bytes: 0 where it has them without any; `None` where no purges serve. The block itself may not be purged.
+    /// Returns the least number of purges after which the run of a master pointer's block has at
+    /// least `bytes` free bytes: 0 where it has them without any; `None` where no purges serve. The
+    /// block itself may not be purged.
     pub fn fewest_for_block(
         &self,
         part: &Part,
@@ -170,9 +176,9 @@ impl Landmarks {
         requires once { count (is_relocatable number) (zone_in part.now.bytes) ≤ 1 }
         requires spared { (b : Block) → is_relocatable number b ≡ true → spared sparing b ≡ true }
         requires whole { (blocks : List Block) → opened sparing blocks ≡ blocks }
-        ensures { MatchOption result
-            ((purges : ℕ) → serves_block number bytes sparing (zone_in part.now.bytes) purges ≡ false)
-            (λ fewest. IsFewest (serves_block number bytes sparing (zone_in part.now.bytes)) fewest) }
+        ensures { MatchOption result ((purges : ℕ)
+            → serves_block number bytes sparing (zone_in part.now.bytes) purges ≡ false) (λ fewest.
+            IsFewest (serves_block number bytes sparing (zone_in part.now.bytes)) fewest) }
     {
         let run = self.run_of(part, number, 0)?;
         let free = free_at(&self.marks, &self.groups, part, run, sparing);

@@ -1,5 +1,5 @@
-//! The search for a run by landmarks: stretches with which no run has enough free bytes are passed without a walk over
-//! their blocks.
+//! The search for a run by landmarks: stretches with which no run has enough free bytes are passed
+//! without a walk over their blocks.
 
 ghost use Rattle.std.specs.Prelude.{◌≡◌, ◌≤◌, ℕ};
 ghost use Rattle.block_store.specs.Find.{FindsLowestRun};
@@ -23,8 +23,8 @@ use crate::purgeable::frees_one;
 use block_store::{GREATEST_ZONE, RunScan, Sparing, Walk, scan_run};
 use raw_region::Part;
 
-/// Goes on with a search for a run that has `bytes` free bytes and, where `number` is given, that slot's block: by a walk
-/// from where the search is.
+/// Goes on with a search for a run that has `bytes` free bytes and, where `number` is given, that
+/// slot's block: by a walk from where the search is.
 #[tactic(auto, using(block_store::proofs::Regroup::RunScans::scan_kept))]
 pub fn search_on(
     part: &Part,
@@ -37,7 +37,8 @@ pub fn search_on(
     requires begins { Begins scan.place 0 (zone_in part.now.bytes) }
     requires free { scan.free ≤ scan.place }
     ensures { result
-        ≡ scan_from number bytes (spared sparing) scan (opened sparing (left_in scan.place part.now.bytes)) }
+        ≡ scan_from number bytes (spared sparing) scan
+        (opened sparing (left_in scan.place part.now.bytes)) }
 {
     let mut walk = walk_at(part, scan.place);
     let mut scan = scan;
@@ -49,8 +50,9 @@ pub fn search_on(
 }
 
 impl Landmarks {
-    /// Returns the place of the lowest run with at least `bytes` free bytes. Where a landmark stands at the bottom, only
-    /// blocks of stretches with which a run has them are walked over, and those of two more.
+    /// Returns the place of the lowest run with at least `bytes` free bytes. Where a landmark
+    /// stands at the bottom, only blocks of stretches with which a run has them are walked over,
+    /// and those of two more.
     pub fn find_run(&self, part: &Part, bytes: u32) -> Option<u32>
         requires sound { (first : ℕ) × (unused : ℕ) × IsSound part.now.bytes first unused }
         requires marks { AreOf self.now (zone_in part.now.bytes) }
@@ -61,8 +63,8 @@ impl Landmarks {
     }
 }
 
-/// Returns the place of the lowest run with at least `bytes` free bytes after all blocks that may be purged were purged.
-/// The blocks below `from` are those of the zone as it stands.
+/// Returns the place of the lowest run with at least `bytes` free bytes after all blocks that may
+/// be purged were purged. The blocks below `from` are those of the zone as it stands.
 pub fn find_run_purged(
     marks: &[Landmark],
     groups: &[Group],

@@ -20,9 +20,10 @@ use block_store::{GREATEST_ZONE, Sparing, largest_after_in};
 use raw_region::Part;
 use zone_summary::Counting;
 
-/// Returns the size of the largest free block in the stretches of a group's landmarks, or `most` if none of them is
-/// larger. No free block below these stretches is larger than `most`. The stretch of a landmark is passed by where the
-/// bound on its free blocks is no more than a free block that was found, and so is the whole group.
+/// Returns the size of the largest free block in the stretches of a group's landmarks, or `most` if
+/// none of them is larger. No free block below these stretches is larger than `most`. The stretch
+/// of a landmark is passed by where the bound on its free blocks is no more than a free block that
+/// was found, and so is the whole group.
 fn larger_in_group(
     marks: &[Landmark],
     groups: &[Group],
@@ -66,9 +67,9 @@ pub fn largest_free_by_marks(marks: &[Landmark], groups: &[Group], part: &Part) 
 }
 
 impl Landmarks {
-    /// Returns the size of the largest free block after the given number of purges. If all blocks that may be purged are
-    /// purged, the landmarks' tallies give it; else the blocks below the first of them are those of the zone as it stands,
-    /// and those above are walked over.
+    /// Returns the size of the largest free block after the given number of purges. If all blocks
+    /// that may be purged are purged, the landmarks' tallies give it; else the blocks below the
+    /// first of them are those of the zone as it stands, and those above are walked over.
     pub fn largest_after(&self, part: &Part, purges: u32) -> u32
         requires sound { (first : ℕ) × (unused : ℕ) × IsSound part.now.bytes first unused }
         requires marks { AreOf self.now (zone_in part.now.bytes) }

@@ -1,5 +1,5 @@
-//! The lowest blocks that may be purged. A zone keeps a place below which no block may be purged, from which they are
-//! sought.
+//! The lowest blocks that may be purged. A zone keeps a place below which no block may be purged,
+//! from which they are sought.
 
 ghost use Rattle.std.specs.Prelude.{◌≡◌, ◌≤◌, ◌<◌, ℕ, List};
 ghost use Rattle.block_store.specs.Block.{Block};
@@ -17,8 +17,8 @@ use block_store::{Sparing, may_purge_now, next_purgeable_in, purgeable_in};
 use raw_region::Part;
 use zone_bytes::step_at;
 
-/// Returns the place of the lowest block that may be purged, of those that begin from `from` up to `to`; if there is
-/// none, where the walk over them ends.
+/// Returns the place of the lowest block that may be purged, of those that begin from `from` up to
+/// `to`; if there is none, where the walk over them ends.
 pub fn first_going(part: &Part, from: u32, to: u32) -> u32
     requires { IsOnWay from part.now.bytes }
     ensures { AtEach (Stays result) from (left_in from part.now.bytes) }
@@ -35,12 +35,13 @@ pub fn first_going(part: &Part, from: u32, to: u32) -> u32
     at
 }
 
-/// Returns a place below which no block may be purged after the blocks from `lo` to `hi` became others, where before
-/// that none below `lowest` might be.
+/// Returns a place below which no block may be purged after the blocks from `lo` to `hi` became
+/// others, where before that none below `lowest` might be.
 pub fn lowest_after(part: &Part, lowest: u32, lo: u32, hi: u32) -> u32
     requires sound { (first : ℕ) × (unused : ℕ) × IsSound part.now.bytes first unused }
     requires replaced { (old : List Block) × Replaced lo hi old (zone_in part.now.bytes) }
-    ensures { (old : List Block) → Replaced lo hi old (zone_in part.now.bytes) → NoneGoes lowest old →
+    ensures { (old : List Block) → Replaced lo hi old (zone_in part.now.bytes)
+        → NoneGoes lowest old →
         NoneGoes result (zone_in part.now.bytes) }
 {
     if lowest <= lo {
@@ -53,13 +54,15 @@ pub fn lowest_after(part: &Part, lowest: u32, lo: u32, hi: u32) -> u32
     lowest.min(found)
 }
 
-/// Returns the place of the block that is purged next after `purges` purges, where no block below `from` may be purged.
+/// Returns the place of the block that is purged next after `purges` purges, where no block below
+/// `from` may be purged.
 pub fn next_purgeable(part: &Part, from: u32, purges: u32, sparing: Sparing) -> Option<u32>
     requires sound { (first : ℕ) × (unused : ℕ) × IsSound part.now.bytes first unused }
     requires begins { Begins from 0 (zone_in part.now.bytes) }
     requires none { NoneGoes from (zone_in part.now.bytes) }
     requires plain { (zone : List Block) → opened sparing zone ≡ zone }
-    ensures { FindsLowest (may_be_purged (spared sparing)) (purged purges sparing (zone_in part.now.bytes)) result }
+    ensures { FindsLowest (may_be_purged (spared sparing))
+        (purged purges sparing (zone_in part.now.bytes)) result }
 {
     let Some(above) = next_purgeable_in(&mut walk_at(part, from), purges, sparing) else {
         return None;

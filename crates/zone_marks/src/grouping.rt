@@ -1,4 +1,5 @@
-//! Landmarks in groups. Each group has a bound on the size of its free blocks, and the tallies of its blocks.
+//! Landmarks in groups. Each group has a bound on the size of its free blocks, and the tallies of
+//! its blocks.
 
 ghost use Rattle.std.specs.Prelude.{◌≡◌, ◌≤◌, ◌<◌, ◌*◌, ◌+◌, ℕ, List, length, get_or, set};
 ghost use Rattle.zone_marks.specs.Marks.{AreGroups, AreOfZone, IsGroup, no_mark, tally_of};
@@ -8,11 +9,13 @@ ghost use Rattle.zone_marks.specs.declared.landmark.TheConstants.{GROUP};
 use crate::landmark::{GROUP, Group, Landmark, Tallies, Tally};
 use zone_summary::{Counting, Stretch};
 
-/// Changes what is known of a landmark's group, before the landmark becomes another that notes the bound `most`: the
-/// group's bound is at least as high, and the tallies of its blocks are forgotten.
+/// Changes what is known of a landmark's group, before the landmark becomes another that notes the
+/// bound `most`: the group's bound is at least as high, and the tallies of its blocks are
+/// forgotten.
 pub fn raise_group(groups: &mut [Group], index: usize, most: u32)
     requires { index < GROUP * length groups.old }
-    ensures { (marks : List Landmark) (mark : Landmark) → mark.most ≤ most → AreGroups groups.old marks →
+    ensures { (marks : List Landmark) (mark : Landmark) → mark.most ≤ most
+        → AreGroups groups.old marks →
         AreGroups groups.new (set marks index mark) }
 {
     let group = index / GROUP;
@@ -22,7 +25,8 @@ pub fn raise_group(groups: &mut [Group], index: usize, most: u32)
     };
 }
 
-/// Returns the tally of the blocks of all these landmarks, counted in one way; it is known if each of theirs is.
+/// Returns the tally of the blocks of all these landmarks, counted in one way; it is known if each
+/// of theirs is.
 fn joined(marks: &[Landmark], counting: Counting) -> Tally
     requires { AreOfZone marks.now }
     ensures { result ≡ tally_of counting marks.now }
@@ -39,7 +43,8 @@ fn joined(marks: &[Landmark], counting: Counting) -> Tally
 
 /// Returns the highest bound that these landmarks note.
 fn highest(marks: &[Landmark]) -> u32
-    ensures { (index : ℕ) → index < length marks.now → (get_or marks.now index no_mark).most ≤ result }
+    ensures { (index : ℕ) → index < length marks.now
+        → (get_or marks.now index no_mark).most ≤ result }
 {
     let mut most: u32 = 0;
     for mark in marks {
@@ -61,7 +66,8 @@ fn group_of(marks: &[Landmark]) -> Group
     }
 }
 
-/// Computes anew what is known of the groups that have landmarks from the index `from` up to the index `to`.
+/// Computes anew what is known of the groups that have landmarks from the index `from` up to the
+/// index `to`.
 pub fn renew_groups(marks: &[Landmark], groups: &mut [Group], from: usize, to: usize)
     requires groups { AreGroups groups.old marks.now }
     requires marks { AreOfZone marks.now }

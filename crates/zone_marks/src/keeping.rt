@@ -1,6 +1,7 @@
 //! The landmarks that a zone keeps.
 
-ghost use Rattle.std.specs.Prelude.{◌≡◌, ◌≤◌, ◌<◌, ◌⊎◌, ◌++◌, ℕ, List, [], Some, true, false, IfOk, MatchOption};
+ghost use Rattle.std.specs.Prelude.{◌≡◌, ◌≤◌, ◌<◌, ◌⊎◌, ◌++◌, ℕ, List, [], Some, true, false, IfOk};
+ghost use Rattle.std.specs.Prelude.{MatchOption};
 ghost use Rattle.block_store.specs.Block.{Block, count, free_sum, is_relocatable, is_room, sizes};
 ghost use Rattle.block_store.specs.Compact.{largest_free, largest_run};
 ghost use Rattle.block_store.specs.Fewest.{serves, serves_block, IsFewest};
@@ -30,10 +31,11 @@ use raw_region::Part;
 use std::alloc::{AllocError, Global};
 use zone_bytes::{Edges, PackedRun, size_at};
 
-/// Landmarks of a zone: places at which blocks begin, one for each page of the zone's bytes. Each has a bound on the
-/// size of each free block up to the next landmark, and tallies of the blocks there: their summary in runs, and, from the
-/// first time on that a block may be purged, their summary in spaces. Each group of landmarks has both for all its blocks.
-/// A place below which no block may be purged is kept with them. Landmarks lie in the host's memory, and can be thrown
+/// Landmarks of a zone: places at which blocks begin, one for each page of the zone's bytes. Each
+/// has a bound on the size of each free block up to the next landmark, and tallies of the blocks
+/// there: their summary in runs, and, from the first time on that a block may be purged, their
+/// summary in spaces. Each group of landmarks has both for all its blocks. A place below which no
+/// block may be purged is kept with them. Landmarks lie in the host's memory, and can be thrown
 /// away and made anew at any time.
 #[derive(Drop)]
 pub struct Landmarks {
@@ -45,8 +47,9 @@ pub struct Landmarks {
 }
 
 impl Landmarks {
-    /// Makes the landmarks of a zone, by walks over the zone. All room that they ever take is taken from the host here.
-    /// If the host is out of memory, there are none: each search then begins at the bottom, and finds the same.
+    /// Makes the landmarks of a zone, by walks over the zone. All room that they ever take is taken
+    /// from the host here. If the host is out of memory, there are none: each search then begins at
+    /// the bottom, and finds the same.
     #[tactic(auto, using(crate::proofs::Bounds::Going::lowest_places))]
     pub fn of(alloc: Global, part: &Part) -> Landmarks
         requires sound { (first : ℕ) × (unused : ℕ) × IsSound part.now.bytes first unused }
@@ -101,7 +104,8 @@ impl Landmarks {
         mark_below(&self.marks, place, self.page_of(place))
     }
 
-    /// Returns the place of a block below which no block may be purged, from which those that may be are sought.
+    /// Returns the place of a block below which no block may be purged, from which those that may
+    /// be are sought.
     #[tactic(auto, using(crate::proofs::Bounds::Going::lowest_places))]
     pub fn start(&self) -> u32
         ensures begins { (zone : List Block) → AreOf self.now zone → Begins result 0 zone }
@@ -129,7 +133,8 @@ impl Landmarks {
     /// Returns a place below which no block may be purged after the run at `run` is packed.
     #[tactic(auto, using(crate::proofs::Bounds::Going::lowest_places))]
     pub fn lowest_packed(&self, run: u32, free: u32) -> u32
-        ensures { (zone : List Block) (r : RunSpot) → AreOf self.now zone → run_at run zone ≡ Some r →
+        ensures { (zone : List Block) (r : RunSpot) → AreOf self.now zone
+            → run_at run zone ≡ Some r →
             free ≡ free_sum zone → NoneGoes result (r.below ++ (settle r.run ++ r.above)) }
     {
         if self.lowest <= run {
@@ -139,7 +144,8 @@ impl Landmarks {
         }
     }
 
-    /// Returns a place below which no block may be purged after blocks from `place` on become others.
+    /// Returns a place below which no block may be purged after blocks from `place` on become
+    /// others.
     pub fn lowest_under(&self, place: u32) -> u32
         ensures { (hi : ℕ) (old new : List Block) → AreOf self.now old → Replaced place hi old new →
             NoneGoes result new }
@@ -168,47 +174,54 @@ impl Landmarks {
     /// Renews the landmarks after the blocks from `lo` to `hi` became others.
     pub fn note(&mut self, part: &Part, lo: u32, hi: u32)
         requires sound { (first : ℕ) × (unused : ℕ) × IsSound part.now.bytes first unused }
-        requires marks { (old : List Block) × Replaced lo hi old (zone_in part.now.bytes) × AreOf self.old old }
+        requires marks { (old : List Block) × Replaced lo hi old (zone_in part.now.bytes)
+            × AreOf self.old old }
         ensures { AreOf self.new (zone_in part.now.bytes) }
     {
         self.lowest = lowest_after(part, self.lowest, lo, hi);
-        if self.page_of(lo) == self.page_of(hi) {
-            self.change(part, lo, hi, self.kept);
+        let page = self.page_of(lo);
+        if page == self.page_of(hi) {
+            let first = self.change(part, lo, hi, self.kept);
+            renew_groups(&self.marks, &mut self.groups, first, page.saturating_add(1));
         } else {
             self.change(part, lo, hi, Kept::Nothing);
             self.renew(part, lo, hi);
         }
     }
 
-    /// Changes the landmarks, and not the place that is kept with them, after the blocks from `lo` to `hi` became
-    /// others. If nothing is to be known of these blocks, they are not walked over, and no landmark stands strictly
-    /// between `lo` and `hi` until `renew` is called.
-    fn change(&mut self, part: &Part, lo: u32, hi: u32, kept: Kept)
+    /// Changes the landmarks, and not the place that is kept with them, after the blocks from `lo`
+    /// to `hi` became others. If nothing is to be known of these blocks, they are not walked over,
+    /// and no landmark stands strictly between `lo` and `hi` until `renew` is called. Returns the
+    /// index of the first landmark that changed.
+    fn change(&mut self, part: &Part, lo: u32, hi: u32, kept: Kept) -> usize
         requires sound { (first : ℕ) × (unused : ℕ) × IsSound part.now.bytes first unused }
-        requires marks { (old : List Block) × Replaced lo hi old (zone_in part.now.bytes) × AreMarked self.old old }
+        requires marks { (old : List Block) × Replaced lo hi old (zone_in part.now.bytes)
+            × AreMarked self.old old }
         ensures marks { AreMarked self.new (zone_in part.now.bytes) }
         ensures lowest { self.new.lowest ≡ self.old.lowest }
     {
         let likely = self.page_of(hi);
         let (marks, groups) = (&mut self.marks, &mut self.groups);
-        change_marks(marks, groups, part, lo, hi, kept, likely);
+        change_marks(marks, groups, part, lo, hi, kept, likely)
     }
 
     /// Renews the landmarks after the block at `place` became another of the same size.
     pub fn note_block(&mut self, part: &Part, place: u32)
         requires sound { (first : ℕ) × (unused : ℕ) × IsSound part.now.bytes first unused }
-        requires marks { (old : List Block) × Became place old (zone_in part.now.bytes) × AreOf self.old old }
+        requires marks { (old : List Block) × Became place old (zone_in part.now.bytes)
+            × AreOf self.old old }
         ensures { AreOf self.new (zone_in part.now.bytes) }
     {
         let size = size_at(part, place);
         self.note(part, place, place + size);
     }
 
-    /// Renews the landmarks after the flags of the block at `place` became others. From the first purgeable block on,
-    /// summaries in spaces are kept.
+    /// Renews the landmarks after the flags of the block at `place` became others. From the first
+    /// purgeable block on, summaries in spaces are kept.
     pub fn note_flags(&mut self, part: &Part, place: u32, flags: Flags)
         requires sound { (first : ℕ) × (unused : ℕ) × IsSound part.now.bytes first unused }
-        requires marks { (old : List Block) × Became place old (zone_in part.now.bytes) × AreOf self.old old }
+        requires marks { (old : List Block) × Became place old (zone_in part.now.bytes)
+            × AreOf self.old old }
         ensures { AreOf self.new (zone_in part.now.bytes) }
     {
         self.note_block(part, place);
@@ -222,7 +235,8 @@ impl Landmarks {
         self.renew(part, 0, u32::MAX);
     }
 
-    /// Moves the landmarks of the pages from `lo` to `hi` to where their blocks are, by one walk over these blocks.
+    /// Moves the landmarks of the pages from `lo` to `hi` to where their blocks are, by one walk
+    /// over these blocks.
     fn renew(&mut self, part: &Part, lo: u32, hi: u32)
         requires sound { (first : ℕ) × (unused : ℕ) × IsSound part.now.bytes first unused }
         requires marks { AreMarked self.old (zone_in part.now.bytes) }
@@ -235,7 +249,8 @@ impl Landmarks {
 
     /// Returns the next landmark to be laid anew, which is to stand where it stands.
     fn next_at(&self, index: usize) -> NextMark
-        ensures laid { (zone : List Block) → AreMarked self.now zone → AreLaid result.index result.at zone self.now.marks.items }
+        ensures laid { (zone : List Block) → AreMarked self.now zone
+            → AreLaid result.index result.at zone self.now.marks.items }
     {
         let index = self.marks.len().min(index);
         NextMark {
@@ -244,8 +259,9 @@ impl Landmarks {
         }
     }
 
-    /// Lays the landmarks from the next one on anew, up to the first one at or above `hi` that stands where it is to
-    /// stand. The landmarks from the index `first` up to the next one were laid before.
+    /// Lays the landmarks from the next one on anew, up to the first one at or above `hi` that
+    /// stands where it is to stand. The landmarks from the index `first` up to the next one were
+    /// laid before.
     fn lay(&mut self, part: &Part, next: NextMark, first: usize, hi: u32)
         requires sound { (first : ℕ) × (unused : ℕ) × IsSound part.now.bytes first unused }
         requires laid { AreLaid next.index next.at (zone_in part.now.bytes) self.old.marks.items }
@@ -258,8 +274,8 @@ impl Landmarks {
         renew_groups(&self.marks, &mut self.groups, first, end);
     }
 
-    /// Makes `edges` ready to note the edges of blocks that are to be packed from `lo` on: those of the pages above
-    /// the page of `lo`.
+    /// Makes `edges` ready to note the edges of blocks that are to be packed from `lo` on: those of
+    /// the pages above the page of `lo`.
     pub fn await_edges(&self, part: &Part, edges: &mut Edges, lo: u32)
         requires sound { (first : ℕ) × (unused : ℕ) × IsSound part.now.bytes first unused }
         ensures { (base : ℕ) → AreEdges edges.new base [] }
@@ -268,10 +284,10 @@ impl Landmarks {
         edges.restart(page_end((lo / page) as usize, page), page);
     }
 
-    /// Renews the landmarks after the blocks from `lo` to `hi` became others, of which those from `base` on lie
-    /// packed, by the edges that were noted. The blocks between two noted edges are not walked over; the stretch below
-    /// the first edge (if it begins below `base`) and the stretches above the last edge are. No block below `lowest`
-    /// may be purged now.
+    /// Renews the landmarks after the blocks from `lo` to `hi` became others, of which those from
+    /// `base` on lie packed, by the edges that were noted. The blocks between two noted edges are
+    /// not walked over; the stretch below the first edge (if it begins below `base`) and the
+    /// stretches above the last edge are. No block below `lowest` may be purged now.
     pub fn note_packed(
         &mut self,
         part: &Part,
@@ -282,7 +298,8 @@ impl Landmarks {
         lowest: u32,
     )
         requires sound { (first : ℕ) × (unused : ℕ) × IsSound part.now.bytes first unused }
-        requires marks { (old : List Block) × Replaced lo hi old (zone_in part.now.bytes) × AreOf self.old old }
+        requires marks { (old : List Block) × Replaced lo hi old (zone_in part.now.bytes)
+            × AreOf self.old old }
         requires edges { ByEdges edges.now base (zone_in part.now.bytes) }
         requires lowest { NoneGoes lowest (zone_in part.now.bytes) }
         ensures { AreOf self.new (zone_in part.now.bytes) }
@@ -295,8 +312,8 @@ impl Landmarks {
         self.lay(part, next, from.index, hi);
     }
 
-    /// Renews the landmarks after the run at `run` was packed. Where no block moved down, the zone is as it was, and so
-    /// are the landmarks.
+    /// Renews the landmarks after the run at `run` was packed. Where no block moved down, the zone
+    /// is as it was, and so are the landmarks.
     pub fn note_settled(
         &mut self,
         part: &Part,
@@ -306,7 +323,8 @@ impl Landmarks {
         lowest: u32,
     )
         requires sound { (first : ℕ) × (unused : ℕ) × IsSound part.now.bytes first unused }
-        requires marks { (old : List Block) × Replaced run packed.stop old (zone_in part.now.bytes) × AreOf self.old old }
+        requires marks { (old : List Block) × Replaced run packed.stop old (zone_in part.now.bytes)
+            × AreOf self.old old }
         requires still { packed.lowered ≡ 0 → AreOf self.old (zone_in part.now.bytes) }
         requires edges { ByEdges edges.now run (zone_in part.now.bytes) }
         requires lowest { NoneGoes lowest (zone_in part.now.bytes) }

@@ -55,8 +55,8 @@ pub enum Kept {
     Both,
 }
 
-/// A place at which a block begins, and what is known of the blocks that begin from there up to the next landmark: a
-/// bound on the size of each free block, and tallies of all blocks.
+/// A place at which a block begins, and what is known of the blocks that begin from there up to the
+/// next landmark: a bound on the size of each free block, and tallies of all blocks.
 #[derive(Clone, Copy, Drop)]
 pub struct Landmark {
     pub at: u32,
@@ -64,8 +64,8 @@ pub struct Landmark {
     pub tally: Tallies,
 }
 
-/// What is known of the blocks of a group of landmarks: a bound on the size of each free block, and tallies of all
-/// blocks.
+/// What is known of the blocks of a group of landmarks: a bound on the size of each free block, and
+/// tallies of all blocks.
 #[derive(Clone, Copy, Drop)]
 pub struct Group {
     pub most: u32,

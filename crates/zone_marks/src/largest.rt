@@ -1,6 +1,7 @@
-//! The summary of the blocks of a zone from a place on, in runs or in spaces, by landmarks: the blocks of a stretch are not
-//! walked over if their summary is known. So the greatest number of free bytes in one run is found, and the largest free
-//! block after all blocks that may be purged were purged.
+//! The summary of the blocks of a zone from a place on, in runs or in spaces, by landmarks: the
+//! blocks of a stretch are not walked over if their summary is known. So the greatest number of
+//! free bytes in one run is found, and the largest free block after all blocks that may be purged
+//! were purged.
 
 ghost use Rattle.std.specs.Prelude.{◌≡◌, ◌≤◌, ◌<◌, ℕ, false, length};
 ghost use Rattle.block_store.specs.Compact.{largest_run};
@@ -45,15 +46,16 @@ pub fn edge_of(marks: &[Landmark], part: &Part, index: usize) -> u32
     marks[index].at
 }
 
-/// What is known of the blocks from a landmark on, and the index of the landmark up to which it is known.
+/// What is known of the blocks from a landmark on, and the index of the landmark up to which it is
+/// known.
 #[derive(Clone, Copy, Drop)]
 pub struct Told {
     pub tally: Tally,
     pub above: usize,
 }
 
-/// Returns what is known of the blocks from a landmark on: of those of its group, if it is the first of the group and the
-/// group's tally is known, or else of its own.
+/// Returns what is known of the blocks from a landmark on: of those of its group, if it is the
+/// first of the group and the group's tally is known, or else of its own.
 pub fn told_from(
     marks: &[Landmark],
     groups: &[Group],
@@ -83,8 +85,8 @@ pub fn told_from(
     }
 }
 
-/// Returns the summary of the blocks from the place `from` on. If the caller needs only the `lowest` run or space, blocks
-/// above it may be left out.
+/// Returns the summary of the blocks from the place `from` on. If the caller needs only the
+/// `lowest` run or space, blocks above it may be left out.
 pub fn stretch_above(
     marks: &[Landmark],
     groups: &[Group],

@@ -1,5 +1,5 @@
-//! Landmarks of a zone in the bytes of a part: places at which blocks begin, with what is known of the blocks between
-//! them, by which blocks, runs and sums are found without a walk over the zone.
+//! Landmarks of a zone in the bytes of a part: places at which blocks begin, with what is known of
+//! the blocks between them, by which blocks, runs and sums are found without a walk over the zone.
 #![tactic(auto)]
 
 mod above;

@@ -1,7 +1,7 @@
 //! Searches by landmarks, and changes of the landmarks of a zone.
 
-ghost use Rattle.std.specs.Prelude.{◌≡◌, ◌≤◌, ◌<◌, ◌+◌, ◌-◌, ◌*◌, ◌⊎◌, ℕ, List, Some, IsTrue, MatchOption, IfSome, false, true};
-ghost use Rattle.std.specs.Prelude.{length, drop, get_or};
+ghost use Rattle.std.specs.Prelude.{◌≡◌, ◌≤◌, ◌<◌, ◌+◌, ◌-◌, ◌*◌, ◌⊎◌, ℕ, List, Some, IsTrue};
+ghost use Rattle.std.specs.Prelude.{MatchOption, IfSome, false, true, length, drop, get_or};
 ghost use Rattle.block_store.specs.Block.{Block, is_room};
 ghost use Rattle.block_store.specs.Find.{FindsLowest};
 ghost use Rattle.zone_bytes.specs.Decode.{zone_in};
@@ -15,7 +15,7 @@ ghost use Rattle.zone_marks.specs.Marks.{IsTally, Lowered, Measures, above_all, 
 ghost use Rattle.zone_bytes.specs.Stepping.{left_in, IsOnWay};
 ghost use Rattle.zone_marks.specs.declared.landmark.TheConstants.{GROUP};
 
-use crate::grouping::{raise_group, renew_groups};
+use crate::grouping::raise_group;
 use crate::landmark::{GROUP, Group, Kept, Landmark, Tallies, Tally, UNKNOWN};
 use crate::measuring::{Measured, measure_up_to, room_between, spaces_up_to};
 use crate::paging::page_end;
@@ -23,8 +23,8 @@ use raw_region::Part;
 use zone_bytes::Edges;
 use zone_summary::Stretch;
 
-/// Returns the landmark to be compared next, of those from `low` up to `high`: the likely one, or one just beside it;
-/// if the landmark was not there either, the one in the middle.
+/// Returns the landmark to be compared next, of those from `low` up to `high`: the likely one, or
+/// one just beside it; if the landmark was not there either, the one in the middle.
 fn next_look(low: usize, high: usize, likely: usize) -> usize
     requires { low < high }
     ensures { (low ≤ result) × (result < high) }
@@ -40,8 +40,8 @@ fn next_look(low: usize, high: usize, likely: usize) -> usize
     }
 }
 
-/// Returns the index of the first landmark at or above `place`, or the number of landmarks if there is none; the
-/// landmarks are in order of place. The search begins at the index `likely`.
+/// Returns the index of the first landmark at or above `place`, or the number of landmarks if there
+/// is none; the landmarks are in order of place. The search begins at the index `likely`.
 #[tactic(auto, using(crate::proofs::Marks::Lowering::mark_places))]
 pub fn index_above(marks: &[Landmark], place: u32, likely: usize) -> usize
     ensures index { result ≤ length marks.now }
@@ -61,12 +61,13 @@ pub fn index_above(marks: &[Landmark], place: u32, likely: usize) -> usize
     low
 }
 
-/// Returns the place of the last landmark below `place`, or 0 if there is none. The search begins at the index
-/// `likely`.
+/// Returns the place of the last landmark below `place`, or 0 if there is none. The search begins
+/// at the index `likely`.
 #[tactic(auto, using(crate::proofs::Marks::Lowering::mark_places))]
 pub fn mark_below(marks: &[Landmark], place: u32, likely: usize) -> u32
     ensures below { (result < place) ⊎ (result ≡ 0) }
-    ensures begins { (zone : List Block) → AreMarks above_all zone marks.now → Begins result 0 zone }
+    ensures begins { (zone : List Block) → AreMarks above_all zone marks.now
+        → Begins result 0 zone }
 {
     let above = index_above(marks, place, likely);
     if above == 0 {
@@ -75,7 +76,8 @@ pub fn mark_below(marks: &[Landmark], place: u32, likely: usize) -> u32
     marks[above - 1].at
 }
 
-/// Returns the place of a landmark. For an index equal to the number of landmarks, returns a place above every zone.
+/// Returns the place of a landmark. For an index equal to the number of landmarks, returns a place
+/// above every zone.
 pub fn place_of_mark(marks: &[Landmark], index: usize) -> u32
     requires { index ≤ length marks.now }
     ensures { result ≡ next_of above_all (drop index marks.now) }
@@ -86,15 +88,18 @@ pub fn place_of_mark(marks: &[Landmark], index: usize) -> u32
     marks[index].at
 }
 
-/// Returns the place of the lowest free block of at least `bytes` bytes in the stretch of a landmark, below which
-/// there is none.
+/// Returns the place of the lowest free block of at least `bytes` bytes in the stretch of a
+/// landmark, below which there is none.
 fn room_in_stretch(part: &Part, mark: Landmark, to: u32, bytes: u32) -> Option<u32>
     requires sound { (first : ℕ) × (unused : ℕ) × IsSound part.now.bytes first unused }
     requires begins { Begins mark.at 0 (zone_in part.now.bytes) }
     requires below { AtEach (NoRoom bytes 0 mark.at) 0 (zone_in part.now.bytes) }
-    requires bound { mark.most < bytes → AtEach (NoRoom bytes mark.at to) 0 (zone_in part.now.bytes) }
-    ensures none { MatchOption result (AtEach (NoRoom bytes 0 to) 0 (zone_in part.now.bytes)) (λ _. Unit {0}) }
-    ensures found { IfSome result (λ place. FindsLowest (is_room bytes) (zone_in part.now.bytes) (Some place)) }
+    requires bound { mark.most < bytes
+        → AtEach (NoRoom bytes mark.at to) 0 (zone_in part.now.bytes) }
+    ensures none { MatchOption result (AtEach (NoRoom bytes 0 to) 0 (zone_in part.now.bytes))
+        (λ _. Unit {0}) }
+    ensures found { IfSome result (λ place.
+        FindsLowest (is_room bytes) (zone_in part.now.bytes) (Some place)) }
 {
     if mark.most < bytes {
         None
@@ -103,17 +108,18 @@ fn room_in_stretch(part: &Part, mark: Landmark, to: u32, bytes: u32) -> Option<u
     }
 }
 
-/// Returns the place of the lowest free block of at least `bytes` bytes in the stretches of a group's landmarks, below
-/// which there is none.
+/// Returns the place of the lowest free block of at least `bytes` bytes in the stretches of a
+/// group's landmarks, below which there is none.
 #[tactic(auto, using(crate::proofs::Marks::Rooms::room_steps))]
 fn room_in_group(marks: &[Landmark], part: &Part, group: usize, bytes: u32) -> Option<u32>
     requires sound { (first : ℕ) × (unused : ℕ) × IsSound part.now.bytes first unused }
     requires marks { AreMarks above_all (zone_in part.now.bytes) marks.now }
     requires within { GROUP * group + GROUP ≤ length marks.now }
     requires below { NoneBelow bytes (zone_in part.now.bytes) marks.now (GROUP * group) }
-    ensures none { MatchOption result
-        (NoneBelow bytes (zone_in part.now.bytes) marks.now (GROUP * group + GROUP)) (λ _. Unit {0}) }
-    ensures found { IfSome result (λ place. FindsLowest (is_room bytes) (zone_in part.now.bytes) (Some place)) }
+    ensures none { MatchOption result (NoneBelow bytes (zone_in part.now.bytes) marks.now
+        (GROUP * group + GROUP)) (λ _. Unit {0}) }
+    ensures found { IfSome result (λ place.
+        FindsLowest (is_room bytes) (zone_in part.now.bytes) (Some place)) }
 {
     let low = group * GROUP;
     for index in low..low + GROUP {
@@ -163,7 +169,8 @@ fn spaces_told(part: &Part, at: u32, above: u32, kept: Kept) -> Tally
     }
 }
 
-/// Makes a landmark at `at`, with what is to be known of the blocks up to `above`, by walks over them.
+/// Makes a landmark at `at`, with what is to be known of the blocks up to `above`, by walks over
+/// them.
 fn measured_mark(part: &Part, at: u32, above: u32, kept: Kept) -> Landmark
     requires sound { (first : ℕ) × (unused : ℕ) × IsSound part.now.bytes first unused }
     requires begins { Begins at 0 (zone_in part.now.bytes) }
@@ -182,8 +189,9 @@ fn measured_mark(part: &Part, at: u32, above: u32, kept: Kept) -> Landmark
     }
 }
 
-/// Changes a landmark after the blocks from `lo` to `hi` became others; the next landmark stood at `next` and stands
-/// at `above`. If some of its own blocks became others, what is to be known of them is measured anew by walks.
+/// Changes a landmark after the blocks from `lo` to `hi` became others; the next landmark stood at
+/// `next` and stands at `above`. If some of its own blocks became others, what is to be known of
+/// them is measured anew by walks.
 fn changed_mark(
     mark: &mut Landmark,
     next: u32,
@@ -194,10 +202,12 @@ fn changed_mark(
     kept: Kept,
 )
     requires sound { (first : ℕ) × (unused : ℕ) × IsSound part.now.bytes first unused }
-    requires mark { (old : List Block) × Replaced lo hi old (zone_in part.now.bytes) × IsMark next old mark.old }
+    requires mark { (old : List Block) × Replaced lo hi old (zone_in part.now.bytes)
+        × IsMark next old mark.old }
     requires lowered { Lowered lo hi next above }
     ensures at { Lowered lo hi mark.old.at mark.new.at }
-    ensures mark { (old : List Block) → Replaced lo hi old (zone_in part.now.bytes) → IsMark next old mark.old
+    ensures mark { (old : List Block) → Replaced lo hi old (zone_in part.now.bytes)
+        → IsMark next old mark.old
         → IsMark above (zone_in part.now.bytes) mark.new }
 {
     if hi <= mark.at || next <= lo {
@@ -213,8 +223,10 @@ fn changed_mark(
     }
 }
 
-/// Changes the landmarks after the blocks from `lo` to `hi` became others: only those landmarks change whose stretches
-/// have some of these blocks. The search for the last of these landmarks begins at the index `likely`.
+/// Changes the landmarks after the blocks from `lo` to `hi` became others: only those landmarks
+/// change whose stretches have some of these blocks, and nothing is known of their groups until
+/// these are renewed. The search for the last of these landmarks begins at the index `likely`.
+/// Returns the index of the first of them.
 pub fn change_marks(
     marks: &mut [Landmark],
     groups: &mut [Group],
@@ -223,9 +235,10 @@ pub fn change_marks(
     hi: u32,
     kept: Kept,
     likely: usize,
-)
+) -> usize
     requires sound { (first : ℕ) × (unused : ℕ) × IsSound part.now.bytes first unused }
-    requires marks { (old : List Block) × Replaced lo hi old (zone_in part.now.bytes) × AreMarks above_all old marks.old }
+    requires marks { (old : List Block) × Replaced lo hi old (zone_in part.now.bytes)
+        × AreMarks above_all old marks.old }
     requires groups { AreGroups groups.old marks.old }
     ensures marks { AreMarks above_all (zone_in part.now.bytes) marks.new }
     ensures groups { AreGroups groups.new marks.new }
@@ -244,11 +257,11 @@ pub fn change_marks(
         above = mark.at;
         next = old;
     }
-    renew_groups(marks, groups, first, last);
+    first
 }
 
-/// Measures the stretch of a new landmark: up to the first edge at or above `place`, or, for the last landmark, to the
-/// zone's top.
+/// Measures the stretch of a new landmark: up to the first edge at or above `place`, or, for the
+/// last landmark, to the zone's top.
 fn stretch_from(part: &Part, at: u32, place: u32, last: bool) -> Measured
     requires { IsOnWay at part.now.bytes }
     ensures last { last ≡ true → result.edge ≡ above_all }
@@ -272,8 +285,9 @@ pub struct NextMark {
     pub at: u32,
 }
 
-/// Lays a landmark anew at `at`, with what is known of the blocks up to `edge`: from `base` on these are relocatable
-/// blocks that lie packed, whose summary in spaces isn't known, and below `base` they are measured by a walk.
+/// Lays a landmark anew at `at`, with what is known of the blocks up to `edge`: from `base` on
+/// these are relocatable blocks that lie packed, whose summary in spaces isn't known, and below
+/// `base` they are measured by a walk.
 fn packed_mark(mark: &mut Landmark, part: &Part, at: u32, edge: u32, base: u32, kept: Kept)
     requires sound { (first : ℕ) × (unused : ℕ) × IsSound part.now.bytes first unused }
     requires begins { Begins at 0 (zone_in part.now.bytes) }
@@ -292,9 +306,9 @@ fn packed_mark(mark: &mut Landmark, part: &Part, at: u32, edge: u32, base: u32, 
     mark.tally.spaces = Tally::Unknown;
 }
 
-/// Lays landmarks by the noted edges: the next landmark, with its stretch up to the first edge, and a landmark at each
-/// edge except the last. Returns the landmark to be laid after these, which is to stand at the last edge. From `base`
-/// on no walk is needed.
+/// Lays landmarks by the noted edges: the next landmark, with its stretch up to the first edge, and
+/// a landmark at each edge except the last. Returns the landmark to be laid after these, which is
+/// to stand at the last edge. From `base` on no walk is needed.
 pub fn lay_edges(
     marks: &mut [Landmark],
     groups: &mut [Group],
@@ -330,8 +344,9 @@ pub fn lay_edges(
     next
 }
 
-/// Lays the landmarks from the next one on anew, each at the first edge in its page or above it, up to the first
-/// landmark at or above `hi` that stands there already. Returns the index of that landmark.
+/// Lays the landmarks from the next one on anew, each at the first edge in its page or above it, up
+/// to the first landmark at or above `hi` that stands there already. Returns the index of that
+/// landmark.
 pub fn lay_marks(
     marks: &mut [Landmark],
     groups: &mut [Group],

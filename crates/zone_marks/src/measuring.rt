@@ -1,11 +1,11 @@
 //! Walks over a stretch of a zone.
 
-ghost use Rattle.std.specs.Prelude.{◌≡◌, ◌+◌, ◌%◌, ◌==◌, ◌<◌, ◌≤◌, ◌^◌, not, if◌then◌else◌, ℕ, length};
-ghost use Rattle.std.specs.Prelude.{MatchOption, IfSome};
+ghost use Rattle.std.specs.Prelude.{◌≡◌, ◌+◌, ◌%◌, ◌==◌, ◌<◌, ◌≤◌, ◌^◌, not, if◌then◌else◌, ℕ};
+ghost use Rattle.std.specs.Prelude.{length, MatchOption, IfSome};
 ghost use Rattle.block_store.specs.Block.{Block, size, sizes};
 ghost use Rattle.block_store.specs.Compact.{largest_free};
 ghost use Rattle.block_store.specs.Seen.{seen};
-ghost use Rattle.heap_words.specs.Words.{word_at};
+ghost use Rattle.block_headers.specs.Words.{word_at};
 ghost use Rattle.zone_bytes.specs.Decode.{zone_in};
 ghost use Rattle.zone_bytes.specs.Lawful.{IsSound};
 ghost use Rattle.zone_bytes.specs.Changes.{AtEach, Begins};
@@ -14,8 +14,8 @@ ghost use Rattle.zone_bytes.specs.Settling.{runs_on};
 ghost use Rattle.zone_bytes.specs.Stepping.{left_in, IsOnWay};
 ghost use Rattle.zone_summary.specs.Stretches.{counted, space, spaces_of};
 
+use block_headers::LOCKED;
 use block_store::{Seen, UNIT};
-use heap_words::LOCKED;
 use raw_region::Part;
 use zone_bytes::{RawWalk, read_word, step_at, walk_from};
 use zone_summary::Stretch;
@@ -58,8 +58,9 @@ fn free_by_tag(tag: u32, size: u32) -> u32
     if tag == 0 { size } else { 0 }
 }
 
-/// Reports whether the block at `at` ends a run, by the number of its kind: a nonrelocatable block and a master
-/// pointer block do, and a relocatable block that is locked. The flags are read of a relocatable block only.
+/// Reports whether the block at `at` ends a run, by the number of its kind: a nonrelocatable block
+/// and a master pointer block do, and a relocatable block that is locked. The flags are read of a
+/// relocatable block only.
 fn ends_run_at(part: &Part, at: u32, tag: u32) -> bool
     requires multiple { at % 4 ≡ 0 }
     requires inside { at + 16 ≤ length part.now.bytes }
@@ -88,8 +89,8 @@ pub fn span_at(part: &Part, at: u32) -> Span
     }
 }
 
-/// Returns the summary of a block of `bytes` bytes in spaces: a free block adds its bytes to a space, and so does a
-/// relocatable block that is purgeable and not locked.
+/// Returns the summary of a block of `bytes` bytes in spaces: a free block adds its bytes to a
+/// space, and so does a relocatable block that is purgeable and not locked.
 fn space_of_seen(block: Seen, bytes: u32) -> Stretch
     ensures { (b : Block) → seen b ≡ block → size b ≡ bytes → result ≡ space b }
 {
@@ -105,8 +106,8 @@ fn space_of_seen(block: Seen, bytes: u32) -> Stretch
     }
 }
 
-/// Walks from one place to the first block that begins at or above another, or to the zone's end, and returns the summary
-/// of the blocks in spaces.
+/// Walks from one place to the first block that begins at or above another, or to the zone's end,
+/// and returns the summary of the blocks in spaces.
 pub fn spaces_up_to(part: &Part, from: u32, place: u32) -> Stretch
     requires { IsOnWay from part.now.bytes }
     ensures { spaces_of (between from place from (left_in from part.now.bytes)) ≡ result }
@@ -122,8 +123,8 @@ pub fn spaces_up_to(part: &Part, from: u32, place: u32) -> Stretch
     spaces
 }
 
-/// The result of a walk from a place: where the walk ended, the size of the largest free block that it passed, and the
-/// summary in runs of the blocks that it passed.
+/// The result of a walk from a place: where the walk ended, the size of the largest free block that
+/// it passed, and the summary in runs of the blocks that it passed.
 #[derive(Clone, Copy, Drop)]
 pub struct Measured {
     pub edge: u32,
@@ -157,12 +158,15 @@ pub fn measure_up_to(part: &Part, from: u32, place: u32) -> Measured
     }
 }
 
-/// Returns the place of the lowest free block of at least `bytes` bytes that begins at or above `from` and below `to`.
+/// Returns the place of the lowest free block of at least `bytes` bytes that begins at or above
+/// `from` and below `to`.
 pub fn room_between(part: &Part, from: u32, to: u32, bytes: u32) -> Option<u32>
     requires { IsOnWay from part.now.bytes }
-    ensures none { MatchOption result (AtEach (NoRoom bytes from to) from (left_in from part.now.bytes)) (λ _. Unit {0}) }
+    ensures none { MatchOption result
+        (AtEach (NoRoom bytes from to) from (left_in from part.now.bytes)) (λ _. Unit {0}) }
     ensures begins { IfSome result (λ place. Begins place from (left_in from part.now.bytes)) }
-    ensures lowest { IfSome result (λ place. AtEach (NoRoom bytes from place) from (left_in from part.now.bytes)) }
+    ensures lowest { IfSome result (λ place.
+        AtEach (NoRoom bytes from place) from (left_in from part.now.bytes)) }
     ensures room { IfSome result (λ place. RoomAt bytes place part.now.bytes) }
 {
     let stop = to.min(part.len() as u32);

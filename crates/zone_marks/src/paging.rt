@@ -6,7 +6,8 @@ ghost use Rattle.zone_bytes.specs.Lawful.{IsSound};
 use crate::landmark::GROUP;
 use raw_region::Part;
 
-/// The greatest number of landmarks of a zone, one for each of its pages. Each change walks over the blocks of a page.
+/// The greatest number of landmarks of a zone, one for each of its pages. Each change walks over
+/// the blocks of a page.
 pub const LANDMARKS: usize = 8192;
 
 /// The greatest number of groups of landmarks of a zone. The search for room goes over all of them.

@@ -31,19 +31,21 @@ fn purgeable_of_seen(block: Seen, bytes: u32) -> u32
 pub fn purgeable_at(part: &Part, place: u32) -> u32
     requires way { IsOnWay place part.now.bytes }
     requires some { place < length part.now.bytes }
-    ensures { (b : Block) (above : List Block) → left_in place part.now.bytes ≡ b ∷ above → result ≡ purgeable_of b }
+    ensures { (b : Block) (above : List Block) → left_in place part.now.bytes ≡ b ∷ above
+        → result ≡ purgeable_of b }
 {
     let step = step_at(part, place);
     purgeable_of_seen(step.block, step.end - place)
 }
 
-/// Returns the bytes that the blocks of a zone would free, where the block at `place` became another: before that the
-/// blocks would have freed `before` bytes, and the block `given` of them.
+/// Returns the bytes that the blocks of a zone would free, where the block at `place` became
+/// another: before that the blocks would have freed `before` bytes, and the block `given` of them.
 pub fn purgeable_with(part: &Part, place: u32, before: u32, given: u32) -> u32
     requires sound { (first : ℕ) × (unused : ℕ) × IsSound part.now.bytes first unused }
     requires became { (old : List Block) × (b : Became place old (zone_in part.now.bytes))
         × (given ≡ purgeable_of b.here) × (before ≡ purgeable_sum old) }
-    ensures { (old : List Block) (b : Became place old (zone_in part.now.bytes)) → given ≡ purgeable_of b.here
+    ensures { (old : List Block) (b : Became place old (zone_in part.now.bytes))
+        → given ≡ purgeable_of b.here
         → before ≡ purgeable_sum old → result ≡ purgeable_sum (zone_in part.now.bytes) }
 {
     before - given + purgeable_at(part, place)
@@ -79,8 +81,8 @@ pub fn frees_one(sparing: Sparing) -> bool
     }
 }
 
-/// Returns the bytes that the blocks of a zone would free, where purges made `freed` bytes free and the blocks would have
-/// freed `before` bytes.
+/// Returns the bytes that the blocks of a zone would free, where purges made `freed` bytes free and
+/// the blocks would have freed `before` bytes.
 #[tactic(auto, using(crate::proofs::Marks::Owed::given_steps))]
 pub fn purgeable_left(part: &Part, before: u32, freed: u32, sparing: Sparing) -> u32
     requires { (first : ℕ) × (unused : ℕ) × IsSound part.now.bytes first unused }
@@ -95,12 +97,14 @@ pub fn purgeable_left(part: &Part, before: u32, freed: u32, sparing: Sparing) ->
     }
 }
 
-/// Reports whether `most`, the free bytes of a zone after all blocks that may be purged were purged, are fewer than
-/// `bytes`: then no run of the zone has `bytes` free bytes, after however many purges. If `sparing` counts a block as free
-/// that is not free, nothing is known and the result is `false`.
+/// Reports whether `most`, the free bytes of a zone after all blocks that may be purged were
+/// purged, are fewer than `bytes`: then no run of the zone has `bytes` free bytes, after however
+/// many purges. If `sparing` counts a block as free that is not free, nothing is known and the
+/// result is `false`.
 #[tactic(auto, using(crate::proofs::Marks::Owed::given_steps))]
 pub fn falls_short(most: u32, bytes: u32, sparing: Sparing) -> bool
-    ensures { result ≡ true → (zone : List Block) (purges : ℕ) → most ≡ free_sum zone + purgeable_sum zone
+    ensures { result ≡ true → (zone : List Block) (purges : ℕ)
+        → most ≡ free_sum zone + purgeable_sum zone
         → free_sum (purged purges sparing zone) < bytes }
 {
     !frees_one(sparing) && most < bytes

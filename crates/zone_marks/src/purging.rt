@@ -11,7 +11,8 @@ ghost use Rattle.block_store.specs.Inner.Purging.{left_past};
 ghost use Rattle.zone_bytes.specs.Decode.{zone_in};
 ghost use Rattle.zone_bytes.specs.Lawful.{IsSound};
 ghost use Rattle.zone_marks.specs.Marked.{AreOf};
-ghost use Rattle.zone_marks.specs.Purging.{Purge, Purging, Purged, MayPurge, purge_above, purge_zone};
+ghost use Rattle.zone_marks.specs.Purging.{Purge, Purging, Purged, MayPurge, purge_above};
+ghost use Rattle.zone_marks.specs.Purging.{purge_zone};
 ghost use Rattle.zone_bytes.specs.Joining.{Freeing};
 ghost use Rattle.zone_bytes.specs.Beside.{KeepsPlace};
 
@@ -23,8 +24,8 @@ use block_store::{Seen, Sparing, free_of_seen, is_counted_free, may_purge};
 use raw_region::Part;
 use zone_bytes::{last_free_below, step_at};
 
-/// The state of a pass over a zone: the free bytes from `start` to `at` are one block, `left` purges are left, and
-/// `freed` bytes became free.
+/// The state of a pass over a zone: the free bytes from `start` to `at` are one block, `left`
+/// purges are left, and `freed` bytes became free.
 #[derive(Clone, Copy)]
 struct Pass {
     start: u32,
@@ -33,9 +34,11 @@ struct Pass {
     freed: u32,
 }
 
-/// Returns the purges left after a block that counts as free or is purged; `None` for a block that stays.
+/// Returns the purges left after a block that counts as free or is purged; `None` for a block that
+/// stays.
 fn left_after(block: Seen, left: u32, sparing: Sparing) -> Option<u32>
-    ensures { (b : Block) → seen b ≡ block → result ≡ left_past (spared sparing) left (opened_block sparing b) }
+    ensures { (b : Block) → seen b ≡ block
+        → result ≡ left_past (spared sparing) left (opened_block sparing b) }
 {
     if left > 0 && may_purge(block, sparing) {
         return Some(left - 1);
@@ -47,12 +50,15 @@ fn left_after(block: Seen, left: u32, sparing: Sparing) -> Option<u32>
     }
 }
 
-/// Passes one block: frees it if it is to be purged or counts as free, and joins it with the free bytes below.
+/// Passes one block: frees it if it is to be purged or counts as free, and joins it with the free
+/// bytes below.
 fn pass_block(part: &mut Part, pass: Pass, sparing: Sparing) -> Pass
-    requires pass { (p : Purge) × Purging p sparing pass.start pass.at pass.left pass.freed part.old.bytes }
+    requires pass { (p : Purge)
+        × Purging p sparing pass.start pass.at pass.left pass.freed part.old.bytes }
     requires some { pass.at < length part.old.bytes }
     ensures same { KeepsPlace part.old part.new }
-    ensures pass { (p : Purge) → Purging p sparing pass.start pass.at pass.left pass.freed part.old.bytes →
+    ensures pass { (p : Purge)
+        → Purging p sparing pass.start pass.at pass.left pass.freed part.old.bytes →
         Purging p sparing result.start result.at result.left result.freed part.new.bytes }
     ensures further { pass.at < result.at }
 {
@@ -73,8 +79,8 @@ fn pass_block(part: &mut Part, pass: Pass, sparing: Sparing) -> Pass
     }
 }
 
-/// Reports whether a pass has something left to do: purges, free bytes that may have to be joined with a free block
-/// above them, or a block that counts as free.
+/// Reports whether a pass has something left to do: purges, free bytes that may have to be joined
+/// with a free block above them, or a block that counts as free.
 fn goes_on(pass: Pass, sparing: Sparing) -> bool
     ensures { result ≡ false → (pass.left ≡ 0) × (pass.at ≤ pass.start)
         × ((blocks : List Block) → opened sparing blocks ≡ blocks) }
@@ -82,9 +88,9 @@ fn goes_on(pass: Pass, sparing: Sparing) -> bool
     pass.left > 0 || pass.start < pass.at || frees_one(sparing)
 }
 
-/// Purges the lowest blocks from `at` on that may be purged, `purges` of them, where the bytes from `start` to `at`
-/// are free, and frees a block that counts as free. Blocks above the last one that becomes free are not passed, but for
-/// the next one that stays.
+/// Purges the lowest blocks from `at` on that may be purged, `purges` of them, where the bytes from
+/// `start` to `at` are free, and frees a block that counts as free. Blocks above the last one that
+/// becomes free are not passed, but for the next one that stays.
 pub fn purge_from(part: &mut Part, start: u32, at: u32, purges: u32, sparing: Sparing) -> Freed
     requires { (p : Purge) × Purging p sparing start at purges 0 part.old.bytes }
     ensures same { KeepsPlace part.old part.new }
@@ -109,8 +115,8 @@ pub fn purge_from(part: &mut Part, start: u32, at: u32, purges: u32, sparing: Sp
     }
 }
 
-/// Returns the place of the lowest block that may be purged, if there is one and no block counts as free that is not
-/// free.
+/// Returns the place of the lowest block that may be purged, if there is one and no block counts as
+/// free that is not free.
 fn first_to_go(part: &Part, marks: &Landmarks, sparing: Sparing) -> Option<u32>
     requires sound { (first : ℕ) × (unused : ℕ) × IsSound part.now.bytes first unused }
     requires marks { AreOf marks.now (zone_in part.now.bytes) }
@@ -124,14 +130,16 @@ fn first_to_go(part: &Part, marks: &Landmarks, sparing: Sparing) -> Option<u32>
     next_purgeable(part, marks.start(), 0, sparing)
 }
 
-/// Purges the lowest blocks that may be purged, `purges` of them, and frees a block that counts as free. The pass
-/// begins at the free bytes below the lowest block that may be purged; where a block counts as free, at the bottom.
+/// Purges the lowest blocks that may be purged, `purges` of them, and frees a block that counts as
+/// free. The pass begins at the free bytes below the lowest block that may be purged; where a block
+/// counts as free, at the bottom.
 pub fn purge_lowest(part: &mut Part, marks: &Landmarks, purges: u32, sparing: Sparing) -> Freed
     requires sound { (first : ℕ) × (unused : ℕ) × IsSound part.old.bytes first unused }
     requires marks { AreOf marks.now (zone_in part.old.bytes) }
     ensures same { KeepsPlace part.old part.new }
     ensures purged { (first unused : ℕ) (i : IsSound part.old.bytes first unused) →
-        Purged (purge_zone result.from part.old.bytes i.unused purges sparing) result.to result.bytes part.new.bytes }
+        Purged (purge_zone result.from part.old.bytes i.unused purges sparing) result.to
+        result.bytes part.new.bytes }
 {
     let Some(place) = first_to_go(part, marks, sparing) else {
         return purge_from(part, 0, 0, purges, sparing);

@@ -11,6 +11,7 @@ use Rattle.block_store.specs.Block.{Block, Nonrelocatable, Masters, Relocatable,
 use Rattle.block_store.specs.Room.{Spot, spot}
 use Rattle.heap_calls.specs.State.{State, Memory, Meaning, Handle, Pointer, Plain, used_slots, all_slots, uses_slot}
 use Rattle.heap_calls.specs.Asked as asks
+use Rattle.heap_calls.proofs.Promises.Knowing.{pushed}
 use Rattle.applications.specs.Names.{Bindings, bound_to, bind}
 use Rattle.zone_scripts.specs.Parts.{Part, Relocated, Fixed, Gap, numbered, physical, bytes_of, handle_of, handles}
 use Rattle.zone_scripts.specs.Lines.{Line, MoreMasters, NewHandle, NewPtr, HLock, HPurge, HUnlock, name_of, making, NamesDiffer}
@@ -20,7 +21,7 @@ use Rattle.zone_script_laws.proofs.Parted.{spot-first}
 use Rattle.zone_script_laws.proofs.Calls.{more_masters-done, new_pointer-done, new_handle-done}
 use Rattle.zone_script_laws.proofs.Serving.{Serves, serves-more_masters, serves-new_pointer, serves-new_handle, serves-lock, serves-unlock}
 use Rattle.zone_script_laws.proofs.Serving.{serves-purge}
-use Rattle.zone_script_laws.proofs.Steps.{Stands, step, bind-new, bound-new, bindings, NoneBound, none-bound-more, get-new}
+use Rattle.zone_script_laws.proofs.Steps.{Stands, step, bind-new, bound-new, bindings, NoneBound, none-bound-more}
 use Rattle.zone_script_laws.proofs.Numbers.{held, Below, below-held, held-stays, masters-held, masters-free, same-number}
 
 -- The calls that make the blocks, one above the other.
@@ -140,7 +141,7 @@ handle-one name flags size rest m b holds bs g names s stay low slots fits small
     refl s.calm
     (λ m' s'. subst (λ c. Runs (HLock name ∷ (purging flags.purgeable ++ rest)) m' c holds) (sym bound)
     (lock-step name (length names) (purging flags.purgeable ++ rest) m' names-bound holds (block no_flags) bs no_flags (replicate size 0)
-    (free (g - padded size)) (names ++ Handle Plain ∷ []) (bound-new name (length names) b none) (get-new names (Handle Plain)) s'
+    (free (g - padded size)) (names ++ Handle Plain ∷ []) (bound-new name (length names) b none) (pushed names (Handle Plain)) s'
     (at no_flags) (λ m'' s''. purged flags.purgeable refl m'' s'')))
   where
     purging : Bool → List Line
@@ -169,7 +170,7 @@ handle-one name flags size rest m b holds bs g names s stay low slots fits small
         → Runs (purging t ++ rest) m' names-bound holds
     purged true e m' s' = purge-step name (length names) rest m' names-bound holds (block (record { locked = true; purgeable = false })) bs
         (record { locked = true; purgeable = false }) (replicate size 0) (free (g - padded size)) (names ++ Handle Plain ∷ [])
-        (bound-new name (length names) b none) (get-new names (Handle Plain)) s' (at (record { locked = true; purgeable = false }))
+        (bound-new name (length names) b none) (pushed names (Handle Plain)) s' (at (record { locked = true; purgeable = false }))
         (finish true e)
     purged false e m' s' = finish false e m' s'
 

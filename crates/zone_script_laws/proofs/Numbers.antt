@@ -1,11 +1,12 @@
-use Rattle.std.proofs.Common.{◌≡◌, ℕ, ◌+◌, ◌≤◌, ◌<◌, zero, suc, Bool, true, false, ◌==◌, ◌||◌, List, [], ◌∷◌, ◌++◌, refl, ◌∙◌, cond}
+use Rattle.std.proofs.Common.{◌≡◌, ℕ, ◌+◌, ◌≤◌, ◌<◌, zero, suc, true, false, ◌==◌, List, [], ◌∷◌, ◌++◌, refl, ◌∙◌, cond}
 use Rattle.std.proofs.Common.{arith, replicate}
-use Rattle.std.proofs.lemmas.Bool.{ne_eqb, or_parts}
+use Rattle.std.proofs.lemmas.Bool.{ne_eqb, or_from}
 use Rattle.std.proofs.lemmas.Bool.Decides.{Decides-eqb}
 use Rattle.block_store.specs.Block.{Block, Nonrelocatable, Masters, Relocatable, size, count, free, is_relocatable, is_nonrelocatable}
 use Rattle.block_store.specs.Block.{is_masters}
 use Rattle.block_store.specs.Run.{has}
 use Rattle.block_store.proofs.Zone.Totals.{total-append}
+use Rattle.block_store.proofs.Zone.Passing.{none-append}
 use Rattle.zone_scripts.specs.Parts.{Part, Relocated, Fixed, Gap, numbered, block_of}
 use Rattle.zone_script_laws.proofs.Fixed.{Stay}
 
@@ -35,15 +36,6 @@ pub record NoneHas (n : ℕ) (bs : List Block) : Type 0 where
 abbrev pub Below : ℕ → List Block → Type 0
 Below n bs = (k : ℕ) → n ≤ k → NoneHas k bs
 
-or-false : (a b : Bool) → a ≡ false → b ≡ false → (a || b) ≡ false
-or-false a b e f = rw (e, f) refl
-
-pub has-none-append : (test : Block → Bool) (xs ys : List Block) → has test xs ≡ false → has test ys ≡ false → has test (xs ++ ys) ≡ false
-has-none-append test [] ys a b = b
-has-none-append test (x ∷ xs) ys a b =
-    let parts = or_parts (test x) (has test xs) a in
-    or-false (test x) (has test (xs ++ ys)) parts.0 (has-none-append test xs ys parts.1 b)
-
 held-handle : (n k : ℕ) (p : Part) → (n == k) ≡ false → is_relocatable k (held n p) ≡ false
 held-handle n k (Relocated master flags size) e = e
 held-handle n k (Fixed address size) e = refl
@@ -69,8 +61,8 @@ below-held n p bs below k less =
     let e = other-number n k (omega arith) in
     let b = below k (omega arith) in
     record {
-      handle = has-none-append (is_relocatable k) bs (held n p ∷ []) b.handle (or-false _ _ (held-handle n k p e) refl);
-      pointer = has-none-append (is_nonrelocatable k) bs (held n p ∷ []) b.pointer (or-false _ _ (held-pointer n k p e) refl);
+      handle = none-append (is_relocatable k) bs (held n p ∷ []) b.handle (or_from _ _ (held-handle n k p e) refl);
+      pointer = none-append (is_nonrelocatable k) bs (held n p ∷ []) b.pointer (or_from _ _ (held-pointer n k p e) refl);
     }
 
 pub below-block : (n : ℕ) (p : Part) (bs : List Block) → Below n bs → Below (suc n) (bs ++ block_of n p ∷ [])
@@ -78,8 +70,8 @@ below-block n p bs below k less =
     let e = other-number n k (omega arith) in
     let b = below k (omega arith) in
     record {
-      handle = has-none-append (is_relocatable k) bs (block_of n p ∷ []) b.handle (or-false _ _ (block-handle n k p e) refl);
-      pointer = has-none-append (is_nonrelocatable k) bs (block_of n p ∷ []) b.pointer (or-false _ _ (block-pointer n k p e) refl);
+      handle = none-append (is_relocatable k) bs (block_of n p ∷ []) b.handle (or_from _ _ (block-handle n k p e) refl);
+      pointer = none-append (is_nonrelocatable k) bs (block_of n p ∷ []) b.pointer (or_from _ _ (block-pointer n k p e) refl);
     }
 
 pub below-masters : (n j : ℕ) → Below n (replicate j Masters)
@@ -91,7 +83,7 @@ pub later-held : (n k g : ℕ) (parts : List Part) → k < n → has (is_nonrelo
 later-held n k zero [] less = refl
 later-held n k (suc g) [] less = refl
 later-held n k g (p ∷ parts) less =
-    or-false _ _ (held-pointer n k p (later-number k n less)) (later-held (suc n) k g parts (omega arith))
+    or_from _ _ (held-pointer n k p (later-number k n less)) (later-held (suc n) k g parts (omega arith))
 
 -- they stay
 pub held-stays : (n : ℕ) (p : Part) → Stay (held n p ∷ [])

@@ -1,18 +1,19 @@
-use Rattle.std.proofs.Common.{◌≡◌, ℕ, ◌+◌, zero, suc, Bool, true, false, List, [], ◌∷◌, ◌++◌, refl, sym, ◌∙◌, ap, cond}
+use Rattle.std.proofs.Common.{◌≡◌, ℕ, ◌+◌, Bool, true, false, List, [], ◌∷◌, ◌++◌, refl, ◌∙◌, ap, cond}
 use Rattle.std.proofs.Common.{Some}
 use Rattle.std.specs.Option.{option_map}
 use Rattle.std.proofs.lemmas.Bool.{cond-true, cond-false, or_parts}
 use Rattle.std.proofs.lemmas.List.{map-append}
 use Rattle.block_store.specs.declared.flags.Flags.{Flags}
-use Rattle.block_store.specs.Block.{Block, Free, Nonrelocatable, Masters, Relocatable, size, add, tidy, is_relocatable, is_nonrelocatable}
+use Rattle.block_store.specs.Block.{Block, Free, Nonrelocatable, Relocatable, size, add, tidy, is_relocatable, is_nonrelocatable}
 use Rattle.block_store.specs.Run.{has}
 use Rattle.block_store.specs.Room.{spot, raised}
 use Rattle.block_store.specs.Grow.{freed}
 use Rattle.block_store.proofs.Zone.Apart.{tidy-tidy}
-use Rattle.block_store.proofs.Zone.Joining.{joined-free}
 use Rattle.block_store.proofs.Zone.Parted.{tidy-parted}
 use Rattle.block_store.proofs.Zone.Tidy.{has-tidy}
-use Rattle.block_store.proofs.Regroup.Packed.{tidy-below, tidy-free}
+use Rattle.block_store.proofs.Regroup.Packed.{tidy-below}
+use Rattle.block_store.proofs.Zone.Absence.{freed-absent}
+use Rattle.heap_calls.proofs.Room.Packing.{tidy-left}
 
 -- One block of a zone, found by its name and changed.
 
@@ -24,33 +25,10 @@ spot-first test (c ∷ below) b above none is =
     let parts = or_parts (test c) (has test below) none in
     cond-false (test c) _ _ parts.0 ∙ ap (option_map (raised c)) (spot-first test below b above parts.1 is)
 
--- no block passes, so none is freed
-pub freed-none : (test : Block → Bool) (bs : List Block) → has test bs ≡ false → freed test bs ≡ bs
-freed-none test [] none = refl
-freed-none test (b ∷ bs) none =
-    let parts = or_parts (test b) (has test bs) none in
-    ap (λ c. c ∷ freed test bs) (cond-false (test b) (Free (size b)) b parts.0) ∙ ap (λ l. b ∷ l) (freed-none test bs parts.1)
-
-tidy-added : (b : Block) (bs above : List Block) → tidy (add b bs ++ above) ≡ tidy (b ∷ bs ++ above)
-tidy-added (Free zero) bs above = refl
-tidy-added (Free (suc n)) [] above = refl
-tidy-added (Free (suc n)) (Free m ∷ bs) above =
-    tidy-free (suc n + m) (bs ++ above) ∙ sym (joined-free (suc n) m (bs ++ above))
-tidy-added (Free (suc n)) (Nonrelocatable id content ∷ bs) above = refl
-tidy-added (Free (suc n)) (Masters ∷ bs) above = refl
-tidy-added (Free (suc n)) (Relocatable id flags content ∷ bs) above = refl
-tidy-added (Nonrelocatable id content) bs above = refl
-tidy-added Masters bs above = refl
-tidy-added (Relocatable id flags content) bs above = refl
-
 -- what is tidied twice
-pub tidied-below : (below above : List Block) → tidy (tidy below ++ above) ≡ tidy (below ++ above)
-tidied-below [] above = refl
-tidied-below (b ∷ below) above = tidy-added b (tidy below) above ∙ ap (add b) (tidied-below below above)
-
 pub tidied-both : (below : List Block) (b : Block) (above : List Block)
     → tidy (tidy below ++ b ∷ tidy above) ≡ tidy (below ++ b ∷ above)
-tidied-both below b above = tidied-below below (b ∷ tidy above)
+tidied-both below b above = tidy-left below (b ∷ tidy above)
     ∙ tidy-below below (b ∷ tidy above) (b ∷ above) (ap (add b) (tidy-tidy above))
 
 -- the block of a handle in a zone
@@ -86,6 +64,6 @@ freed-nonrelocatable n content below above is none none' =
     ∙ ap tidy (map-append (λ c. cond (is_nonrelocatable n c) (Free (size c)) c) (tidy below) (Nonrelocatable n content ∷ tidy above)
     ∙ ap (λ c. freed (is_nonrelocatable n) (tidy below) ++ c ∷ freed (is_nonrelocatable n) (tidy above))
     (cond-true (is_nonrelocatable n (Nonrelocatable n content)) (Free (size (Nonrelocatable n content))) (Nonrelocatable n content) is)
-    ∙ (λ i. freed-none (is_nonrelocatable n) (tidy below) a i ++ Free (size (Nonrelocatable n content))
-    ∷ freed-none (is_nonrelocatable n) (tidy above) b i))
+    ∙ (λ i. freed-absent (is_nonrelocatable n) (tidy below) a i
+    ++ Free (size (Nonrelocatable n content)) ∷ freed-absent (is_nonrelocatable n) (tidy above) b i))
     ∙ tidied-both below (Free (size (Nonrelocatable n content))) above

@@ -1,5 +1,5 @@
 use Rattle.std.proofs.Common.{◌≡◌, ℕ, ◌<◌, zero, suc, Bool, true, false, List, [], ◌∷◌, ◌++◌, refl, sym, ◌∙◌, ap, cond, subst}
-use Rattle.std.proofs.Common.{Some, None, arith, length, slice_get, slice_set, bytes_eq}
+use Rattle.std.proofs.Common.{Some, None, arith, slice_get, slice_set, bytes_eq}
 use Rattle.std.proofs.lemmas.Bool.{cond-true, cond-false}
 use Rattle.std.proofs.lemmas.Option.{none-some}
 use Rattle.std.proofs.lemmas.Slice.Eq.{bytes_eq-Decides}
@@ -45,11 +45,8 @@ bind-new name n (x ∷ b) none = cases (bytes_eq name x.0) none (bind-new name n
     cases true e more = absurd (none-some _ (sym e))
     cases false e more = ap (λ l. x ∷ l) (more e)
 
-pub same_name : (name : List ℕ) → bytes_eq name name ≡ true
-same_name name = (bytes_eq-Decides name name).1 refl
-
 pub bound-new : (name : List ℕ) (n : ℕ) (b : Bindings) → bound_to name b ≡ None → bound_to name (b ++ (name, n) ∷ []) ≡ Some n
-bound-new name n [] none = cond-true (bytes_eq name name) (Some n) None (same_name name)
+bound-new name n [] none = cond-true (bytes_eq name name) (Some n) None ((bytes_eq-Decides name name).1 refl)
 bound-new name n (x ∷ b) none = cases (bytes_eq name x.0) none (bound-new name n b)
   where
     cases : (t : Bool) → cond t (Some x.1) (bound_to name b) ≡ None
@@ -105,15 +102,12 @@ all-bound-past name n k b (p ∷ parts) all apart = (
 pub all-bound : (n : ℕ) (parts : List Part) → NamesDiffer parts → AllBound (bindings n parts) n parts
 all-bound n [] differ = tt
 all-bound n (p ∷ parts) differ = (
-  cond-true (bytes_eq (name_of p) (name_of p)) (Some n) (bound_to (name_of p) (bindings (suc n) parts)) (same_name (name_of p)),
+  cond-true (bytes_eq (name_of p) (name_of p)) (Some n) (bound_to (name_of p) (bindings (suc n) parts))
+      ((bytes_eq-Decides (name_of p) (name_of p)).1 refl),
   all-bound-past (name_of p) n (suc n) (bindings (suc n) parts) parts (all-bound (suc n) parts differ.1) differ.0,
 )
 
 -- what names stand for
-pub get-new : (names : List Meaning) (x : Meaning) → slice_get (names ++ x ∷ []) (length names) ≡ Some x
-get-new [] x = refl
-get-new (y ∷ names) x = get-new names x
-
 pub get-after-set : (names : List Meaning) (i k : ℕ) (x : Meaning) → i < k → slice_get (slice_set names i x) k ≡ slice_get names k
 get-after-set [] i k x less = refl
 get-after-set (y ∷ names) i zero x less = absurd (omega arith)

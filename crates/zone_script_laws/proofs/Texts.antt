@@ -5,6 +5,7 @@ use Rattle.std.specs.List.{AllByRecursion}
 use Rattle.std.specs.Option.{option_map}
 use Rattle.std.specs.Str.Lines.{lines}
 use Rattle.std.proofs.lemmas.Bool.{cond-false}
+use Rattle.plain_laws.proofs.Elements.{each-append}
 use Rattle.real_zone.specs.declared.form.Form.{Form}
 use Rattle.script_text.specs.declared.fault.FaultKind.{FaultKind}
 use Rattle.script_text.specs.declared.script.Line.{Line as Step}
@@ -23,15 +24,11 @@ use Rattle.zone_script_laws.proofs.Heading.{notes-read, head-read}
 -- The text of a script states its calls.
 
 -- the calls for parts that have room in a partition are readable
-all-joined : {A : Type 0} (P : A → Type 0) (xs ys : List A) → AllByRecursion P xs → AllByRecursion P ys → AllByRecursion P (xs ++ ys)
-all-joined P [] ys one more = more
-all-joined P (x ∷ xs) ys one more = (one.0, all-joined P xs ys one.1 more)
-
 all-flat : (f : Part → List Line) → ((p : Part) → logical p ≤ 2147483647 → AllByRecursion Readable (f p)) → (parts : List Part)
     → bytes_of parts ≤ 134217728 → AllByRecursion Readable (flat_map f parts)
 all-flat f each [] small = tt
 all-flat f each (p ∷ parts) small =
-    all-joined Readable (f p) (flat_map f parts) (each p (omega arith)) (all-flat f each parts (omega arith))
+    each-append Readable (f p) (flat_map f parts) (each p (omega arith)) (all-flat f each parts (omega arith))
 
 masters-readable : (n : ℕ) → AllByRecursion Readable (replicate n MoreMasters)
 masters-readable zero = tt
@@ -67,8 +64,8 @@ ending-readable (Gap address size) small = (gap-name address, tt)
 lines-readable : (parts : List Part) → partition_of parts ≤ 134217728 → AllByRecursion Readable (lines_of parts)
 lines-readable parts small =
     let bytes : bytes_of parts ≤ 134217728 = omega arith in
-    all-joined Readable (replicate (more_masters parts) MoreMasters ++ flat_map making parts) (flat_map ending parts)
-    (all-joined Readable (replicate (more_masters parts) MoreMasters) (flat_map making parts) (masters-readable (more_masters parts))
+    each-append Readable (replicate (more_masters parts) MoreMasters ++ flat_map making parts) (flat_map ending parts)
+    (each-append Readable (replicate (more_masters parts) MoreMasters) (flat_map making parts) (masters-readable (more_masters parts))
     (all-flat making making-readable parts bytes))
     (all-flat ending ending-readable parts bytes)
 
@@ -88,9 +85,6 @@ none-missing a n (l ∷ calls) =
     cond-false (sets_missing a (said_of l)) (Some (record { line = n; said = said_of l }))
     (find (λ s. sets_missing a s.said) (stated_from (n + 1) calls)) (sets-none a l)
     ∙ none-missing a (n + 1) calls
-
-abbrev stating : List Statement → Spelled
-stating steps = record { steps = steps; blocks = [] }
 
 -- what the reader reads in the text
 pub text_is_read : (form : Form) (zone : ℕ) (parts : List Part) → partition_of parts ≤ 134217728

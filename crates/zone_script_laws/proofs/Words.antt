@@ -1,13 +1,13 @@
 use Rattle.std.proofs.Common.{◌≡◌, ℕ, ◌+◌, ◌/◌, ◌%◌, ◌^◌, ◌<◌, ◌≤◌, suc, Bool, true, false, ◌==◌, ◌&&◌, ◌||◌, nat_le, nat_lt, List}
-use Rattle.std.proofs.Common.{refl, ◌∙◌, ap, cond, Some, None, arith, length, decimal, rules}
+use Rattle.std.proofs.Common.{refl, ◌∙◌, ap, cond, Some, None, arith, length, decimal}
 use Rattle.std.specs.List.{list_all}
 use Rattle.std.specs.Option.{option_map}
 use Rattle.std.specs.Char.{is_ascii_digit, is_ascii_alphabetic}
 use Rattle.std.proofs.lemmas.Bool.{and_from, le-leb, ltb-true, ltb-false}
 use Rattle.std.proofs.lemmas.Bool.Decides.{nat_tests}
 use Rattle.std.proofs.lemmas.Fmt.{digits_decimal, digits_value-decimal, decimal_nonempty, length-decimal-le}
-use Rattle.std.proofs.lemmas.Str.Parse.{IsNumeralModel, numerals_by_fold}
 use Rattle.script_text.specs.Argument.{Letters, Number, Label, Size, is_label_byte, begins_label, number_from, number_within, value}
+use Rattle.script_text.proofs.Numerals.{numerals}
 use Rattle.zone_scripts.specs.Hex.{hex_digit, digit_at, hex_text}
 use Rattle.zone_scripts.specs.Lines.{named}
 use Rattle.zone_script_laws.proofs.Letters.{all-weaker}
@@ -57,9 +57,6 @@ name-value name h =
     ∙ ap (λ n. option_map Letters (cond (nat_le n 63) (Some name) None)) h.long
 
 -- a number in decimal
-numerals : IsNumeralModel (λ ds. list_all is_ascii_digit ds ≡ true) (number_from 0)
-numerals = numerals_by_fold _ (search rules) number_from (search rules)
-
 digit-is-letter : (c : ℕ) → is_ascii_digit c ≡ true → is_label_byte c ≡ true
 digit-is-letter c is = ap (λ t. ((t || nat_le 65 c && nat_le c 90) || nat_le 97 c && nat_le c 122) || c == 95) is
 

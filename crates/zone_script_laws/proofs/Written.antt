@@ -15,8 +15,9 @@ use Rattle.script_text.specs.Reading.{◌>>=◌}
 use Rattle.script_text.specs.Token.{place, is_blank, after_blanks, may_end}
 use Rattle.script_text.specs.Argument.{Label, Size, Value, Letters, Number, is_label_byte, arguments, value}
 use Rattle.script_text.specs.Call.{kinds, meant, word_spelled}
-use Rattle.script_text.specs.Script.{Above, Statement, Makes, with_statement, with_token, with_text, longest_line}
+use Rattle.script_text.specs.Script.{Above, Statement, with_statement, with_token, with_text, longest_line}
 use Rattle.script_text.specs.Script.{read_at, read_from, at_line}
+use Rattle.script_text.proofs.Rows.{says}
 use Rattle.zone_scripts.specs.Lines.{Line, MoreMasters, NewHandle, NewPtr, HLock, HPurge, HUnlock, DisposePtr}
 use Rattle.zone_scripts.specs.Text.{named_text, sized_text, line_text, lines_text}
 use Rattle.zone_script_laws.specs.Spoken.{said_of}
@@ -31,9 +32,6 @@ use Rattle.zone_script_laws.proofs.Words.{IsName, name-value, decimal-some, deci
 -- what stands above a line: these steps, and no grow-zone script
 abbrev pub above : List Statement → Above
 above steps = record { steps = steps; blocks = []; begun = None }
-
-abbrev says : ℕ → CallWord → List Value → Statement
-says n w values = record { line = n; said = Makes w values }
 
 -- a line by its first token, which spells a word
 said-so : (w : CallWord) (token rest : List ℕ) (values : List Value) (n : ℕ) (steps : List Statement)

@@ -1,4 +1,5 @@
-//! The summary of a stretch of blocks in runs or in spaces, and the summary of two neighbouring stretches.
+//! The summary of a stretch of blocks in runs or in spaces, and the summary of two neighbouring
+//! stretches.
 
 ghost use Rattle.std.specs.Prelude.{◌≡◌, ◌+◌, ◌^◌, ◌<◌, ◌++◌, List};
 ghost use Rattle.block_store.specs.Block.{Block};
@@ -14,17 +15,20 @@ ghost use Rattle.zone_summary.specs.declared.stretch.Counting.{Counting as Count
 pub enum Counting {
     /// The free bytes of runs, which are one block once the run is packed.
     Runs,
-    /// The bytes of spaces: of neighbouring blocks that are free, or would be free if they were purged.
+    /// The bytes of spaces: of neighbouring blocks that are free, or would be free if they were
+    /// purged.
     Spaces,
 }
 
-/// The summary of a stretch of blocks, in bytes. Counted in spaces, a space stands for each run that is named here.
+/// The summary of a stretch of blocks, in bytes. Counted in spaces, a space stands for each run
+/// that is named here.
 #[derive(Clone, Copy)]
 pub enum Stretch {
     /// No block of the stretch ends a run. The number is that of the stretch's free bytes.
     Whole(u32),
-    /// A block of the stretch ends a run. The numbers are those of the free bytes of the run at the lower end, of the run
-    /// with the most between two blocks that end one, and of the run at the upper end.
+    /// A block of the stretch ends a run. The numbers are those of the free bytes of the run at the
+    /// lower end, of the run with the most between two blocks that end one, and of the run at the
+    /// upper end.
     Ended(u32, u32, u32),
 }
 
@@ -40,7 +44,8 @@ impl Stretch {
     pub fn join(self, high: Stretch) -> Stretch
         requires { suffix self + prefix high < 2 ^ 32 }
         ensures is { result ≡ stretches.join self high }
-        ensures blocks { (counting : CountingOf) (lower upper : List Block) → self ≡ stretch_by counting lower
+        ensures blocks { (counting : CountingOf) (lower upper : List Block)
+            → self ≡ stretch_by counting lower
             → high ≡ stretch_by counting upper → result ≡ stretch_by counting (lower ++ upper) }
     {
         match (self, high) {
@@ -57,7 +62,8 @@ impl Stretch {
     #[tactic(auto, using(crate::proofs::Purges::largest_run_is, crate::proofs::Purges::largest_free_is))]
     pub fn best(self) -> u32
         ensures is { result ≡ stretches.best self }
-        ensures largest { (blocks : List Block) → self ≡ stretch_of blocks → result ≡ largest_run blocks }
+        ensures largest { (blocks : List Block) → self ≡ stretch_of blocks
+            → result ≡ largest_run blocks }
         ensures space { (blocks : List Block) → self ≡ spaces_of blocks
             → result ≡ largest_free (all_purged Nothing blocks) }
     {

@@ -10,7 +10,7 @@ use Rattle.std.proofs.lemmas.Option.{same_Some}
 use Rattle.std.specs.Option.{IfSome, IsSome, IsSomeAnd}
 use Rattle.block_store.specs.Block.{Block, Free, Nonrelocatable, Masters, Relocatable, size, sizes, count, is_room}
 use Rattle.block_store.specs.Block.{is_masters, is_relocatable, no_flags, tidy, with_content, content_of, resized}
-use Rattle.windows.specs.Writes.{written}
+use Rattle.memory_windows.specs.Writes.{written}
 use Rattle.block_store.specs.Run.{has}
 use Rattle.block_store.specs.Room.{Spot, spot, spot_at, filled}
 use Rattle.block_store.specs.Grow.{grow_up, freed}

@@ -8,7 +8,7 @@ use Rattle.std.proofs.lemmas.List.{length-replicate, length-take, take_all, drop
 use Rattle.std.proofs.lemmas.List.Elements.{filter-append}
 use Rattle.std.specs.Option.{option_map, IfSome, IsSome, IsSomeAnd}
 use Rattle.mac_words.specs.Size.{padded}
-use Rattle.windows.specs.Writes.{written}
+use Rattle.memory_windows.specs.Writes.{written}
 use Rattle.block_store.specs.Block.{Block, Free, Nonrelocatable, Masters, Relocatable, size, sizes, is_room, resized}
 use Rattle.block_store.specs.Block.{is_relocatable, is_nonrelocatable, content_of, with_content, resized_content, tidy}
 use Rattle.block_store.specs.Block.{add}

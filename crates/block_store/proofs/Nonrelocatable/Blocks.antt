@@ -6,7 +6,7 @@ use Rattle.std.specs.Option.{IfSome, IsSomeAnd}
 use Rattle.mac_words.specs.Size.{padded}
 use Rattle.block_store.specs.Block.{Block, Free, Nonrelocatable, Masters, Relocatable, size, sizes, count, is_room}
 use Rattle.block_store.specs.Block.{is_masters, is_relocatable, is_nonrelocatable, tidy, with_content, content_of}
-use Rattle.windows.specs.Writes.{written}
+use Rattle.memory_windows.specs.Writes.{written}
 use Rattle.block_store.specs.Room.{spot_at, filled}
 use Rattle.block_store.specs.Grow.{freed}
 use Rattle.block_store.specs.Slot.{Slot, is_used}

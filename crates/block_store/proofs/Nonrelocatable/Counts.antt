@@ -104,7 +104,8 @@ nonrelocatable-lowest_purged p (suc k) spared (b ∷ bs) = cases (may_be_purged 
         ap {B = ℕ} (λ (v : Bool). cond v 1 0) (not_nonrelocatable-go p spared b e) in omega (arith, went)
     cases false e went stayed = ap (λ n. cond (is_nonrelocatable p b) 1 0 + n) stayed
 
-pub nonrelocatable-opened : (p : ℕ) (n : Sparing) (bs : List Block) → count (is_nonrelocatable p) (opened n bs) ≡ count (is_nonrelocatable p) bs
+pub nonrelocatable-opened : (p : ℕ) (n : Sparing) (bs : List Block)
+    → count (is_nonrelocatable p) (opened n bs) ≡ count (is_nonrelocatable p) bs
 nonrelocatable-opened p sparing.Nothing bs = refl
 nonrelocatable-opened p (sparing.One slot) bs = refl
 nonrelocatable-opened p (sparing.Two slot other) bs = refl

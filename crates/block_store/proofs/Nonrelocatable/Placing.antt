@@ -313,7 +313,8 @@ placed-none_nonrelocatable place [] l = tt
 placed-none_nonrelocatable place (b ∷ bs) l = placed-cons place b bs (stands-none_nonrelocatable place b l.0)
     (placed-none_nonrelocatable (place + size b) bs l.1)
 
-pub none_nonrelocatable-append : (below above : List Block) → NoneNonrelocatable below → NoneNonrelocatable above → NoneNonrelocatable (below ++ above)
+pub none_nonrelocatable-append : (below above : List Block) → NoneNonrelocatable below → NoneNonrelocatable above
+    → NoneNonrelocatable (below ++ above)
 none_nonrelocatable-append [] above l m = m
 none_nonrelocatable-append (b ∷ below) above l m = (l.0, none_nonrelocatable-append below above l.1 m)
 
@@ -340,7 +341,7 @@ sizes-free : (n : ℕ) → sizes (free n) ≡ n
 sizes-free zero = refl
 sizes-free (suc n) = omega arith
 
-sizes-movers : (run : List Block) → Loose run → sizes (movers run) + free_sum run ≡ sizes run
+pub sizes-movers : (run : List Block) → Loose run → sizes (movers run) + free_sum run ≡ sizes run
 sizes-movers [] i = refl
 sizes-movers (Free n ∷ run) i = let r = sizes-movers run i.1 in omega arith
 sizes-movers (Nonrelocatable id content ∷ run) i = let f : false ≡ true = i.0 in cc

@@ -51,7 +51,7 @@ top_free-largest (Masters ∷ bs) = omega arith
 top_free-largest (Relocatable id flags content ∷ bs) = omega arith
 
 -- above a Free block that stands apart there is none
-apart-top_free : (n : ℕ) (bs : List Block) → add (Free n) bs ≡ Free n ∷ bs → top_free bs ≡ 0
+pub apart-top_free : (n : ℕ) (bs : List Block) → add (Free n) bs ≡ Free n ∷ bs → top_free bs ≡ 0
 apart-top_free n [] e = refl
 apart-top_free zero (Free m ∷ bs) e = absurd (let l : suc (length bs) ≡ suc (suc (length bs)) = ap length e in
     omega arith)

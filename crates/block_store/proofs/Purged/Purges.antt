@@ -93,10 +93,6 @@ lowest_purged-stays sp bs i left b is stays =
     ap (λ n. take n bs ++ lowest_purged left sp (drop n bs)) (let z : i + 1 ≡ suc i = omega arith in z)
     ∙ stays_at sp bs i left b (drop (i + 1) bs) is stays
 
-pub and-false : (t u : Bool) → u ≡ false → (t && u) ≡ false
-and-false true u e = e
-and-false false u e = refl
-
 -- all were looked at
 pub lowest_purged-end : (sp : Block → Bool) (bs : List Block) (left i : ℕ) → length bs ≤ i
     → take i bs ++ lowest_purged left sp (drop i bs) ≡ bs

@@ -1,17 +1,15 @@
 -- A run that is raised, and one of which a block is moved to the top.
-use Rattle.std.proofs.Common.{◌≡◌, ℕ, ◌+◌, ◌-◌, ◌<◌, ◌≤◌, ◌==◌, ◌||◌, nat_le, zero, suc, Bool, true, false, not, cond}
+use Rattle.std.proofs.Common.{◌≡◌, ℕ, ◌+◌, ◌-◌, ◌<◌, ◌≤◌, ◌||◌, zero, suc, Bool, true, false, not, cond}
 use Rattle.std.proofs.Common.{List, [], ◌∷◌, ◌++◌, Some, inl, inr, refl, sym, ◌∙◌, ap, subst, arith, append_assoc}
-use Rattle.std.specs.Option.{option_map}
 use Rattle.std.proofs.lemmas.List.Elements.{filter-append}
-use Rattle.std.proofs.lemmas.Bool.{false≢true, cond-true, cond-false}
-use Rattle.std.proofs.lemmas.Bool.Decides.{eqb_tells, nat_tests}
+use Rattle.std.proofs.lemmas.Bool.{false≢true}
+use Rattle.std.proofs.lemmas.Bool.Decides.{eqb_tells}
 use Rattle.block_store.specs.declared.flags.Flags.{Flags}
-use Rattle.block_store.specs.Block.{Block, Free, Nonrelocatable, Masters, Relocatable, is_mover, is_relocatable, size}
+use Rattle.block_store.specs.Block.{Block, Free, Nonrelocatable, Masters, Relocatable, is_mover, is_relocatable}
 use Rattle.block_store.specs.Block.{total, count, free, free_of, free_sum, sizes, add, tidy}
 use Rattle.block_store.specs.Run.{RunSpot, in_run, has, movers, settle, low, high, with_run, run_at}
-use Rattle.block_store.specs.Room.{raised, spot_at}
 use Rattle.block_store.specs.Inner.Packing.{Loose}
-use Rattle.block_store.proofs.Zone.Apart.{Apart, apart-size}
+use Rattle.block_store.proofs.Zone.Apart.{Apart}
 use Rattle.block_store.proofs.Zone.Tidy.{Adds, total-tidy}
 use Rattle.block_store.proofs.Zone.Totals.{total-append}
 use Rattle.block_store.proofs.Regroup.Packed.{tidy-below, loose-parts, loose-append, high-is, total-run}
@@ -119,18 +117,6 @@ run-of number (Relocatable id flags content ∷ run) e = elim (eqb_tells id numb
   | inr t ↦ run-of-more number (Relocatable id flags content) run
       (run-of number run (sym (ap (λ u. u || has (is_relocatable number) run) t.0) ∙ e))
 ]
-
--- where blocks take bytes, each stands at the place where those below it end
-pub spot_at-parts : (below : List Block) (b : Block) (above : List Block) → Apart (below ++ b ∷ above)
-    → spot_at (sizes below) (below ++ b ∷ above) ≡ Some (record { below = below; here = b; above = above })
-spot_at-parts [] b above a = refl
-spot_at-parts (c ∷ below) b above a =
-    let big = apart-size c (below ++ b ∷ above) a.0 in
-    cond-false (sizes (c ∷ below) == 0) _ _ (grind (arith, nat_tests))
-    ∙ cond-true (nat_le (size c) (sizes (c ∷ below))) _ _ (grind (arith, nat_tests))
-    ∙ ap (λ k. option_map (raised c) (spot_at k (below ++ b ∷ above)))
-    (let z : sizes (c ∷ below) - size c ≡ sizes below = omega arith in z)
-    ∙ ap (option_map (raised c)) (spot_at-parts below b above a.1)
 
 module _ (number : ℕ) (run : List Block) (p : RunOf number run) where
   abbrev pub block : Block

@@ -62,7 +62,7 @@ segments-joined run (p ∷ parts) r a =
     } in t) (segments-joined p.run parts a.1 a.2)
 
 -- a settled run is a run
-mover-in : (b : Block) → is_mover b ≡ true → in_run b ≡ true
+pub mover-in : (b : Block) → is_mover b ≡ true → in_run b ≡ true
 mover-in (Free n) e = refl
 mover-in (Nonrelocatable id content) e = e
 mover-in Masters e = e

@@ -45,6 +45,13 @@ none-freed t u free (b ∷ bs) e = cases (u b) (or_parts (t b) (has t bs) e) (no
     cases true parts rest = rw (free (size b), rest parts.1) refl
     cases false parts rest = rw (parts.0, rest parts.1) refl
 
+-- where no block passes, none is freed
+pub freed-absent : (t : Block → Bool) (bs : List Block) → has t bs ≡ false → freed t bs ≡ bs
+freed-absent t [] e = refl
+freed-absent t (b ∷ bs) e =
+    let parts = or_parts (t b) (has t bs) e in
+    ap (λ u. cond u (Free (size b)) b ∷ freed t bs) parts.0 ∙ ap (λ l. b ∷ l) (freed-absent t bs parts.1)
+
 pub none-filter : (t p : Block → Bool) (bs : List Block) → has t bs ≡ false → has t (filter p bs) ≡ false
 none-filter t p [] e = e
 none-filter t p (b ∷ bs) e = cases (p b) (or_parts (t b) (has t bs) e) (none-filter t p bs)

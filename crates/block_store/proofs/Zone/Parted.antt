@@ -1,4 +1,4 @@
-use Rattle.std.proofs.Common.{◌≡◌, ◌+◌, ◌-◌, zero, suc, true, false, ◌==◌, List, [], ◌∷◌, ◌++◌, refl}
+use Rattle.std.proofs.Common.{◌≡◌, ◌+◌, ◌-◌, zero, suc, true, false, ◌==◌, List, [], ◌∷◌, ◌++◌, refl, None}
 use Rattle.std.proofs.Common.{◌∙◌, ap, arith, Some, nat_le}
 use Rattle.std.proofs.lemmas.Bool.{cond-true, cond-false}
 use Rattle.std.proofs.lemmas.Bool.Decides.{nat_tests}
@@ -53,6 +53,18 @@ spot_at-parted (c ∷ below) b above a =
     ∙ ap (λ k. option_map (raised c) (spot_at k (below ++ b ∷ above)))
     (let z : sizes (c ∷ below) - size c ≡ sizes below = omega arith in z)
     ∙ ap (option_map (raised c)) (spot_at-parted below b above a.1)
+
+-- no block stands at the place where all end
+pub spot-end : (bs : List Block) → Apart bs → spot_at (sizes bs) bs ≡ None
+spot-end [] a = refl
+spot-end (c ∷ above) a =
+    let big = apart-size c above a.0 in
+    let n : sizes (c ∷ above) ≡ size c + sizes above = refl in
+    cond-false (sizes (c ∷ above) == 0) _ _ (grind (arith, nat_tests))
+    ∙ cond-true (nat_le (size c) (sizes (c ∷ above))) _ _ (grind (arith, nat_tests))
+    ∙ ap (λ k. option_map (raised c) (spot_at k above))
+    (let z : sizes (c ∷ above) - size c ≡ sizes above = omega arith in z)
+    ∙ ap (option_map (raised c)) (spot-end above a.1)
 
 -- a block that isn't Free in place of another such
 pub tidy-renamed : (below : List Block) (b c : Block) (above : List Block) → is_free b ≡ false → is_free c ≡ false

@@ -9,7 +9,7 @@ use Rattle.std.proofs.lemmas.List.{length-append, length-take, length-drop}
 use Rattle.mac_words.specs.Size.{padded}
 use Rattle.block_store.specs.Block.{Block, Free, Nonrelocatable, Masters, Relocatable, size, sizes, is_room, free}
 use Rattle.block_store.specs.Block.{content_of, with_content}
-use Rattle.windows.specs.Writes.{written}
+use Rattle.memory_windows.specs.Writes.{written}
 use Rattle.block_store.specs.Room.{Spot, spot, raised, spot_at}
 use Rattle.block_store.specs.Find.{FindsLowest}
 use Rattle.block_store.proofs.Zone.Totals.{total-append}

@@ -1,5 +1,5 @@
 use Rattle.std.proofs.Common.{◌≡◌, ℕ, ◌+◌, ◌≤◌, List, [], ◌∷◌, ◌++◌, arith}
-use Rattle.block_store.specs.Block.{Block, total}
+use Rattle.block_store.specs.Block.{Block, total, free, free_sum}
 
 -- what blocks and others above them come to
 pub total-append : (of : Block → ℕ) (below above : List Block)
@@ -11,3 +11,7 @@ total-append of (b ∷ below) above = omega (arith, total-append of below above)
 pub total-le : (of of' : Block → ℕ) → ((b : Block) → of b ≤ of' b) → (bs : List Block) → total of bs ≤ total of' bs
 total-le of of' less [] = omega arith
 total-le of of' less (b ∷ bs) = omega (arith, less b, total-le of of' less bs)
+
+-- so many Free bytes are as many
+pub free_sum-free : (n : ℕ) → free_sum (free n) ≡ n
+free_sum-free n = grind arith

@@ -1,14 +1,14 @@
-use Rattle.std.proofs.Common.{◌≡◌, ℕ, ◌≤◌, Bool, true, false, List, [], ◌∷◌, length, refl, sym, ◌∙◌, ap}
+use Rattle.std.proofs.Common.{◌≡◌, ℕ, ◌≤◌, Bool, true, false, List, length, refl, sym, ◌∙◌, ap}
 use Rattle.std.proofs.Common.{cond, Option, Some, None, Result, Ok, Err, is_some}
 use Rattle.std.specs.Option.{option_map, MatchOption}
 use Rattle.std.proofs.lemmas.Option.{none-some}
-use Rattle.std.proofs.lemmas.Bool.{or_parts, cond-true}
+use Rattle.std.proofs.lemmas.Bool.{cond-true}
 use Rattle.std.proofs.lemmas.List.{length-replicate}
 use Rattle.mac_words.specs.Size.{phys, padded}
 use Rattle.mac_words.specs.declared.code.OsErr.{OsErr}
 use Rattle.mac_words.specs.declared.code.TheConstants.OsErr.{MEM_FULL}
 use Rattle.block_store.specs.declared.flags.Flags.{Flags}
-use Rattle.block_store.specs.Block.{Block, Free, Relocatable, size, count, is_relocatable, rename, rename_block}
+use Rattle.block_store.specs.Block.{Block, Relocatable, count, is_relocatable, rename, rename_block}
 use Rattle.block_store.specs.Run.{has}
 use Rattle.block_store.specs.Room.{room, put_in_place}
 use Rattle.block_store.specs.Grow.{freed}
@@ -16,6 +16,7 @@ use Rattle.block_store.specs.Rest.{Rest, counted}
 use Rattle.block_store.proofs.Plain.Counters.{counted-none}
 use Rattle.block_store.specs.declared.sparing.Sparing.TheVariants as sparing
 use Rattle.block_store.proofs.Renamed.Renaming.{room-rename, put_in_place-rename, has-rename}
+use Rattle.block_store.proofs.Zone.Absence.{freed-absent}
 use Rattle.heap_calls.specs.declared.anchor.Anchor.{Anchor}
 use Rattle.heap_calls.specs.declared.log.Log.{Log}
 use Rattle.heap_calls.specs.declared.search.Room.{Room}
@@ -40,18 +41,11 @@ use Rattle.heap_calls.specs.Inner.Reaching.{sized_reply}
 
 -- A block for an empty handle.
 
--- where no block passes none is freed
-pub freed-gone : (test : Block → Bool) (bs : List Block) → has test bs ≡ false → freed test bs ≡ bs
-freed-gone test [] e = refl
-freed-gone test (b ∷ bs) e =
-    let parts = or_parts (test b) (has test bs) e in
-    ap (λ t. cond t (Free (size b)) b ∷ freed test bs) parts.0 ∙ ap (λ l. b ∷ l) (freed-gone test bs parts.1)
-
 -- in a store, for a slot that has no block
 module _ (slot : ℕ) (zone : List Block) (none : has (is_relocatable slot) zone ≡ false)
   where
     same : freed (is_relocatable slot) zone ≡ zone
-    same = freed-gone (is_relocatable slot) zone none
+    same = freed-absent (is_relocatable slot) zone none
 
     pub refilled_searches-is : (n : ℕ) → renewed_searches slot n zone ≡ refilled_searches slot n zone
     refilled_searches-is n = ap (λ z. cond {A = ℕ} (is_some (phys n))

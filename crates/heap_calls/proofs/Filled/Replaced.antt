@@ -8,7 +8,7 @@ use Rattle.std.proofs.lemmas.List.{map-append, append-nil, length-replicate}
 use Rattle.std.proofs.Math.Seq.{drop-length}
 use Rattle.std.proofs.lemmas.List.Elements.{filter-append}
 use Rattle.mac_words.specs.Size.{padded}
-use Rattle.windows.specs.Writes.{written}
+use Rattle.memory_windows.specs.Writes.{written}
 use Rattle.block_store.specs.declared.flags.Flags.{Flags}
 use Rattle.block_store.specs.declared.sparing.Sparing.{Sparing}
 use Rattle.block_store.specs.Block.{Block, Free, Nonrelocatable, Masters, Relocatable, size, count, add, tidy, is_relocatable}

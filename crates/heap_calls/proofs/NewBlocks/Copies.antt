@@ -10,7 +10,7 @@ use Rattle.std.proofs.lemmas.List.{append-nil, length-replicate}
 use Rattle.std.proofs.Math.Seq.{take-length, drop-length}
 use Rattle.block_store.specs.Block.{Block, Masters, Relocatable, count, is_relocatable}
 use Rattle.block_store.specs.Block.{no_flags, content_of, with_content}
-use Rattle.windows.specs.Writes.{written}
+use Rattle.memory_windows.specs.Writes.{written}
 use Rattle.block_store.specs.Room.{Spot, spot, spot_at, room, put_in_place}
 use Rattle.block_store.specs.Find.{FindsLowest}
 use Rattle.block_store.specs.Slot.{Unused, is_used}

@@ -1,4 +1,3 @@
-use Rattle.std.proofs.Common.{Bool, is_some}
 use Rattle.std.proofs.Common.{◌≡◌, ℕ, ◌*◌, ◌≤◌, ◌<◌, slice_get, List, length, Option, Some, None, Result}
 use Rattle.std.proofs.Common.{refl, sym, ◌∙◌, ap}
 use Rattle.mac_words.specs.declared.code.OsErr.{OsErr}
@@ -11,7 +10,7 @@ use Rattle.heap_calls.specs.declared.anchor.Anchor.{Anchor}
 use Rattle.heap_calls.specs.declared.log.Log.{Log}
 use Rattle.heap_calls.specs.State.{State, Memory}
 use Rattle.heap_calls.specs.Answer.{Answer, silent, searching, moving}
-use Rattle.heap_calls.proofs.Tables.Replies.{add_masters, reserve_mem, new_handle, new_empty_handle, hand_to_hand}
+use Rattle.heap_calls.proofs.Tables.Replies.{new_handle, new_empty_handle, hand_to_hand}
 use Rattle.heap_calls.proofs.Tables.Moves.{hand_to_hand_moves}
 use Rattle.heap_calls.proofs.Tables.Searches.{hand_to_hand_searches}
 use Rattle.heap_calls.specs.Inner.Copied.{IsCopy}
@@ -19,17 +18,12 @@ use Rattle.heap_calls.specs.declared.anchor.Found.{Found}
 use Rattle.heap_calls.specs.declared.anchor.Anchor.TheVariants.{Handle}
 use Rattle.heap_calls.specs.Inner.Naming.{entered, number_of}
 use Rattle.heap_calls.specs.Inner.NewBlock.{IsNewBlock, new_searches}
-use Rattle.heap_calls.specs.Inner.NewSlot.{TakesSlot, IsMade}
-use Rattle.heap_calls.specs.Inner.Reaching.{sized_reply}
-use Rattle.heap_calls.specs.Inner.Base.{IsBaseAt, base}
-use Rattle.mac_words.specs.Size.{phys}
+use Rattle.heap_calls.specs.Inner.NewSlot.{TakesSlot}
 use Rattle.heap_calls.specs.Inner.Numbered.{Agrees, KeepsNonrelocatable, no_number, state_of, memory_of}
-use Rattle.heap_calls.specs.Inner.Packed.{KeepsAllButPlaced, Packs, new_moves}
+use Rattle.heap_calls.specs.Inner.Packed.{Packs, new_moves}
 use Rattle.heap_calls.proofs.NewBlocks.NewHandles.{searched-done, new_handle-done, new_handle-refused, handle-agrees}
 use Rattle.heap_calls.proofs.NewBlocks.NewHandles.{handle-window}
 use Rattle.heap_calls.proofs.NewBlocks.Reserving.{empty-refused, empty-done, empty-agrees, empty-window}
-use Rattle.heap_calls.proofs.NewBlocks.Reserving.{masters-refused, masters-done}
-use Rattle.heap_calls.proofs.NewBlocks.Reserving.{reserve-none, reserve-done}
 use Rattle.heap_calls.proofs.NewBlocks.CopiedHandles.{copy-none, copy-agrees, copy-window, copied-done}
 use Rattle.heap_calls.proofs.NewBlocks.CopiedHandles.{copy_searches-is, copy_moves-is}
 use Rattle.heap_calls.proofs.Numbering.Changing.{unmoved}
@@ -85,15 +79,6 @@ module _ (row : State → Answer ℕ) (looks moves : State → ℕ) (value : Mem
         ≡ (number_of slot es, memory_of zone' rest' (entered slot es) log')
     named-packing m moved packed = ended-packing row looks moves value zone zone' rest rest' es (entered slot es) log
         log' (number_of slot es) is names n looked now m moved packed
-
--- a call that only wants room, and leaves the names
-pub served-looking : (row : State → Answer (Unit {0})) (looks : State → ℕ) (value : Memory) (zone zone' : List Block)
-    (rest rest' : Rest) (es : List Anchor) (log : Log) (done : Bool) → memory_of zone rest es log ≡ value
-    → Ends row zone rest es (sized_reply done) zone' rest' es → (n : ℕ) → n ≡ looks (state_of zone rest.slots es)
-    → rest'.moves ≡ rest.moves → searching (looks value.heap) (silent row value)
-    ≡ (sized_reply done, memory_of zone' rest' es (record log { searches = counted log.searches n }))
-served-looking row looks value zone zone' rest rest' es log done is ends n looked same =
-    ended-looking row looks looks value zone zone' rest rest' es es log _ (sized_reply done) is ends n looked refl same
 
 module _ (zone : List Block) (rest : Rest) (es : List Anchor) (masters : rest.all ≡ 64 * count is_masters zone)
     (agrees : Agrees zone rest es) (zone' : List Block) (rest' : Rest) (nonrelocatable : KeepsNonrelocatable zone zone')
@@ -155,24 +140,3 @@ module _ (zone : List Block) (rest : Rest) (es : List Anchor) (masters : rest.al
       window = copy-window zone rest es masters agrees handle f.number f.slot n k.is k.at k.small k.a k.block k.long
           k.few zone' rest' nonrelocatable slot p;
     }
-
--- MoreMasters and ReserveMem
-module _ (zone : List Block) (rest : Rest) (es : List Anchor) (masters : rest.all ≡ 64 * count is_masters zone)
-    (agrees : Agrees zone rest es) (zone' : List Block) (rest' : Rest) (nonrelocatable : KeepsNonrelocatable zone zone')
-  where
-    pub masters-ends : (place : Option ℕ) → IsMade sparing.Nothing zone rest place zone' rest'
-        → Ends add_masters zone rest es (sized_reply (is_some place)) zone' rest' es
-    masters-ends None h = let r = masters-refused zone rest es masters agrees zone' rest' nonrelocatable h in
-        record { answer = r.0; agrees = r.1; window = r.2 }
-    masters-ends (Some place) h = let r = masters-done zone rest es masters agrees zone' rest' nonrelocatable place h in
-        record { answer = r.0; agrees = r.1; window = r.2 }
-
-    pub reserve-ends : (n p : ℕ) → phys n ≡ Some p → KeepsAllButPlaced rest rest' → (place : Option ℕ)
-        → IsBaseAt p (base p sparing.Nothing zone) zone' place → (place ≡ None → zone' ≡ zone)
-        → Ends (reserve_mem n) zone rest es (sized_reply (is_some place)) zone' rest' es
-    reserve-ends n p fits now None h same =
-        let r = reserve-none zone rest es masters agrees zone' rest' nonrelocatable n p fits now (same refl) h in
-        record { answer = r.0; agrees = r.1; window = r.2 }
-    reserve-ends n p fits now (Some place) h same =
-        let r = reserve-done zone rest es masters agrees zone' rest' nonrelocatable n p place fits now h in
-        record { answer = r.0; agrees = r.1; window = r.2 }

@@ -1,13 +1,12 @@
 use Rattle.block_store.specs.Slot.{is_used}
 use Rattle.std.proofs.Common.{◌≡◌, ℕ, ◌+◌, ◌-◌, Bool, true, false, ◌||◌, List, [], ◌∷◌, ◌++◌, length, refl, sym}
-use Rattle.std.proofs.Common.{◌∙◌, ap, cond, map, arith, Option, Some, None, Result, Ok, Err, slice_get, count_by}
+use Rattle.std.proofs.Common.{◌∙◌, ap, cond, map, arith, Option, Some, None, Ok, Err, slice_get, count_by}
 use Rattle.std.proofs.Common.{subst, ◌⊎◌, inl, inr, is_some}
 use Rattle.std.proofs.lemmas.List.{map_push, length-map, length-replicate}
 use Rattle.std.proofs.lemmas.List.Sums.{sum_by_push}
 use Rattle.std.proofs.lemmas.Option.{same_Some}
 use Rattle.std.proofs.lemmas.Bool.{false_from_ne_true}
 use Rattle.std.specs.Option.{option_map, IfSome, IsSomeAnd}
-use Rattle.std.specs.Result.{OnErr}
 use Rattle.std.specs.Bool.{IsTrue}
 use Rattle.mac_words.specs.Size.{phys, padded}
 use Rattle.mac_words.specs.declared.code.TheConstants.OsErr.{MEM_FULL}
@@ -74,7 +73,8 @@ put-more : (place n : ℕ) (zone after : List Block) (new : Block)
 put-more place n zone after new wide done p = cases (spot_at place zone) refl wide done
   where
     cases : (o : Option Spot) → spot_at place zone ≡ o → IsSomeAnd o (λ s. IsTrue (is_room n s.here))
-        → IfSome o (λ s. after ≡ filled new s) → has (is_nonrelocatable p) after ≡ (is_nonrelocatable p new || has (is_nonrelocatable p) zone)
+        → IfSome o (λ s. after ≡ filled new s)
+        → has (is_nonrelocatable p) after ≡ (is_nonrelocatable p new || has (is_nonrelocatable p) zone)
     cases None at wide done = absurd wide
     cases (Some s) at wide done =
         ap (has (is_nonrelocatable p)) done
@@ -278,8 +278,3 @@ module _ (zone zone' : List Block) (rest rest' : Rest) (es : List Anchor) (n pla
             (λ b. refl)
             (put_at_base-rename (handle_number with_pointer) (pointer_number with_pointer) (fresh_nonrelocatable place n)) zone
             ∙ ap (option_map (rename (handle_number with_pointer) (pointer_number with_pointer))) put.put
-
--- what is asked of an error
-pub on_err : {T E : Type 0} (r : Result T E) (P : Type 0) → P → OnErr r P
-on_err (Ok value) P p = tt
-on_err (Err error) P p = p

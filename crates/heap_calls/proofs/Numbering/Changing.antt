@@ -16,7 +16,7 @@ use Rattle.mac_words.specs.declared.code.TheConstants.OsErr.{PROFILE}
 use Rattle.block_store.specs.Block.{Block, Free, Nonrelocatable, Masters, Relocatable, size, count, free_sum, free_of, rename}
 use Rattle.block_store.specs.Block.{rename_block, is_nonrelocatable, is_relocatable, is_room, content_of, with_content}
 use Rattle.block_store.specs.Block.{is_masters, tidy, no_flags}
-use Rattle.windows.specs.Writes.{written}
+use Rattle.memory_windows.specs.Writes.{written}
 use Rattle.block_store.specs.Run.{has}
 use Rattle.block_store.specs.Slot.{Slot, Unused, Used, set_slot, AreSlots, is_used}
 use Rattle.block_store.specs.Rest.{Rest, IsRest, KeepsSlots, with_placed}
@@ -507,16 +507,6 @@ pub may_place : {T E : Type 0} (r : Result T E) (n : ℕ) (rest rest' : Rest) �
     → OnErr r (IsRest rest rest') → KeepsAllButPlaced rest rest'
 may_place (Ok x) n rest rest' ok err = once_placed n rest rest' ok
 may_place (Err e) n rest rest' ok err = none_placed rest rest' err
-
-pub placed-then : (a b c : Rest) → KeepsAllButPlaced a b → KeepsAllButPlaced b c → KeepsAllButPlaced a c
-placed-then a b c first next = record {
-  slots = λ k. next.slots k ∙ first.slots k;
-  unused = next.unused ∙ first.unused;
-  all = next.all ∙ first.all;
-  moves = next.moves ∙ first.moves;
-  placed = refl;
-  window = next.window ∙ first.window;
-}
 
 -- a heap over another zone and the same slots
 pub memory-same : (zone : List Block) (rest rest' : Rest) (es : List Anchor) (log : Log) → IsRest rest rest'

@@ -336,8 +336,8 @@ module _ (zone : List Block) (rest rest' : Rest) (es : List Anchor) (h place : �
       used = λ k s g found. ap is_used (now.slots s) ∙ agrees.used k s g (handle-left k s g found);
       apart = λ j k s g o a b. agrees.apart j k s g o (handle-left j s g a) (handle-left k s o b);
       pointed = λ k p found. nonrelocatable-tidy (freed (is_nonrelocatable place) zone) p
-          ∙ nonrelocatable-freed_other p (is_nonrelocatable place) (not_nonrelocatable-other p place (λ e. (pointer-left k p found).1 (sym e)))
-          zone ∙ agrees.pointed k p (pointer-left k p found).0;
+          ∙ nonrelocatable-freed_other p (is_nonrelocatable place)
+          (not_nonrelocatable-other p place (λ e. (pointer-left k p found).1 (sym e))) zone ∙ agrees.pointed k p (pointer-left k p found).0;
       lone = λ j k p a b. agrees.lone j k p (pointer-left j p a).0 (pointer-left k p b).0;
       counted =
           let a = agrees.counted in

@@ -11,7 +11,7 @@ use Rattle.mac_words.specs.declared.code.TheConstants.OsErr.{LOCKED, PROFILE, PU
 use Rattle.block_store.specs.declared.flags.Flags.{Flags}
 use Rattle.block_store.specs.Block.{Block, Free, Nonrelocatable, Masters, Relocatable, size, sizes, is_mover}
 use Rattle.block_store.specs.Block.{is_relocatable, is_nonrelocatable, content_of, with_content, tidy, resized}
-use Rattle.windows.specs.Writes.{written}
+use Rattle.memory_windows.specs.Writes.{written}
 use Rattle.block_store.specs.Run.{in_run, change_run, has, high, runs}
 use Rattle.block_store.specs.Room.{Spot, spot, put_at_base, room}
 use Rattle.block_store.specs.Grow.{freed}

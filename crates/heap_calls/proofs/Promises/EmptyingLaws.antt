@@ -12,7 +12,7 @@ use Rattle.block_store.specs.declared.flags.Flags.{Flags}
 use Rattle.block_store.specs.Block.{Block, Free, Nonrelocatable, Masters, Relocatable, total, count, is_mover}
 use Rattle.block_store.specs.Block.{is_purgeable, is_masters, is_relocatable, is_nonrelocatable, content_of, with_content}
 use Rattle.block_store.specs.Block.{no_flags, tidy, resized}
-use Rattle.windows.specs.Writes.{written}
+use Rattle.memory_windows.specs.Writes.{written}
 use Rattle.block_store.specs.Run.{has, runs}
 use Rattle.block_store.specs.Room.{Spot, spot, put_at_base, room}
 use Rattle.block_store.specs.Grow.{freed}

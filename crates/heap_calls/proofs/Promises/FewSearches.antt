@@ -228,13 +228,16 @@ handle-few : (handle : Option ℕ) (s : State) (held : Held) → look_up handle 
 handle-few handle s held e sp n =
     size-few sp n s.zone held.at (is_relocatable held.number) (held-spot (handle_at handle s) s held e)
 
+sized-few : (to : Option ℕ) (s : State) (held : Held) → look_up to s ≡ Ok held → (sp : Block → Bool) (n i : ℕ)
+    (x : List ℕ) → (work (rows.sized_written sp held n i x s) s).searches ≤ length s.zone + 1
+sized-few to s held e sp n i x =
+    subst (λ (k : ℕ). k ≤ length s.zone + 1)
+    (sym (written-few sp held.number i x (seek_size n sp s.zone held.at) s.zone)) (handle-few to s held e sp n)
+
 append-few : (to : Option ℕ) (s : State) (held : Held) → look_up to s ≡ Ok held → (sp : Block → Bool) (x : List ℕ)
     → (work (rows.append sp held x s) s).searches ≤ length s.zone + 1
 append-few to s held e sp x =
-    let len = length (content_of held.at.here) in
-    subst (λ (k : ℕ). k ≤ length s.zone + 1)
-    (sym (written-few sp held.number len x (seek_size (len + length x) sp s.zone held.at) s.zone))
-    (handle-few to s held e sp (len + length x))
+    let len = length (content_of held.at.here) in sized-few to s held e sp (len + length x) len x
 
 -- searches that are made only in one case
 pub only-if : (t : Bool) (n most : ℕ) → n ≤ most → cond t n 0 ≤ most
@@ -339,6 +342,9 @@ row_few (asked.HandAndHand from to) m masters =
 row_few (asked.PtrAndHand handle x) m masters =
     found-few (look_up handle m.heap) m.heap _ (length m.heap.zone + 1)
     (λ held e. append-few handle m.heap held e (is_relocatable held.number) x)
+row_few (asked.PtrToXHand handle x) m masters =
+    found-few (look_up handle m.heap) m.heap _ (length m.heap.zone + 1)
+    (λ held e. sized-few handle m.heap held e (is_relocatable held.number) (length x) 0 x)
 row_few (asked.NewPtr n) m masters = cases (is_some (phys n))
   where
     new : Block

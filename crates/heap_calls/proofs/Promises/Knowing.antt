@@ -384,8 +384,8 @@ known-more s s' bytes new plain relocatable nonrelocatable stand less known =
     known-changed s s' bytes bytes (λ b. false) new plain each less
     (other-once is_relocatable (λ b. false) new s.zone s'.zone relocatable
     (λ k. less (one (is_relocatable k)) (λ n. refl)) known.once)
-    (other-once is_nonrelocatable (λ b. false) new s.zone s'.zone nonrelocatable (λ k. less (one (is_nonrelocatable k)) (λ n. refl)) known.single)
-    known
+    (other-once is_nonrelocatable (λ b. false) new s.zone s'.zone nonrelocatable
+    (λ k. less (one (is_nonrelocatable k)) (λ n. refl)) known.single) known
   where
     each : (b : Block) → strange bytes s'.names b ≤ strange bytes s.names b
     each (Free m) = omega arith

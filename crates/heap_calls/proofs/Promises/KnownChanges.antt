@@ -11,7 +11,7 @@ use Rattle.mac_words.specs.declared.code.TheConstants.OsErr.{LOCKED}
 use Rattle.block_store.specs.declared.flags.Flags.{Flags}
 use Rattle.block_store.specs.Block.{Block, Free, Nonrelocatable, Masters, Relocatable, total, count, is_mover, is_relocatable}
 use Rattle.block_store.specs.Block.{is_nonrelocatable, content_of, with_content, no_flags, tidy, resized, resized_content}
-use Rattle.windows.specs.Writes.{written}
+use Rattle.memory_windows.specs.Writes.{written}
 use Rattle.block_store.specs.Run.{change_run, has, high}
 use Rattle.block_store.specs.Room.{Spot, spot, raised, put_at_base, room}
 use Rattle.block_store.specs.Grow.{freed}
@@ -22,6 +22,7 @@ use Rattle.heap_calls.specs.Answer.{move_h_hi, look_up, for_found, written_at}
 use Rattle.heap_calls.specs.Answer as calls
 use Rattle.heap_calls.specs.Slots.{slotted, more_masters}
 use Rattle.moves.specs.Moves.{rewritten}
+use Rattle.block_store.proofs.Content.Resizing.{length-resized}
 use Rattle.block_store.proofs.Zone.Views.{map-some}
 use Rattle.block_store.proofs.Zone.Keeping.{SeesNoFree, unless, unless-le, unless-none, tidied, freed-is, changed-le}
 use Rattle.block_store.proofs.Zone.Keeping.{high-le, base-le, swapped-le}
@@ -273,7 +274,7 @@ known-hoisted handle s bytes known = by_spot (look_up handle s)
     by_spot (Ok k) = by_mover k.number (is_mover k.at.here)
 
 -- bytes written behind those that a block had
-written-behind : (len : ℕ) (x old : List ℕ) → length old ≡ len
+pub written-behind : (len : ℕ) (x old : List ℕ) → length old ≡ len
     → written len x (resized_content (len + length x) old) ≡ old ++ x
 written-behind len x old is = ap (written len x) whole ∙ parts
   where
@@ -305,26 +306,30 @@ none-spot test (b ∷ bs) e = cases (test b) (spot test bs) e (λ e. none-spot t
     cases false None e rest = let r = rest refl in omega arith
     cases false (Some s) e rest = absurd (none-some _ (sym e))
 
--- a block that grew, with bytes behind its own
-pub known-appended : (s : State) (bytes : ℕ → List ℕ) (h len : ℕ) (x : List ℕ) → for_handle (slice_get s.names h) ≡ true
-    → length (bytes h) ≡ len → Known s (with_bytes h (resized_content (len + length x) (bytes h)) bytes)
-    → Known (record s {
-      zone = unwrap_or (option_map (rewritten len x) (spot (is_relocatable h) s.zone)) s.zone;
-    }) (with_bytes h (bytes h ++ x) bytes)
-known-appended s bytes h len x is long known = by_spot (spot (is_relocatable h) s.zone) refl
+-- bytes that are written over all of a block
+pub written-all : (x old : List ℕ) → written 0 x (resized_content (length x) old) ≡ x
+written-all x old =
+    ap (λ (l : List ℕ). x ++ l) (drop_all (0 + length x) (resized_content (length x) old)
+    (omega (arith, length-resized (length x) old))) ∙ append-nil x
+
+-- a block that got a size, with bytes written into it
+pub known-filled : (s : State) (bytes : ℕ → List ℕ) (h n i : ℕ) (x last : List ℕ) → for_handle (slice_get s.names h) ≡ true
+    → written i x (resized_content n (bytes h)) ≡ last → Known s (with_bytes h (resized_content n (bytes h)) bytes)
+    → Known (record s { zone = unwrap_or (option_map (rewritten i x) (spot (is_relocatable h) s.zone)) s.zone })
+    (with_bytes h last bytes)
+known-filled s bytes h n i x last is so known = by_spot (spot (is_relocatable h) s.zone) refl
   where
     mid : ℕ → List ℕ
-    mid = with_bytes h (resized_content (len + length x) (bytes h)) bytes
+    mid = with_bytes h (resized_content n (bytes h)) bytes
 
     new : ℕ → List ℕ
-    new = with_bytes h (bytes h ++ x) bytes
+    new = with_bytes h last bytes
 
     same : (k : ℕ) → (k == h) ≡ false → new k ≡ mid k
-    same k e = with-other h (bytes h ++ x) bytes k e ∙ sym (with-other h (resized_content (len + length x) (bytes h))
-        bytes k e)
+    same k e = with-other h last bytes k e ∙ sym (with-other h (resized_content n (bytes h)) bytes k e)
 
     by_spot : (o : Option Spot) → spot (is_relocatable h) s.zone ≡ o
-        → Known (record s { zone = unwrap_or (option_map (rewritten len x) o) s.zone }) new
+        → Known (record s { zone = unwrap_or (option_map (rewritten i x) o) s.zone }) new
     by_spot None e =
         handle-changed s s mid new h (Free 0) refl (λ k e. refl) (λ k. refl) (handle-only (slice_get s.names h) is) same
         (λ k other n e. e)
@@ -335,6 +340,5 @@ known-appended s bytes h len x is long known = by_spot (spot (is_relocatable h) 
               (none-spot (is_relocatable h) s.zone e),
         )) known
     by_spot (Some at) e =
-        known-put s mid known h len x at e new same
-        (ap (written len x) (with-same h (resized_content (len + length x) (bytes h)) bytes)
-        ∙ written-behind len x (bytes h) long ∙ sym (with-same h (bytes h ++ x) bytes))
+        known-put s mid known h i x at e new same
+        (ap (written i x) (with-same h (resized_content n (bytes h)) bytes) ∙ so ∙ sym (with-same h last bytes))

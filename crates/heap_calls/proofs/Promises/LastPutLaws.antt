@@ -6,7 +6,7 @@ use Rattle.mac_words.specs.Size.{phys}
 use Rattle.mac_words.specs.Told.{Told, Done, Given, Refused}
 use Rattle.mac_words.specs.declared.code.OsErr.{OsErr}
 use Rattle.mac_words.specs.declared.code.TheConstants.OsErr.{MEM_FULL, PROFILE, PURGED}
-use Rattle.windows.specs.Writes.{written}
+use Rattle.memory_windows.specs.Writes.{written}
 use Rattle.block_store.specs.Block.{Block, Free, Nonrelocatable, Masters, Relocatable, total, is_mover}
 use Rattle.block_store.specs.Block.{is_relocatable}
 use Rattle.block_store.specs.Block.{is_nonrelocatable, content_of, with_content, resized_content, no_flags, tidy}
@@ -45,7 +45,7 @@ use Rattle.heap_calls.proofs.Promises.KnownChanges.{More, known-based, known-new
 use Rattle.heap_calls.proofs.Promises.KnownChanges.{known-disposed, known-disposed_pointer, known-put}
 use Rattle.heap_calls.proofs.Promises.KnownChanges.{known-put_pointer}
 use Rattle.heap_calls.proofs.Promises.KnownChanges.{known-grown, known-grown_pointer, known-emptied, known-renewed}
-use Rattle.heap_calls.proofs.Promises.KnownChanges.{known-flags, known-hoisted, known-appended}
+use Rattle.heap_calls.proofs.Promises.KnownChanges.{known-flags, known-hoisted, known-filled, written-all, written-behind}
 
 -- Each call keeps what is known of each block's bytes.
 
@@ -180,31 +180,27 @@ module _ (s : State) (bytes : ℕ → List ℕ) (known : Known s bytes) (tells :
         (λ of none. size-new of sp none n s.zone at (is_relocatable h)
         (same-handle h n at.here (spot-passes (is_relocatable h) s.zone at is)) is (known.once h) there)
 
-    -- bytes behind those of a handle's block
-    known-behind : (sp : Block → Bool) (h : ℕ) (b : Held) (x : List ℕ) → spot (is_relocatable h) s.zone ≡ Some b.at
-        → b.number ≡ h → with_bytes h (bytes h ++ x) bytes ≡ tells Done
-        → Known (heap_after (rows.append sp b x s) s) (tells (done (rows.append sp b x s).reply))
-    known-behind sp h b x at named done_told =
+    -- bytes that are written into a handle's block once it has a size
+    known-written : (sp : Block → Bool) (h n i : ℕ) (b : Held) (x last : List ℕ) → spot (is_relocatable h) s.zone ≡ Some b.at
+        → b.number ≡ h → written i x (resized_content n (bytes h)) ≡ last → with_bytes h last bytes ≡ tells Done
+        → Known (heap_after (rows.sized_written sp b n i x s) s) (tells (done (rows.sized_written sp b n i x s).reply))
+    known-written sp h n i b x last at named so done_told =
         known-changed sp (around [] write sought) (around-refused sp [] write sought
-        (size-refused sp (len + length x) s.zone b.at)) (cases sought.found refl)
+        (size-refused sp n s.zone b.at)) (cases sought.found refl)
       where
-        len : ℕ
-        len = length (content_of b.at.here)
-
         sought : Sought
-        sought = seek_size (len + length x) sp s.zone b.at
+        sought = seek_size n sp s.zone b.at
 
         write : List Move
-        write = Write b.number len x ∷ []
+        write = Write b.number i x ∷ []
 
         behind : sought.found ≡ true → Known (record s { zone = (did sp write (left sp sought)).zone })
-            (with_bytes h (bytes h ++ x) bytes)
+            (with_bytes h last bytes)
         behind there =
-            let here = known-at s bytes known h b.at at in
-            subst (λ (k : ℕ). Known (record s { zone = (did sp (Write k len x ∷ []) (left sp sought)).zone })
-            (with_bytes h (bytes h ++ x) bytes)) (sym named)
-            (known-appended (record s { zone = left sp sought }) bytes h len x here.2
-            (ap (λ (c : Block). length (content_of c)) (sym here.1)) (known-sized sp h (len + length x) b.at at there))
+            subst (λ (k : ℕ). Known (record s { zone = (did sp (Write k i x ∷ []) (left sp sought)).zone })
+            (with_bytes h last bytes)) (sym named)
+            (known-filled (record s { zone = left sp sought }) bytes h n i x last (known-at s bytes known h b.at at).2 so
+            (known-sized sp h n b.at at there))
 
         cases : (t : Bool) → sought.found ≡ t → t ≡ true
             → Known (record s { zone = (did sp (cond t (sought.path ++ write) sought.path) s.zone).zone }) (tells Done)
@@ -213,6 +209,16 @@ module _ (s : State) (bytes : ℕ → List ℕ) (known : Known s bytes) (tells :
             (sym (ap (λ (d : Did). d.zone) (did-append sp sought.path write s.zone)))
             (subst (Known (record s { zone = (did sp write (left sp sought)).zone })) done_told (behind e))
         cases false e there = let f : false ≡ true = there in cc
+
+    -- bytes behind those of a handle's block
+    known-behind : (sp : Block → Bool) (h : ℕ) (b : Held) (x : List ℕ) → spot (is_relocatable h) s.zone ≡ Some b.at
+        → b.number ≡ h → with_bytes h (bytes h ++ x) bytes ≡ tells Done
+        → Known (heap_after (rows.append sp b x s) s) (tells (done (rows.append sp b x s).reply))
+    known-behind sp h b x at named done_told =
+        let len = length (content_of b.at.here) in
+        known-written sp h (len + length x) len b x (bytes h ++ x) at named
+        (written-behind len x (bytes h) (ap (λ (c : Block). length (content_of c)) (sym (known-at s bytes known h b.at at).1)))
+        done_told
 
 -- each call keeps what is known, with the bytes that it put
 pub step-known : (a : Asked) (m : Memory) (bytes : ℕ → List ℕ) → Known m.heap bytes
@@ -353,6 +359,14 @@ step-known (asked.PtrAndHand (Some h) x) m bytes known =
     done-found s bytes known tells (λ code. refl) (λ u. Done) (look_up (Some h) s) _ (λ b e.
     let f = look_up-spot h s b e in
     known-behind s bytes known tells (λ code. refl) (is_relocatable b.number) h b x f.0 f.1 refl)
+step-known (asked.PtrToXHand None x) m bytes known = known
+step-known (asked.PtrToXHand (Some h) x) m bytes known =
+    let s = m.heap in
+    let tells : Told → ℕ → List ℕ = λ t. put_by (asked.PtrToXHand (Some h) x) t bytes in
+    done-found s bytes known tells (λ code. refl) (λ u. Done) (look_up (Some h) s) _ (λ b e.
+    let f = look_up-spot h s b e in
+    known-written s bytes known tells (λ code. refl) (is_relocatable b.number) h (length x) 0 b x x f.0 f.1
+    (written-all x (bytes h)) refl)
 step-known (asked.NewPtr n) m bytes known =
     let s = m.heap in
     let tells : Told → ℕ → List ℕ = λ t. put_by (asked.NewPtr n) t bytes in

@@ -10,7 +10,7 @@ use Rattle.mac_words.specs.declared.code.TheConstants.OsErr.{NIL_HANDLE, LOCKED,
 use Rattle.block_store.specs.declared.flags.Flags.{Flags}
 use Rattle.block_store.specs.Block.{Block, Nonrelocatable, Masters, Relocatable, is_mover, is_relocatable, is_nonrelocatable, content_of}
 use Rattle.block_store.specs.Block.{with_content, no_flags, sizes, tidy, count}
-use Rattle.windows.specs.Writes.{written}
+use Rattle.memory_windows.specs.Writes.{written}
 use Rattle.block_store.specs.Room.{Spot, spot}
 use Rattle.block_store.specs.Grow.{freed}
 use Rattle.block_store.proofs.Zone.Tidy.{spot-is, spot-passes}
@@ -302,14 +302,18 @@ again-leaves : (t : Bool) (sp : Block → Bool) (r : Sought) (why : OsErr) (s : 
 again-leaves true sp r why s only code e = changed-leaves sp r s only code e
 again-leaves false sp r why s only code e = refl
 
+sized-leaves : (sp : Block → Bool) (held : Held) (n i : ℕ) (x : List ℕ) (s : State)
+    → Leaves s.zone s ((rows.sized_written sp held n i x s).reply, heap_after (rows.sized_written sp held n i x s) s)
+sized-leaves sp held n i x s =
+    let sought = seek_size n sp s.zone held.at in
+    let write : List Move = Write held.number i x ∷ [] in
+    changed-leaves sp (around [] write sought) s
+    (around-refused sp [] write sought (size-refused sp n s.zone held.at))
+
 append-leaves : (sp : Block → Bool) (held : Held) (x : List ℕ) (s : State)
     → Leaves s.zone s ((rows.append sp held x s).reply, heap_after (rows.append sp held x s) s)
 append-leaves sp held x s =
-    let len = length (content_of held.at.here) in
-    let sought = seek_size (len + length x) sp s.zone held.at in
-    let write : List Move = Write held.number len x ∷ [] in
-    changed-leaves sp (around [] write sought) s
-    (around-refused sp [] write sought (size-refused sp (len + length x) s.zone held.at))
+    let len = length (content_of held.at.here) in sized-leaves sp held (len + length x) len x s
 
 -- a call that is refused leaves this zone, its names as they were, this code, and the heap where it lay
 abbrev LeavesSo : Asked → Memory → Told × Memory → Type 0
@@ -420,6 +424,11 @@ refused_leaves (asked.PtrAndHand handle x) m =
     handle x) m).1 m.heap.zone
     (done-found (look_up handle m.heap) m.heap _
     (λ held. append-leaves (is_relocatable held.number) held x m.heap)) refl refl refl
+refused_leaves (asked.PtrToXHand handle x) m =
+    noted (λ _. Done) done-tells (answer_made (rows.pointer_to_x_hand handle x) m.heap) m (answered (asked.PtrToXHand
+    handle x) m).1 m.heap.zone
+    (done-found (look_up handle m.heap) m.heap _
+    (λ held. sized-leaves (is_relocatable held.number) held (length x) 0 x m.heap)) refl refl refl
 refused_leaves (asked.NewPtr n) m =
     noted Given given-tells (answer_made (rows.new_pointer n) m.heap) m (answered (asked.NewPtr n) m).1 m.heap.zone
     (given-leaves nothing (if_fits n sought) m.heap Pointer (fits-refused nothing n sought (seek-refused nothing

@@ -7,8 +7,8 @@ use Rattle.std.proofs.lemmas.Bool.Decides.{Decides-eqb}
 use Rattle.mac_words.specs.declared.code.OsErr.{OsErr}
 use Rattle.mac_words.specs.Told.{Told, Done}
 use Rattle.block_store.specs.declared.flags.Flags.{Flags}
-use Rattle.block_store.specs.Block.{Block, Free, Nonrelocatable, Masters, Relocatable, sizes, total, count, is_relocatable, is_nonrelocatable}
-use Rattle.block_store.specs.Block.{tidy}
+use Rattle.block_store.specs.Block.{Block, Free, Nonrelocatable, Masters, Relocatable, sizes, total, count, is_relocatable}
+use Rattle.block_store.specs.Block.{is_nonrelocatable, tidy}
 use Rattle.block_store.specs.Room.{Spot, spot}
 use Rattle.block_store.specs.Grow.{freed}
 use Rattle.block_store.proofs.Zone.Totals.{total-append}

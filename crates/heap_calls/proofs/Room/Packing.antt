@@ -201,8 +201,8 @@ low-filled (suc n) r pos closed = by_top (tidy (upper (suc n) r)) (tidy-tidy (up
         base (Free (p + m)) above (Free m ∷ above) (whole (Free m ∷ above) is) is (le-leb p (p + m) (omega arith))
         (ap (λ k. add (Free k) (tidy above)) (let z : p + m - p ≡ m = omega arith in z) ∙ tidied)
     by_top (Nonrelocatable id content ∷ above) tidied is =
-        base (Free p) (Nonrelocatable id content ∷ above) (Nonrelocatable id content ∷ above) (whole (Nonrelocatable id content ∷ above) is) is
-        same (ap (λ k. add (Free k) (tidy (Nonrelocatable id content ∷ above))) none ∙ tidied)
+        base (Free p) (Nonrelocatable id content ∷ above) (Nonrelocatable id content ∷ above) (whole (Nonrelocatable id content ∷ above) is)
+        is same (ap (λ k. add (Free k) (tidy (Nonrelocatable id content ∷ above))) none ∙ tidied)
     by_top (Masters ∷ above) tidied is =
         base (Free p) (Masters ∷ above) (Masters ∷ above) (whole (Masters ∷ above) is) is same
         (ap (λ k. add (Free k) (tidy (Masters ∷ above))) none ∙ tidied)

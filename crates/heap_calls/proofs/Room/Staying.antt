@@ -35,7 +35,8 @@ use Rattle.block_store.proofs.Zone.Absence.{none-filter, none-free}
 pub nonrelocatable-same : (old new : List Block) → new ≡ old → KeepsNonrelocatable old new
 nonrelocatable-same old new same p = ap (has (is_nonrelocatable p)) same
 
-pub nonrelocatable-then : (old mid new : List Block) → KeepsNonrelocatable old mid → KeepsNonrelocatable mid new → KeepsNonrelocatable old new
+pub nonrelocatable-then : (old mid new : List Block) → KeepsNonrelocatable old mid → KeepsNonrelocatable mid new
+    → KeepsNonrelocatable old new
 nonrelocatable-then old mid new one two p = two p ∙ one p
 
 pub nonrelocatable-tidy : (bs : List Block) → KeepsNonrelocatable bs (tidy bs)
@@ -290,8 +291,8 @@ nonrelocatable-place n zone s e = cases (spot (is_room n) zone) (change_run (has
         let there = found (tidy z) s e in (
           there.0,
           nonrelocatable-then zone (tidy z) (s.below ++ s.here ∷ s.above)
-              (nonrelocatable-then zone z (tidy z) (nonrelocatable-changed settle none-settle (has_free n) zone z packed) (nonrelocatable-tidy z))
-              there.1,
+              (nonrelocatable-then zone z (tidy z) (nonrelocatable-changed settle none-settle (has_free n) zone z packed)
+              (nonrelocatable-tidy z)) there.1,
         )
 
 -- a slot's block that goes elsewhere at another size

@@ -1,4 +1,4 @@
-use Rattle.std.proofs.Common.{◌≡◌, ℕ, ◌+◌, ◌<◌, Bool, true, false, ◌||◌, List, ◌∷◌, [], length, replicate, Option, Some}
+use Rattle.std.proofs.Common.{arith, ◌≡◌, ℕ, ◌+◌, ◌<◌, ◌≤◌, Bool, true, false, ◌||◌, List, ◌∷◌, [], length, replicate, Option, Some}
 use Rattle.std.proofs.Common.{None}
 use Rattle.std.proofs.Common.{Result, Ok, Err, refl, sym, ◌∙◌, ap, subst, is_some, if◌then◌else◌}
 use Rattle.mac_words.specs.Size.{phys}
@@ -47,10 +47,6 @@ pub record Spared (sp : Block → Bool) (s : State) (held : Held) : Type 0 where
   pub there : spot (is_relocatable held.number) s.zone ≡ Some held.at
   pub kept : (b : Block) → may_be_purged sp b ≡ true → is_relocatable held.number b ≡ false
 
--- the search for n bytes more behind those of a block
-abbrev pub seek_more : (Block → Bool) → Held → ℕ → State → Sought
-seek_more sp held n s = seek_size (length (content_of held.at.here) + n) sp s.zone held.at
-
 pub record Allows (M : (Block → Bool) → Move → List Block → Type 0) (s : State) (a : Asked) : Type 0 where
   pub searches : (sp : Block → Bool) (n : ℕ) (z : List Block) → M sp (Search n) z
   pub purges : (sp : Block → Bool) (k : ℕ) (z : List Block) → M sp (Purge k) z
@@ -60,10 +56,9 @@ pub record Allows (M : (Block → Bool) → Move → List Block → Type 0) (s :
       → Along (M sp) sp (seek_size n sp s.zone held.at).path s.zone
   pub pointers : (n : ℕ) (held : Held) → spot (is_nonrelocatable held.number) s.zone ≡ Some held.at
       → Along (M nothing) nothing (seek_size n nothing s.zone held.at).path s.zone
-  pub writes : (sp : Block → Bool) (held : Held) (x : List ℕ) → Spared sp s held
-      → (seek_more sp held (length x) s).found ≡ true
-      → M sp (Write held.number (length (content_of held.at.here)) x)
-      (did sp (seek_more sp held (length x) s).path s.zone).zone
+  pub writes : (sp : Block → Bool) (held : Held) (n i : ℕ) (x : List ℕ) → Spared sp s held → i + length x ≤ n
+      → (seek_size n sp s.zone held.at).found ≡ true
+      → M sp (Write held.number i x) (did sp (seek_size n sp s.zone held.at).path s.zone).zone
   pub renews : (h n : ℕ) → a ≡ asked.ReallocateHandle (Some h) n → is_loose (spot (is_relocatable h) s.zone) ≡ true
       → M nothing (Drop h) s.zone × ((z : List Block) → M nothing (Put (Relocatable h no_flags (replicate n 0))) z)
 
@@ -101,12 +96,17 @@ module _ (M : (Block → Bool) → Move → List Block → Type 0) (s : State) (
     made-along sp block each =
         along-then (M sp) sp (seek_slot (is_unused s) sp s.zone) block s.zone (slot-along sp) each
 
+    written-along : (sp : Block → Bool) (held : Held) (n i : ℕ) (x : List ℕ) → Spared sp s held → i + length x ≤ n
+        → Along (M sp) sp (rows.sized_written sp held n i x s).path s.zone
+    written-along sp held n i x there within =
+        along-later (M sp) sp (Write held.number i x ∷ []) (seek_size n sp s.zone held.at) s.zone
+        (law.sizes sp n held there) (λ found. (law.writes sp held n i x there within found, tt))
+
     append-along : (sp : Block → Bool) (held : Held) (x : List ℕ) → Spared sp s held
         → Along (M sp) sp (rows.append sp held x s).path s.zone
     append-along sp held x there =
         let len = length (content_of held.at.here) in
-        along-later (M sp) sp (Write held.number len x ∷ []) (seek_more sp held (length x) s) s.zone
-        (law.sizes sp (len + length x) held there) (λ found. (law.writes sp held x there found, tt))
+        written-along sp held (len + length x) len x there (omega arith)
 
 -- each row
 pub row-along : (M : (Block → Bool) → Move → List Block → Type 0) (s : State) (a : Asked) → Allows M s a
@@ -158,6 +158,10 @@ row-along M s (asked.PtrAndHand handle x) law =
     found-along M s (asked.PtrAndHand handle x) law (look_up handle s) _ (λ held e.
     append-along M s (asked.PtrAndHand handle x) law (is_relocatable held.number) held x
     (is-spared (is_relocatable held.number) handle s held e (λ b not. not)))
+row-along M s (asked.PtrToXHand handle x) law =
+    found-along M s (asked.PtrToXHand handle x) law (look_up handle s) _ (λ held e.
+    written-along M s (asked.PtrToXHand handle x) law (is_relocatable held.number) held (length x) 0 x
+    (is-spared (is_relocatable held.number) handle s held e (λ b not. not)) (omega arith))
 row-along M s (asked.NewPtr n) law =
     let new = Nonrelocatable (length s.names) (replicate n 0) in
     along-if (M nothing) nothing (is_some (phys n)) (seek (Base new) nothing s.zone) s.zone

@@ -71,21 +71,18 @@ module _ (of : Block → ℕ) (none : (k : ℕ) → of (Free k) ≡ 0) (masters 
         )
         cases false = omega (arith, slot-even sp)
 
-    append-most : (sp : Block → Bool) (held : Held) (x : List ℕ)
-        → total of (work (rows.append sp held x s) s).gone ≤ total of s.zone
-    append-most sp held x = cases (seek_size (len + length x) sp s.zone held.at).found
+    written-most : (sp : Block → Bool) (held : Held) (n i : ℕ) (x : List ℕ)
+        → total of (work (rows.sized_written sp held n i x s) s).gone ≤ total of s.zone
+    written-most sp held n i x = cases (seek_size n sp s.zone held.at).found
       where
-        len : ℕ
-        len = length (content_of held.at.here)
-
         path : List Move
-        path = (seek_size (len + length x) sp s.zone held.at).path
+        path = (seek_size n sp s.zone held.at).path
 
         write : List Move
-        write = Write held.number len x ∷ []
+        write = Write held.number i x ∷ []
 
         sized : total of (did sp path s.zone).gone ≤ total of s.zone
-        sized = size-most of sp none (len + length x) s.zone held.at
+        sized = size-most of sp none n s.zone held.at
 
         cases : (t : Bool) → total of (did sp (cond t (path ++ write) path) s.zone).gone ≤ total of s.zone
         cases true = omega (
@@ -95,6 +92,11 @@ module _ (of : Block → ℕ) (none : (k : ℕ) → of (Free k) ≡ 0) (masters 
           sized,
         )
         cases false = sized
+
+    append-most : (sp : Block → Bool) (held : Held) (x : List ℕ)
+        → total of (work (rows.append sp held x s) s).gone ≤ total of s.zone
+    append-most sp held x =
+        let len = length (content_of held.at.here) in written-most sp held (len + length x) len x
 
     found-most : {A T : Type 0} (r : Result A OsErr) (call : A → rows.Done T)
         → ((k : A) → total of (work (call k) s).gone ≤ total of s.zone)
@@ -131,6 +133,8 @@ module _ (of : Block → ℕ) (none : (k : ℕ) → of (Free k) ≡ 0) (masters 
         (content_of a.at.here)))
     row-most (asked.PtrAndHand handle x) =
         found-most (look_up handle s) _ (λ held. append-most (is_relocatable held.number) held x)
+    row-most (asked.PtrToXHand handle x) =
+        found-most (look_up handle s) _ (λ held. written-most (is_relocatable held.number) held (length x) 0 x)
     row-most (asked.NewPtr n) = if-most of nothing none (is_some (phys n))
         (Base (Nonrelocatable (length s.names) (replicate n 0))) (λ y. refl) s.zone
     row-most (asked.SetPtrSize pointer n) =

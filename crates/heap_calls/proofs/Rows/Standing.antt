@@ -4,7 +4,7 @@ use Rattle.std.proofs.Common.{refl, sym, ◌∙◌, ap, cond, arith, is_some}
 use Rattle.std.proofs.lemmas.Bool.{cond-false}
 use Rattle.std.proofs.lemmas.Bool.Decides.{Decides-eqb}
 use Rattle.mac_words.specs.Size.{phys, padded}
-use Rattle.windows.specs.Writes.{written}
+use Rattle.memory_windows.specs.Writes.{written}
 use Rattle.block_store.specs.Block.{Block, Free, Nonrelocatable, Masters, Relocatable, size, total, is_mover}
 use Rattle.block_store.specs.Block.{is_relocatable, content_of, with_content, no_flags, resized, resized_content}
 use Rattle.block_store.specs.Run.{in_run}
@@ -29,7 +29,7 @@ use Rattle.heap_calls.specs.Table.{Row, answer_of}
 use Rattle.heap_calls.specs.Locked.{OneBlockEach}
 use Rattle.heap_calls.proofs.Same.Growing.{same-handle}
 use Rattle.heap_calls.proofs.Rows.Kinds.{has_path, of-path}
-use Rattle.heap_calls.proofs.Rows.Along.{Keeps, Allows, IsNext, Spared, seek_more}
+use Rattle.heap_calls.proofs.Rows.Along.{Keeps, Allows, IsNext, Spared}
 use Rattle.heap_calls.proofs.Rows.Weighing.{named-there, alone, pointer-there, never-moves}
 
 -- What a test that no block of a run passes must know of the path of each row.
@@ -47,7 +47,7 @@ abbrev misfit : ℕ → ℕ → Block → ℕ
 misfit k n b = cond (is_relocatable k b && not (length (content_of b) == n)) 1 0
 
 -- a handle's block that got n bytes has them
-sized-fits : (k n : ℕ) (zone z : List Block) (s : Spot) → spot (is_relocatable k) zone ≡ Some s
+pub sized-fits : (k n : ℕ) (zone z : List Block) (s : Spot) → spot (is_relocatable k) zone ≡ Some s
     → ((of : Block → ℕ) → SeesNoFree of → total of z ≤ of (resized n s.here) + total (unless (is_relocatable k) of)
     zone)
     → (at : Spot) → spot (is_relocatable k) z ≡ Some at → length (content_of at.here) ≡ n
@@ -112,9 +112,9 @@ module _ (seen : Block → Bool) (rigid : (b : Block) → in_run b ≡ true → 
           (seek_resized (resized n held.at.here) nothing s.zone held.at) s.zone
           (resized-stays (resized n held.at.here) nothing s.zone held.at seen rigid (sized n held.at.here)
           (λ mover. never-moves s held at mover) (pointer-there n s held at) (λ mover. never-moves s held at mover));
-      writes = λ sp held x at found s' there. (
-        filled (written (length (content_of held.at.here)) x (content_of s'.here)) s'.here,
-        written-size (length (content_of held.at.here)) x s'.here (fits sp held x at found s' there),
+      writes = λ sp held n i x at within found s' there. (
+        filled (written i x (content_of s'.here)) s'.here,
+        written-size i x s'.here (fits sp held n i x at within found s' there),
       );
       renews = λ h n is free. (loose h free, λ z. rigid (Relocatable h no_flags (replicate n 0)) refl);
     }
@@ -134,13 +134,12 @@ module _ (seen : Block → Bool) (rigid : (b : Block) → in_run b ≡ true → 
             let named = same-handle held.number n held.at.here (spot-passes test s.zone held.at at.there) in
             loose held.number (ap is_loose at.there ∙ mover) b (sym (ap (λ (t : Block → Bool). t b) named) ∙ e)
 
-        fits : (sp : Block → Bool) (held : Held) (x : List ℕ) → Spared sp s held
-            → (seek_more sp held (length x) s).found ≡ true → (s' : Spot)
-            → spot (is_relocatable held.number) (did sp (seek_more sp held (length x) s).path s.zone).zone ≡ Some s'
-            → length (content_of held.at.here) + length x ≤ length (content_of s'.here)
-        fits sp held x at found s' there =
+        fits : (sp : Block → Bool) (held : Held) (n i : ℕ) (x : List ℕ) → Spared sp s held → i + length x ≤ n
+            → (seek_size n sp s.zone held.at).found ≡ true → (s' : Spot)
+            → spot (is_relocatable held.number) (did sp (seek_size n sp s.zone held.at).path s.zone).zone ≡ Some s'
+            → i + length x ≤ length (content_of s'.here)
+        fits sp held n i x at within found s' there =
             let test = is_relocatable held.number in
-            let n = length (content_of held.at.here) + length x in
             let named = same-handle held.number n held.at.here (spot-passes test s.zone held.at at.there) in
             let l = sized-fits held.number n s.zone (did sp (seek_size n sp s.zone held.at).path s.zone).zone held.at
             at.there (λ of none. size-new of sp none n s.zone held.at test named at.there (once held.number) found) s'

@@ -78,7 +78,7 @@ allows-weighs of sized filled a s once own = record {
       (alone n sp s held at (once held.number at.within));
   pointers = λ n held at. size-weighs of nothing n s.zone held.at (sized n held.at.here) (pointer-there n s held at)
       (λ mover. never-moves s held at mover);
-  writes = λ sp held x at found b y e. sym (filled y b);
+  writes = λ sp held n i x at within found b y e. sym (filled y b);
   renews = λ h n is loose. (subst (Renews of) is own, λ z. tt);
 }
 
@@ -93,7 +93,7 @@ allows-puts of none masters pointers a s fresh own = record {
   bases = λ sp new next z. light new next;
   sizes = λ sp n held at. size-puts of sp n s.zone held.at;
   pointers = λ n held at. size-puts of nothing n s.zone held.at;
-  writes = λ sp held x at found. refl;
+  writes = λ sp held n i x at within found. refl;
   renews = λ h n is loose. (
     refl,
     λ z. subst (Renews of) is own (Relocatable h no_flags (replicate n 0)) ((Decides-eqb h h).1 refl),

@@ -2,23 +2,23 @@ use Rattle.std.proofs.Common.{◌≡◌, ℕ, ◌+◌, ◌-◌, ◌&&◌, Bool, 
 use Rattle.std.proofs.Common.{refl, sym, ◌∙◌, ap, subst, cond, arith, is_some, append-nil}
 use Rattle.std.specs.Option.{option_map, option_or}
 use Rattle.std.specs.Prelude.{unwrap_or, option_and_then}
-use Rattle.std.proofs.lemmas.Option.{none-some}
 use Rattle.std.proofs.lemmas.Bool.Decides.{nat_tests}
 use Rattle.block_store.specs.Block.{Block, Free, Nonrelocatable, Masters, Relocatable, size, free, free_sum, is_mover}
 use Rattle.block_store.specs.Block.{is_relocatable, is_nonrelocatable, resized}
-use Rattle.block_store.specs.Run.{RunSpot, run_spot, with_run, has_free, has, high, segments, joined, movers}
+use Rattle.block_store.specs.Run.{RunSpot, run_spot, has_free, has, high, segments, joined, movers}
 use Rattle.block_store.specs.Room.{Spot, spot, filled, place, purge, room}
-use Rattle.block_store.specs.Grow.{growth, grow_up, grow_mover, grow_nonrelocatable, move_away, grow_last, grow_at, freed}
+use Rattle.block_store.specs.Grow.{growth, grow_up, grow_mover, grow_nonrelocatable, grow_at}
 use Rattle.block_store.specs.Grow.{taken_low}
 use Rattle.moves.specs.Moves.{Grow, Extend, Push, Cut, is_same, growth_lowers, last_lowers, place_lowers}
 use Rattle.moves.specs.Moves.{run_above, pushed, lowest_gone, gone_above}
 use Rattle.moves.specs.Seeking.{Sought, at_hand, sought, purges_for, seek, seek_in_place, seek_resized}
 use Rattle.heap_calls.specs.Searches.{room_searches, in_place_searches, growth_searches}
-use Rattle.heap_calls.specs.Moves.{place_moves, run_moves, mover_moves, grow_moves, room_moves, growth_moves}
+use Rattle.heap_calls.specs.Moves.{run_moves, mover_moves, grow_moves, room_moves, growth_moves}
 use Rattle.heap_calls.specs.Gone.{room_gone}
 use Rattle.heap_calls.specs.Rows.{told_blocks}
 use Rattle.heap_calls.proofs.Same.Agreeing.{Agrees, agrees-as, seek-agrees, fewest, room-is, searches-is, gone-is}
 use Rattle.heap_calls.proofs.Same.NewBlocks.{place-same}
+use Rattle.heap_calls.proofs.Room.MoveCounts.{no-growth}
 use Rattle.heap_calls.proofs.Tables.Gone.{in_place_gone, growth_gone}
 
 -- The growth of a block, and its tables.
@@ -38,40 +38,11 @@ same-pointer p n (Nonrelocatable id content) e =
 same-pointer p n Masters e = let f : false ≡ true = e in cc
 same-pointer p n (Relocatable id flags content) e = let f : false ≡ true = e in cc
 
--- where an unlocked block can't grow nothing is moved
+-- the run in which an unlocked block can grow
 module _ (test : Block → Bool) (new : Block) (zone : List Block)
   where
     abbrev ends : Spot → Option RunSpot
     ends s = run_spot (λ run. has test run && has_free (growth new s) run) zone
-
-    abbrev goes : Option Spot → Option (List Block)
-    goes o = option_map (λ (t : Spot). filled new (record t { below = freed test t.below; above = freed test t.above })) o
-
-    no-growth : grow_mover test new zone ≡ None → grow_moves test new zone ≡ 0
-    no-growth none = cases (spot test zone) none
-      where
-        at_end : (r : Option RunSpot) (change : List Block → List Block) → option_map (with_run change) r ≡ None
-            → run_moves (high test) r ≡ 0
-        at_end None change e = refl
-        at_end (Some r) change e = absurd (none-some _ (sym e))
-
-        elsewhere : (s : Spot) (o : Option Spot) → option_or (goes o) (grow_last test new (growth new s) zone) ≡ None
-            → cond {A = ℕ} (is_some o) (place_moves (size new) zone) (run_moves (high test) (ends s)) ≡ 0
-        elsewhere s None e = at_end (ends s) _ e
-        elsewhere s (Some t) e = absurd (none-some _ (sym e))
-
-        here : (s : Spot) (o : Option (List Block)) → option_or o (option_or (move_away test new zone)
-            (grow_last test new (growth new s) zone)) ≡ None
-            → cond {A = ℕ} (is_some o) 0 (cond {A = ℕ} (is_some (place (size new) zone)) (place_moves (size new) zone)
-            (run_moves (high test) (ends s))) ≡ 0
-        here s None e = elsewhere s (place (size new) zone) e
-        here s (Some z) e = absurd (none-some _ (sym e))
-
-        cases : (o : Option Spot) → option_and_then (λ s. option_or (grow_up new s) (option_or
-            (move_away test new zone) (grow_last test new (growth new s) zone))) o ≡ None
-            → mover_moves test new zone o ≡ 0
-        cases None e = refl
-        cases (Some s) e = here s (grow_up new s) e
 
 -- as the table and as the move count them
 growth-same : (new : Block) (zone : List Block) (o : Option Spot) → mover_moves (is_same new) new zone o

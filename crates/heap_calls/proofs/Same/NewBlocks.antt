@@ -8,11 +8,11 @@ use Rattle.mac_words.specs.declared.code.OsErr.{OsErr}
 use Rattle.mac_words.specs.declared.code.TheConstants.OsErr.{MEM_FULL}
 use Rattle.mac_words.proofs.Plain.{is_some-map}
 use Rattle.mac_words.specs.Size.{padded}
-use Rattle.block_store.specs.Block.{Block, Free, Nonrelocatable, Masters, size, is_relocatable, is_room, content_of}
+use Rattle.block_store.specs.Block.{Block, Nonrelocatable, Masters, size, is_relocatable, is_room, content_of}
 use Rattle.block_store.specs.Block.{no_flags}
 use Rattle.block_store.specs.Run.{RunSpot, run_spot, has_free}
 use Rattle.block_store.specs.Room.{spot, filled, place, put_in_place, put_at_base, room, purge, count_of}
-use Rattle.block_store.proofs.Regroup.MostRoom.{placed-is}
+use Rattle.block_store.proofs.Plain.Options.{map-none}
 use Rattle.moves.specs.Moves.{Put, Base, place_lowers, lowered_in}
 use Rattle.moves.specs.Seeking.{Sought, no_room, seek, if_fits, seek_slot, then_seek}
 use Rattle.heap_calls.specs.State.{State, Plain, Meaning, Handle, Pointer}
@@ -21,12 +21,11 @@ use Rattle.heap_calls.specs.Answer.{Answer, Held, look_up, nothing}
 use Rattle.heap_calls.specs.Slots as slots
 use Rattle.heap_calls.proofs.Tables.Replies as tables
 use Rattle.heap_calls.specs.Slots.{slotted, more_masters}
-use Rattle.heap_calls.proofs.Tables.Replies.{reserved}
-use Rattle.heap_calls.proofs.Tables.Searches.{more_masters_searches, reserve_searches, new_pointer_searches}
+use Rattle.heap_calls.proofs.Tables.Searches.{new_pointer_searches}
 use Rattle.heap_calls.proofs.Tables.Searches.{hand_to_hand_searches, found_searches}
 use Rattle.heap_calls.proofs.Tables.Moves.{hand_to_hand_moves}
-use Rattle.heap_calls.proofs.Tables.Gone.{copied_gone, new_handle_gone, reserve_gone, new_empty_handle_gone}
-use Rattle.heap_calls.proofs.Tables.Gone.{more_masters_gone, new_pointer_gone, hand_to_hand_gone}
+use Rattle.heap_calls.proofs.Tables.Gone.{copied_gone, new_handle_gone, new_empty_handle_gone}
+use Rattle.heap_calls.proofs.Tables.Gone.{new_pointer_gone, hand_to_hand_gone}
 use Rattle.heap_calls.specs.Searches.{room_searches, slot_searches, ready_searches, block_searches}
 use Rattle.heap_calls.specs.Searches.{new_handle_searches, new_empty_handle_searches}
 use Rattle.heap_calls.specs.Moves.{run_moves, as_it_is, place_moves, put_moves, block_moves, new_handle_moves}
@@ -38,6 +37,7 @@ use Rattle.heap_calls.specs.Rows.{Done, work, heap_after, purged_by, is_unused, 
 use Rattle.heap_calls.proofs.Same.Agreeing.{Agrees, BothAgree, seek-agrees, agrees-if, fits-agrees, then-agrees}
 use Rattle.heap_calls.proofs.Same.Agreeing.{on_some}
 use Rattle.heap_calls.proofs.Numbering.Looking.{tries-same}
+use Rattle.heap_calls.proofs.Room.MoveCounts.{no-place}
 
 -- The calls that make a block: each table is what is read off the row's path.
 
@@ -65,24 +65,12 @@ pub place-same : (p : ℕ) (zone : List Block) → place_moves p zone ≡ place_
 place-same p zone =
     ap (λ (m : ℕ). cond (is_some (spot (is_room p) zone)) 0 m) (packs-same (run_spot (has_free p) zone))
 
--- where no place is found nothing is moved
-no-place : (new : Block) → 0 < size new → (zone : List Block) → put_in_place new zone ≡ None
-    → place_moves (size new) zone ≡ 0
-no-place new pos zone e =
-    cases (is_some (spot (is_room (size new)) zone)) (run_spot (has_free (size new)) zone)
-    (sym (placed-is (size new) zone pos) ∙ sym (is_some-map (filled new) (place (size new) zone)) ∙ ap is_some e)
-  where
-    cases : (t : Bool) (r : Option RunSpot) → is_some r ≡ false → cond {A = ℕ} t 0 (run_moves as_it_is r) ≡ 0
-    cases true r f = refl
-    cases false None f = refl
-    cases false (Some r) f = let g : true ≡ false = f in cc
-
 pub put-agrees : (n : ℕ) (spared : Block → Bool) (new : Block) → 0 < size new → (zone : List Block)
     → Agrees n spared zone (room (put_in_place new) spared zone) (room_searches (put_in_place new) spared zone)
     (put_moves new spared zone) (room_gone n (put_in_place new) spared zone) (seek (Put new) spared zone)
 put-agrees n spared new pos zone =
-    seek-agrees n spared (Put new) refl (λ z. refl) (place_moves (size new)) (place-same (size new)) (no-place new pos)
-    zone
+    seek-agrees n spared (Put new) refl (λ z. refl) (place_moves (size new)) (place-same (size new))
+    (λ z e. no-place (size new) z pos (map-none (filled new) (place (size new) z) e)) zone
 
 -- a master pointer
 abbrev pub slot_after : (Block → Bool) → State → Option (List Block)
@@ -319,23 +307,6 @@ changed-same spared s after searches moves gone r a = record {
   tells = a.tells;
 }
 
--- MoreMasters
-pub more_masters-same : (s : State) → Same (tables.add_masters s) (more_masters_searches s) 0 (more_masters_gone s)
-    (rows.more_masters s) s
-more_masters-same s =
-    let same = changed-same nothing s (room (put_at_base Masters) nothing s.zone) (more_masters_searches s) 0
-    (more_masters_gone s) (seek (Base Masters) nothing s.zone) (base-agrees (length s.names) nothing Masters s.zone) in
-    record {
-      answers = ap (λ o. today.rebuilt o s) (cases (room (put_at_base Masters) nothing s.zone)) ∙ same.answers;
-      looks = same.looks;
-      lowers = same.lowers;
-      tells = same.tells;
-    }
-  where
-    cases : (o : Option (List Block)) → option_map (λ (ready : State). ready.zone) (option_map (ready_with s) o) ≡ o
-    cases None = refl
-    cases (Some z) = refl
-
 -- NewPtr
 pub new_pointer-same : (n : ℕ) (s : State) → Same (tables.new_pointer n s) (new_pointer_searches n s) 0
     (new_pointer_gone n s) (rows.new_pointer n s) s
@@ -368,18 +339,6 @@ new_pointer-same n s =
         (unwrap_or (cond t (room try nothing s.zone) None) s.zone)
     cases true = given-as Pointer s (room try nothing s.zone)
     cases false = refl
-
--- ReserveMem
-pub reserve_mem-same : (n : ℕ) (s : State) → Same (tables.reserve_mem n s) (reserve_searches (phys n) s) 0
-    (reserve_gone (phys n) s) (rows.reserve_mem n s) s
-reserve_mem-same n s = cases (phys n) refl
-  where
-    cases : (o : Option ℕ) → phys n ≡ o → Same (tables.reserve_mem n s) (reserve_searches o s) 0 (reserve_gone o s)
-        (rows.reserve_mem n s) s
-    cases None e = rw e (record { answers = refl; looks = refl; lowers = refl; tells = refl })
-    cases (Some p) e = rw e (changed-same nothing s (room (reserved p) nothing s.zone)
-        (room_searches (reserved p) nothing s.zone) 0 (room_gone (length s.names) (reserved p) nothing s.zone)
-        (seek (Base (Free p)) nothing s.zone) (base-agrees (length s.names) nothing (Free p) s.zone))
 
 -- a refusal
 pub refused-same : {T : Type 0} (code : OsErr) (s : State)

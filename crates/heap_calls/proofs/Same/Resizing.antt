@@ -156,7 +156,8 @@ set_pointer_size-same pointer n s = cases (pointed_at pointer s) refl
         sym (ap (λ o. cond {A = ℕ} (is_some (phys n)) (growth_moves (is_nonrelocatable p) nothing (resized_at n o) s.zone o)
         0) found ∙ ap (λ t. cond {A = ℕ} (is_some (phys n)) (cond {A = ℕ} (nat_le (size (resized n at.here)) (size at.here))
         0 (cond {A = ℕ} t (room_moves (grow_mover (is_nonrelocatable p) (resized n at.here))
-        (grow_moves (is_nonrelocatable p) (resized n at.here)) nothing s.zone) 0)) 0) (still p at.here (spot-passes (is_nonrelocatable p) s.zone at found))
+        (grow_moves (is_nonrelocatable p) (resized n at.here)) nothing s.zone) 0)) 0)
+        (still p at.here (spot-passes (is_nonrelocatable p) s.zone at found))
         ∙ zero (is_some (phys n)) (nat_le (size (resized n at.here)) (size at.here)))
       where
         zero : (t u : Bool) → cond {A = ℕ} t (cond {A = ℕ} u 0 0) 0 ≡ 0
@@ -325,9 +326,6 @@ module _ (n h : ℕ) (zone : List Block) (after : Option (List Block)) (searches
     (r : Sought) (a : Agrees n nothing (freed (is_relocatable h) zone) after searches moves purged r)
     (refuses : Refuses nothing r)
   where
-    abbrev old : Did
-    old = did nothing r.path (freed (is_relocatable h) zone)
-
     freed-agrees : Agrees n nothing zone after searches moves purged (around (Drop h ∷ []) [] r)
     freed-agrees = cases after refl
       where

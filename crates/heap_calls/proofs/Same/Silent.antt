@@ -1,13 +1,12 @@
 use Rattle.std.proofs.Common.{◌≡◌, ℕ, Option, List, length}
 use Rattle.block_store.specs.Block.{no_flags}
-use Rattle.mac_words.specs.Size.{phys}
 use Rattle.heap_calls.specs.State.{Plain, Memory}
 use Rattle.heap_calls.specs.Gone.{made_gone}
 use Rattle.heap_calls.specs.Inside.{new_filled, new_inside}
 use Rattle.heap_calls.proofs.Tables.Replies as tables
 use Rattle.heap_calls.specs.Answer.{silent, searching, moving, nothing}
 use Rattle.heap_calls.specs.Searches.{new_handle_searches, new_empty_handle_searches}
-use Rattle.heap_calls.proofs.Tables.Searches.{more_masters_searches, new_pointer_searches, reserve_searches}
+use Rattle.heap_calls.proofs.Tables.Searches.{new_pointer_searches}
 use Rattle.heap_calls.proofs.Tables.Searches.{set_handle_size_searches, set_pointer_size_searches}
 use Rattle.heap_calls.proofs.Tables.Searches.{reallocate_handle_searches, hand_to_hand_searches, hand_and_hand_searches}
 use Rattle.heap_calls.proofs.Tables.Searches.{pointer_and_hand_searches}
@@ -15,14 +14,13 @@ use Rattle.heap_calls.proofs.Tables.Moves.{set_handle_size_moves, reallocate_han
 use Rattle.heap_calls.proofs.Tables.Moves.{hand_and_hand_moves, pointer_and_hand_moves}
 use Rattle.heap_calls.proofs.Tables.Gone.{new_handle_gone, new_empty_handle_gone, set_handle_size_gone}
 use Rattle.heap_calls.proofs.Tables.Gone.{reallocate_handle_gone, hand_to_hand_gone, hand_and_hand_gone}
-use Rattle.heap_calls.proofs.Tables.Gone.{pointer_and_hand_gone, new_pointer_gone, set_pointer_size_gone, reserve_gone}
-use Rattle.heap_calls.proofs.Tables.Gone.{more_masters_gone}
+use Rattle.heap_calls.proofs.Tables.Gone.{pointer_and_hand_gone, new_pointer_gone, set_pointer_size_gone}
 use Rattle.heap_calls.specs.Moves.{new_handle_moves}
 use Rattle.heap_calls.specs.Rows as rows
-use Rattle.heap_calls.specs.Rows.{doing_silently, purges_made}
-use Rattle.heap_calls.proofs.Same.NewBlocks.{new_handle-same, new_empty_handle-same, more_masters-same}
+use Rattle.heap_calls.specs.Rows.{doing_silently}
+use Rattle.heap_calls.proofs.Same.NewBlocks.{new_handle-same, new_empty_handle-same}
 use Rattle.heap_calls.proofs.Same.NewBlocks.{pointer_to_hand-same}
-use Rattle.heap_calls.proofs.Same.NewBlocks.{new_pointer-same, reserve_mem-same, hand_to_hand-same}
+use Rattle.heap_calls.proofs.Same.NewBlocks.{new_pointer-same, hand_to_hand-same}
 use Rattle.heap_calls.proofs.Same.Resizing.{set_handle_size-same, set_pointer_size-same, hand_and_hand-same}
 use Rattle.heap_calls.proofs.Same.Resizing.{pointer_and_hand-same, reallocate_handle-same}
 use Rattle.heap_calls.proofs.Same.Methods.{packs-silently, seeks-silently}
@@ -44,20 +42,10 @@ pub new_empty_handle-silent : (m : Memory) → doing_silently rows.new_empty_han
 new_empty_handle-silent m = seeks-silently tables.new_empty_handle new_empty_handle_searches rows.new_empty_handle m
     (new_empty_handle_gone m.heap) (new_empty_handle-same m.heap)
 
-pub more_masters-silent : (m : Memory) → doing_silently rows.more_masters m ≡ searching (more_masters_searches m.heap)
-    (silent tables.add_masters m)
-more_masters-silent m = seeks-silently tables.add_masters more_masters_searches rows.more_masters m (more_masters_gone
-    m.heap) (more_masters-same m.heap)
-
 pub new_pointer-silent : (n : ℕ) (m : Memory) → doing_silently (rows.new_pointer n) m ≡ searching (new_pointer_searches
     n m.heap) (silent (tables.new_pointer n) m)
 new_pointer-silent n m = seeks-silently (tables.new_pointer n) (new_pointer_searches n) (rows.new_pointer n) m
     (new_pointer_gone n m.heap) (new_pointer-same n m.heap)
-
-pub reserve_mem-silent : (n : ℕ) (m : Memory) → doing_silently (rows.reserve_mem n) m ≡ searching (reserve_searches
-    (phys n) m.heap) (silent (tables.reserve_mem n) m)
-reserve_mem-silent n m = seeks-silently (tables.reserve_mem n) (reserve_searches (phys n)) (rows.reserve_mem n) m
-    (reserve_gone (phys n) m.heap) (reserve_mem-same n m.heap)
 
 pub hand_to_hand-silent : (handle : Option ℕ) (m : Memory) → doing_silently (rows.hand_to_hand handle) m ≡ moving
     (hand_to_hand_moves handle m.heap) (searching (hand_to_hand_searches handle m.heap) (silent (tables.hand_to_hand

@@ -11,7 +11,7 @@ use Rattle.mac_words.specs.declared.code.OsErr.{OsErr}
 use Rattle.mac_words.specs.declared.code.TheConstants.OsErr.{MEM_FULL}
 use Rattle.block_store.specs.Block.{Block, Free, Nonrelocatable, Masters, Relocatable, size, sizes, count, rename, rename_block}
 use Rattle.block_store.specs.Block.{is_relocatable, resized, resized_content, content_of, with_content}
-use Rattle.windows.specs.Writes.{written}
+use Rattle.memory_windows.specs.Writes.{written}
 use Rattle.block_store.specs.Room.{Spot, rename_spot, spot, spot_at}
 use Rattle.block_store.specs.Grow.{grow}
 use Rattle.block_store.proofs.Zone.Tidy.{spot-passes}

@@ -17,7 +17,7 @@ use Rattle.block_store.specs.Room.{Spot, raised, spot, spot_at, place, filled, r
 use Rattle.block_store.specs.Grow.{growth, taken, grow_up, grow_mover}
 use Rattle.block_store.specs.Find.{FindsLowestRun}
 use Rattle.block_store.proofs.Zone.Tidy.{spot-passes}
-use Rattle.block_store.proofs.Zone.Totals.{total-append}
+use Rattle.block_store.proofs.Zone.Totals.{total-append, free_sum-free}
 use Rattle.block_store.proofs.Zone.Leading.{none-count}
 use Rattle.block_store.proofs.Content.Resizing.{size-resized}
 use Rattle.block_store.proofs.Zone.Passing.{filter-none, none-append, has-count}
@@ -148,10 +148,6 @@ free_sum-filter p none (b ∷ run) = cases (p b) refl (free_sum-filter p none ru
     cases : (t : Bool) → p b ≡ t → free_sum (filter p run) ≡ 0 → free_sum (cond t (b ∷ filter p run) (filter p run)) ≡ 0
     cases true e more = let z = one b e in let g : free_of b + free_sum (filter p run) ≡ 0 = omega arith in g
     cases false e more = more
-
-free_sum-free : (n : ℕ) → free_sum (free n) ≡ n
-free_sum-free zero = refl
-free_sum-free (suc n) = let g : suc n + 0 ≡ suc n = omega arith in g
 
 free_sum-high : (number : ℕ) (run : List Block) → free_sum (high (is_relocatable number) run) ≡ free_sum run
 free_sum-high number run =

@@ -5,7 +5,7 @@ use Rattle.std.specs.Result.{OnOk, OnErr}
 use Rattle.std.proofs.lemmas.Option.{none-some, same_Some}
 use Rattle.block_store.specs.Block.{Block, Masters, size, resized, is_nonrelocatable, is_relocatable, tidy, content_of}
 use Rattle.block_store.specs.Block.{with_content}
-use Rattle.windows.specs.Writes.{written}
+use Rattle.memory_windows.specs.Writes.{written}
 use Rattle.block_store.specs.Run.{RunSpot, run_at, with_run, has}
 use Rattle.block_store.specs.Room.{Spot, spot, spot_at}
 use Rattle.block_store.specs.Find.{FindsLowest}
@@ -17,8 +17,8 @@ use Rattle.heap_calls.specs.Inner.Growing.{grown, CanGrowUp}
 use Rattle.heap_calls.specs.Inner.Numbered.{KeepsNonrelocatable}
 use Rattle.heap_calls.proofs.Numbering.Answering.{at_place}
 use Rattle.heap_calls.proofs.Numbering.Changing.{nonrelocatable-at}
-use Rattle.heap_calls.proofs.Room.Staying.{NoNonrelocatable, nonrelocatable-same, nonrelocatable-then, nonrelocatable-spot, alike-content, nonrelocatable-grow_up}
-use Rattle.heap_calls.proofs.Room.Staying.{nonrelocatable-grow_mover, nonrelocatable-run_at, alike-resized}
+use Rattle.heap_calls.proofs.Room.Staying.{NoNonrelocatable, nonrelocatable-same, nonrelocatable-then, nonrelocatable-spot, alike-content}
+use Rattle.heap_calls.proofs.Room.Staying.{nonrelocatable-grow_up, nonrelocatable-grow_mover, nonrelocatable-run_at, alike-resized}
 
 -- The nonrelocatable blocks stay through each step of a growth.
 
@@ -27,7 +27,8 @@ some_of None P h = absurd h
 some_of (Some x) P h = refl
 
 -- a run at a place was changed
-pub nonrelocatable-changed_at : (change : List Block → List Block) → ((run : List Block) → NoNonrelocatable run → NoNonrelocatable (change run))
+pub nonrelocatable-changed_at : (change : List Block → List Block)
+    → ((run : List Block) → NoNonrelocatable run → NoNonrelocatable (change run))
     → (place : ℕ) (zone after : List Block) → IsSome (run_at place zone)
     → IfSome (run_at place zone) (λ r. after ≡ tidy (with_run change r)) → KeepsNonrelocatable zone after
 nonrelocatable-changed_at change keeps place zone after there done = cases (run_at place zone) refl there done

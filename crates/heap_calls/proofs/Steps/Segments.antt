@@ -21,7 +21,6 @@ use Rattle.heap_calls.specs.Answer.{Answer, Held, refused, known_as, held_at, lo
 use Rattle.heap_calls.specs.Answer.{h_unlock, hoisted}
 use Rattle.heap_calls.specs.Locked.{is_locked, locked_place}
 use Rattle.heap_calls.specs.Standing.{pointer_place}
-use Rattle.heap_calls.specs.Owned.{resource_meant, resource_role_at}
 use Rattle.heap_calls.specs.Inside.{held_high, loosened, has_block}
 use Rattle.heap_calls.proofs.Promises.Knowing.{Known, for_handle, look_up-spot, none-handle, known-less}
 use Rattle.heap_calls.proofs.Promises.KnownChanges.{known-flags, hoisted-le, hoisted-all}
@@ -216,23 +215,6 @@ pub loosened-masters : (h : ℕ) (s : State) → count is_masters (loosened h s)
 loosened-masters h s = loosened-total masters (λ n. refl) masters-flags h s
 
 -- What the numbers stand for after them.
-
-flags-names : (change : Flags → Flags) (h : ℕ) (s : State) → (change_flags change (Some h) s).1.names ≡ s.names
-flags-names change h s = flags-go (λ t. t.names ≡ s.names) change h s (λ code e. refl) (λ at found. refl)
-
-pub held-names : (h : ℕ) (s : State) → (held_high h s).names ≡ s.names
-held-names h s =
-    held-goes (λ t. t.names ≡ s.names) h s (λ code e. refl) (λ at found stands. refl)
-    (flags-names locking h (moved_high h s))
-
-pub loosened-names : (h : ℕ) (s : State) → (loosened h s).names ≡ s.names
-loosened-names h s = flags-names purging h (h_unlock (Some h) s).1 ∙ flags-names unlocking h s
-
-pub held-roles : (h : ℕ) (s : State) (k : ℕ) → resource_role_at k (held_high h s) ≡ resource_role_at k s
-held-roles h s k = ap (λ (ns : List Meaning). resource_meant (slice_get ns k)) (held-names h s)
-
-pub loosened-roles : (h : ℕ) (s : State) (k : ℕ) → resource_role_at k (loosened h s) ≡ resource_role_at k s
-loosened-roles h s k = ap (λ (ns : List Meaning). resource_meant (slice_get ns k)) (loosened-names h s)
 
 -- They don't hang on where the heap lies, and leave that, the code that MemError tells, what is busy, and both counts.
 

@@ -1,6 +1,6 @@
 use Rattle.std.specs.Prelude.{ℕ, ◌+◌, Bool, List, [], ◌++◌, length, replicate, is_some, if◌then◌else◌, Option, Some}
 use Rattle.std.specs.Prelude.{None, nat_le, ◌||◌}
-use Rattle.block_store.specs.Block.{Block, Relocatable, no_flags, size, Masters, Nonrelocatable, is_mover}
+use Rattle.block_store.specs.Block.{Block, Relocatable, no_flags, size, Nonrelocatable, is_mover}
 use Rattle.block_store.specs.Block.{is_relocatable, content_of, is_nonrelocatable}
 use Rattle.block_store.specs.Room.{put_in_place, put_at_base, Spot, spot}
 use Rattle.heap_calls.specs.State.{State}
@@ -9,7 +9,6 @@ use Rattle.heap_calls.specs.Gone.{Gone, room_gone, slot_gone, ready_gone, made_g
 use Rattle.heap_calls.specs.Answer.{nothing, look_up, handle_at}
 use Rattle.mac_words.specs.Size.{phys}
 use Rattle.heap_calls.specs.Pointers.{pointed_at}
-use Rattle.heap_calls.proofs.Tables.Replies.{reserved}
 use Rattle.block_store.specs.Run.{has_free, segments}
 use Rattle.block_store.specs.Grow.{growth, grow_up, grow_mover, freed}
 use Rattle.heap_calls.specs.Searches.{resized_at}
@@ -30,20 +29,11 @@ new_handle_gone size s = made_gone nothing (replicate size 0) s
 abbrev pub new_empty_handle_gone : State → List Gone
 new_empty_handle_gone s = slot_gone nothing s
 
--- The blocks that MoreMasters purges.
-abbrev pub more_masters_gone : State → List Gone
-more_masters_gone s = room_gone (length s.names) (put_at_base Masters) nothing s.zone
-
 -- The blocks that NewPtr purges.
 abbrev pub new_pointer_gone : ℕ → State → List Gone
 new_pointer_gone size s = if is_some (phys size)
     then room_gone (length s.names) (put_at_base (Nonrelocatable (length s.names) (replicate size 0))) nothing s.zone
     else []
-
--- The blocks that ReserveMem purges.
-abbrev pub reserve_gone : Option ℕ → State → List Gone
-reserve_gone None s = []
-reserve_gone (Some p) s = room_gone (length s.names) (reserved p) nothing s.zone
 
 -- The blocks that are purged for the growth of a nonrelocatable or locked block: none where the free block above it is
 -- large enough, else some of the run above it.

@@ -2,16 +2,14 @@ use Rattle.std.specs.Prelude.{ℕ, Option, is_some, if◌then◌else◌, Bool, L
 use Rattle.std.specs.Prelude.{◌||◌}
 use Rattle.mac_words.specs.Size.{phys}
 use Rattle.mac_words.specs.declared.code.TheConstants.OsErr.{MEM_FULL, PURGED}
-use Rattle.block_store.specs.Block.{is_relocatable, Block, no_flags, Nonrelocatable, is_nonrelocatable, Free, tidy}
+use Rattle.block_store.specs.Block.{is_relocatable, Block, no_flags, Nonrelocatable, is_nonrelocatable}
 use Rattle.block_store.specs.Block.{content_of}
 use Rattle.block_store.specs.Grow.{grow}
 use Rattle.heap_calls.specs.State.{State, Plain, Handle, Pointer}
 use Rattle.heap_calls.specs.Answer.{Answer, refused, on_block, rebuilt, nothing, given, for_found, handle_at}
-use Rattle.heap_calls.specs.Slots.{made, slotted, if_ready, more_masters}
+use Rattle.heap_calls.specs.Slots.{made, slotted, if_ready}
 use Rattle.block_store.specs.Room.{put_at_base, room, spot}
 use Rattle.heap_calls.specs.Pointers.{on_pointer}
-use Rattle.std.specs.Option.{option_map}
-use Rattle.block_store.specs.Run.{change_run, has_free, low}
 use Rattle.heap_calls.specs.Copying.{written_in}
 use Rattle.heap_calls.specs.Purging.{is_loose, reallocated}
 
@@ -51,23 +49,6 @@ new_pointer n s = if is_some (phys n) then given Pointer (room (put_at_base (Non
 abbrev pub set_pointer_size : Option ℕ → ℕ → State → Answer (Unit {0})
 set_pointer_size pointer n s = on_pointer pointer s (λ held. if is_some (phys n)
     then rebuilt (grow (is_nonrelocatable held.number) nothing n s.zone) s else refused MEM_FULL s)
-
--- The zone with a free block of p bytes at the base of the lowest run that has p free bytes.
-abbrev pub reserved : ℕ → List Block → Option (List Block)
-reserved p zone = option_map tidy (change_run (has_free p) (low (Free p)) zone)
-
--- ReserveMem: makes room for a block of n bytes as low in the zone as can be; -108 (memFullErr) where there is no
--- room or no block can have that size.
-abbrev pub reserve_mem : ℕ → State → Answer (Unit {0})
-reserve_mem n s = reserve (phys n)
-  where
-    reserve : Option ℕ → Answer (Unit {0})
-    reserve None = refused MEM_FULL s
-    reserve (Some p) = rebuilt (room (reserved p) nothing s.zone) s
-
--- MoreMasters: a new master pointer block; -108 (memFullErr) where there is no room for it.
-abbrev pub add_masters : State → Answer (Unit {0})
-add_masters s = rebuilt (option_map (λ (ready : State). ready.zone) (more_masters nothing s)) s
 
 -- HandToHand: a new handle with a copy of the bytes of another handle's block, which is not purged for the copy.
 abbrev pub hand_to_hand : Option ℕ → State → Answer ℕ

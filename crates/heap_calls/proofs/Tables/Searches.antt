@@ -1,6 +1,6 @@
-use Rattle.std.specs.Prelude.{ℕ, length, replicate, is_some, if◌then◌else◌, Option, Some, None, Result, Ok, Err, ◌+◌}
+use Rattle.std.specs.Prelude.{ℕ, length, replicate, is_some, if◌then◌else◌, Option, Result, Ok, Err, ◌+◌}
 use Rattle.std.specs.Prelude.{◌||◌, List}
-use Rattle.block_store.specs.Block.{Masters, Nonrelocatable, is_relocatable, is_nonrelocatable, Relocatable, no_flags}
+use Rattle.block_store.specs.Block.{Nonrelocatable, is_relocatable, is_nonrelocatable, Relocatable, no_flags}
 use Rattle.block_store.specs.Block.{content_of}
 use Rattle.block_store.specs.Room.{put_at_base, spot, put_in_place}
 use Rattle.heap_calls.specs.State.{State}
@@ -8,7 +8,6 @@ use Rattle.heap_calls.specs.Answer.{nothing, look_up, handle_at}
 use Rattle.heap_calls.specs.Searches.{room_searches, size_searches, slot_searches, ready_searches, block_searches}
 use Rattle.mac_words.specs.Size.{phys}
 use Rattle.heap_calls.specs.Pointers.{pointed_at}
-use Rattle.heap_calls.proofs.Tables.Replies.{reserved}
 use Rattle.mac_words.specs.declared.code.OsErr.{OsErr}
 use Rattle.block_store.specs.Grow.{freed}
 use Rattle.heap_calls.specs.Purging.{is_loose}
@@ -16,20 +15,11 @@ use Rattle.heap_calls.specs.Slots.{slotted}
 
 -- The searches of the same calls.
 
--- The searches of MoreMasters.
-abbrev pub more_masters_searches : State → ℕ
-more_masters_searches s = room_searches (put_at_base Masters) nothing s.zone
-
 -- The searches of NewPtr.
 abbrev pub new_pointer_searches : ℕ → State → ℕ
 new_pointer_searches n s = if is_some (phys n) then room_searches (put_at_base (Nonrelocatable (length s.names)
     (replicate n 0)))
     nothing s.zone else 0
-
--- The searches of ReserveMem.
-abbrev pub reserve_searches : Option ℕ → State → ℕ
-reserve_searches None s = 0
-reserve_searches (Some p) s = room_searches (reserved p) nothing s.zone
 
 -- The number of searches of a call for what was found; none where nothing was found.
 abbrev pub found_searches : {A : Type 0} → Result A OsErr → (A → ℕ) → ℕ

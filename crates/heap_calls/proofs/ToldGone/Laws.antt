@@ -51,19 +51,19 @@ use Rattle.heap_calls.proofs.ToldGone.Rows.{row_gone, rows-even, filled_step-eve
 -- What a call tells of a handle is what the handle loses.
 
 -- what bytes come to, each by a measure
-abbrev weigh : (List ℕ → ℕ) → List (List ℕ) → ℕ
+abbrev pub weigh : (List ℕ → ℕ) → List (List ℕ) → ℕ
 weigh f [] = 0
 weigh f (x ∷ xs) = f x + weigh f xs
 
 -- how many there are
-abbrev many : List (List ℕ) → ℕ
+abbrev pub many : List (List ℕ) → ℕ
 many = weigh (λ x. 1)
 
 -- what the blocks of a handle come to, by their bytes
-abbrev held : (List ℕ → ℕ) → ℕ → Block → ℕ
+abbrev pub held : (List ℕ → ℕ) → ℕ → Block → ℕ
 held f h b = cond (is_relocatable h b) (f (content_of b)) 0
 
-held-bytes : (f : List ℕ → ℕ) (h : ℕ) (zone : List Block) → total (held f h) zone ≡ weigh f (bytes_in h zone)
+pub held-bytes : (f : List ℕ → ℕ) (h : ℕ) (zone : List Block) → total (held f h) zone ≡ weigh f (bytes_in h zone)
 held-bytes f h [] = refl
 held-bytes f h (b ∷ zone) = cases (is_relocatable h b) (held-bytes f h zone)
   where
@@ -98,7 +98,7 @@ told-one f h n within (Relocatable id flags content) = cases (nat_lt id n) (id =
     cases false false is same = refl
 
 -- nothing but where there is none
-many-none : (xs : List (List ℕ)) → many xs ≤ 0 → xs ≡ []
+pub many-none : (xs : List (List ℕ)) → many xs ≤ 0 → xs ≡ []
 many-none [] le = refl
 many-none (x ∷ xs) le = absurd (omega arith)
 

@@ -1,13 +1,13 @@
 use Rattle.std.proofs.Common.{◌≡◌, ℕ, ◌+◌, ◌-◌, ◌≤◌, zero, suc, Bool, true, false, List, [], ◌∷◌, ◌++◌, refl}
 use Rattle.std.proofs.Common.{sym, ◌∙◌, ap, cond, arith, Option, Some, None, is_some}
 use Rattle.std.proofs.lemmas.Bool.{cond-true, cond-false}
+use Rattle.mac_words.proofs.Plain.{is_some-map}
 use Rattle.block_store.specs.Block.{Block, Free, size, total}
 use Rattle.block_store.specs.Room.{may_be_purged, lowest_purged, purge, count_of, room, filled, place, put_in_place}
 use Rattle.block_store.specs.Compact.{least_or_last}
 use Rattle.block_store.proofs.Zone.Keeping.{tidied}
 use Rattle.heap_calls.specs.Searches.{room_searches}
 use Rattle.heap_calls.specs.Gone.{Gone, gone_of, gone, room_gone}
-use Rattle.heap_calls.proofs.GoneBlocks.{some-map}
 use Rattle.heap_calls.proofs.Room.LeastSearches.{least-of, tries-of}
 
 -- What blocks come to, and what a list of those that are purged comes to, by one measure.
@@ -76,8 +76,8 @@ gone-alike n try other same sp zone =
 pub put-alike : (n : ℕ) (new other : Block) → size new ≡ size other → (sp : Block → Bool) (zone : List Block)
     → room_gone n (put_in_place new) sp zone ≡ room_gone n (put_in_place other) sp zone
 put-alike n new other same = gone-alike n (put_in_place new) (put_in_place other)
-    (λ z. some-map (filled new) (place (size new) z) ∙ ap (λ p. is_some (place p z)) same
-    ∙ sym (some-map (filled other) (place (size other) z)))
+    (λ z. is_some-map (filled new) (place (size new) z) ∙ ap (λ p. is_some (place p z)) same
+    ∙ sym (is_some-map (filled other) (place (size other) z)))
 
 module _ (n : ℕ) (of : Block → ℕ) (none : (m : ℕ) → of (Free m) ≡ 0) (told : List Gone → ℕ) (nil : told [] ≡ 0)
     (adds : Adds told) (sp : Block → Bool)

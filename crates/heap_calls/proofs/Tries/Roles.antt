@@ -8,7 +8,7 @@ use Rattle.mac_words.specs.declared.code.TheConstants.OsErr.{NIL_HANDLE, LOCKED,
 use Rattle.block_store.specs.declared.flags.Flags.{Flags}
 use Rattle.block_store.specs.Block.{Block, is_mover, is_relocatable, is_nonrelocatable, content_of}
 use Rattle.block_store.specs.Block.{with_content, tidy}
-use Rattle.windows.specs.Writes.{written}
+use Rattle.memory_windows.specs.Writes.{written}
 use Rattle.block_store.specs.Room.{Spot, spot}
 use Rattle.block_store.specs.Grow.{freed}
 use Rattle.heap_calls.specs.State.{State, Memory, Plain, Resource, SystemResource, Meaning, Handle, Pointer}
@@ -40,7 +40,7 @@ set-same [] k new none = refl
 set-same (m ∷ ns) zero new none = none
 set-same (m ∷ ns) (suc k) new none = set-same ns k new none
 
-set-other : (ns : List Meaning) (k h : ℕ) (new : Meaning) → (k ≡ h → ⊥)
+pub set-other : (ns : List Meaning) (k h : ℕ) (new : Meaning) → (k ≡ h → ⊥)
     → slice_get (slice_set ns k new) h ≡ slice_get ns h
 set-other [] k h new other = refl
 set-other (m ∷ ns) zero zero new other = absurd (other refl)
@@ -234,6 +234,7 @@ row-keeps (asked.HandToHand handle) m =
 row-keeps (asked.HandAndHand from to) m =
     done-found (look_up from m.heap) m.heap _ (λ a. done-found (look_up to m.heap) m.heap _ (λ b h. refl))
 row-keeps (asked.PtrAndHand handle x) m = done-found (look_up handle m.heap) m.heap _ (λ held h. refl)
+row-keeps (asked.PtrToXHand handle x) m = done-found (look_up handle m.heap) m.heap _ (λ held h. refl)
 row-keeps (asked.NewPtr n) m = given-keeps Pointer refl _ m.heap
 row-keeps (asked.DisposePtr pointer) m = unpointed-keeps pointer m.heap
 row-keeps (asked.SetPtrSize pointer n) m = done-found (pointed_at pointer m.heap) m.heap _ (λ held h. refl)

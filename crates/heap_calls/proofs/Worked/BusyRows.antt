@@ -72,6 +72,13 @@ zones : (window : Site) → told (Ask (asks.NewHandle (asks.Zeros 10)) ∷ Ask (
     ∷ []
 zones window = refl
 
+-- bytes that take the place of a block's own
+replaced_bytes : (window : Site) → told (Ask (asks.NewHandle (asks.Zeros 10)) ∷ Ask (asks.PtrToXHand (Some 0) (7 ∷ 8 ∷ []))
+    ∷ Ask (asks.Show (Some 0)) ∷ Ask (asks.GetHandleSize (Some 0)) ∷ Ask (asks.PtrToXHand None [])
+    ∷ Ask (asks.EmptyHandle (Some 0)) ∷ Ask (asks.PtrToXHand (Some 0) []) ∷ []) (fresh_memory 1024 window)
+    ≡ Given 0 ∷ Done ∷ Bytes (7 ∷ 8 ∷ []) ∷ Number 2 ∷ Refused NIL_HANDLE ∷ Done ∷ Refused NIL_HANDLE ∷ []
+replaced_bytes window = refl
+
 -- a number that became busy twice is idle at once, and a fourth isn't kept
 twice_busy : is_busy 7 (eased 7 (busied 7 (busied 7 idle))) ≡ false
 twice_busy = refl

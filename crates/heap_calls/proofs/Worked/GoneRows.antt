@@ -19,7 +19,8 @@ after (call ∷ calls) m = after calls (served call m).1
 
 -- three handles of 200 bytes each in a zone that has 80 bytes left, and the two lower blocks may be purged
 abbrev three : Site → Memory
-three window = after (asks.NewHandle (asks.Zeros 200) ∷ asks.NewHandle (asks.Zeros 200) ∷ asks.NewHandle (asks.Zeros 200) ∷ asks.Put (Some 0) 0 (72 ∷ [])
+three window = after
+    (asks.NewHandle (asks.Zeros 200) ∷ asks.NewHandle (asks.Zeros 200) ∷ asks.NewHandle (asks.Zeros 200) ∷ asks.Put (Some 0) 0 (72 ∷ [])
     ∷ asks.HPurge (Some 0) ∷ asks.HPurge (Some 1) ∷ []) (fresh_memory 1024 window)
 
 abbrev lowest : Gone

@@ -15,10 +15,12 @@ use Rattle.heap_calls.specs.Inside.{resource_role, new_inside, new_empty_inside,
 use Rattle.heap_calls.specs.Inside.{cast, owned_as}
 use Rattle.res_map.specs.Split.{replaced, Split, place}
 use Rattle.res_map.specs.Map.{is_protected, with_attrs, renamed, stored_anew, Reference, Map, has_handle}
-use Rattle.res_map.specs.Map.{resized_datum, with_datum, is_handle, is_changed, is_resource as is_wanted, is_named, nth, types}
+use Rattle.res_map.specs.Map.{resized_datum, with_datum, is_handle, is_changed, is_resource as is_wanted, is_named}
 use Rattle.res_map.proofs.Splitting.{split-passes, split-whole}
 use Rattle.res_calls.specs.Files.{Resources, File, OpenFile, Found, find, opened, file_of, file_named, open_at}
-use Rattle.res_calls.specs.Files.{current_references, fresh_resources}
+use Rattle.res_calls.specs.Files.{fresh_resources}
+use Rattle.res_calls.specs.Changing.{with_map_attrs}
+use Rattle.std.proofs.lemmas.List.Concat.{flat_map-append}
 use Rattle.res_calls.specs.Fetch.{is_system, Managers, Answer, done, refused, flags_of, now_filled, now_empty}
 use Rattle.res_calls.specs.Fetch.{now_refilled, fetch_as}
 use Rattle.res_calls.specs.Rows.{with_resources, closed_file, map_in, open_map, resource_of, open_as, open_fork}
@@ -29,7 +31,7 @@ use Rattle.res_calls.specs.Changing as changing
 use Rattle.res_calls.specs.Changing.{create_named, most_files, marked, stored_if}
 use Rattle.res_calls.specs.Partial as partial
 use Rattle.res_calls.specs.Partial.{is_in_memory, read_part_found, restored, restored_unless, size_refusal, write_refusal}
-use Rattle.windows.specs.Writes.{piece, written}
+use Rattle.memory_windows.specs.Writes.{piece, written}
 use Rattle.res_calls.proofs.Keeping.{either-keeps, found-keeps, open-keeps, known-keeps, removable-keeps}
 use Rattle.res_calls.proofs.Keeping.{changeable-keeps, updated-keeps, update-comes}
 use Rattle.res_calls.proofs.OpeningForks.{read_is}
@@ -45,7 +47,7 @@ use Rattle.res_calls.specs.Rows as rows
 use Rattle.res_calls.specs.Asked.{ResourceAsked, served}
 use Rattle.res_calls.specs.Asked as asks
 use Rattle.res_calls.specs.Owning.{role_in}
-use Rattle.res_calls.proofs.Owning.Owners.{owners, OneOwner}
+use Rattle.res_calls.proofs.Owning.Owners.{owners, owners_in, OneOwner}
 use Rattle.res_calls.proofs.Owning.Places.{Stands, find-finds, among-stands}
 use Rattle.res_calls.proofs.Owning.Changes.{one-owner-same, one-held, one-gone}
 use Rattle.res_calls.proofs.Owning.Openings.{Bare, bare-groups, bare-owners, loaded-owned}
@@ -240,6 +242,22 @@ create-owns name (Some at) s owns =
     either-keeps {T = Unit {0}} OneOwner (length at.here.fork == 0) _ (refused DUPLICATE_FILE s)
     (λ empty. record { one = owns.one; numbered = owns.numbered }) (λ some. owns)
 
+-- the attributes of a file are set: its references stay
+set_file-owns : (n attrs : ℕ) (s : Managers) → OneOwner s → OneOwner (changing.set_res_file_attrs n attrs s).after
+set_file-owns n attrs s owns = by_file (file_of n s.resources) (split-whole (λ f. f.number == n) s.resources.chain)
+  where
+    by_file : (o : Option (Split OpenFile))
+        → ((at : Split OpenFile) → o ≡ Some at → replaced at.here at ≡ s.resources.chain)
+        → OneOwner (changing.set_file n attrs o s).after
+    by_file None whole = owns
+    by_file (Some at) whole = either-keeps {T = Unit {0}} OneOwner (n == 0) (refused WRITE_PERMISSION s) _ (λ system. owns)
+        (λ own. record {
+          one = λ h. flat_map-append (owners_in h) at.before (with_map_attrs attrs at.here ∷ at.after)
+              ∙ sym (flat_map-append (owners_in h) at.before (at.here ∷ at.after)) ∙ ap (owners h) (whole at refl)
+              ∙ owns.one h;
+          numbered = owns.numbered;
+        })
+
 -- a resource is added with an application's own handle
 pub own-file : (n : ℕ) (s : Managers) (at : Split OpenFile) → file_of n s.resources ≡ Some at → (n == 0) ≡ false
     → is_system at.here ≡ false
@@ -375,6 +393,10 @@ one-owner-served (asks.UseResFile n) s owns =
     noted (rows.use_res_file n) s
     (open-keeps OneOwner (file_of n s.resources) s _ owns (λ at e. record { one = owns.one; numbered = owns.numbered }))
 one-owner-served asks.CurResFile s owns = noted rows.cur_res_file s owns
+one-owner-served (asks.GetResFileAttrs n) s owns =
+    noted (rows.get_res_file_attrs n) s (open-keeps OneOwner (file_of n s.resources) s _ owns (λ at e. owns))
+one-owner-served (asks.SetResFileAttrs n attrs) s owns =
+    noted (changing.set_res_file_attrs n attrs) s (set_file-owns n attrs s owns)
 one-owner-served (asks.HomeResFile handle) s owns =
     noted (rows.home_res_file handle) s (found-keeps OneOwner (resource_of handle s.resources) s _ owns (λ at e. owns))
 one-owner-served (asks.GetResource kind id) s owns =
@@ -389,9 +411,8 @@ one-owner-served (asks.GetNamedResource kind name) s owns =
 one-owner-served (asks.Get1NamedResource kind name) s owns =
     noted (rows.get1_named_resource kind name) s
     (searched-owns (λ f. f.number == s.resources.current) (is_named kind name) s owns)
-one-owner-served asks.Count1Types s owns = noted rows.count1_types s owns
-one-owner-served (asks.Get1IndType index) s owns =
-    noted (rows.get1_ind_type index) s (told-owns _ (nth index (types (current_references s.resources))) s owns)
+one-owner-served (asks.CountTypes among) s owns = noted (rows.count_types among) s owns
+one-owner-served (asks.GetIndType among index) s owns = noted (rows.get_ind_type among index) s (told-owns _ _ s owns)
 one-owner-served (asks.CountResources among kind) s owns = noted (rows.count_resources among kind) s owns
 one-owner-served (asks.GetIndResource among kind index) s owns =
     noted (rows.get_ind_resource among kind index) s

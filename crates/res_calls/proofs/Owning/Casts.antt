@@ -6,6 +6,7 @@ use Rattle.heap_calls.specs.Answer.{Known, known_as, handle_at}
 use Rattle.heap_calls.specs.Purging.{is_resource}
 use Rattle.heap_calls.specs.Inside.{cast, cast_as, owned_as}
 use Rattle.heap_calls.specs.Owned.{resource_meant, resource_role_at}
+use Rattle.heap_calls.proofs.Tries.Roles.{set-other}
 
 -- A handle that becomes a resource's.
 
@@ -15,14 +16,6 @@ set-there : (ns : List Meaning) (k : ℕ) (old new : Meaning) → slice_get ns k
 set-there [] k old new is = cc
 set-there (m ∷ ns) zero old new is = refl
 set-there (m ∷ ns) (suc k) old new is = set-there ns k old new is
-
-set-other : (ns : List Meaning) (k h : ℕ) (new : Meaning) → (k ≡ h → ⊥)
-    → slice_get (slice_set ns k new) h ≡ slice_get ns h
-set-other [] k h new other = refl
-set-other (m ∷ ns) zero zero new other = absurd (other refl)
-set-other (m ∷ ns) zero (suc h) new other = refl
-set-other (m ∷ ns) (suc k) zero new other = refl
-set-other (m ∷ ns) (suc k) (suc h) new other = set-other ns k h new (λ e. other (ap suc e))
 
 role-set : (ns : List Meaning) (k h : ℕ) (old new : Meaning) → slice_get ns k ≡ Some old
     → resource_meant (slice_get (slice_set ns k new) h)

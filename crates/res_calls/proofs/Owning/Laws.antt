@@ -21,13 +21,6 @@ use Rattle.res_calls.proofs.Owning.Facts.{role-there, owns-one, one-owns}
 
 -- Each resource has its own handle, from an application's launch on and after each call.
 
--- it hangs on the open files, on which numbers are resources' handles, and on the next number
-pub owns-same : (s after : Managers) → Owns s → after.resources.chain ≡ s.resources.chain
-    → after.resources.next ≡ s.resources.next
-    → ((h : ℕ) → resource_role_at h after.memory.heap ≡ resource_role_at h s.memory.heap) → Owns after
-owns-same s after owns chain next same =
-    owns-one after (one-owner-same s after (one-owns s owns) chain next same)
-
 -- a call of the Memory Manager, and one of the Resource Manager
 pub owns-heap : (a : Asked) (s : Managers) → Owns s → Owns (record s { memory = (heap.served a s.memory).1 })
 owns-heap a s owns =
@@ -76,19 +69,3 @@ owns-launched files system r m e none =
       owns-fresh files own (map_of system) m bare (bare-groups system.groups) none,
       owns-preloaded files own (map_of system) m bare (bare-groups system.groups) none,
     )) e
-
--- a reference's handle is a resource's, in the role that its file gives it
-pub owns-live : (s : Managers) → Owns s → (at : Found) (h : ℕ) → Stands s.resources.chain at
-    → at.reference.here.handle ≡ Some h → resource_role_at h s.memory.heap ≡ Some (role_in at.file.here)
-owns-live s owns at h stands has =
-    role-there s (one-owns s owns) at h stands (ap (is_handle h) has ∙ (Decides-eqb h h).1 refl)
-
--- a resource's handle is that of a reference, which a search by the handle finds
-pub owns-known : (s : Managers) → Owns s → (h : ℕ) (role : Role) → resource_role_at h s.memory.heap ≡ Some role
-    → (at : Found) × (find_open (has_handle h) s.resources ≡ Some at) × (role_in at.file.here ≡ role)
-owns-known s owns h role is = by_found (find_open (has_handle h) s.resources) (owns.owned h ∙ is)
-  where
-    by_found : (o : Option Found) → role_for o ≡ Some role
-        → (at : Found) × (o ≡ Some at) × (role_in at.file.here ≡ role)
-    by_found None e = cc
-    by_found (Some at) e = (at, refl, cc)

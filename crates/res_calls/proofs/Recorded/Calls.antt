@@ -2,7 +2,7 @@ use Rattle.std.proofs.Common.{◌≡◌, ℕ, List, map, refl, ap, Option, Some,
 use Rattle.mac_words.specs.declared.code.OsErr.{OsErr}
 use Rattle.mac_words.specs.declared.code.TheConstants.OsErr.{LOCKED, RES_ATTR, DISK_FULL, DUPLICATE_FILE, IN_MEMORY}
 use Rattle.mac_words.specs.declared.code.TheConstants.OsErr.{OFFSET}
-use Rattle.windows.specs.Writes.{piece}
+use Rattle.memory_windows.specs.Writes.{piece}
 use Rattle.res_calls.specs.Partial.{is_in_memory, read_part_found, read_partial_resource}
 use Rattle.res_map.specs.Split.{Split}
 use Rattle.res_map.specs.Map.{is_changed}

@@ -1,6 +1,6 @@
 use Rattle.std.proofs.Common.{◌≡◌, ℕ, ℤ, Bool, true, false, refl, ◌==◌, nat_le, ap}
 use Rattle.res_map.specs.Map.{Reference, is_resource, is_named}
-use Rattle.res_calls.specs.Files.{OpenFile, Resources, find, is_at}
+use Rattle.res_calls.specs.Files.{OpenFile, Resources, file_of, find, is_at}
 use Rattle.res_calls.specs.Fetch.{Managers}
 use Rattle.res_calls.specs.Own.{fetch_own}
 use Rattle.res_calls.specs.Rows as rows
@@ -9,6 +9,7 @@ use Rattle.res_calls.specs.Asked as asks
 use Rattle.res_calls.specs.Asked.{ResourceAsked, served}
 use Rattle.res_calls.specs.Fetching.{fetches, OnlyGivesHandles}
 use Rattle.res_calls.specs.Writing.{alters}
+use Rattle.res_calls.proofs.Keeping.{open-keeps}
 use Rattle.res_calls.proofs.Owning.Calls.{resource-holds}
 use Rattle.res_calls.proofs.Owning.Places.{find-finds, among-stands}
 use Rattle.res_calls.proofs.Recorded.Given.{fetched-given, noted-given}
@@ -56,13 +57,14 @@ pub served-records : (a : ResourceAsked) (s : Managers) → alters a ≡ false �
 served-records (asks.CreateResFile name) s is = create-records name s
 served-records (asks.UseResFile number) s is = use_file-records number s
 served-records asks.CurResFile s is = refl
+served-records (asks.GetResFileAttrs number) s is = open-keeps (Records s) (file_of number s.resources) s _ refl (λ at e. refl)
 served-records (asks.HomeResFile handle) s is = asked-records handle s _ (λ at. refl)
 served-records (asks.GetResource kind id) s is = fetch-records (asks.GetResource kind id) s refl
 served-records (asks.Get1Resource kind id) s is = fetch-records (asks.Get1Resource kind id) s refl
 served-records (asks.GetNamedResource kind name) s is = fetch-records (asks.GetNamedResource kind name) s refl
 served-records (asks.Get1NamedResource kind name) s is = fetch-records (asks.Get1NamedResource kind name) s refl
-served-records asks.Count1Types s is = refl
-served-records (asks.Get1IndType index) s is = told-records _ _ s
+served-records (asks.CountTypes among) s is = refl
+served-records (asks.GetIndType among index) s is = told-records _ _ s
 served-records (asks.CountResources among kind) s is = refl
 served-records (asks.GetIndResource among kind index) s is = fetch-records (asks.GetIndResource among kind index) s refl
 served-records (asks.UniqueID among kind) s is = told-records _ _ s

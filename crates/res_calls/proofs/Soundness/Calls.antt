@@ -24,11 +24,12 @@ use Rattle.res_calls.specs.Rows as rows
 use Rattle.res_calls.specs.Rows.{map_in, open_map, open_unless, open_named, greatest_number, resource_of, released_at}
 use Rattle.res_calls.specs.Rows.{Among, detached_at, bars, nth_among, closed_file, with_resources, loaded}
 use Rattle.res_calls.specs.Changing as changing
-use Rattle.res_calls.specs.Changing.{create_named, most_files, marked, stored_if, touched, with_changed}
+use Rattle.res_calls.specs.Changing.{create_named, most_files, marked, set_file, stored_if, touched, with_changed}
+use Rattle.res_calls.specs.Changing.{with_map_attrs}
 use Rattle.res_calls.specs.Partial as partial
 use Rattle.res_calls.specs.Partial.{is_in_memory, read_part_found, restored, restored_unless, set_size_found, size_refusal}
 use Rattle.res_calls.specs.Partial.{write_part_found, write_refusal}
-use Rattle.windows.specs.Writes.{piece, written as written_over}
+use Rattle.memory_windows.specs.Writes.{piece, written as written_over}
 use Rattle.res_calls.specs.Sound.{Sound, keeps_handle}
 use Rattle.res_calls.specs.Rows.{release_found, detach_found}
 use Rattle.res_calls.specs.Changing.{change_found, write_found, rename_found, set_found, remove_found, add_found}
@@ -39,7 +40,7 @@ use Rattle.res_calls.proofs.Owning.Calls.{resource-holds, own-file}
 use Rattle.res_calls.proofs.Soundness.Lists.{all-replaced, all-removed}
 use Rattle.res_calls.proofs.Soundness.References.{held-keeps, plain-keeps, anew-keeps, added-keep, loaded-keeps}
 use Rattle.res_calls.proofs.Soundness.Forks.{Fresh, map-fresh}
-use Rattle.res_calls.proofs.Soundness.Changes.{sound-touched, sound-reference, sound-files, written-many}
+use Rattle.res_calls.proofs.Soundness.Changes.{sound-attrs, sound-touched, sound-reference, sound-files, written-many}
 use Rattle.res_calls.proofs.Soundness.Changes.{sound-rewritten, sound-closed, sound-closed-written, sound-opened}
 
 -- Each call keeps what holds of the open files.
@@ -255,6 +256,22 @@ use_res_file_sound n s sound =
       kept = sound.kept;
       untouched = sound.untouched;
     })
+
+-- the attributes of a file are set
+pub set_file_sound : (n attrs : ℕ) (at : Split OpenFile) (s : Managers) → file_of n s.resources ≡ Some at
+    → (n == 0) ≡ false → Sound s.resources
+    → Sound (record s.resources { chain = replaced (with_map_attrs attrs at.here) at })
+set_file_sound n attrs at s e own sound =
+    sound-attrs s.resources at attrs (whole-of n s at e) (own-file n s at e own) sound
+
+pub set_res_file_attrs_sound : (n attrs : ℕ) (s : Managers) → Sound s.resources
+    → Sound (changing.set_res_file_attrs n attrs s).after.resources
+set_res_file_attrs_sound n attrs s sound = by_file (file_of n s.resources) refl
+  where
+    by_file : (o : Option (Split OpenFile)) → file_of n s.resources ≡ o → Sound_in (set_file n attrs o s).after
+    by_file None e = sound
+    by_file (Some at) e = either-keeps {T = Unit {0}} Sound_in (n == 0) (refused WRITE_PERMISSION s) _ (λ system. sound)
+        (λ own. set_file_sound n attrs at s e own sound)
 
 -- a resource is added
 pub add_found_sound : (role : Role) (new : Reference) (h : ℕ) (s : Managers) → keeps_handle new ≡ true

@@ -1,6 +1,7 @@
 use Rattle.std.proofs.Common.{◌≡◌, ℕ, suc, ◌+◌, ◌≤◌, ◌<◌, Bool, true, false, not, ◌&&◌, ◌||◌, ◌==◌, nat_lt, List, []}
 use Rattle.std.proofs.Common.{◌∷◌, length, refl, sym, ◌∙◌, ap, arith, cond, map, Option, Some, None}
-use Rattle.std.proofs.lemmas.Bool.{and_parts, and_from, or_left, or_right, ltb-true, lt-ltb, eqb-true}
+use Rattle.std.proofs.lemmas.Bool.{and_parts, and_from, eq-eqb, or_left, or_right, ltb-true, lt-ltb, eqb-true}
+use Rattle.std.proofs.lemmas.Nat.{and_assoc}
 use Rattle.std.proofs.lemmas.Bool.{false_from_ne_true}
 use Rattle.std.specs.Prelude.{is_some, ◌-◌}
 use Rattle.std.specs.List.{list_all}
@@ -10,6 +11,7 @@ use Rattle.res_map.specs.Split.{Split, split, replaced, removed}
 use Rattle.res_map.specs.Map.{Reference, Map}
 use Rattle.res_calls.specs.Files.{File, OpenFile, Resources, Found, opened, with_reference}
 use Rattle.res_calls.specs.Fetch.{Managers, Loaded, is_system}
+use Rattle.res_calls.specs.Changing.{with_map_attrs}
 use Rattle.res_calls.specs.Rows.{first_number, closed, opened_with}
 use Rattle.res_calls.specs.Update.{written, written_at, rewritten, fork_of, updated_reference}
 use Rattle.res_calls.specs.Sound.{Sound, falls, is_placed, has_place, keeps_handle, is_kept, is_untouched}
@@ -62,6 +64,36 @@ sound-file r at references touched whole sound keep untouched = record {
   where
     new : OpenFile
     new = with_references references touched at.here
+
+-- a file of an application's own with other attributes
+attrs-kept : (f : OpenFile) (attrs : ℕ) → is_system f ≡ false → is_kept f ≡ true → is_kept (with_map_attrs attrs f) ≡ true
+attrs-kept f attrs own e = by_number (is_system f) own e
+  where
+    by_number : (t : Bool) → t ≡ false
+        → (t || (list_all keeps_handle f.map.references && map_kept f.map.attrs == f.map.attrs)) ≡ true
+        → (t || (list_all keeps_handle f.map.references && map_kept (map_kept attrs) == map_kept attrs)) ≡ true
+    by_number true own e = cc
+    by_number false own e = and_from (list_all keeps_handle f.map.references) (map_kept (map_kept attrs) == map_kept attrs)
+        (and_parts (list_all keeps_handle f.map.references) (map_kept f.map.attrs == f.map.attrs) e).0
+        (eq-eqb (map_kept (map_kept attrs)) (map_kept attrs) (and_assoc 65439 attrs 65439))
+
+pub sound-attrs : (r : Resources) (at : Split OpenFile) (attrs : ℕ) → replaced at.here at ≡ r.chain
+    → is_system at.here ≡ false → Sound r → Sound (record r { chain = replaced (with_map_attrs attrs at.here) at })
+sound-attrs r at attrs whole own sound = record {
+  falls = falls-replaced at.before at.here new at.after refl (ap falls whole ∙ sound.falls);
+  next = ap (λ (n : ℕ). nat_lt n r.next)
+      (first-replaced at.before at.here new at.after refl ∙ ap first_number whole) ∙ sound.next;
+  current = found-open r.current (replaced new at)
+      ∙ any-replaced (λ (f : OpenFile). f.number == r.current) at.before at.here new at.after refl
+      ∙ ap (is_open r.current) whole ∙ sym (found-open r.current r.chain) ∙ sound.current;
+  placed = all-replaced (has_place (length r.files)) r.chain at new whole (λ e. e) sound.placed;
+  kept = all-replaced is_kept r.chain at new whole (attrs-kept at.here attrs own) sound.kept;
+  untouched = all-replaced is_untouched r.chain at new whole
+      (λ _. or_left (not (is_system at.here)) (not new.touched) (ap not own)) sound.untouched;
+}
+  where
+    new : OpenFile
+    new = with_map_attrs attrs at.here
 
 -- a file of an application's own that is touched
 pub sound-touched : (r : Resources) (at : Split OpenFile) (references : List Reference)

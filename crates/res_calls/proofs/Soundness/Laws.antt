@@ -9,7 +9,7 @@ use Rattle.heap_calls.specs.State.{Memory}
 use Rattle.heap_calls.specs.declared.refusal.Refusal.{Refusal}
 use Rattle.heap_calls.specs.declared.refusal.Refusal.TheVariants.{Code, HostMemory}
 use Rattle.res_map.specs.Map.{Map, map_of}
-use Rattle.res_calls.specs.Files.{File, OpenFile, Resources, Found, fresh_resources}
+use Rattle.res_calls.specs.Files.{File, OpenFile, Resources, Found, file_of, fresh_resources}
 use Rattle.res_calls.specs.Fetch.{Managers, Answer}
 use Rattle.res_calls.specs.Given.{IsAnswered, managers}
 use Rattle.res_calls.specs.Rows as rows
@@ -20,7 +20,7 @@ use Rattle.res_calls.specs.Partial as partial
 use Rattle.res_calls.specs.Asked.{ResourceAsked, served}
 use Rattle.res_calls.specs.Asked as asks
 use Rattle.res_calls.specs.Sound.{Sound, keeps_handle}
-use Rattle.res_calls.proofs.Keeping.{found-keeps}
+use Rattle.res_calls.proofs.Keeping.{found-keeps, open-keeps}
 use Rattle.res_calls.proofs.Soundness.References.{loaded-keeps}
 use Rattle.res_calls.proofs.Soundness.Forks.{Fresh, map-fresh}
 use Rattle.res_calls.proofs.Soundness.Changes.{sound-file}
@@ -58,6 +58,10 @@ sound-served (asks.UpdateResFile n) s sound =
 sound-served (asks.UseResFile n) s sound =
     noted_sound (rows.use_res_file n) s (calls.use_res_file_sound n s sound)
 sound-served asks.CurResFile s sound = noted_sound rows.cur_res_file s sound
+sound-served (asks.GetResFileAttrs n) s sound = noted_sound (rows.get_res_file_attrs n) s
+    (open-keeps Sound_in (file_of n s.resources) s _ sound (λ at e. sound))
+sound-served (asks.SetResFileAttrs n attrs) s sound =
+    noted_sound (changing.set_res_file_attrs n attrs) s (calls.set_res_file_attrs_sound n attrs s sound)
 sound-served (asks.HomeResFile handle) s sound =
     noted_sound (rows.home_res_file handle) s (asked-sound handle s _ sound (λ at. refl))
 sound-served (asks.GetResource kind id) s sound =
@@ -68,9 +72,9 @@ sound-served (asks.GetNamedResource kind name) s sound =
     noted_sound (rows.get_named_resource kind name) s (calls.get_named_resource_sound kind name s sound)
 sound-served (asks.Get1NamedResource kind name) s sound =
     noted_sound (rows.get1_named_resource kind name) s (calls.get1_named_resource_sound kind name s sound)
-sound-served asks.Count1Types s sound = noted_sound rows.count1_types s sound
-sound-served (asks.Get1IndType n) s sound =
-    noted_sound (rows.get1_ind_type n) s (told-sound _ _ s sound)
+sound-served (asks.CountTypes among) s sound = noted_sound (rows.count_types among) s sound
+sound-served (asks.GetIndType among n) s sound =
+    noted_sound (rows.get_ind_type among n) s (told-sound _ _ s sound)
 sound-served (asks.CountResources among kind) s sound = noted_sound (rows.count_resources among kind) s sound
 sound-served (asks.GetIndResource among kind n) s sound =
     noted_sound (rows.get_ind_resource among kind n) s (calls.get_ind_resource_sound among kind n s sound)

@@ -27,10 +27,6 @@ module _ {A : Type 0} (p : A → Bool)
     all-both before after first later =
         list_all-append p before after ∙ and_from (list_all p before) (list_all p after) first later
 
-    -- the item of a place, another one put there, and the others
-    pub all-here : (xs : List A) (at : Split A) → replaced at.here at ≡ xs → list_all p xs ≡ true → p at.here ≡ true
-    all-here xs at whole e = (all-parts at.before at.here at.after (ap (list_all p) whole ∙ e)).1
-
     pub all-replaced : (xs : List A) (at : Split A) (y : A) → replaced at.here at ≡ xs
         → (p at.here ≡ true → p y ≡ true) → list_all p xs ≡ true → list_all p (replaced y at) ≡ true
     all-replaced xs at y whole each e =

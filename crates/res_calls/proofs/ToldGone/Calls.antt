@@ -27,7 +27,7 @@ use Rattle.res_calls.specs.Gone.{unless_open_gone, open_gone, gone_for, own_gone
 use Rattle.res_calls.specs.Own.{find_own, fetch_own}
 use Rattle.res_calls.specs.Rows.{greatest_number, map_in, nth_among, resource_of}
 use Rattle.res_calls.specs.ToldGone.{TellsWhatGoes, TellsOfPurgeable, TellsWhatPreloadsLose, TellsOnce, IsWhole}
-use Rattle.res_calls.proofs.ToldGone.Filled.{many-length, held-bytes, none-bytes}
+use Rattle.res_calls.proofs.ToldGone.Filled.{many-length, none-bytes}
 use Rattle.res_calls.proofs.ToldGone.Paths.{Fills, Single, OnceEach, gone_along, had, path-tells, single-tells, single-beyond}
 use Rattle.res_calls.proofs.ToldGone.Paths.{reads-once}
 use Rattle.res_calls.proofs.Walks.Laws.{heap-walks, reads-walk}
@@ -35,6 +35,8 @@ use Rattle.res_calls.proofs.Walks.Letting.{lets-walk}
 use Rattle.res_calls.proofs.Walks.Own.{own_steps, own-goes, own-purgeable}
 use Rattle.res_calls.proofs.Walks.Steps.{for_found, fetch_steps_as, fetch_steps, preload_steps, map_steps, fork_steps}
 use Rattle.res_calls.proofs.Walks.Steps.{unless_steps, open_steps, steps_of}
+use Rattle.res_calls.proofs.Walks.Going.{given-memory}
+use Rattle.heap_calls.proofs.ToldGone.Laws.{held-bytes}
 
 -- the table of a fetch names what its step purges
 fetch-along : (loading : Bool) (at : Found) (o : Option ℕ) (s : Managers)
@@ -204,10 +206,6 @@ own-once kind id s once small = once-told s.memory.heap (fetch_own kind id s).af
     once (own-tells kind id s once small) (own-none kind id s)
 
 -- a preloading
-pub given-memory : (x : Reference) (y : Result ℕ OsErr × Memory) → (given x y).memory ≡ y.1
-given-memory x (Err code, m) = refl
-given-memory x (Ok h, m) = refl
-
 pub preload-along : (references : List Reference) (m : Memory)
     → preload_gone references m ≡ gone_along (preload_steps references) m
 preload-along [] m = refl

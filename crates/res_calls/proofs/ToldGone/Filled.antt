@@ -7,7 +7,7 @@ use Rattle.std.proofs.lemmas.Option.{same_Some}
 use Rattle.std.proofs.lemmas.Slice.Eq.{bytes_eq-Decides}
 use Rattle.std.specs.Prelude.{bytes_eq}
 use Rattle.block_store.specs.declared.flags.Flags.{Flags}
-use Rattle.block_store.specs.Block.{Block, Free, Nonrelocatable, Masters, Relocatable, size, sizes, total, count, is_relocatable, content_of}
+use Rattle.block_store.specs.Block.{Block, Free, Nonrelocatable, Masters, Relocatable, size, sizes, total, count, is_relocatable}
 use Rattle.block_store.specs.Run.{has}
 use Rattle.block_store.specs.Room.{put_at_base, put_in_place, purge, place, filled, room}
 use Rattle.block_store.proofs.Zone.Keeping.{base-le, room-le, filled-is}
@@ -25,33 +25,8 @@ use Rattle.heap_calls.proofs.Steps.Standstill.{step-bytes}
 use Rattle.heap_calls.proofs.Steps.Ways.{Fits, filled-goes, slotted-names}
 use Rattle.heap_calls.proofs.ToldGone.Bounds.{step-most}
 use Rattle.heap_calls.proofs.ToldGone.Sums.{Adds}
+use Rattle.heap_calls.proofs.ToldGone.Laws.{weigh, many, held, held-bytes, many-none}
 use Rattle.res_calls.specs.ToldGone.{IsWhole}
-
--- what bytes come to, each by a measure, and how many there are
-abbrev pub weigh : (List ℕ → ℕ) → List (List ℕ) → ℕ
-weigh f [] = 0
-weigh f (x ∷ xs) = f x + weigh f xs
-
-abbrev pub many : List (List ℕ) → ℕ
-many = weigh (λ x. 1)
-
--- what the blocks of a handle come to, by their bytes
-abbrev pub held : (List ℕ → ℕ) → ℕ → Block → ℕ
-held f h b = cond (is_relocatable h b) (f (content_of b)) 0
-
-pub held-bytes : (f : List ℕ → ℕ) (h : ℕ) (zone : List Block) → total (held f h) zone ≡ weigh f (bytes_in h zone)
-held-bytes f h [] = refl
-held-bytes f h (b ∷ zone) = cases (is_relocatable h b) (held-bytes f h zone)
-  where
-    cases : (t : Bool) → total (held f h) zone ≡ weigh f (bytes_in h zone)
-        → cond t (f (content_of b)) 0 + total (held f h) zone
-        ≡ weigh f (cond t (content_of b ∷ bytes_in h zone) (bytes_in h zone))
-    cases true r = omega arith
-    cases false r = omega arith
-
-pub many-none : (xs : List (List ℕ)) → many xs ≤ 0 → xs ≡ []
-many-none [] le = refl
-many-none (x ∷ xs) le = absurd (omega arith)
 
 pub many-length : (xs : List (List ℕ)) → many xs ≡ length xs
 many-length [] = refl
@@ -61,14 +36,6 @@ many-length (x ∷ xs) = omega (arith, many-length xs)
 pub none-bytes : (h : ℕ) (zone : List Block) → has (is_relocatable h) zone ≡ false → bytes_in h zone ≡ []
 none-bytes h zone none = many-none (bytes_in h zone)
     (omega (arith, held-bytes (λ x. 1) h zone, count-none (is_relocatable h) zone none))
-
--- whether a test passes, by how many pass
-pub has-not : (test : Block → Bool) (zone : List Block) → count test zone ≤ 0 → has test zone ≡ false
-has-not test zone none = cases (has test zone) refl
-  where
-    cases : (t : Bool) → has test zone ≡ t → t ≡ false
-    cases true e = absurd (let c = has-count test zone e in omega arith)
-    cases false e = refl
 
 pub has-one : (test : Block → Bool) (zone : List Block) → 1 ≤ count test zone → has test zone ≡ true
 has-one test zone some = cases (has test zone) refl

@@ -27,11 +27,12 @@ use Rattle.res_calls.specs.Gone.{preload_gone, load_gone, map_gone, fork_gone, u
 use Rattle.res_calls.specs.Owning.{references}
 use Rattle.res_calls.specs.Rows.{loaded_if, open_as, open_map, open_fork, open_unless, open_named, greatest_number, map_in}
 use Rattle.res_calls.specs.ToldGone.{IsWhole, may_go, TellsOfLoosePreloads}
-use Rattle.res_calls.proofs.ToldGone.Calls.{went, preload-along, preload-fills, given-memory}
+use Rattle.res_calls.proofs.ToldGone.Calls.{went, preload-along, preload-fills}
 use Rattle.res_calls.proofs.ToldGone.Filled.{told-append, step-beyond, Way, Made, way, whole-filled, ungiven}
 use Rattle.res_calls.proofs.ToldGone.Paths.{path-tells}
 use Rattle.res_calls.proofs.Walks.Letting.{preload-lets}
 use Rattle.res_calls.proofs.Walks.Steps.{preload_steps}
+use Rattle.res_calls.proofs.Walks.Going.{given-memory}
 
 -- a resource whose handle is this one, and whose block may be purged
 abbrev pub is_loose : ℕ → Reference → Bool

@@ -6,7 +6,7 @@ use Rattle.std.proofs.lemmas.Bool.Decides.{Decides-eqb, nat_tests}
 use Rattle.block_store.specs.declared.flags.Flags.{Flags}
 use Rattle.block_store.specs.Block.{sizes, count, is_relocatable}
 use Rattle.block_store.specs.declared.measures.TheConstants.{GREATEST_ZONE}
-use Rattle.block_store.proofs.Zone.Leading.{count-none}
+use Rattle.block_store.proofs.Zone.Leading.{count-none, none-count}
 use Rattle.heap_calls.specs.State.{State, Memory, Role}
 use Rattle.heap_calls.specs.Gone.{Gone}
 use Rattle.heap_calls.specs.Inside.{has_block, new_filled}
@@ -15,7 +15,7 @@ use Rattle.heap_calls.specs.Path.{step_disposes}
 use Rattle.heap_calls.specs.ToldGone.{told_of, bytes_in}
 use Rattle.heap_calls.proofs.ToldGone.Laws.{step-tells-what-goes}
 use Rattle.res_calls.specs.ToldGone.{IsWhole}
-use Rattle.res_calls.proofs.ToldGone.Filled.{told-append, none-bytes, has-not, step-beyond, Way, way, whole-filled}
+use Rattle.res_calls.proofs.ToldGone.Filled.{told-append, none-bytes, step-beyond, Way, way, whole-filled}
 use Rattle.res_calls.proofs.ToldGone.Filled.{kept-most, kept-bytes, new-bytes, Made}
 
 -- each of the steps makes a handle with a block
@@ -59,7 +59,7 @@ pub never-back : (h : ℕ) (steps : List Step) (m : Memory) → Fills steps → 
 never-back h steps m fills within none =
     let l = later-most h steps m fills within in
     let z = count-none (is_relocatable h) m.heap.zone none in
-    has-not (is_relocatable h) (walk steps m).heap.zone (omega arith)
+    none-count (is_relocatable h) (walk steps m).heap.zone (omega arith)
 
 -- and nothing is read into its block
 pub unread-before : (h : ℕ) (steps : List Step) (m : Memory) → Fills steps → h < length m.heap.names

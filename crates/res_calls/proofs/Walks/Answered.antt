@@ -84,20 +84,6 @@ pub goes-fits : {T : Type 0} {w : Bool} (steps : List Step) (s : Managers) (a : 
 goes-fits steps s a goes masters fits = of-goes (λ m. m.log.searches < 2 ^ 64) steps s a goes
     (steps-fits steps s.memory masters fits)
 
--- a refused one read nothing and left the resources; it leaves the heap, but that a block of slots may stay that was
--- made for it, and no more stays than before it
-pub goes-unread : {T : Type 0} {w : Bool} (steps : List Step) (s : Managers) (a : Answer T) → Goes w steps s a
-    → (code : OsErr) → a.reply ≡ Err code → a.reads ≡ []
-goes-unread steps s a goes code is = (goes.refuses code is).0
-
-pub goes-refused : {T : Type 0} {w : Bool} (steps : List Step) (s : Managers) (a : Answer T) → Goes w steps s a
-    → (code : OsErr) → a.reply ≡ Err code
-    → LeftOrSlotted s.memory.heap a.after.memory.heap × (a.after.resources ≡ s.resources)
-goes-refused steps s a goes code is = let left = goes.refuses code is in (
-  of-goes (λ m. LeftOrSlotted s.memory.heap m.heap) steps s a goes (left-walk steps s.memory code left.2),
-  left.1,
-)
-
 pub goes-no_more : {T : Type 0} {w : Bool} (steps : List Step) (s : Managers) (a : Answer T) → Goes w steps s a
     → (code : OsErr) → a.reply ≡ Err code → staying a.after.memory.heap.zone ≤ staying s.memory.heap.zone
 goes-no_more steps s a goes code is =

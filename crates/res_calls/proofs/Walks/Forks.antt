@@ -128,11 +128,6 @@ update_untouched n s at found untouched = ap (told_update n s) found ∙ by_numb
         ap (λ (o : Option Resources). by_answer (if_updated o s (λ r. done all_done (with_resources r s))))
         (untouched_stays s.memory.heap at s.resources untouched)
 
-pub update_system : (s : Managers) (at : Split OpenFile) → file_of 0 s.resources ≡ Some at
-    → served (asks.UpdateResFile 0) s
-    ≡ record { told = Done; reads = []; reading = None; after = keep_error NO_ERR s }
-update_system s at found = ap (told_update 0 s) found
-
 -- an item in its place, with another fork
 written_here : (before : List File) (x : File) (fork : List ℕ) (after : List File)
     → written (length before) fork (before ++ x ∷ after)
@@ -197,22 +192,12 @@ unchanged_same a low unset =
     is_zero zero e = refl
     is_zero (suc n) e = absurd (true≢false (sym (ap not (eqb-suc-zero n)) ∙ e))
 
-pub unchanged_unset : (a : ℕ) → has_bit 2 (unchanged a) ≡ false
-unchanged_unset a = ap (λ (n : ℕ). not (n == 0)) (and-not_self a 255 2 2 refl (omega arith) refl)
-
 -- a reference that isn't changed is left by an update
 pub unchanged_reference_stays : (heap : State) (r : Reference) → r.stored.attrs < 256 → is_changed r ≡ false
     → updated_reference heap r ≡ r
 unchanged_reference_stays heap r low unset =
     ap (λ (t : Bool). stored_anew (cond t (bytes_held r.handle heap) None) r) unset
     ∙ ap (λ (a : ℕ). with_attrs a r) (unchanged_same r.stored.attrs low unset)
-
--- what is stored of a changed one are its handle's bytes; where it is emptied what was stored stays
-pub changed_reference_stores : (heap : State) (r : Reference) (bytes : List ℕ) → is_changed r ≡ true
-    → bytes_held r.handle heap ≡ Some bytes → (updated_reference heap r).stored.datum ≡ bytes
-changed_reference_stores heap r bytes set held =
-    ap (λ (t : Bool). (stored_anew (cond t (bytes_held r.handle heap) None) r).stored.datum) set
-    ∙ ap (λ (o : Option (List ℕ)). (stored_anew o r).stored.datum) held
 
 pub emptied_reference_keeps : (heap : State) (r : Reference) → bytes_held r.handle heap ≡ None
     → (updated_reference heap r).stored.datum ≡ r.stored.datum
@@ -221,17 +206,6 @@ emptied_reference_keeps heap r none = by_bit (is_changed r)
     by_bit : (t : Bool) → (stored_anew (cond t (bytes_held r.handle heap) None) r).stored.datum ≡ r.stored.datum
     by_bit true = ap (λ (o : Option (List ℕ)). (stored_anew o r).stored.datum) none
     by_bit false = refl
-
--- an update leaves the rest of a reference, and changed it is no more
-pub updated_reference_is : (heap : State) (r : Reference) → updated_reference heap r
-    ≡ with_stored (record r.stored {
-      attrs = unchanged r.stored.attrs;
-      datum = (updated_reference heap r).stored.datum;
-    }) r
-updated_reference_is heap r = refl
-
-pub updated_reference_unchanged : (heap : State) (r : Reference) → is_changed (updated_reference heap r) ≡ false
-updated_reference_unchanged heap r = unchanged_unset r.stored.attrs
 
 -- the canonical fork of what a map holds is read again
 pub spelled_is_read : (fork : List ℕ) (c : Content) → Spells fork c → map_in fork ≡ Ok (map_of c)

@@ -212,7 +212,7 @@ pub record Loads (steps : List Step) (m : Memory) (l : Loaded) : Type 0 where
   pub heap : l.memory ≡ walk steps m
   pub read : l.reads ≡ reads steps m
 
-given-memory : (x : Reference) (y : Result ℕ OsErr × Memory) → (given x y).memory ≡ y.1
+pub given-memory : (x : Reference) (y : Result ℕ OsErr × Memory) → (given x y).memory ≡ y.1
 given-memory x (Err code, m) = refl
 given-memory x (Ok h, m) = refl
 

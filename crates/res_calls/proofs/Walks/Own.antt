@@ -116,16 +116,6 @@ pub own-unread : (kind : ℕ) (id : ℤ) (s : Managers) (code : OsErr) → (fetc
     → (fetch_own kind id s).reads ≡ []
 own-unread kind id s code is = ((own-goes kind id s).refuses code is).0
 
-pub own-one_step : (kind : ℕ) (id : ℤ) (s : Managers) (code : OsErr) → (fetch_own kind id s).reply ≡ Err code
-    → Refuses (own_steps kind id s.resources) s.memory code
-own-one_step kind id s code is = ((own-goes kind id s).refuses code is).2
-
-pub own-refused : (kind : ℕ) (id : ℤ) (s : Managers) (code : OsErr) → (fetch_own kind id s).reply ≡ Err code
-    → LeftOrSlotted s.memory.heap (fetch_own kind id s).after.memory.heap
-    × ((fetch_own kind id s).after.resources ≡ s.resources)
-own-refused kind id s code is =
-    goes.goes-refused (own_steps kind id s.resources) s (fetch_own kind id s) (own-goes kind id s) code is
-
 pub own-no_more : (kind : ℕ) (id : ℤ) (s : Managers) (code : OsErr) → (fetch_own kind id s).reply ≡ Err code
     → staying (fetch_own kind id s).after.memory.heap.zone ≤ staying s.memory.heap.zone
 own-no_more kind id s code is =

@@ -8,7 +8,7 @@ use Rattle.res_map.specs.Map.{Map}
 use Rattle.res_calls.specs.Rows.{map_in, open_map}
 use Rattle.block_store.specs.Rest.{Site}
 use Rattle.res_map.specs.Split.{Split, place, replaced}
-use Rattle.res_map.specs.Map.{Reference, is_preload, is_changed, is_protected, is_resource, is_named, nth, types}
+use Rattle.res_map.specs.Map.{Reference, is_preload, is_changed, is_protected, is_resource, is_named}
 use Rattle.res_map.specs.Map.{new_reference, renamed, resized_datum}
 use Rattle.heap_calls.specs.State.{Memory, Resource}
 use Rattle.heap_calls.specs.Answer.{Known, code_of, handle_at}
@@ -18,7 +18,7 @@ use Rattle.heap_calls.specs.Inside.{inside, released}
 use Rattle.heap_calls.proofs.Tries.Elsewhere.{elsewhere}
 use Rattle.res_calls.specs.Files.{File, OpenFile, Resources, Found, opened, find_from_current, find_in_current, file_of}
 use Rattle.res_calls.specs.Files.{file_named}
-use Rattle.res_calls.specs.Files.{open_at, current_references}
+use Rattle.res_calls.specs.Files.{open_at}
 use Rattle.res_calls.specs.Fetch.{Managers, Answer, done, refused, flags_of, is_system, now_filled, now_empty}
 use Rattle.res_calls.specs.Fetch.{now_refilled, fetch_as, Loaded, given, preload_one, loaded_both, preload}
 use Rattle.res_calls.specs.Rows as rows
@@ -31,7 +31,7 @@ use Rattle.res_calls.specs.Changing.{most_files, new_file, new_fork, with_files,
 use Rattle.res_calls.specs.Changing.{on_removable, removed_from, stored_if, touched, marked, with_changed}
 use Rattle.res_calls.specs.Partial as partial
 use Rattle.res_calls.specs.Partial.{is_in_memory, read_part_found, restored, restored_unless, size_refusal, write_refusal}
-use Rattle.windows.specs.Writes.{written as written_over}
+use Rattle.memory_windows.specs.Writes.{written as written_over}
 use Rattle.res_calls.specs.Rows.{detached_at, fetched}
 use Rattle.res_calls.specs.Rows.{resource_of, told_or, nth_among, keep_error, noting}
 use Rattle.res_calls.specs.Asked.{ResourceAsked, Served, telling, tell_fetched, tell_info, served}
@@ -178,7 +178,7 @@ named-place window None s = refl
 named-place window (Some at) s = unless-place window at (open_at (place at) s.resources) s
 
 -- a closing
-releases-place : (window : Site) (handles : List ℕ) (m : Memory)
+pub releases-place : (window : Site) (handles : List ℕ) (m : Memory)
     → all_released handles (elsewhere window m) ≡ elsewhere window (all_released handles m)
 releases-place window [] m = refl
 releases-place window (h ∷ handles) m = releases-place window handles (inside (released h) m)
@@ -191,12 +191,10 @@ closed-place window (Some r) at s =
     ap (λ (m : Memory). done all_done (record { memory = m; resources = closed at r }))
     (releases-place window (handles_of at.here.map.references) s.memory)
 
-abbrev closing : Split OpenFile → Managers → Bool → Answer (Unit {0})
-closing at s system =
-    if system then refused PROFILE s else on_updated at s (λ r. done all_done (closed_file at r s))
-
 close-place : (window : Site) (at : Split OpenFile) (s : Managers) (t : Bool)
-    → closing at (moved window s) t ≡ answer_moved window (closing at s t)
+    → (if t then refused PROFILE (moved window s)
+    else on_updated at (moved window s) (λ r. done all_done (closed_file at r (moved window s))))
+    ≡ answer_moved window (if t then refused PROFILE s else on_updated at s (λ r. done all_done (closed_file at r s)))
 close-place window at s true = refl
 close-place window at s false = closed-place window (update s.memory.heap at s.resources) at s
 
@@ -207,12 +205,10 @@ updated-place : (window : Site) (o : Option Resources) (s : Managers)
 updated-place window None s = refl
 updated-place window (Some r) s = refl
 
-abbrev updating : Split OpenFile → Managers → Bool → Answer (Unit {0})
-updating at s system =
-    if system then done all_done s else on_updated at s (λ r. done all_done (with_resources r s))
-
 update-place : (window : Site) (at : Split OpenFile) (s : Managers) (t : Bool)
-    → updating at (moved window s) t ≡ answer_moved window (updating at s t)
+    → (if t then done all_done (moved window s)
+    else on_updated at (moved window s) (λ r. done all_done (with_resources r (moved window s))))
+    ≡ answer_moved window (if t then done all_done s else on_updated at s (λ r. done all_done (with_resources r s)))
 update-place window at s true = refl
 update-place window at s false = updated-place window (update s.memory.heap at s.resources) s
 
@@ -367,6 +363,13 @@ restored-place window None handle change at s =
     (refused IN_MEMORY (with_resources (restored change at s.resources) (moved window s))) _
     (refused IN_MEMORY (with_resources (restored change at s.resources) s)) _ refl refl
 
+-- the attributes of a file
+set_file-place : (window : Site) (n attrs : ℕ) (o : Option (Split OpenFile)) (s : Managers)
+    → changing.set_file n attrs o (moved window s) ≡ answer_moved window (changing.set_file n attrs o s)
+set_file-place window n attrs None s = refl
+set_file-place window n attrs (Some at) s =
+    either-place window (n == 0) (refused WRITE_PERMISSION (moved window s)) _ (refused WRITE_PERMISSION s) _ refl refl
+
 -- what is told
 telling-place : {T : Type 0} (window : Site) (tell : T → Told) (call : Managers → Answer T) (s : Managers)
     → call (moved window s) ≡ answer_moved window (call s)
@@ -383,6 +386,11 @@ served-elsewhere window (asks.CloseResFile n) s = telling-place window (λ x. Do
 served-elsewhere window (asks.UseResFile n) s = telling-place window (λ x. Done) (rows.use_res_file n) s
     (open-place window (file_of n s.resources) s _ _ (λ at. refl))
 served-elsewhere window asks.CurResFile s = refl
+served-elsewhere window (asks.GetResFileAttrs n) s = telling-place window Number (rows.get_res_file_attrs n) s
+    (open-place window (file_of n s.resources) s _ _ (λ at. refl))
+served-elsewhere window (asks.SetResFileAttrs n attrs) s =
+    telling-place window (λ x. Done) (changing.set_res_file_attrs n attrs) s
+    (set_file-place window n attrs (file_of n s.resources) s)
 served-elsewhere window (asks.HomeResFile handle) s = telling-place window Number (rows.home_res_file handle) s
     (found-place window (resource_of handle s.resources) s _ _ (λ at. refl))
 served-elsewhere window (asks.GetResource kind id) s = telling-place window tell_fetched (rows.get_resource kind id) s
@@ -396,9 +404,9 @@ served-elsewhere window (asks.GetNamedResource kind name) s =
 served-elsewhere window (asks.Get1NamedResource kind name) s =
     telling-place window tell_fetched (rows.get1_named_resource kind name) s
     (fetched-place window (find_in_current (is_named kind name) s.resources) s)
-served-elsewhere window asks.Count1Types s = refl
-served-elsewhere window (asks.Get1IndType index) s = telling-place window Kind (rows.get1_ind_type index) s
-    (told_or-place window _ (nth index (types (current_references s.resources))) s)
+served-elsewhere window (asks.CountTypes among) s = refl
+served-elsewhere window (asks.GetIndType among index) s = telling-place window Kind (rows.get_ind_type among index) s
+    (told_or-place window _ _ s)
 served-elsewhere window (asks.CountResources among kind) s = refl
 served-elsewhere window (asks.GetIndResource among kind index) s =
     telling-place window tell_fetched (rows.get_ind_resource among kind index) s

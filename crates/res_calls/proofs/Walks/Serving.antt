@@ -1,17 +1,17 @@
 use Rattle.std.proofs.Common.{◌≡◌, ℕ, Bool, true, false, true≢false, Option, Some, None, Result, Ok, Err, List, []}
-use Rattle.std.proofs.Common.{refl, sym, ◌∙◌, ap, inl, length, nat_lt, ◌+◌, if◌then◌else◌}
+use Rattle.std.proofs.Common.{refl, sym, ◌∙◌, ap, inl, length, nat_lt, ◌+◌, ◌==◌, if◌then◌else◌}
 use Rattle.mac_words.specs.declared.code.OsErr.{OsErr}
 use Rattle.mac_words.specs.declared.code.TheConstants.OsErr.{IN_MEMORY, OFFSET, RES_ATTR, RES_NOT_FOUND, TOO_LONG}
 use Rattle.mac_words.specs.declared.code.TheConstants.OsErr.{WRITE_PERMISSION}
 use Rattle.mac_words.specs.Told.{Told, Bytes, Done, Kind, Number, Refused}
 use Rattle.res_map.specs.Map.{resized_datum}
-use Rattle.windows.specs.Writes.{piece, written}
+use Rattle.memory_windows.specs.Writes.{piece, written}
 use Rattle.heap_calls.specs.Answer.{code_of, handle_at}
 use Rattle.heap_calls.specs.Path.{Step, walk, reads}
 use Rattle.res_map.specs.Map.{is_protected, is_resource, is_named}
 use Rattle.res_calls.specs.Files.{Resources, Found, find_from_current, find_in_current, file_of, file_named}
-use Rattle.res_calls.specs.Files.{current_references}
-use Rattle.res_map.specs.Map.{nth, types}
+use Rattle.res_calls.specs.Files.{OpenFile}
+use Rattle.res_map.specs.Split.{Split}
 use Rattle.res_calls.specs.Fetch.{Managers, Answer, done, is_system, refused}
 use Rattle.res_calls.specs.Rows as rows
 use Rattle.res_calls.specs.Changing as changing
@@ -185,6 +185,12 @@ read_part-goes handle from n at s =
     (chosen (λ a. Goes false [] s a) (is_in_memory handle s.memory.heap) _ _ (refused-goes IN_MEMORY s)
     (same-goes (piece from n at.reference.here.stored.datum) s))
 
+set_file-goes : (n attrs : ℕ) (o : Option (Split OpenFile)) (s : Managers)
+    → Goes false [] s (changing.set_file n attrs o s)
+set_file-goes n attrs None s = same-goes all_done s
+set_file-goes n attrs (Some at) s =
+    chosen (λ a. Goes false [] s a) (n == 0) _ _ (refused-goes WRITE_PERMISSION s) (done-goes _ s _ refl refl)
+
 pub served-serves : (a : ResourceAsked) (s : Managers)
     → Serves (writes a) (λ code. left_refused a code s) (steps_of a s) s (served a s)
 served-serves (asks.OpenResFile name) s = telling-serves Number (rows.open_res_file name) s
@@ -195,6 +201,10 @@ served-serves (asks.CloseResFile n) s = telling-serves (λ x. Done) (rows.close_
 served-serves (asks.UseResFile n) s = telling-serves (λ x. Done) (rows.use_res_file n) s [] (λ x. refl)
     (open-same (file_of n s.resources) s _ (λ at. done-goes _ s _ refl refl))
 served-serves asks.CurResFile s = telling-serves Number rows.cur_res_file s [] (λ n. refl) (same-goes _ s)
+served-serves (asks.GetResFileAttrs n) s = telling-serves Number (rows.get_res_file_attrs n) s [] (λ n. refl)
+    (open-same (file_of n s.resources) s _ (λ at. same-goes _ s))
+served-serves (asks.SetResFileAttrs n attrs) s = telling-serves (λ x. Done) (changing.set_res_file_attrs n attrs) s []
+    (λ x. refl) (set_file-goes n attrs (file_of n s.resources) s)
 served-serves (asks.HomeResFile handle) s = telling-serves Number (rows.home_res_file handle) s [] (λ n. refl)
     (found-same (resource_of handle s.resources) s _ (λ at. same-goes _ s))
 served-serves (asks.GetResource kind id) s = telling-serves tell_fetched (rows.get_resource kind id) s
@@ -210,9 +220,9 @@ served-serves (asks.Get1NamedResource kind name) s =
     telling-serves tell_fetched (rows.get1_named_resource kind name) s
     (steps_of (asks.Get1NamedResource kind name) s) (λ f. refl)
     (fetched-goes (find_in_current (is_named kind name) s.resources) s)
-served-serves asks.Count1Types s = telling-serves Number rows.count1_types s [] (λ n. refl) (same-goes _ s)
-served-serves (asks.Get1IndType index) s = telling-serves Kind (rows.get1_ind_type index) s [] (λ k. refl)
-    (told_or-goes _ (nth index (types (current_references s.resources))) s)
+served-serves (asks.CountTypes among) s = telling-serves Number (rows.count_types among) s [] (λ n. refl) (same-goes _ s)
+served-serves (asks.GetIndType among index) s = telling-serves Kind (rows.get_ind_type among index) s [] (λ k. refl)
+    (told_or-goes _ _ s)
 served-serves (asks.CountResources among kind) s = telling-serves Number (rows.count_resources among kind) s [] (λ n. refl)
     (same-goes _ s)
 served-serves (asks.GetIndResource among kind index) s =

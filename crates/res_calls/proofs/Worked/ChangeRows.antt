@@ -1,6 +1,6 @@
 use Rattle.std.proofs.Common.{◌≡◌, ℕ, pos, false, [], ◌∷◌, Some, None, refl}
 use Rattle.mac_words.specs.declared.code.TheConstants.OsErr.{ADD_RES_FAILED, REMOVE_RES_FAILED, RES_ATTR, RES_NOT_FOUND}
-use Rattle.mac_words.specs.declared.code.TheConstants.OsErr.{WRITE_PERMISSION, DUPLICATE_FILE}
+use Rattle.mac_words.specs.declared.code.TheConstants.OsErr.{WRITE_PERMISSION, DUPLICATE_FILE, RES_FILE_NOT_FOUND}
 use Rattle.mac_words.specs.Told.{Done, Given, Fetched, Info, Number, Bytes, Refused}
 use Rattle.block_store.specs.Rest.{Site}
 use Rattle.res_map.specs.Map.{Map}
@@ -9,7 +9,7 @@ use Rattle.heap_calls.specs.Asked as asks
 use Rattle.res_calls.specs.Files.{fresh_resources}
 use Rattle.res_calls.specs.Fetch.{Managers}
 use Rattle.res_calls.specs.Asked.{OpenResFile, CreateResFile, CloseResFile, UpdateResFile, UseResFile, GetResource}
-use Rattle.res_calls.specs.Asked.{GetNamedResource, LoadResource, ReleaseResource}
+use Rattle.res_calls.specs.Asked.{GetNamedResource, LoadResource, ReleaseResource, GetResFileAttrs, SetResFileAttrs}
 use Rattle.res_calls.specs.Asked.{DetachResource, AddResource, RemoveResource, ChangedResource, WriteResource}
 use Rattle.res_calls.specs.Asked.{GetResInfo, SetResInfo, GetResAttrs, SetResAttrs, GetResourceSizeOnDisk}
 use Rattle.res_calls.proofs.Worked.Lines.{line, heap_line, tells, stored, opened_map, group}
@@ -47,6 +47,17 @@ protected-no-more : (window : Site) → tells (line (GetResource text (pos 1)) �
     (start (one_text 8) (opened_map []) window)
     ≡ Fetched 0 1 ∷ Refused RES_ATTR ∷ Done ∷ Done ∷ Number 2 ∷ Done ∷ Bytes (100 ∷ []) ∷ Refused RES_ATTR ∷ []
 protected-no-more window = refl
+
+-- the attributes of a file's map: mapChanged (32) while the file is touched, and what was set
+of-a-file : (window : Site) → tells (line (GetResFileAttrs 2) ∷ heap_line (asks.NewHandle (asks.Zeros 2))
+    ∷ line (AddResource (Some 0) text (pos 128) []) ∷ line (GetResFileAttrs 2) ∷ line (SetResFileAttrs 2 128)
+    ∷ line (GetResFileAttrs 2) ∷ line (UpdateResFile 2) ∷ line (GetResAttrs (Some 0)) ∷ line (SetResFileAttrs 2 224)
+    ∷ line (GetResFileAttrs 2) ∷ line (UpdateResFile 2) ∷ line (GetResFileAttrs 2) ∷ line (GetResAttrs (Some 0))
+    ∷ line (SetResFileAttrs 0 32) ∷ line (SetResFileAttrs 9 32) ∷ line (GetResFileAttrs 9) ∷ line (GetResFileAttrs 0) ∷ [])
+    (start (opened_map []) (opened_map []) window)
+    ≡ Number 0 ∷ Given 0 ∷ Done ∷ Number 32 ∷ Done ∷ Number 128 ∷ Done ∷ Number 2 ∷ Done ∷ Number 160 ∷ Done ∷ Number 128
+    ∷ Number 0 ∷ Refused WRITE_PERMISSION ∷ Done ∷ Refused RES_FILE_NOT_FOUND ∷ Number 0 ∷ []
+of-a-file window = refl
 
 -- of the System's resources attributes alone are set
 of-system : (window : Site) → tells (line (GetResource text (pos 1)) ∷ line (ChangedResource (Some 0))

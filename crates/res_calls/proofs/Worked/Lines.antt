@@ -1,6 +1,7 @@
-use Rattle.std.proofs.Common.{ℕ, ℤ, List, [], ◌∷◌, Option, replicate}
+use Rattle.std.proofs.Common.{ℕ, List, [], ◌∷◌, replicate}
 use Rattle.mac_words.specs.Told.{Told}
 use Rattle.fork_format.specs.Content.{Ref, Group}
+pub use Rattle.fork_format.proofs.Vectors.{a_ref as stored}
 use Rattle.res_map.specs.Map.{Map, map_of}
 use Rattle.heap_calls.specs.Asked.{Asked}
 use Rattle.heap_calls.specs.Table as heap
@@ -23,10 +24,7 @@ abbrev pub tells : List CallLine → Managers → List Told
 tells [] s = []
 tells (l ∷ lines) s = (l s).0 ∷ tells lines (l s).1
 
--- a resource, and a fork's map: its resources by type
-abbrev pub stored : ℤ → Option (List ℕ) → ℕ → List ℕ → Ref
-stored id name attrs datum = record { id = id; name = name; attrs = attrs; datum = datum }
-
+-- a fork's map: its resources by type
 abbrev pub opened_map : List Group → Map
 opened_map groups = map_of (record { area = replicate 240 0; attrs = 0; groups = groups })
 

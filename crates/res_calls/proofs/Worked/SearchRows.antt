@@ -1,5 +1,5 @@
-use Rattle.std.proofs.Common.{◌≡◌, ℕ, pos, true, false, [], ◌∷◌, Some, None, refl}
-use Rattle.mac_words.specs.declared.code.TheConstants.OsErr.{NO_ERR, RES_NOT_FOUND, RES_FILE_NOT_FOUND}
+use Rattle.std.proofs.Common.{◌≡◌, ℕ, pos, true, false, [], ◌∷◌, Some, None, Err, refl}
+use Rattle.mac_words.specs.declared.code.TheConstants.OsErr.{NO_ERR, PROFILE, RES_NOT_FOUND, RES_FILE_NOT_FOUND}
 use Rattle.mac_words.specs.Told.{Done, Fetched, Number, Bytes, Kind, Refused}
 use Rattle.block_store.specs.Rest.{Site}
 use Rattle.heap_calls.specs.State.{fresh_memory}
@@ -7,9 +7,9 @@ use Rattle.heap_calls.specs.Asked as asks
 use Rattle.res_calls.specs.Files.{Resources, opened}
 use Rattle.res_calls.specs.Fetch.{Managers}
 use Rattle.res_calls.specs.Asked.{UseResFile, CurResFile, HomeResFile, GetResource, Get1Resource}
-use Rattle.res_calls.specs.Asked.{GetNamedResource, Get1NamedResource, Count1Types, Get1IndType}
+use Rattle.res_calls.specs.Asked.{GetNamedResource, Get1NamedResource, CountTypes, GetIndType}
 use Rattle.res_calls.specs.Asked.{CountResources, GetIndResource, UniqueID}
-use Rattle.res_calls.specs.Rows.{Current, EachFile, first_free}
+use Rattle.res_calls.specs.Rows.{Current, EachFile, first_free, told_or}
 use Rattle.res_calls.proofs.Worked.Lines.{line, heap_line, tells, stored, opened_map, group}
 
 -- A search through the open files.
@@ -53,7 +53,7 @@ by-name : (window : Site) → tells (line (UseResFile 3)
 by-name window = refl
 
 -- what the current file has
-counted : (window : Site) → tells (line (UseResFile 3) ∷ line Count1Types ∷ line (Get1IndType 1)
+counted : (window : Site) → tells (line (UseResFile 3) ∷ line (CountTypes Current) ∷ line (GetIndType Current 1)
     ∷ line (CountResources Current text) ∷ line (GetIndResource Current text 2) ∷ heap_line (asks.Show (Some 0)) ∷ [])
     (start window)
     ≡ Done ∷ Number 1 ∷ Kind text ∷ Number 2 ∷ Fetched 0 1 ∷ Bytes (109 ∷ 50 ∷ []) ∷ []
@@ -67,6 +67,23 @@ counted-in-all : (window : Site) → tells (line (UseResFile 3) ∷ line (CountR
     ≡ Done ∷ Number 4 ∷ Fetched 0 1 ∷ Bytes (109 ∷ 50 ∷ []) ∷ Fetched 1 1 ∷ Bytes (115 ∷ []) ∷ Refused RES_NOT_FOUND
     ∷ Refused RES_NOT_FOUND ∷ Refused RES_NOT_FOUND ∷ Number 0 ∷ []
 counted-in-all window = refl
+
+-- the types of all open files, each once: file 6 has 'STR ' and type 1, the System's type 2 and 'STR '
+types-in-all : (window : Site) → tells (line (CountTypes EachFile) ∷ line (CountTypes Current) ∷ line (GetIndType EachFile 2)
+    ∷ line (GetIndType EachFile 3) ∷ line (GetIndType EachFile 4) ∷ line (GetIndType EachFile 0) ∷ line (GetIndType Current 2)
+    ∷ []) (record {
+      memory = fresh_memory 1024 window;
+      resources = record resources {
+        chain = opened 6 (Some 0) (opened_map (group text (stored (pos 1) None 0 [] ∷ [])
+            ∷ group 1 (stored (pos 1) None 0 [] ∷ []) ∷ []))
+            ∷ opened 0 None (opened_map (group 2 (stored (pos 1) None 0 [] ∷ [])
+            ∷ group text (stored (pos 1) None 0 [] ∷ []) ∷ []))
+            ∷ [];
+        current = 0;
+      };
+    })
+    ≡ Number 3 ∷ Number 2 ∷ Kind 1 ∷ Kind 2 ∷ Refused RES_NOT_FOUND ∷ Refused RES_NOT_FOUND ∷ Kind text ∷ []
+types-in-all window = refl
 
 -- an ID that no resource of the type has: file 6 has 'STR ' 128 and 130, the System's 129
 free : (window : Site) → tells (line (UniqueID Current text) ∷ line (UniqueID EachFile text) ∷ line (UniqueID EachFile 0) ∷ [])
@@ -82,6 +99,11 @@ free : (window : Site) → tells (line (UniqueID Current text) ∷ line (UniqueI
     ≡ Number 129 ∷ Number 131 ∷ Number 128 ∷ []
 unfolding first_free
 free window = refl
+
+-- none is free where all are taken
+all-taken : (s : Managers) → (told_or PROFILE (first_free (λ id. true) 3 128) s).reply ≡ Err PROFILE
+unfolding first_free
+all-taken s = refl
 
 -- a resource of the System's is found behind a file without it
 behind-own : (window : Site) → tells (line (UseResFile 2) ∷ line (Get1Resource text (pos 5))

@@ -1,9 +1,9 @@
 -- A nonrelocatable block that becomes the block of a slot.
 use Rattle.std.proofs.Common.{◌≡◌, ℕ, true, false, IsTrue, ◌+◌, ◌%◌, ◌≤◌, Some, List, ◌∷◌, ◌++◌, length, drop}
 use Rattle.std.proofs.Common.{sym, refl, ◌∙◌, subst, arith}
-use Rattle.windows.specs.Writes.{written}
-use Rattle.heap_words.specs.Words.{word, word_at, header}
-use Rattle.heap_words.proofs.Headers.{length-header}
+use Rattle.memory_windows.specs.Writes.{written}
+use Rattle.block_headers.specs.Words.{word, word_at, header}
+use Rattle.block_headers.proofs.Headers.{length-header}
 use Rattle.block_store.specs.declared.flags.Flags.{Flags}
 use Rattle.block_store.specs.Block.{Block, Nonrelocatable, Relocatable, size, sizes, count, is_relocatable}
 use Rattle.block_store.specs.Block.{is_nonrelocatable, is_masters, free_sum}

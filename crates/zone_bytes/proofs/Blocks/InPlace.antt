@@ -3,8 +3,8 @@ use Rattle.std.proofs.Common.{◌≡◌, ℕ, ◌+◌, ◌-◌, ◌≤◌, List,
 use Rattle.std.proofs.Common.{sym, ap, ◌∙◌, subst, arith, IsTrue, append_assoc, Bool, ◌%◌, ◌<◌}
 use Rattle.std.proofs.lemmas.Bool.{false≢true, cases_eq}
 use Rattle.std.proofs.lemmas.List.{length-take-le, length-drop, take-take}
-use Rattle.windows.specs.Writes.{piece, written}
-use Rattle.windows.proofs.Pieces.{length-written, take-written_above, drop-written_below, piece-written}
+use Rattle.memory_windows.specs.Writes.{piece, written}
+use Rattle.memory_windows.proofs.Pieces.{length-written, take-written_above, drop-written_below, piece-written}
 use Rattle.block_store.specs.Block.{Block, Masters, Relocatable, size, sizes, tidy, count, is_masters, free, total}
 use Rattle.block_store.specs.Block.{resized_content, is_relocatable, Free}
 use Rattle.block_store.specs.Room.{Spot}
@@ -25,13 +25,13 @@ use Rattle.zone_bytes.proofs.Tiles.Keeping.{each-free, placed-run, run-no_slot, 
 use Rattle.zone_bytes.proofs.Tiles.Keeping.{placed-swap, span-free, lays-changed}
 use Rattle.zone_bytes.proofs.Laws.Lawful.{Made, made}
 use Rattle.zone_bytes.proofs.Placed.Standing.{Standing, resource_in}
-use Rattle.heap_words.specs.Words.{word}
-use Rattle.heap_words.specs.Headers.{header_bytes}
-use Rattle.heap_words.specs.declared.header.Header.{Header}
+use Rattle.block_headers.specs.Words.{word}
+use Rattle.block_headers.specs.Headers.{header_bytes}
+use Rattle.block_headers.specs.declared.header.Header.{Header}
 use Rattle.zone_bytes.specs.Laying.{laid, MayLay}
 use Rattle.zone_bytes.proofs.Tiles.Heads.{length-masters, free-tile}
 use Rattle.zone_bytes.proofs.Placed.Laid.{laid-outside, laid-tiles}
-use Rattle.heap_words.proofs.Words.{length-word}
+use Rattle.block_headers.proofs.Words.{length-word}
 use Rattle.block_store.specs.declared.flags.Flags.{Flags}
 use Rattle.block_store.specs.Run.{has}
 use Rattle.block_store.specs.Slot.{is_used, Slot, is_resource}

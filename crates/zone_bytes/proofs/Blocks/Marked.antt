@@ -1,8 +1,8 @@
 -- A block whose flags are set.
 use Rattle.std.proofs.Common.{◌≡◌, ℕ, false, cond, ◌==◌, ◌+◌, ◌%◌, List, ◌∷◌, ◌++◌, refl, ap, ◌∙◌, arith}
-use Rattle.windows.specs.Writes.{written}
-use Rattle.heap_words.specs.Words.{word, word_at, header}
-use Rattle.heap_words.proofs.Words.{length-word}
+use Rattle.memory_windows.specs.Writes.{written}
+use Rattle.block_headers.specs.Words.{word, word_at, header}
+use Rattle.block_headers.proofs.Words.{length-word}
 use Rattle.block_store.specs.declared.flags.Flags.{Flags}
 use Rattle.block_store.specs.Block.{Block, Relocatable, sizes, count, is_masters, free_sum}
 use Rattle.block_store.specs.Seen.{with_flags}

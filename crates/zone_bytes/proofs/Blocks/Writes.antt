@@ -3,9 +3,9 @@ use Rattle.std.proofs.Common.{◌≡◌, ℕ, ◌+◌, ◌≤◌, List, ◌∷�
 use Rattle.std.proofs.Common.{arith, append_assoc}
 use Rattle.std.proofs.Math.Seq.{take-append-add, drop-append-add}
 use Rattle.std.proofs.lemmas.List.{nil_from_length}
-use Rattle.windows.specs.Writes.{written}
-use Rattle.windows.proofs.Pieces.{written-same, length-written}
-use Rattle.heap_words.proofs.Headers.{length-header}
+use Rattle.memory_windows.specs.Writes.{written}
+use Rattle.memory_windows.proofs.Pieces.{written-same, length-written}
+use Rattle.block_headers.proofs.Headers.{length-header}
 use Rattle.mac_words.specs.Size.{padded}
 use Rattle.block_store.specs.Block.{Block, Free, Masters, size, sizes, count}
 use Rattle.block_store.specs.Block.{is_masters, content_of, with_content, free_of, free_sum}

@@ -2,10 +2,10 @@
 use Rattle.std.proofs.Common.{◌≡◌, ℕ, ◌-◌, ◌%◌, ◌≤◌, List, [], ◌∷◌, ◌++◌, length, sym, refl, ◌∙◌, subst}
 use Rattle.std.proofs.Common.{arith, false, ◌*◌, ap}
 use Rattle.std.proofs.lemmas.List.{append-nil, drop_all}
-use Rattle.windows.specs.Writes.{written}
-use Rattle.windows.proofs.Pieces.{length-written, piece-written}
-use Rattle.heap_words.specs.Words.{word}
-use Rattle.heap_words.proofs.Words.{length-word}
+use Rattle.memory_windows.specs.Writes.{written}
+use Rattle.memory_windows.proofs.Pieces.{length-written, piece-written}
+use Rattle.block_headers.specs.Words.{word}
+use Rattle.block_headers.proofs.Words.{length-word}
 use Rattle.block_store.specs.Block.{Free, Masters, free, fresh, tidy, count, is_masters, free_sum}
 use Rattle.block_store.specs.Slot.{NoSlot, is_resource, is_used}
 use Rattle.zone_bytes.specs.Layout.{head_of}

@@ -8,8 +8,8 @@ use Rattle.zone_bytes.specs.Joining.{LeadsUp}
 use Rattle.zone_bytes.specs.Stepping.{left_in, IsOnWay}
 use Rattle.zone_bytes.proofs.Places.Stepped.{Stepped, stepped-read, left-is}
 use Rattle.zone_bytes.proofs.Tiles.Heads.{IsRead}
-use Rattle.heap_words.specs.Headers.{tag_number}
-use Rattle.heap_words.specs.declared.header.Header.{Header}
+use Rattle.block_headers.specs.Headers.{tag_number}
+use Rattle.block_headers.specs.declared.header.Header.{Header}
 use Rattle.zone_bytes.proofs.Joined.Above.{free-is, free-other}
 
 -- what is left of blocks that end at a place, of which the last so far is Free from `start` to `at`

@@ -1,8 +1,8 @@
 -- The block that a handle's slot leads to.
-use Rattle.std.proofs.Common.{◌≡◌, ℕ, Bool, true, false, ◌+◌, ◌%◌, ◌≤◌, ◌⊎◌, inl, inr, List, [], ◌∷◌, IsTrue, ◌++◌}
+use Rattle.std.proofs.Common.{◌≡◌, ℕ, Bool, true, false, ◌+◌, ◌%◌, ◌≤◌, ◌⊎◌, inl, inr, List, ◌∷◌, IsTrue, ◌++◌}
 use Rattle.std.proofs.Common.{length, sym, refl, ap, ◌∙◌, subst, arith}
 use Rattle.std.proofs.lemmas.List.{map-append}
-use Rattle.heap_words.specs.Words.{word_at}
+use Rattle.block_headers.specs.Words.{word_at}
 use Rattle.block_store.specs.Block.{Block, Free, Relocatable, size, sizes, tidy, free_sum, is_relocatable}
 use Rattle.block_store.specs.Grow.{freed}
 use Rattle.block_store.specs.Slot.{is_used, is_resource}
@@ -16,18 +16,13 @@ use Rattle.zone_bytes.proofs.Tiles.Leading.{names-append, pairs-before, pairs-af
 use Rattle.zone_bytes.proofs.SlotTable.Tables.{none-apart}
 use Rattle.zone_bytes.proofs.SlotTable.Handles.{IsEmptyHandle, HasBlock, handle-in, flag, state}
 use Rattle.block_store.specs.Run.{has}
-use Rattle.std.proofs.lemmas.Bool.{or_parts, eq-eqb}
+use Rattle.block_store.proofs.Zone.Absence.{freed-absent}
+use Rattle.std.proofs.lemmas.Bool.{eq-eqb}
 
--- no block is made Free
-freed-none : (t : Block → Bool) (blocks : List Block) → has t blocks ≡ false → freed t blocks ≡ blocks
-freed-none t [] e = refl
-freed-none t (b ∷ blocks) e =
-    let p = or_parts (t b) (has t blocks) e in rw p.0 (ap (λ k. b ∷ k) (freed-none t blocks p.1))
-
--- one is
+-- one block is made Free
 pub freed-one : (t : Block → Bool) (below : List Block) (b : Block) (above : List Block) → has t below ≡ false
     → t b ≡ true → has t above ≡ false → freed t (below ++ b ∷ above) ≡ below ++ Free (size b) ∷ above
-freed-one t below b above l h u = grind (arith, map-append, freed-none)
+freed-one t below b above l h u = grind (arith, map-append, freed-absent)
 
 emptied-odd : (r : Bool) → empty_word r % 16 ≡ 2
 emptied-odd r = grind arith
@@ -62,7 +57,7 @@ module _ (t : Table) (slot : ℕ) (xs : List ℕ) (h : HasHandle t slot xs) wher
 
   -- the handle is emptied
   pub emptied-is : (word_at slot xs % 16 ≡ 0 → ⊥) → tidy (freed (is_relocatable slot) t.blocks) ≡ t.blocks
-  emptied-is n = grind (arith, either, freed-none, none-apart, found)
+  emptied-is n = grind (arith, either, freed-absent, none-apart, found)
 
   module _ (f : Found) where
     abbrev pub leading : Freeing

@@ -2,10 +2,10 @@
 use Rattle.zone_bytes.proofs.Tiles.Permuted.{SameNames, each-front, front, same-names}
 use Rattle.std.proofs.Common.{◌≡◌, ℕ, Bool, ◌+◌, ◌-◌, ◌%◌, ◌<◌, ◌≤◌, nat_le, List, [], ◌∷◌, ◌++◌, length, drop, sym, ap}
 use Rattle.std.proofs.Common.{◌∙◌, subst, arith, append_assoc}
-use Rattle.windows.specs.Writes.{written, piece}
-use Rattle.windows.proofs.Pieces.{length-written, piece-written}
-use Rattle.heap_words.specs.Words.{word, word_at}
-use Rattle.heap_words.proofs.Words.{length-word}
+use Rattle.memory_windows.specs.Writes.{written, piece}
+use Rattle.memory_windows.proofs.Pieces.{length-written, piece-written}
+use Rattle.block_headers.specs.Words.{word, word_at}
+use Rattle.block_headers.proofs.Words.{length-word}
 use Rattle.block_store.specs.declared.flags.Flags.{Flags}
 use Rattle.block_store.specs.Block.{Block, Free, Relocatable, size, sizes, free}
 use Rattle.block_store.specs.Slot.{Slot, Used, is_resource}

@@ -1,6 +1,6 @@
 -- A walk that begins at a block of a zone that bytes lay.
 use Rattle.std.proofs.Common.{◌≡◌, ℕ, ◌+◌, ◌<◌, ◌≤◌, ◌^◌, ◌%◌, List, ◌∷◌, ◌++◌, length, drop, arith}
-use Rattle.heap_words.specs.Words.{word_at}
+use Rattle.block_headers.specs.Words.{word_at}
 use Rattle.block_store.specs.Block.{Block, size, sizes}
 use Rattle.block_store.specs.Slot.{Slot, is_resource}
 use Rattle.zone_bytes.specs.Layout.{kind, head_of, Tile, IsSlot, names, Each}

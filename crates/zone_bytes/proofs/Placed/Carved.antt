@@ -5,10 +5,10 @@ use Rattle.std.proofs.lemmas.Bool.{false≢true}
 use Rattle.std.proofs.lemmas.List.{length-replicate}
 use Rattle.std.specs.Option.{IsSomeAnd}
 use Rattle.mac_words.specs.Size.{padded}
-use Rattle.heap_words.specs.Words.{word, word_at}
-use Rattle.heap_words.specs.Headers.{header_bytes}
-use Rattle.heap_words.specs.declared.header.Header.{Header}
-use Rattle.heap_words.specs.declared.header.Tag.TheVariants as tag
+use Rattle.block_headers.specs.Words.{word, word_at}
+use Rattle.block_headers.specs.Headers.{header_bytes}
+use Rattle.block_headers.specs.declared.header.Header.{Header}
+use Rattle.block_headers.specs.declared.header.Tag.TheVariants as tag
 use Rattle.block_store.specs.Block.{Block, Free, Nonrelocatable, Relocatable, size, free, free_sum}
 use Rattle.block_store.specs.Block.{is_relocatable, no_flags, count, is_masters, is_room, resized_content, tidy}
 use Rattle.block_store.specs.Room.{Spot, spot_at, filled}
@@ -27,7 +27,7 @@ use Rattle.zone_bytes.proofs.Places.Options.{the-spot}
 use Rattle.zone_bytes.proofs.Placed.Standing.{Standing, standing, resource_in}
 use Rattle.zone_bytes.proofs.Placed.Laid.{laid-tiles, laid-outside}
 use Rattle.block_store.specs.Inner.Stretch.{is_free}
-use Rattle.windows.specs.Writes.{written}
+use Rattle.memory_windows.specs.Writes.{written}
 use Rattle.block_store.specs.Run.{has}
 use Rattle.block_store.specs.Slot.{is_used}
 use Rattle.zone_bytes.proofs.SlotTable.Slotted.{flag-kept}

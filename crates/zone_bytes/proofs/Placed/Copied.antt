@@ -1,7 +1,7 @@
 -- The first bytes of one block written into another.
 use Rattle.std.proofs.Common.{◌≡◌, ℕ, ◌+◌, ◌≤◌, Some, List, ◌∷◌, ◌++◌, length, take, drop, sym, ap, ◌∙◌, arith}
 use Rattle.std.proofs.lemmas.List.{length-take-le, take-take}
-use Rattle.windows.specs.Writes.{written}
+use Rattle.memory_windows.specs.Writes.{written}
 use Rattle.block_store.specs.Block.{free_sum, count, is_masters, content_of, with_content}
 use Rattle.block_store.specs.Room.{Spot, spot_at}
 use Rattle.zone_bytes.specs.Decode.{zone_in}

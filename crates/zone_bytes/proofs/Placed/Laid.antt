@@ -4,14 +4,14 @@ use Rattle.std.proofs.Common.{replicate, sym, ap, ◌∙◌, arith, length-appen
 use Rattle.std.proofs.lemmas.List.{length-drop, length-take-le, length-replicate, take-take, take_all, append-nil}
 use Rattle.std.proofs.lemmas.List.{take_at, drop-drop, drop-take}
 use Rattle.std.proofs.Math.Seq.{take-append-add}
-use Rattle.windows.specs.Writes.{written, piece}
-use Rattle.windows.proofs.Pieces.{piece-written, piece-written_below, piece-written_above, written-written}
-use Rattle.windows.proofs.Pieces.{length-written, written-same}
-use Rattle.heap_words.specs.Words.{word}
-use Rattle.heap_words.specs.Headers.{header_bytes}
-use Rattle.heap_words.specs.declared.header.Header.{Header}
-use Rattle.heap_words.proofs.Words.{length-word}
-use Rattle.heap_words.proofs.Headers.{length-header}
+use Rattle.memory_windows.specs.Writes.{written, piece}
+use Rattle.memory_windows.proofs.Pieces.{piece-written, piece-written_below, piece-written_above, written-written}
+use Rattle.memory_windows.proofs.Pieces.{length-written, written-same}
+use Rattle.block_headers.specs.Words.{word}
+use Rattle.block_headers.specs.Headers.{header_bytes}
+use Rattle.block_headers.specs.declared.header.Header.{Header}
+use Rattle.block_headers.proofs.Words.{length-word}
+use Rattle.block_headers.proofs.Headers.{length-header}
 use Rattle.block_store.specs.Block.{resized_content, Block, size, free}
 use Rattle.block_store.proofs.Content.Resizing.{length-resized}
 use Rattle.zone_bytes.specs.Layout.{Tile, head_of, Tiles}

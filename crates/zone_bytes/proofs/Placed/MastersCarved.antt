@@ -13,14 +13,14 @@ use Rattle.zone_bytes.proofs.Laws.Lawful.{Made, made}
 use Rattle.zone_bytes.proofs.Placed.Carved.{Roomy, filled-is}
 use Rattle.std.proofs.lemmas.Bool.{cases_eq}
 use Rattle.std.proofs.lemmas.List.{take-take, drop-drop, drop-take, length-drop}
-use Rattle.windows.specs.Writes.{piece, written}
-use Rattle.heap_words.specs.Words.{word}
-use Rattle.heap_words.proofs.Headers.{length-header}
+use Rattle.memory_windows.specs.Writes.{piece, written}
+use Rattle.block_headers.specs.Words.{word}
+use Rattle.block_headers.proofs.Headers.{length-header}
 use Rattle.zone_bytes.specs.Layout.{head_of, Tile, IsSlot, names, Each, Pairs, Apart}
 use Rattle.zone_bytes.specs.Splicing.{SameOutside}
 use Rattle.zone_bytes.specs.Laying.{laid, MayLay}
-use Rattle.heap_words.specs.declared.header.Header.{Header}
-use Rattle.heap_words.specs.declared.header.Tag.TheVariants as tag
+use Rattle.block_headers.specs.declared.header.Header.{Header}
+use Rattle.block_headers.specs.declared.header.Tag.TheVariants as tag
 use Rattle.zone_bytes.proofs.Placed.Laid.{laid-outside, laid-left, laid-first, tiles-two}
 use Rattle.zone_bytes.proofs.Tiles.Tiling.{slot-swap, slot-append_right, tiles-split, span-whole}
 use Rattle.zone_bytes.proofs.Tiles.Leading.{each-append, each-map, names-append, each-names}
@@ -29,8 +29,8 @@ use Rattle.zone_bytes.proofs.Tiles.Keeping.{run-no_slot}
 use Rattle.zone_bytes.proofs.SlotTable.Tables.{each-both, lies-agree}
 use Rattle.zone_bytes.proofs.Blocks.InPlace.{no-slots, lies-put, Stretch, clear, slot-put, word-outside}
 use Rattle.zone_bytes.proofs.Tiles.Permuted.{has-left, has-right, each-of, pairs-join}
-use Rattle.windows.proofs.Pieces.{piece-written, piece-written_above}
-use Rattle.heap_words.proofs.Words.{length-word}
+use Rattle.memory_windows.proofs.Pieces.{piece-written, piece-written_above}
+use Rattle.block_headers.proofs.Words.{length-word}
 use Rattle.zone_bytes.proofs.Tiles.Splices.{outside-written}
 
 -- a write below threaded slots

@@ -4,9 +4,9 @@ use Rattle.std.proofs.Common.{Some, List, [], ◌∷◌, ◌++◌, length, drop,
 use Rattle.std.proofs.lemmas.Bool.{false≢true}
 use Rattle.std.specs.Option.{IfSome, IsSome, IsSomeAnd}
 use Rattle.mac_words.specs.Size.{padded}
-use Rattle.heap_words.specs.Words.{word_at, header}
-use Rattle.heap_words.specs.Headers.{tag_number}
-use Rattle.heap_words.specs.declared.header.Header.{Header}
+use Rattle.block_headers.specs.Words.{word_at, header}
+use Rattle.block_headers.specs.Headers.{tag_number}
+use Rattle.block_headers.specs.declared.header.Header.{Header}
 use Rattle.block_store.specs.Block.{Block, Free, Masters, size, sizes, free, free_of}
 use Rattle.block_store.specs.Block.{free_sum, is_masters, content_of, resized, resized_content}
 use Rattle.block_store.specs.Room.{Spot, spot_at, filled}

@@ -2,7 +2,7 @@
 use Rattle.std.proofs.Common.{◌≡◌, ℕ, ◌+◌, ◌<◌, ◌≤◌, ◌^◌, Bool, Some, List, [], ◌∷◌, ◌++◌, length, drop, refl}
 use Rattle.std.proofs.Common.{append_assoc, sym, ap, ◌∙◌, subst, arith}
 use Rattle.std.proofs.lemmas.List.{length-drop}
-use Rattle.windows.specs.Writes.{piece}
+use Rattle.memory_windows.specs.Writes.{piece}
 use Rattle.block_store.specs.Block.{Block, size, sizes, content_of, tidy, Free, Masters}
 use Rattle.block_store.specs.Room.{Spot, spot_at}
 use Rattle.block_store.specs.Slot.{is_resource}

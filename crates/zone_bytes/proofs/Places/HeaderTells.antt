@@ -2,8 +2,8 @@
 use Rattle.std.proofs.Common.{◌≡◌, ℕ, Bool, true, false, ◌==◌, ◌+◌, ◌%◌, ◌<◌, ◌≤◌, List, [], ◌∷◌, length, drop, sym}
 use Rattle.std.proofs.Common.{ap, ◌∙◌, arith}
 use Rattle.std.proofs.lemmas.Bool.{false≢true}
-use Rattle.windows.specs.Writes.{piece}
-use Rattle.heap_words.specs.Words.{word_at}
+use Rattle.memory_windows.specs.Writes.{piece}
+use Rattle.block_headers.specs.Words.{word_at}
 use Rattle.block_store.specs.Block.{Block, Nonrelocatable, Relocatable, size, content_of}
 use Rattle.zone_bytes.specs.Layout.{kind, head_of, Tile}
 use Rattle.zone_bytes.specs.Stepping.{left_in, IsOnWay}

@@ -1,10 +1,8 @@
 -- The block that a slot leads to.
-use Rattle.std.proofs.Common.{◌≡◌, ℕ, true, inl, inr, ◌+◌, ◌%◌, ◌≤◌, Some, List, ◌∷◌, ◌++◌, rules, length, sym, ap, ◌∙◌}
+use Rattle.std.proofs.Common.{◌≡◌, ℕ, ◌+◌, ◌%◌, ◌≤◌, Some, List, ◌∷◌, ◌++◌, rules, length, ap, ◌∙◌}
 use Rattle.std.proofs.Common.{subst, arith}
-use Rattle.std.proofs.lemmas.Bool.{false≢true}
-use Rattle.std.proofs.lemmas.Bool.Decides.{eqb_tells}
-use Rattle.heap_words.specs.Words.{word, word_at}
-use Rattle.heap_words.proofs.Words.{read_back}
+use Rattle.block_headers.specs.Words.{word, word_at}
+use Rattle.block_headers.proofs.Words.{read_back}
 use Rattle.block_store.specs.declared.flags.Flags.{Flags}
 use Rattle.block_store.specs.Block.{Block, Relocatable, sizes, is_relocatable}
 use Rattle.block_store.specs.Room.{Spot, spot, spot_at}
@@ -23,20 +21,12 @@ use Rattle.zone_bytes.specs.Adopting.{LeadsHere}
 use Rattle.zone_bytes.proofs.Tiles.Leading.{each-names, leads-right}
 use Rattle.zone_bytes.proofs.SlotTable.Tables.{slot-in}
 use Rattle.zone_bytes.proofs.Places.AtPlace.{way-at, left-at, inside}
-
--- the block of a slot's name
-named : (number : ℕ) (b : Block) → is_relocatable number b ≡ true → (flags : Flags) × (content : List ℕ)
-    × (b ≡ Relocatable number flags content)
-named number (Relocatable id flags content) e = elim (eqb_tells id number) [
-  | inl t ↦ (flags, content, ap (λ k. Relocatable k flags content) t.1)
-  | inr t ↦ absurd (false≢true (sym t.0 ∙ e))
-]
-named number _ e = absurd (false≢true e)
+use Rattle.zone_bytes.proofs.SlotTable.Handles.{relocatable-is}
 
 module _ (xs : List ℕ) (first count : ℕ) (i : IsSound xs first count) (number : ℕ) (s : Spot)
     (e : spot (is_relocatable number) (zone_in xs) ≡ Some s) where
   here : (flags : Flags) × (content : List ℕ) × (s.here ≡ Relocatable number flags content)
-  here = named number s.here (spot-passes (is_relocatable number) (zone_in xs) s e)
+  here = relocatable-is number s.here (spot-passes (is_relocatable number) (zone_in xs) s e)
 
   abbrev block : Block
   block = Relocatable number here.0 here.1

@@ -2,7 +2,7 @@
 use Rattle.std.proofs.Common.{◌≡◌, ℕ, Bool, ◌+◌, ◌%◌, ◌<◌, ◌≤◌, ◌^◌, Some, None, List, [], ◌∷◌, length, drop}
 use Rattle.std.proofs.Common.{sym, refl, ap, ◌∙◌, subst, arith}
 use Rattle.std.proofs.lemmas.List.{length-drop, drop-drop}
-use Rattle.heap_words.specs.Words.{word_at}
+use Rattle.block_headers.specs.Words.{word_at}
 use Rattle.block_store.specs.declared.sparing.Seen.{Seen}
 use Rattle.block_store.specs.declared.sparing.Seen.TheVariants as see
 use Rattle.block_store.specs.Block.{Block, Nonrelocatable, Relocatable, size}
@@ -12,8 +12,8 @@ use Rattle.zone_bytes.specs.Layout.{kind, head_of, Tile, names, names_of, Each, 
 use Rattle.zone_bytes.specs.Walking.{Walk}
 use Rattle.zone_bytes.specs.Stepping.{header_seen, left_in, IsOnWay, Steps}
 use Rattle.zone_bytes.proofs.Tiles.Leading.{each-left}
-use Rattle.heap_words.specs.Headers.{tag_number}
-use Rattle.heap_words.specs.declared.header.Header.{Header}
+use Rattle.block_headers.specs.Headers.{tag_number}
+use Rattle.block_headers.specs.declared.header.Header.{Header}
 use Rattle.zone_bytes.proofs.Tiles.Tags.{tag-small}
 use Rattle.zone_bytes.proofs.Tiles.Heads.{next-may, Next, next-there, header-tells, MayRead, IsRead}
 use Rattle.zone_bytes.proofs.Tiles.Decoding.{blocks-back}

@@ -1,9 +1,9 @@
 -- What lies in a window stays where another one is written.
 use Rattle.std.proofs.Common.{◌≡◌, ℕ, ◌+◌, ◌≤◌, List, length, subst, arith}
-use Rattle.windows.specs.declared.Window.{Window}
-use Rattle.windows.specs.Windows.{Misses}
-use Rattle.windows.specs.Writes.{written}
-use Rattle.windows.proofs.Pieces.{piece-written_below, piece-written_above}
+use Rattle.memory_windows.specs.declared.Window.{Window}
+use Rattle.memory_windows.specs.Windows.{Misses}
+use Rattle.memory_windows.specs.Writes.{written}
+use Rattle.memory_windows.proofs.Pieces.{piece-written_below, piece-written_above}
 use Rattle.block_store.specs.Block.{Block}
 use Rattle.block_store.specs.Slot.{Slot}
 use Rattle.zone_bytes.specs.Laid.{LaysOut, LiesThere}

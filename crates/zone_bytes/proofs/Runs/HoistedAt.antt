@@ -2,8 +2,8 @@
 use Rattle.std.proofs.Common.{◌≡◌, ℕ, true, cond, ◌+◌, ◌%◌, ◌≤◌, Some, List, [], ◌∷◌, ◌++◌, length, drop, refl, sym, ap}
 use Rattle.std.proofs.Common.{◌∙◌, subst, arith, append_assoc}
 use Rattle.std.proofs.Math.Seq.{drop-append_seam}
-use Rattle.heap_words.specs.Words.{word_at}
-use Rattle.heap_words.proofs.Words.{read_back}
+use Rattle.block_headers.specs.Words.{word_at}
+use Rattle.block_headers.proofs.Words.{read_back}
 use Rattle.block_store.specs.Block.{Block, sizes, count, is_relocatable, tidy}
 use Rattle.block_store.specs.Run.{RunSpot, has, movers, high, segments, with_run}
 use Rattle.block_store.specs.Room.{spot_at}
@@ -24,9 +24,10 @@ use Rattle.block_store.proofs.Nonrelocatable.Placing.{sizes-settle}
 use Rattle.zone_bytes.proofs.SlotTable.Tables.{slot-in}
 use Rattle.zone_bytes.proofs.Runs.Hoists.{hoisted-instead}
 use Rattle.zone_bytes.proofs.Laws.Lawful.{sizes-length}
-use Rattle.block_store.proofs.Regroup.Lifted.{RunOf, run-of, spot_at-parts, settle-parts, high-parts, loose-block}
+use Rattle.block_store.proofs.Regroup.Lifted.{RunOf, run-of, settle-parts, high-parts, loose-block}
 use Rattle.block_store.proofs.Regroup.Lifted.{loose-over}
 use Rattle.block_store.proofs.Regroup.Lifted as lifted
+use Rattle.block_store.proofs.Zone.Parted.{spot_at-parted}
 use Rattle.zone_bytes.proofs.Runs.Changed.{ChangedRun, relaid-run}
 use Rattle.zone_bytes.proofs.Runs.PackedAt.{IsPacked, packed-zone, bottom, loose}
 
@@ -80,7 +81,7 @@ module _ {xs : List ℕ} {first unused place top stop : ℕ} {old : List Block}
   module _ (at : ℕ) (w : at ≡ word_at number xs) where
     hoist-at : hoist_at xs at ≡ raw
     hoist-at = ap (hoist_at xs) (w ∙ slot-tells) ∙ (let s : spot_at here (zone_in xs) ≡ Some _ = ap (spot_at here)
-        packed-parts ∙ spot_at-parts _ _ _
+        packed-parts ∙ spot_at-parted _ _ _
         (apart-tidied _ (sym (ap tidy packed-parts) ∙ k.sound.tidied ∙ packed-parts)) in
         let f = first-run over r.above (loose-over number r.run cut (loose k)) (run_at-ended place old r k.is).stops in
         let g : drop (length (segments (over ++ r.above)).first) (over ++ r.above) ≡ r.above =

@@ -2,9 +2,9 @@
 use Rattle.std.proofs.Common.{◌≡◌, ℕ, ◌+◌, ◌-◌, ◌%◌, ◌≤◌, List, ◌∷◌, ◌++◌, length, take, drop, sym, ◌∙◌, rules, arith}
 use Rattle.std.proofs.Common.{length-append}
 use Rattle.std.proofs.lemmas.List.{length-take-le, length-drop}
-use Rattle.windows.specs.Writes.{written, piece}
-use Rattle.windows.proofs.Pieces.{piece-written}
-use Rattle.heap_words.specs.declared.header.Header.{Header}
+use Rattle.memory_windows.specs.Writes.{written, piece}
+use Rattle.memory_windows.proofs.Pieces.{piece-written}
+use Rattle.block_headers.specs.declared.header.Header.{Header}
 use Rattle.block_store.specs.Block.{Block, size}
 use Rattle.zone_bytes.specs.Layout.{head_of, Tiles}
 use Rattle.zone_bytes.specs.Splicing.{SameOutside}

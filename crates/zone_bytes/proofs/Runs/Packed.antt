@@ -3,13 +3,13 @@ use Rattle.std.proofs.Common.{◌≡◌, ℕ, ◌+◌, ◌-◌, ◌%◌, ◌≤�
 use Rattle.std.proofs.Common.{◌++◌, rules, length, take, drop, sym, refl, ap, ◌∙◌, subst, arith, append_assoc}
 use Rattle.std.proofs.lemmas.List.{append-nil, length-take-le, length-drop, drop-drop}
 use Rattle.std.proofs.lemmas.Bool.{false≢true}
-use Rattle.windows.specs.Writes.{written, piece}
-use Rattle.heap_words.specs.Headers.{tag_number}
-use Rattle.heap_words.specs.Words.{word}
-use Rattle.heap_words.specs.declared.header.Header.{Header}
-use Rattle.heap_words.proofs.Words.{length-word}
-use Rattle.windows.proofs.Pieces.{length-written, take-written_at, take-written_below, take-written_above}
-use Rattle.windows.proofs.Pieces.{drop-written_below, drop-written_above, piece-written, written-same}
+use Rattle.memory_windows.specs.Writes.{written, piece}
+use Rattle.block_headers.specs.Headers.{tag_number}
+use Rattle.block_headers.specs.Words.{word}
+use Rattle.block_headers.specs.declared.header.Header.{Header}
+use Rattle.block_headers.proofs.Words.{length-word}
+use Rattle.memory_windows.proofs.Pieces.{length-written, take-written_at, take-written_below, take-written_above}
+use Rattle.memory_windows.proofs.Pieces.{drop-written_below, drop-written_above, piece-written, written-same}
 use Rattle.block_store.specs.declared.flags.Flags.{Flags}
 use Rattle.block_store.specs.Block.{Block, Free, Relocatable, size, sizes, free_sum, is_mover}
 use Rattle.block_store.specs.Run.{in_run, movers}
@@ -29,9 +29,10 @@ use Rattle.zone_bytes.proofs.Tiles.Leading.{names-append, piece-clear, leads-app
 use Rattle.zone_bytes.proofs.Tiles.Leading.{leads-right}
 use Rattle.zone_bytes.proofs.Tiles.Permuted.{SameNames, each-front, front}
 use Rattle.zone_bytes.proofs.Tiles.Splices.{tiles-parts, tiles-splice, outside-written, piece-outside, leads-outside}
-use Rattle.zone_bytes.proofs.Tiles.Keeping.{run-no_slot, span-movers, Instead, slots-now}
+use Rattle.zone_bytes.proofs.Tiles.Keeping.{run-no_slot, Instead, slots-now}
 use Rattle.zone_bytes.proofs.SlotTable.Tables.{apart-clear, each-both}
 use Rattle.block_store.specs.declared.measures.TheConstants.{GREATEST_ZONE}
+use Rattle.block_store.proofs.Nonrelocatable.Placing.{sizes-movers}
 
 pub run-moved : (lay : Lay) (place stop : ℕ) → IsRunFrom lay place stop → IsMoved lay place stop
 run-moved lay place stop r = grind (arith, leads-right, leads-left)
@@ -330,4 +331,4 @@ pub gap-left : (lay : Lay) (place stop : ℕ) (r : IsMoved lay place stop) {gap 
     {gone rest : List Block} → Passing lay gap from to xs gone (movers gone) rest → from ≡ to + free_sum gone
 gap-left lay place stop r {gone = gone} q =
     let b = bounds lay place stop r q in
-    omega (arith, span-movers gone b.gone_in, span-append lay.below (movers gone))
+    omega (arith, sizes-movers gone b.gone_in, span-append lay.below (movers gone))

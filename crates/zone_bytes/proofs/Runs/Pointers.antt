@@ -2,9 +2,9 @@
 use Rattle.std.proofs.Common.{◌≡◌, ℕ, ◌+◌, ◌<◌, ◌≤◌, List, [], ◌∷◌, ◌++◌, length, drop, refl, ap, subst}
 use Rattle.std.proofs.Common.{arith, append_assoc}
 use Rattle.std.proofs.lemmas.List.{take-append-drop}
-use Rattle.windows.specs.Writes.{written, piece}
-use Rattle.windows.proofs.Pieces.{written-same}
-use Rattle.heap_words.specs.Words.{word}
+use Rattle.memory_windows.specs.Writes.{written, piece}
+use Rattle.memory_windows.proofs.Pieces.{written-same}
+use Rattle.block_headers.specs.Words.{word}
 use Rattle.block_store.specs.Block.{Block, Free, sizes}
 use Rattle.zone_bytes.specs.Layout.{head_of}
 use Rattle.zone_bytes.specs.Settling.{Lay, Passing}

@@ -2,10 +2,10 @@
 use Rattle.std.proofs.Common.{◌≡◌, ℕ, ◌+◌, ◌-◌, ◌%◌, ◌<◌, ◌≤◌, ◌⊎◌, inl, inr, List, [], ◌∷◌, ◌++◌, length, drop, sym}
 use Rattle.std.proofs.Common.{refl, ◌∙◌, subst, arith, append_assoc, ap, rules}
 use Rattle.std.proofs.lemmas.List.{length-take-le, length-drop}
-use Rattle.windows.specs.Writes.{written, piece}
-use Rattle.heap_words.specs.Words.{word}
-use Rattle.heap_words.proofs.Words.{length-word}
-use Rattle.windows.proofs.Pieces.{length-written, piece-written, piece-written_below, piece-written_above}
+use Rattle.memory_windows.specs.Writes.{written, piece}
+use Rattle.block_headers.specs.Words.{word}
+use Rattle.block_headers.proofs.Words.{length-word}
+use Rattle.memory_windows.proofs.Pieces.{length-written, piece-written, piece-written_below, piece-written_above}
 use Rattle.block_store.specs.Block.{Block, Free, free, free_sum, sizes}
 use Rattle.block_store.proofs.Zone.Spots.{free-some}
 use Rattle.zone_bytes.specs.Layout.{head_of, Tiles, Leads}
@@ -18,14 +18,14 @@ use Rattle.zone_bytes.proofs.Tiles.Tiling.{span-append, span-whole}
 use Rattle.zone_bytes.proofs.Tiles.Leading.{each-names, Clear, leads-append, leads-joined}
 use Rattle.zone_bytes.proofs.Tiles.Splices.{tiles-parts, tiles-next, outside-same, outside-written, leads-outside}
 use Rattle.zone_bytes.proofs.Tiles.Keeping.{Instead, instead, names-left, span-free, each-free, leads-free}
-use Rattle.zone_bytes.proofs.Tiles.Keeping.{names-movers, span-movers, others-now, slots-now, instead-settle}
+use Rattle.zone_bytes.proofs.Tiles.Keeping.{names-movers, others-now, slots-now, instead-settle}
 use Rattle.zone_bytes.proofs.Runs.Packed.{run-bounds, is-moved, clears, others-moved, run-moved}
 use Rattle.block_store.specs.Run.{movers, settle, low}
 use Rattle.block_store.specs.Inner.Packing.{Loose}
-use Rattle.block_store.proofs.Nonrelocatable.Placing.{sizes-low, sizes-settle}
+use Rattle.block_store.proofs.Nonrelocatable.Placing.{sizes-low, sizes-settle, sizes-movers}
 use Rattle.block_store.proofs.Regroup.Parts.{in-settle}
 use Rattle.block_store.proofs.Zone.Apart.{tidy-apart}
-use Rattle.block_store.proofs.Zone.Totals.{total-append}
+use Rattle.block_store.proofs.Zone.Totals.{total-append, free_sum-free}
 use Rattle.block_store.proofs.Regroup.Lifted.{apart-low, no-movers}
 use Rattle.zone_bytes.specs.Settling.{Lay, EndsRun, IsRunFrom, Packed, cut, UntilAt, Settled}
 use Rattle.zone_bytes.specs.Edges.{AreEdges}
@@ -35,9 +35,6 @@ use Rattle.zone_bytes.proofs.Runs.Settled.{cut-same, cut-movers, cut-sums, settl
 -- a Free block has no relocatable one, and its bytes
 movers-above : (n : ℕ) (blocks : List Block) → movers (free n ++ blocks) ≡ movers blocks
 movers-above n blocks = grind arith
-
-sum-free : (n : ℕ) → free_sum (free n) ≡ n
-sum-free n = grind arith
 
 -- without relocatable blocks
 pub lifted-none : (gap : ℕ) (run : List Block) → 0 < gap → gap ≤ free_sum run → movers run ≡ []
@@ -73,7 +70,7 @@ lifted-instead gap below run above some enough r = elim (any-movers run) [
 
 pub gap-fits : (lay : Lay) (place gap : ℕ) → MayLift lay place gap → gap ≤ length lay.bytes
 gap-fits lay place gap h =
-    omega (arith, h.enough, span-movers lay.run h.run.in_run, (run-bounds lay place _ (run-moved lay place _ h.run)))
+    omega (arith, h.enough, sizes-movers lay.run h.run.in_run, (run-bounds lay place _ (run-moved lay place _ h.run)))
 
 module _ (lay : Lay) (place top stop gap : ℕ) (xs : List ℕ) (h : MayRaise lay place top stop gap xs) where
   abbrev head : Block → List ℕ
@@ -103,7 +100,7 @@ module _ (lay : Lay) (place top stop gap : ℕ) (xs : List ℕ) (h : MayRaise la
       (names-left (movers lay.run) rest ∙ sym (names-left (movers lay.run) (free_sum lay.run)))
 
   pub wide : (top + (gap + rest) ≡ stop) × (stop ≤ length xs) × (place ≤ top)
-  wide = omega (arith, run-bounds was place stop run, span-movers lay.run h.lift.run.in_run, h.lift.enough)
+  wide = omega (arith, run-bounds was place stop run, sizes-movers lay.run h.lift.run.in_run, h.lift.enough)
 
   -- where the movers lie
   mover-tiles : Tiles head (piece place (top - place) xs) (movers lay.run)
@@ -266,7 +263,7 @@ module _ (lay : Lay) (place gap : ℕ) (h : MayLift lay place gap) (o : EndsRun 
         all-is =
             let m = cut-movers lay gone rest p.split in
             let n : free_sum (free left ++ rest) ≡ free_sum lay.run - gap =
-            omega (arith, total-append, sum-free, cut-sums, enough) in
+            omega (arith, total-append, free_sum-free, cut-sums, enough) in
             let any : movers lay.run ≡ [] → ⊥ = λ n. omega (arith, ap sizes (sym m ∙ n), span-append, some) in
             rw (lifted-some gap lay.run h.some any, n, movers-above left rest, m) (simp append_assoc)
 
@@ -274,4 +271,4 @@ module _ (lay : Lay) (place gap : ℕ) (h : MayLift lay place gap) (o : EndsRun 
         both-lifted = grind (arith, all-is, cut-same, others-now, part-instead, upper-is)
 
         pub both-stop : (at : ℕ) → at ≡ top + gap + sizes (free left ++ rest) → at ≡ place + sizes lay.run
-        both-stop at e = e ∙ (omega (arith, span-append, span-free, span-movers gone cut-at.in_run, cut-sums, enough))
+        both-stop at e = e ∙ (omega (arith, span-append, span-free, sizes-movers gone cut-at.in_run, cut-sums, enough))

@@ -3,8 +3,8 @@ use Rattle.std.proofs.Common.{◌≡◌, ℕ, ◌+◌, ◌-◌, ◌≤◌, true,
 use Rattle.std.proofs.Common.{arith, ◌<◌, ◌⊎◌, inl, inr, nat_le, rules, length, append_assoc}
 use Rattle.std.proofs.lemmas.List.{append-nil}
 use Rattle.std.proofs.lemmas.List.Elements.{filter-append}
-use Rattle.windows.specs.Writes.{written, piece}
-use Rattle.heap_words.specs.Words.{word}
+use Rattle.memory_windows.specs.Writes.{written, piece}
+use Rattle.block_headers.specs.Words.{word}
 use Rattle.block_store.specs.Block.{Block, Free, size, sizes, is_mover, free_of, free_sum, free}
 use Rattle.block_store.specs.Run.{movers, settle}
 use Rattle.zone_bytes.specs.Layout.{Leads, head_of, Tiles, IsSlot, names, Each}
@@ -14,15 +14,14 @@ use Rattle.zone_bytes.specs.Pointing.{IsMoved}
 use Rattle.zone_bytes.proofs.Tiles.Leading.{leads-left, leads-from, Clear, each-map, each-names, leads-append}
 use Rattle.zone_bytes.proofs.Runs.Packed.{run-moved, start, bounds, step-free, NextMover, gap-left, run-bounds}
 use Rattle.zone_bytes.proofs.Runs.Packed.{slot-clear}
-use Rattle.heap_words.proofs.Words.{length-word}
-use Rattle.windows.proofs.Pieces.{piece-written}
+use Rattle.block_headers.proofs.Words.{length-word}
+use Rattle.memory_windows.proofs.Pieces.{piece-written}
 use Rattle.block_store.proofs.Zone.Totals.{total-append}
-use Rattle.block_store.proofs.Nonrelocatable.Placing.{sizes-settle}
+use Rattle.block_store.proofs.Nonrelocatable.Placing.{sizes-settle, sizes-movers}
 use Rattle.zone_bytes.specs.Splicing.{SameOutside}
 use Rattle.zone_bytes.proofs.Tiles.Heads.{free-at}
 use Rattle.zone_bytes.proofs.Tiles.Tiling.{span-append}
 use Rattle.zone_bytes.proofs.Tiles.Splices.{outside-same, outside-written, piece-outside, leads-outside, tiles-joined}
-use Rattle.zone_bytes.proofs.Tiles.Keeping.{span-movers}
 use Rattle.block_store.specs.declared.measures.TheConstants.{GREATEST_ZONE}
 
 -- those that come lower among the first blocks, and those among the others
@@ -177,7 +176,7 @@ module _ (lay : Lay) (place : ℕ) (r : IsRunFrom lay place (place + sizes lay.r
     | inl n ↦ n
     | inr e ↦
         let b = run-bounds lay place _ (run-moved lay place _ r) in
-        absurd (omega (arith, cut-sums lay gone rest p.split, span-movers lay.run r.in_run))
+        absurd (omega (arith, cut-sums lay gone rest p.split, sizes-movers lay.run r.in_run))
   ]
 
   module _ (n : rest ≡ []) where

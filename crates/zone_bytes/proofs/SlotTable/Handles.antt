@@ -6,10 +6,10 @@ use Rattle.std.proofs.lemmas.Bool.{false≢true}
 use Rattle.std.proofs.lemmas.Bool.Decides.{eqb_tells}
 use Rattle.std.proofs.lemmas.List.{length-drop}
 use Rattle.std.specs.Option.{option_map}
-use Rattle.heap_words.specs.Slots.{slot_number}
-use Rattle.heap_words.specs.declared.slot.SlotWord.TheVariants.{Empty}
-use Rattle.heap_words.specs.Words.{word_at, word, header}
-use Rattle.heap_words.proofs.Words.{read_back, length-word}
+use Rattle.block_headers.specs.Slots.{slot_number}
+use Rattle.block_headers.specs.declared.slot.SlotWord.TheVariants.{Empty}
+use Rattle.block_headers.specs.Words.{word_at, word, header}
+use Rattle.block_headers.proofs.Words.{read_back, length-word}
 use Rattle.block_store.specs.declared.flags.Flags.{Flags}
 use Rattle.block_store.specs.Block.{Block, Relocatable, size, sizes, is_relocatable}
 use Rattle.block_store.specs.Room.{Spot, spot}
@@ -25,8 +25,8 @@ use Rattle.zone_bytes.proofs.Tiles.Decoding.{flag_word-small}
 use Rattle.block_store.proofs.Zone.Tidy.{spot-passes, spot-is}
 use Rattle.block_store.proofs.Regroup.Settling.{has-spot}
 use Rattle.zone_bytes.proofs.Tiles.Leading.{leads-from, each-map, names-append, pairs-before, pairs-after, leads-same}
-use Rattle.windows.specs.Writes.{written, piece}
-use Rattle.windows.proofs.Pieces.{piece-written}
+use Rattle.memory_windows.specs.Writes.{written, piece}
+use Rattle.memory_windows.proofs.Pieces.{piece-written}
 use Rattle.zone_bytes.specs.Splicing.{SameOutside}
 use Rattle.zone_bytes.proofs.Blocks.InPlace.{Stretch, word-outside, no-slots, tile-inside, tiles-piece}
 use Rattle.zone_bytes.proofs.Blocks.Marked.{flagged-header}
@@ -56,7 +56,7 @@ pub record HasBlock (xs : List ℕ) (blocks : List Block) (resource : ℕ → Bo
   pub flags_are : word_at (place + 12) xs ≡ flag_word flags (resource s)
 
 -- the block that passes for s
-relocatable-is : (s : ℕ) (b : Block) → is_relocatable s b ≡ true → (flags : Flags) × (content : List ℕ)
+pub relocatable-is : (s : ℕ) (b : Block) → is_relocatable s b ≡ true → (flags : Flags) × (content : List ℕ)
     × (b ≡ Relocatable s flags content)
 relocatable-is s (Relocatable id flags content) e = (flags, content, grind (arith, eqb_tells))
 relocatable-is s _ e = absurd (false≢true e)

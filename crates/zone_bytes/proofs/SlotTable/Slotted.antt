@@ -16,10 +16,10 @@ use Rattle.zone_bytes.proofs.SlotTable.Tables.{each-both, apart-of, slot-in, eac
 use Rattle.zone_bytes.proofs.SlotTable.Tables.{unused-apart, chain-written, lays-written, set-same, used-is}
 use Rattle.zone_bytes.proofs.Tiles.Zones.{SomeUnused}
 use Rattle.zone_bytes.proofs.Laws.Lawful.{Made, made}
-use Rattle.heap_words.specs.Words.{word_at, word}
-use Rattle.heap_words.proofs.Words.{read_back, length-word}
-use Rattle.windows.specs.Writes.{written}
-use Rattle.windows.proofs.Pieces.{piece-written}
+use Rattle.block_headers.specs.Words.{word_at, word}
+use Rattle.block_headers.proofs.Words.{read_back, length-word}
+use Rattle.memory_windows.specs.Writes.{written}
+use Rattle.memory_windows.proofs.Pieces.{piece-written}
 use Rattle.block_store.specs.declared.measures.TheConstants.{GREATEST_ZONE}
 
 module _ {xs : List ℕ} {blocks : List Block} {slots : ℕ → Slot} {first : ℕ} {unused : List ℕ}

@@ -2,10 +2,10 @@
 use Rattle.std.proofs.Common.{◌≡◌, ℕ, Bool, ◌+◌, ◌%◌, ◌≤◌, inl, inr, List, [], ◌∷◌, length, drop, sym, false, refl, ◌∙◌}
 use Rattle.std.proofs.Common.{subst, arith, IsTrue}
 use Rattle.std.proofs.lemmas.Bool.{ne_eqb, eq-eqb}
-use Rattle.windows.specs.Writes.{written, piece}
-use Rattle.heap_words.specs.Words.{word}
-use Rattle.heap_words.proofs.Words.{length-word}
-use Rattle.windows.proofs.Pieces.{length-written}
+use Rattle.memory_windows.specs.Writes.{written, piece}
+use Rattle.block_headers.specs.Words.{word}
+use Rattle.block_headers.proofs.Words.{length-word}
+use Rattle.memory_windows.proofs.Pieces.{length-written}
 use Rattle.block_store.specs.Block.{Block, Relocatable, size, is_relocatable}
 use Rattle.block_store.specs.Slot.{Slot, Unused, Used, set_slot, is_resource, is_used}
 use Rattle.zone_bytes.specs.Layout.{head_of, Tiles, IsSlot, names, names_of, Apart, Each, Pairs}

@@ -1,7 +1,7 @@
 -- A zone with one relocatable block more, or one fewer.
 use Rattle.std.proofs.Common.{◌≡◌, ℕ, Bool, inl, inr, List, ◌∷◌, length, ap, ◌∙◌, subst}
-use Rattle.windows.specs.Writes.{piece}
-use Rattle.heap_words.specs.Words.{word}
+use Rattle.memory_windows.specs.Writes.{piece}
+use Rattle.block_headers.specs.Words.{word}
 use Rattle.block_store.specs.Block.{Block}
 use Rattle.block_store.specs.Slot.{Slot, Used, is_resource}
 use Rattle.zone_bytes.specs.Layout.{IsSlot, names, Apart, Each, ArePlaced}

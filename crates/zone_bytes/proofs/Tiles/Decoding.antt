@@ -2,9 +2,9 @@
 use Rattle.std.proofs.Common.{◌≡◌, ℕ, Bool, cond, ◌+◌, ◌-◌, ◌%◌, ◌<◌, ◌≤◌, ◌^◌, zero, suc, nat_le, List}
 use Rattle.std.proofs.Common.{[], ◌∷◌, length, drop, sym, refl, ap, ◌∙◌, arith}
 use Rattle.std.proofs.lemmas.List.{length-drop}
-use Rattle.windows.specs.Writes.{piece}
-use Rattle.heap_words.specs.Words.{word_at}
-use Rattle.heap_words.proofs.Words.{read_back}
+use Rattle.memory_windows.specs.Writes.{piece}
+use Rattle.block_headers.specs.Words.{word_at}
+use Rattle.block_headers.proofs.Words.{read_back}
 use Rattle.block_store.specs.declared.flags.Flags.{Flags}
 use Rattle.block_store.specs.Block.{Block, Nonrelocatable, Relocatable, size}
 use Rattle.zone_bytes.specs.Layout.{kind, flag_word, head_of, Tile, Tiles, names, names_of, Each, IsPlaced, ArePlaced}

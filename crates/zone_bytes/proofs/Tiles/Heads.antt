@@ -2,17 +2,17 @@
 use Rattle.std.proofs.Common.{◌≡◌, ℕ, Bool, ◌+◌, ◌<◌, ◌≤◌, ◌^◌, inl, inr, List, [], ◌∷◌, ◌++◌, length, take, drop, sym}
 use Rattle.std.proofs.Common.{refl, ap, ◌∙◌, arith, length-append, ◌%◌, ◌⊎◌, subst}
 use Rattle.std.proofs.lemmas.List.{length-drop, length-take-le, drop-drop, drop-take, take-take, take_all}
-use Rattle.windows.specs.Writes.{piece}
+use Rattle.memory_windows.specs.Writes.{piece}
 use Rattle.zone_bytes.proofs.Tiles.Tiling.{tiles-one}
-use Rattle.heap_words.specs.Words.{word, word_at, header}
-use Rattle.heap_words.proofs.Words.{length-word, read_back}
-use Rattle.heap_words.proofs.Headers.{length-header}
+use Rattle.block_headers.specs.Words.{word, word_at, header}
+use Rattle.block_headers.proofs.Words.{length-word, read_back}
+use Rattle.block_headers.proofs.Headers.{length-header}
 use Rattle.block_store.specs.declared.flags.Flags.{Flags}
 use Rattle.block_store.specs.Block.{Block, Free, Masters, Relocatable, size, free}
 use Rattle.zone_bytes.specs.Layout.{kind, flag_word, head_of, Tile, Tiles}
 use Rattle.zone_bytes.proofs.Tiles.Tags.{tag-small}
-use Rattle.heap_words.specs.Headers.{tag_number}
-use Rattle.heap_words.specs.declared.header.Header.{Header}
+use Rattle.block_headers.specs.Headers.{tag_number}
+use Rattle.block_headers.specs.declared.header.Header.{Header}
 use Rattle.block_store.specs.declared.measures.TheConstants.{GREATEST_ZONE}
 
 -- the pieces of what a block begins with

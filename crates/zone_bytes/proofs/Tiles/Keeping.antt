@@ -3,9 +3,9 @@ use Rattle.std.proofs.Common.{◌≡◌, ℕ, ◌+◌, ◌-◌, inl, inr, List, 
 use Rattle.std.proofs.Common.{subst, arith, cond, Bool, ◌⊎◌}
 use Rattle.std.proofs.lemmas.List.{append-nil}
 use Rattle.std.proofs.lemmas.Bool.{false≢true}
-use Rattle.windows.specs.Writes.{piece}
-use Rattle.heap_words.specs.Words.{word}
-use Rattle.block_store.specs.Block.{Block, Free, Nonrelocatable, Masters, Relocatable, size, free, free_sum, sizes}
+use Rattle.memory_windows.specs.Writes.{piece}
+use Rattle.block_headers.specs.Words.{word}
+use Rattle.block_store.specs.Block.{Block, Free, Nonrelocatable, Masters, Relocatable, size, free, sizes}
 use Rattle.block_store.specs.Run.{movers, settle}
 use Rattle.block_store.specs.Slot.{Slot, NoSlot, Unused, Used, is_resource}
 use Rattle.block_store.specs.Inner.Packing.{Loose}
@@ -15,7 +15,7 @@ pub use Rattle.block_store.proofs.Regroup.Parts.{in-free as each-free}
 use Rattle.zone_bytes.specs.Layout.{IsSlot, names, Apart, Each, ArePlaced, Leads}
 use Rattle.zone_bytes.specs.Settling.{Lies, HasSlots, SameOthers, Relaid}
 use Rattle.zone_bytes.specs.Table.{IsUsed, Chain, Says, Lays, Has, empty_word}
-use Rattle.zone_bytes.proofs.Tiles.Tiling.{span-append, slot-swap}
+use Rattle.zone_bytes.proofs.Tiles.Tiling.{slot-swap}
 use Rattle.zone_bytes.proofs.Tiles.Leading.{names-append, each-map}
 use Rattle.zone_bytes.proofs.Tiles.Permuted.{SameNames, each-moved}
 use Rattle.zone_bytes.proofs.SlotTable.Tables.{unused-apart}
@@ -93,9 +93,6 @@ span-free n = grind arith
 
 pub leads-free : (o n : ℕ) (xs : List ℕ) → Leads o (free n) xs
 leads-free o n xs = grind arith
-
-pub span-movers : (run : List Block) → Loose run → sizes (movers run) + free_sum run ≡ sizes run
-span-movers run h = grind (arith, sizes-settle, span-append, span-free)
 
 -- one run in the place of another
 pub slot-run : (s : ℕ) (below run now above : List Block) → Loose run → sizes now ≡ sizes run

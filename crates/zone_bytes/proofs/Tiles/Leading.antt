@@ -1,8 +1,8 @@
 -- Slot words that lead to their blocks.
 use Rattle.std.proofs.Common.{◌≡◌, ℕ, ◌+◌, ◌≤◌, ◌⊎◌, inl, inr, List, [], ◌∷◌, ◌++◌, length, sym, refl, ap, ◌∙◌, subst}
 use Rattle.std.proofs.Common.{arith}
-use Rattle.windows.specs.Writes.{written, piece}
-use Rattle.windows.proofs.Pieces.{piece-written_below, piece-written_above}
+use Rattle.memory_windows.specs.Writes.{written, piece}
+use Rattle.memory_windows.proofs.Pieces.{piece-written_below, piece-written_above}
 use Rattle.block_store.specs.Block.{Block, Relocatable, size, sizes}
 use Rattle.zone_bytes.specs.Layout.{names, names_of, Leads, Apart, Each, Pairs}
 

@@ -3,9 +3,9 @@ use Rattle.std.proofs.Common.{◌≡◌, ℕ, Bool, true, cond, nat_le, ◌&&◌
 use Rattle.std.proofs.Common.{inl, inr, List, [], ◌∷◌, length, take, drop, sym, refl, ap, ◌∙◌, subst, arith}
 use Rattle.std.proofs.lemmas.List.{length-drop, drop-drop}
 use Rattle.std.proofs.lemmas.Bool.{false≢true, or_left, or_right, or_cases, and_from, and_parts}
-use Rattle.windows.specs.Writes.{piece}
-use Rattle.heap_words.specs.Words.{word, word_at}
-use Rattle.heap_words.proofs.Words.{read_back}
+use Rattle.memory_windows.specs.Writes.{piece}
+use Rattle.block_headers.specs.Words.{word, word_at}
+use Rattle.block_headers.proofs.Words.{read_back}
 use Rattle.block_store.specs.Block.{Block, Masters, Relocatable, size, is_masters}
 use Rattle.block_store.specs.Slot.{Slot, NoSlot, Unused, Used, is_resource}
 use Rattle.zone_bytes.specs.Layout.{head_of, Tiles, IsSlot, IsSlotOf, names, Leads, Each}

@@ -3,8 +3,8 @@ use Rattle.std.proofs.Common.{◌≡◌, ℕ, ◌+◌, ◌-◌, ◌%◌, ◌≤�
 use Rattle.std.proofs.Common.{ap, subst, arith, length-append}
 use Rattle.std.proofs.lemmas.List.{length-take-le, length-drop, take-append-le, drop-append-le, drop-drop, take-take}
 use Rattle.std.proofs.lemmas.List.{drop-take, drop_all}
-use Rattle.windows.specs.Writes.{written}
-use Rattle.windows.proofs.Pieces.{length-written, take-written_below, drop-written_above, drop-written_below}
+use Rattle.memory_windows.specs.Writes.{written}
+use Rattle.memory_windows.proofs.Pieces.{length-written, take-written_below, drop-written_above, drop-written_below}
 use Rattle.block_store.specs.Block.{Block, Masters, size, sizes}
 use Rattle.block_store.proofs.Zone.Totals.{total-append}
 use Rattle.zone_bytes.specs.Layout.{Tile, Tiles, IsSlot}

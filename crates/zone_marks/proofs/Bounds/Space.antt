@@ -1,15 +1,15 @@
 -- The largest Free block of a zone, as it stands and after purges.
 use Rattle.std.proofs.Common.{◌≡◌, ◌⊎◌, ℕ, ◌+◌, ◌≤◌, ◌<◌, zero, suc, inl, inr, Bool, true, false, max, cond, List, []}
 use Rattle.std.proofs.Common.{◌∷◌, ◌++◌, refl, ap, ◌∙◌, subst, arith}
-use Rattle.block_store.specs.Block.{Block, Free, Relocatable, add, free_of, is_room, size, sizes, tidy}
+use Rattle.block_store.specs.Block.{Block, Free, Relocatable, free_of, is_room, size, sizes, tidy}
 use Rattle.block_store.specs.Compact.{largest_free}
 use Rattle.block_store.specs.Room.{lowest_purged, may_be_purged}
 use Rattle.block_store.specs.Sparing.{purged, spared}
 use Rattle.block_store.specs.declared.sparing.Sparing.TheVariants as sparing
 use Rattle.block_store.proofs.Purged.Looks.{top_free}
-use Rattle.block_store.proofs.Purged.PurgedSums.{largest-purged, largest_stretch}
+use Rattle.block_store.proofs.Purged.PurgedSums.{largest-purged, largest_stretch, apart-top_free}
 use Rattle.block_store.proofs.Purged.Rising.{lowest_purged-none, lowest_purged-stays}
-use Rattle.block_store.proofs.Zone.Apart.{Apart, apart-size, apart-tidied, two}
+use Rattle.block_store.proofs.Zone.Apart.{Apart, apart-size, apart-tidied}
 use Rattle.zone_bytes.specs.Decode.{zone_in}
 use Rattle.zone_bytes.specs.Lawful.{IsSound}
 use Rattle.zone_bytes.specs.Changes.{AtEach, Begins}
@@ -118,16 +118,11 @@ stretch-ends f (b ∷ old) (Free n ∷ new) a (inr e) s = grind (arith, apart-si
 stretch-ends f (b ∷ old) (_ ∷ new) a (inr e) s = omega arith
 stretch-ends f _ _ a e s = absurd s
 
-top-apart : (n : ℕ) (bs : List Block) → add (Free n) bs ≡ Free n ∷ bs → top_free bs ≡ 0
-top-apart zero (Free m ∷ bs) e = absurd (let z : 0 < 0 = apart-size _ _ e in omega arith)
-top-apart (suc n) (Free m ∷ bs) e = absurd (two _ _ _ _ e)
-top-apart n _ e = refl
-
 stretch-parts : (f : ℕ) (below old new : List Block) → Apart (below ++ old) → (f ≡ 0) ⊎ (top_free (below ++ old) ≡ 0)
     → SameFirst old new → largest_stretch f (below ++ new) ≤ max (max f (largest_free below)) (largest_stretch 0 new)
 stretch-parts f [] old new a e s = let r = stretch-ends f _ _ a e s in omega arith
 stretch-parts f (Free n ∷ below) old new a (inl e) s =
-    let r = stretch-parts (f + n) below old new a.1 (inr (top-apart n (below ++ old) a.0)) s in omega arith
+    let r = stretch-parts (f + n) below old new a.1 (inr (apart-top_free n (below ++ old) a.0)) s in omega arith
 stretch-parts f (Free n ∷ below) old new a (inr e) s = omega (arith, apart-size)
 stretch-parts f (_ ∷ below) old new a e s = let r = stretch-parts 0 below old new a.1 (inl refl) s in omega arith
 

@@ -1,6 +1,5 @@
 -- Where a pass that empties blocks begins, and what it makes of the zone that bytes spell.
 use Rattle.zone_bytes.proofs.Tiles.Keeping.{span-free}
-use Rattle.zone_marks.proofs.Marks.Spanned.{free-size}
 use Rattle.block_store.specs.Block.{free_of, Block, size, sizes, free, free_sum, tidy}
 use Rattle.block_store.specs.declared.sparing.Seen.{Seen}
 use Rattle.std.proofs.Common.{◌≡◌, ℕ, zero, suc, Bool, true, false, cond, ◌+◌, ◌-◌, ◌≤◌, rules}
@@ -17,6 +16,7 @@ use Rattle.block_store.proofs.Zone.Tidy.{total-tidy, spot-is, spot-passes}
 use Rattle.block_store.proofs.Zone.Totals.{total-append}
 use Rattle.block_store.proofs.Zone.Joining.{apart-front, ending}
 use Rattle.block_store.proofs.Purged.Purges.{masters-lowest_purged, masters-opened}
+use Rattle.block_store.proofs.Zone.Listing.{free_of-le}
 use Rattle.zone_bytes.specs.Decode.{zone_in}
 use Rattle.zone_bytes.specs.Joining.{Freeing, MayRelease}
 use Rattle.zone_bytes.specs.Lawful.{IsSound}
@@ -83,7 +83,7 @@ module _ (f : Freeing) (place : ℕ) (xs : List ℕ) (m : MayPurge f place xs) w
         starts (purge_above (stop - bytes) f purges n) now stop purges xs (f.below ++ f.here ∷ []) f.above m.lays
         m.tidied refl (sym (one f.above)) (ap tidy (one _) ∙ ap (λ q. tidy (f.below ++ f.here ∷ q)) after)
         (omega (arith, span-append))
-        (omega (arith, last-one 0 f.below f.here, e ∙ ap free_of here-is, free-size f.here))
+        (omega (arith, last-one 0 f.below f.here, e ∙ ap free_of here-is, free_of-le f.here))
 
 -- the blocks below the lowest that goes stay
 lowest_purged-spot : (k : ℕ) (sp : Block → Bool) (zone : List Block) (s : Spot) → spot (may_be_purged sp) zone ≡ Some s

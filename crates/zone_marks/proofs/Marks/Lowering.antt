@@ -22,11 +22,11 @@ use Rattle.zone_marks.proofs.Marks.Groups.{unknown}
 use Rattle.zone_bytes.proofs.Places.AtPlace.{way-above, left-above}
 use Rattle.zone_marks.proofs.Marks.Passing.{at-each, at-map, at-append, at-left, at-right, begins-here, begins-left}
 use Rattle.zone_marks.proofs.Marks.Passing.{begins-right, begins-either, begins-within, parts}
-use Rattle.zone_marks.proofs.Marks.Spanned.{free-size}
 use Rattle.zone_marks.proofs.Marks.Between.{CountAlike, alike-as, tally-as}
 use Rattle.zone_marks.proofs.Marks.Between.{between-append, none-below, none-above, told-both}
 use Rattle.zone_marks.specs.Marks.{above_all}
 use Rattle.block_store.specs.declared.measures.TheConstants.{GREATEST_ZONE}
+use Rattle.block_store.proofs.Zone.Listing.{free_of-le}
 
 -- the first of some landmarks is no higher than where they end
 pub marks-below : (end : ℕ) (zone : List Block) (marks : List Landmark) → AreMarks end zone marks → next_of end marks
@@ -224,7 +224,7 @@ unlaid-marks zone l zero = tt
 unlaid-marks zone l (suc n) = (
   record {
     begins = begins-here 0 zone;
-    most = at-each (AtMost above_all 0 _) 0 _ (λ p b _ u _ _. omega (arith, free-size));
+    most = at-each (AtMost above_all 0 _) 0 _ (λ p b _ u _ _. omega (arith, free_of-le));
     tells = told-unknown _;
     order = omega arith;
   },

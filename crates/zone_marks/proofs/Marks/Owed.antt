@@ -4,14 +4,12 @@ use Rattle.zone_bytes.proofs.Places.AtPlace.{left-zone}
 use Rattle.zone_bytes.proofs.Bounds.Short.{free-given}
 use Rattle.std.proofs.Common.{◌≡◌, ℕ, ◌+◌, ◌-◌, ◌≤◌, false, List, ◌∷◌, ◌++◌, length, refl, sym, ap, ◌∙◌, subst, []}
 use Rattle.std.proofs.Common.{arith}
-use Rattle.windows.specs.Writes.{written}
-use Rattle.windows.proofs.Pieces.{length-written}
-use Rattle.block_store.specs.declared.flags.Flags.{Flags}
+use Rattle.memory_windows.specs.Writes.{written}
+use Rattle.memory_windows.proofs.Pieces.{length-written}
 use Rattle.block_store.specs.Block.{Block, Free, Relocatable, size, free, free_of, content_of, is_purgeable}
 use Rattle.block_store.specs.Block.{with_content}
 use Rattle.block_store.specs.Inner.Stretch.{is_free}
 use Rattle.block_store.specs.Room.{filled}
-use Rattle.block_store.specs.Seen.{with_flags}
 use Rattle.block_store.proofs.Zone.Spots.{size-content}
 use Rattle.block_store.proofs.Zone.Totals.{total-append}
 use Rattle.zone_bytes.specs.Decode.{zone_in}
@@ -35,11 +33,6 @@ content-same : (x : List ℕ) (b : Block) → length x ≡ length (content_of b)
 content-same x (Relocatable id flags content) e = grind arith
 content-same x (Free n) e = (refl, refl, refl, refl)
 content-same x _ e = (refl, refl, refl, refl)
-
--- a block with other flags
-pub size-flags : (flags : Flags) (b : Block) → size (with_flags flags b) ≡ size b
-size-flags flags (Free n) = refl
-size-flags flags _ = refl
 
 module _ (xs : List ℕ) (first unused free purgeable : ℕ) (l : Landmarks) where
   pub with-marks : IsKept xs first unused free → AreOf l (zone_in xs) → purgeable ≡ purgeable_sum (zone_in xs)

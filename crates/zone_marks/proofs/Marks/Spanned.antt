@@ -1,6 +1,6 @@
 -- What a block's header tells of where it ends, and its Free bytes.
 use Rattle.std.proofs.Common.{◌≡◌, ℕ, Bool, false, not, cond, ◌==◌, ◌+◌, ◌%◌, ◌<◌, ◌≤◌, List, length, refl, arith}
-use Rattle.heap_words.specs.Words.{word_at}
+use Rattle.block_headers.specs.Words.{word_at}
 use Rattle.block_store.specs.Block.{Block, Free, size, free_of, is_room}
 use Rattle.zone_bytes.specs.Settling.{runs_on}
 use Rattle.zone_bytes.specs.Stepping.{left_in, IsOnWay}
@@ -21,7 +21,3 @@ span-made at xs w l n t e h k free f barrier b =
 pub no-room : (p : ℕ) (b : Block) → 0 < size b → (0 < free_of b → p ≤ free_of b → ⊥) → is_room p b ≡ false
 no-room p (Free n) s f = grind arith
 no-room p _ s f = refl
-
-pub free-size : (b : Block) → free_of b ≤ size b
-free-size (Free n) = omega arith
-free-size _ = omega arith

@@ -12,10 +12,11 @@ use Rattle.res_calls.specs.Gone.{gone_for}
 use Rattle.res_calls.specs.Changing as changing
 use Rattle.res_calls.specs.Partial as partial
 use Rattle.mac_words.specs.declared.name.Name.{Name}
+use Rattle.mac_words.proofs.Plain.{on_err}
 use Rattle.res_calls.specs.Asked.{GetResInfo}
 use Rattle.res_calls.specs.Places.{seen_info}
 use Rattle.res_calls.proofs.Walks.Laws.{served-files}
-use Rattle.applications.proofs.Filing.{answered_keeps, on_any_err}
+use Rattle.applications.proofs.Filing.{answered_keeps}
 use Rattle.applications.proofs.Arms.{by_three, arm_told, arm_after, arm_hears}
 use Rattle.applications.proofs.finding.answered.Goals as goal
 
@@ -100,25 +101,73 @@ returns-in-Get1Resource-clause-after g c =
     (ap (λ (i : ℤ). telling tell_fetched (rows.noting (rows.get1_resource (big_number 4 c.in-Get1Resource.ty.0) i)
     (managers c.args.resources.now c.args.heap.now.memory))) (to_z-of_z w16 c.in-Get1Resource.id fits)) c.in-Get1Resource.is
 
+pub returns-in-GetResFileAttrs-clause-told : goal.returns-in-GetResFileAttrs-clause-told
+returns-in-GetResFileAttrs-clause-told g c =
+    arm_told Number false c.counted-in-GetResFileAttrs.result _ _ _ c.args.call.now _ c.args.names.now
+    (managers c.args.resources.now c.args.heap.now.memory) c.counted-in-GetResFileAttrs.ensures.tried
+    (c.get_res_file_attrs.ensures.answer c.args.heap.now.memory) refl refl c.in-GetResFileAttrs.is
+
+pub returns-in-GetResFileAttrs-clause-after : goal.returns-in-GetResFileAttrs-clause-after
+returns-in-GetResFileAttrs-clause-after g c =
+    arm_after Number c.counted-in-GetResFileAttrs.result _ _ _ c.args.call.now _ c.args.names.now
+    (managers c.args.resources.now c.args.heap.now.memory) c.counted-in-GetResFileAttrs.ensures.after
+    (c.get_res_file_attrs.ensures.answer c.args.heap.now.memory) refl c.in-GetResFileAttrs.is
+
+pub returns-in-SetResFileAttrs-clause-told : goal.returns-in-SetResFileAttrs-clause-told
+returns-in-SetResFileAttrs-clause-told g c =
+    arm_told (λ (u : Unit {0}). Done) false c.done_on_resource-in-SetResFileAttrs.result _ _ _ c.args.call.now _ c.args.names.now
+    (managers c.args.resources.now c.args.heap.now.memory) c.done_on_resource-in-SetResFileAttrs.ensures.tried
+    (c.set_res_file_attrs.ensures.answer c.args.heap.now.memory) refl refl c.in-SetResFileAttrs.is
+
+pub returns-in-SetResFileAttrs-clause-after : goal.returns-in-SetResFileAttrs-clause-after
+returns-in-SetResFileAttrs-clause-after g c =
+    arm_after (λ (u : Unit {0}). Done) c.done_on_resource-in-SetResFileAttrs.result _ _ _ c.args.call.now _ c.args.names.now
+    (managers c.args.resources.now c.args.heap.now.memory) c.done_on_resource-in-SetResFileAttrs.ensures.after
+    (c.set_res_file_attrs.ensures.answer c.args.heap.now.memory) refl c.in-SetResFileAttrs.is
+
+pub returns-in-CountTypes-clause-told : goal.returns-in-CountTypes-clause-told
+returns-in-CountTypes-clause-told g c =
+    arm_told Number false c.sized.result _ _ _ c.args.call.now _ c.args.names.now (managers c.args.resources.now c.args.heap.now.memory)
+    c.sized.ensures.tried (c.count_types.ensures.answer c.args.heap.now.memory) refl refl c.in-CountTypes.is
+
+pub returns-in-CountTypes-clause-after : goal.returns-in-CountTypes-clause-after
+returns-in-CountTypes-clause-after g c =
+    arm_after Number c.sized.result _ _ _ c.args.call.now _ c.args.names.now (managers c.args.resources.now c.args.heap.now.memory)
+    c.sized.ensures.after (c.count_types.ensures.answer c.args.heap.now.memory) refl c.in-CountTypes.is
+
 pub returns-in-Count1Types-clause-told : goal.returns-in-Count1Types-clause-told
 returns-in-Count1Types-clause-told g c =
-    arm_told Number false c.sized.result _ _ _ c.args.call.now _ c.args.names.now (managers c.args.resources.now c.args.heap.now.memory)
-    c.sized.ensures.tried (c.count1_types.ensures.answer c.args.heap.now.memory) refl refl c.in-Count1Types.is
+    arm_told Number false c.sized-in-Count1Types.result _ _ _ c.args.call.now _ c.args.names.now
+    (managers c.args.resources.now c.args.heap.now.memory) c.sized-in-Count1Types.ensures.tried
+    (c.count1_types.ensures.answer c.args.heap.now.memory) refl refl c.in-Count1Types.is
 
 pub returns-in-Count1Types-clause-after : goal.returns-in-Count1Types-clause-after
 returns-in-Count1Types-clause-after g c =
-    arm_after Number c.sized.result _ _ _ c.args.call.now _ c.args.names.now (managers c.args.resources.now c.args.heap.now.memory)
-    c.sized.ensures.after (c.count1_types.ensures.answer c.args.heap.now.memory) refl c.in-Count1Types.is
+    arm_after Number c.sized-in-Count1Types.result _ _ _ c.args.call.now _ c.args.names.now
+    (managers c.args.resources.now c.args.heap.now.memory) c.sized-in-Count1Types.ensures.after
+    (c.count1_types.ensures.answer c.args.heap.now.memory) refl c.in-Count1Types.is
+
+pub returns-in-GetIndType-clause-told : goal.returns-in-GetIndType-clause-told
+returns-in-GetIndType-clause-told g c =
+    arm_told Kind false c.kind.result _ _ _ c.args.call.now _ c.args.names.now (managers c.args.resources.now c.args.heap.now.memory)
+    c.kind.ensures.tried (c.get_ind_type.ensures.answer c.args.heap.now.memory) refl refl c.in-GetIndType.is
+
+pub returns-in-GetIndType-clause-after : goal.returns-in-GetIndType-clause-after
+returns-in-GetIndType-clause-after g c =
+    arm_after Kind c.kind.result _ _ _ c.args.call.now _ c.args.names.now (managers c.args.resources.now c.args.heap.now.memory)
+    c.kind.ensures.after (c.get_ind_type.ensures.answer c.args.heap.now.memory) refl c.in-GetIndType.is
 
 pub returns-in-Get1IndType-clause-told : goal.returns-in-Get1IndType-clause-told
 returns-in-Get1IndType-clause-told g c =
-    arm_told Kind false c.kind.result _ _ _ c.args.call.now _ c.args.names.now (managers c.args.resources.now c.args.heap.now.memory)
-    c.kind.ensures.tried (c.get1_ind_type.ensures.answer c.args.heap.now.memory) refl refl c.in-Get1IndType.is
+    arm_told Kind false c.kind-in-Get1IndType.result _ _ _ c.args.call.now _ c.args.names.now
+    (managers c.args.resources.now c.args.heap.now.memory) c.kind-in-Get1IndType.ensures.tried
+    (c.get1_ind_type.ensures.answer c.args.heap.now.memory) refl refl c.in-Get1IndType.is
 
 pub returns-in-Get1IndType-clause-after : goal.returns-in-Get1IndType-clause-after
 returns-in-Get1IndType-clause-after g c =
-    arm_after Kind c.kind.result _ _ _ c.args.call.now _ c.args.names.now (managers c.args.resources.now c.args.heap.now.memory)
-    c.kind.ensures.after (c.get1_ind_type.ensures.answer c.args.heap.now.memory) refl c.in-Get1IndType.is
+    arm_after Kind c.kind-in-Get1IndType.result _ _ _ c.args.call.now _ c.args.names.now
+    (managers c.args.resources.now c.args.heap.now.memory) c.kind-in-Get1IndType.ensures.after
+    (c.get1_ind_type.ensures.answer c.args.heap.now.memory) refl c.in-Get1IndType.is
 
 pub returns-in-CountResources-clause-told : goal.returns-in-CountResources-clause-told
 returns-in-CountResources-clause-told g c =
@@ -410,7 +459,7 @@ returns-in-SetResLoad-clause-after g c =
 
 pub returns-in-GetResInfo-clause-files : goal.returns-in-GetResInfo-clause-files
 returns-in-GetResInfo-clause-files g c =
-    on_any_err c.info.result _
+    on_err c.info.result _
     (answered_keeps seen_info
     (rows.noting (rows.get_res_info c.number-in-GetResInfo.result) (managers c.args.resources.now
     c.args.heap.now.memory))

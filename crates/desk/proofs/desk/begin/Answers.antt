@@ -1,5 +1,5 @@
 use Rattle.std.proofs.Common.{rules, ◌≤◌, option_map, ap, sym, ◌∙◌}
-use Rattle.windows.specs.Outside.{IsOutside}
+use Rattle.memory_windows.specs.Outside.{IsOutside}
 use Rattle.desk.proofs.Changes.{at-some}
 use Rattle.desk.proofs.Holding.{contains-opened, closed-opened}
 use Rattle.desk.proofs.desk.begin.Goals as goal

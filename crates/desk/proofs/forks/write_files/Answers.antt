@@ -1,9 +1,9 @@
 use Rattle.std.proofs.Common.{rules, ◌≡◌, ◌≢◌, ◌∙◌, ◌<◌, [], length, slice_index_or, subst, sym}
+use Rattle.mac_words.proofs.Plain.{on_err}
 use Rattle.res_calls.specs.declared.files.File.{File as StoredFile}
 use Rattle.res_calls.specs.View.{view_file}
 use Rattle.desk.specs.Outcome.{fork_told}
 use Rattle.desk.proofs.ForkLines.{files_next, still-lines}
-use Rattle.desk.proofs.Halting.{on_any_err}
 use Rattle.desk.proofs.forks.write_files.Goals as goal
 
 pub returns-in_err-write_file-clause-forks : goal.returns-in_err-write_file-clause-forks
@@ -13,7 +13,7 @@ returns-in_err-write_file-clause-forks c =
     let less : i < length files = search rules in
     let f = c.index-files-place.result in
     let is : f ≡ slice_index_or files i f = search rules in
-    on_any_err c.from_residual.result _
+    on_err c.from_residual.result _
     (still-lines c.loop-place.text.items c.args.text.now.items _ _ _
     (sym (files_next c.loop-place.text.items c.args.name.now.0.items files i f less) ∙ c.loop-place.invariant.0)
     c.loop-place.invariant.1

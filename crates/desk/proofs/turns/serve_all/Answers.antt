@@ -1,11 +1,12 @@
 use Rattle.std.proofs.Common.{rules, ◌≡◌, ℕ, refl, subst, ◌+◌, ◌<◌, ◌∙◌, ap, sym, drop, take, length, suc, arith}
+use Rattle.mac_words.proofs.Appending.{known-nil}
 use Rattle.desk.specs.Desk.{State, after_events}
 use Rattle.desk.specs.Free.{StaysFree}
 use Rattle.desk.specs.Halting.{Halt, HaltsAfter, halted}
 use Rattle.desk.proofs.Free.{event-out, halt-out, all-out}
 use Rattle.desk.proofs.Halting.{events_within, events_halt}
 use Rattle.desk.proofs.Rounds.{events_next}
-use Rattle.desk.proofs.Told.{told_none, told_more}
+use Rattle.desk.proofs.Told.{told_more}
 use Rattle.desk.proofs.turns.serve_all.Goals as goal
 
 pub loop-index-init : goal.loop-index-init
@@ -20,7 +21,7 @@ loop-index-init g c = record {
         (let count : 0 + k ≡ k = omega arith in count) f,
     refl,
   );
-  heard = told_none (g.W.Watch.heard c.args.watch.now);
+  heard = known-nil (g.W.Watch.heard c.args.watch.now);
 }
 
 pub loop-index-preserved : goal.loop-index-preserved

@@ -1,6 +1,6 @@
 use Rattle.std.proofs.Common.{◌≡◌, ℕ, ◌+◌, drop, length, take}
 use Rattle.std.specs.Io.KnownBytes.{append_known}
-use Rattle.windows.specs.declared.Window.{Window}
+use Rattle.memory_windows.specs.declared.Window.{Window}
 use Rattle.block_store.specs.Rest.{Site}
 use Rattle.applications.specs.Reports.{reports}
 use Rattle.desk.specs.Free.{StaysFree}

@@ -8,8 +8,8 @@ pub returns-clause-found : goal.returns-clause-found
 returns-clause-found c rows waiting =
     first_waits c.key_of-key.result (view_row c.args.row.now) rows (waits c.args.waiting.now c.key_of-key.result)
     c.take_queue-queue.result.rows.items c.pop_front-first.new.self.items c.pop_front-first.result c.take_queue-queue.result.rows.len
-    c.pop_front-first.new.self.len _ c.key_of-key.ensures c.take_queue-queue.ensures.queue (waiting c.key_of-key.result) c.pop_front-first.ensures.items
-    c.take_queue-queue.result.rows.ok.0 c.pop_front-first.ensures.cases
+    c.pop_front-first.new.self.len _ c.key_of-key.ensures c.take_queue-queue.ensures.queue
+    (waiting c.key_of-key.result) c.pop_front-first.ensures.items c.take_queue-queue.result.rows.ok.0 c.pop_front-first.ensures.cases
 
 pub returns-clause-others : goal.returns-clause-others
 returns-clause-others c rows waiting q =

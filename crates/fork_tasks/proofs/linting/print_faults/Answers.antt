@@ -4,8 +4,8 @@ use Rattle.fork_commands.proofs.Pairs.{also_ok}
 use Rattle.fork_tasks.specs.Fault.{message_of}
 use Rattle.fork_tasks.specs.Linting.{Unknown}
 use Rattle.fork_tasks.proofs.Accesses.{also_err, told_err}
-use Rattle.fork_tasks.proofs.Faults.{quiet_silent}
-use Rattle.fork_tasks.proofs.Linted.{lints, quiet_from, same_paths, unlinted}
+use Rattle.fork_tasks.proofs.Faults.{quiet_silent, quiet_from}
+use Rattle.fork_tasks.proofs.Linted.{lints, same_paths, unlinted}
 use Rattle.fork_tasks.proofs.linting.print_faults.Goals as goal
 
 pub returns-in_err-types-clause-undone : goal.returns-in_err-types-clause-undone

@@ -1,7 +1,7 @@
 use Rattle.std.proofs.Common.{arith}
 use Rattle.fork_wrappers.proofs.Rewraps.{wrapped_alike, found_rewrapped}
-use Rattle.fork_wrappers.proofs.Sums.{held_bytes}
 use Rattle.fork_wrappers.proofs.rewrapping.rewrap.Goals as goal
+use Rattle.fork_wrappers.proofs.HeldBytes.{held_bytes}
 
 pub returns-in-Ok-clause-wrapping : goal.returns-in-Ok-clause-wrapping
 returns-in-Ok-clause-wrapping c =

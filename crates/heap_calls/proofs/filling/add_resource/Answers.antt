@@ -1,4 +1,5 @@
 use Rattle.std.proofs.Common.{rules, ◌≡◌, ℕ, true, Option, Some, None, inl, inr, refl, sym, ◌∙◌, subst, length}
+use Rattle.mac_words.proofs.Plain.{on_err}
 use Rattle.heap_calls.specs.State.{Plain}
 use Rattle.heap_calls.specs.Answer.{nothing}
 use Rattle.heap_calls.specs.Gone.{Tells, made_gone}
@@ -9,7 +10,6 @@ use Rattle.heap_calls.specs.Inner.Naming.{entered, number_of}
 use Rattle.heap_calls.specs.Inner.Numbered.{memory_of}
 use Rattle.heap_calls.proofs.Filled.Named.{filled-names}
 use Rattle.heap_calls.proofs.Filled.Unmade.{made-told, left-unmade}
-use Rattle.heap_calls.proofs.NewBlocks.NewPointers.{on_err}
 use Rattle.heap_calls.proofs.Filled.Adding.{added-agrees, added-next, not-added}
 use Rattle.heap_calls.proofs.NewBlocks.Naming.{Names, named-packing}
 use Rattle.heap_calls.proofs.NewBlocks.NewHandles.{new_handle_searches-is, agrees-more}

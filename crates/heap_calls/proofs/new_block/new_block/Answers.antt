@@ -23,7 +23,8 @@ pub returns-in_err-room-clause-nonrelocatable : goal.returns-in_err-room-clause-
 returns-in_err-room-clause-nonrelocatable g c place = c.add_block.ensures.nonrelocatable place ∙ c.make_slot.ensures.nonrelocatable place
 
 pub returns-in_default-place-clause-nonrelocatable : goal.returns-in_default-place-clause-nonrelocatable
-returns-in_default-place-clause-nonrelocatable g c place = c.add_block.ensures.nonrelocatable place ∙ c.make_slot.ensures.nonrelocatable place
+returns-in_default-place-clause-nonrelocatable g c place = c.add_block.ensures.nonrelocatable place
+    ∙ c.make_slot.ensures.nonrelocatable place
 
 pub returns-clause-nonrelocatable : goal.returns-clause-nonrelocatable
 returns-clause-nonrelocatable g c place = c.add_block.ensures.nonrelocatable place ∙ c.make_slot.ensures.nonrelocatable place

@@ -1,9 +1,10 @@
 use Rattle.std.proofs.Common.{ℕ, Option, sym, ◌∙◌, ap, subst}
+use Rattle.mac_words.proofs.Plain.{on_err}
 use Rattle.block_store.specs.Block.{is_nonrelocatable}
 use Rattle.block_store.specs.Run.{has}
 use Rattle.heap_calls.specs.Inner.NewPointer.{IsNewNonrelocatable}
 use Rattle.heap_calls.proofs.Numbering.Changing.{phys-some}
-use Rattle.heap_calls.proofs.NewBlocks.NewPointers.{nonrelocatable-put, on_err}
+use Rattle.heap_calls.proofs.NewBlocks.NewPointers.{nonrelocatable-put}
 use Rattle.heap_calls.proofs.pointers.add_nonrelocatable.Goals as goal
 
 pub returns-in_err-carve_nonrelocatable-clause-nonrelocatable : goal.returns-in_err-carve_nonrelocatable-clause-nonrelocatable

@@ -2,8 +2,8 @@ use Rattle.std.proofs.Common.{◌≡◌, Err, map, refl, rules}
 use Rattle.job_tasks.specs.Loading.{part_seen}
 use Rattle.job_tasks.specs.Playing.{parts_of, NotTaken}
 use Rattle.fork_tasks.proofs.Accesses.{told_err}
-use Rattle.fork_tasks.proofs.Faults.{quiet_silent}
-use Rattle.job_tasks.proofs.Played.{plays, not_played, not_opened, quiet_work, quiet_from}
+use Rattle.fork_tasks.proofs.Faults.{quiet_silent, quiet_from}
+use Rattle.job_tasks.proofs.Played.{plays, not_played, not_opened, quiet_work}
 use Rattle.job_tasks.proofs.playing.play.Goals as goal
 
 -- there is no application

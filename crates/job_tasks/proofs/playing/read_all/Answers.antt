@@ -1,7 +1,7 @@
 use Rattle.std.proofs.Common.{◌≡◌, Err, rules}
 use Rattle.fork_tasks.specs.declared.fault.ToolFault.TheVariants.{HostMemory as NoMemory}
 use Rattle.fork_tasks.proofs.Accesses.{told_err}
-use Rattle.job_tasks.proofs.Played.{none_read}
+use Rattle.fork_tasks.proofs.Packed.{none_read}
 use Rattle.job_tasks.proofs.playing.read_all.Goals as goal
 
 pub returns-in_err-paths-clause-stopped : goal.returns-in_err-paths-clause-stopped

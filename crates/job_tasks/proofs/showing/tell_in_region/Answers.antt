@@ -4,7 +4,7 @@ use Rattle.block_store.specs.Block.{fresh, sizes}
 use Rattle.block_store.specs.Rest.{Site}
 use Rattle.applications.proofs.Elsewhere.{sizes-fresh}
 use Rattle.desk.proofs.WholeRegion.{whole_home, whole_there}
-use Rattle.zone_view.specs.Words.{telling_text}
+use Rattle.zone_replay.specs.Words.{telling_text}
 use Rattle.job_tasks.proofs.showing.tell_in_region.Goals as goal
 
 -- the zone is fresh, and fills the region

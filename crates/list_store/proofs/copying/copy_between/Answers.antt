@@ -2,7 +2,7 @@ use Rattle.std.proofs.Common.{◌≡◌, ◌≤◌, ◌+◌, ◌++◌, ◌∷◌
 use Rattle.std.specs.Option.{IfSome}
 use Rattle.std.proofs.lemmas.List.{get_or-set_other, length-set}
 use Rattle.block_store.specs.Block.{content_of, with_content}
-use Rattle.windows.specs.Writes.{written}
+use Rattle.memory_windows.specs.Writes.{written}
 use Rattle.list_store.specs.Lists.{blocks_of, block_of, nth_spot}
 use Rattle.list_store.proofs.Content.Copies.{at_nth, from_nth, blocks-replaced}
 use Rattle.block_store.proofs.Content.Copies.{first-bytes}

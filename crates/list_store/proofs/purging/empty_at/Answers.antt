@@ -1,5 +1,6 @@
 use Rattle.std.proofs.Common.{◌≡◌, ◌∙◌, ◌+◌, ◌++◌, ◌∷◌, ◌&&◌, nat_lt, take, drop, sym, ap, arith}
 use Rattle.std.proofs.lemmas.List.{take-append-drop}
+use Rattle.std.proofs.lemmas.Bool.{and_right}
 use Rattle.block_store.specs.Block.{Free, sizes}
 use Rattle.block_store.specs.Room.{may_be_purged}
 use Rattle.block_store.specs.Sparing.{spared}
@@ -8,7 +9,7 @@ use Rattle.list_store.specs.declared.entries.StoredBlock.TheVariants as entry
 use Rattle.list_store.proofs.Zone.Listing.{entry_fits, drop-blocks}
 use Rattle.list_store.proofs.Zone.Spots.{blocks-set}
 use Rattle.block_store.proofs.Zone.Spots.{sizes-same}
-use Rattle.block_store.proofs.Purged.Purges.{emptied-goes, lowest_purged-stays, and-false}
+use Rattle.block_store.proofs.Purged.Purges.{emptied-goes, lowest_purged-stays}
 use Rattle.list_store.proofs.purging.empty_at.Goals as goal
 use Rattle.list_store.proofs.purging.empty_at.Goals.{else-left-gt0-via-then-left-gt0+else-may_purge_at}
 use Rattle.list_store.proofs.purging.empty_at.Goals.{else-left-gt0-via-else-left-gt0}
@@ -49,7 +50,7 @@ returns-else-left-gt0-clause-blocks c =
     lowest_purged-stays (spared c.args.sparing) (blocks_of es) c.args.i c.args.left (block_of e)
     (drop-blocks es c.args.i e (omega arith) c.index-entry.ensures)
     (elim c.else-left-gt0.branch [
-      | else-left-gt0-via-then-left-gt0+else-may_purge_at w ↦ and-false (nat_lt 0 c.args.left)
+      | else-left-gt0-via-then-left-gt0+else-may_purge_at w ↦ and_right (nat_lt 0 c.args.left)
           (may_be_purged (spared c.args.sparing) (block_of e)) (sym w.may_purge_at.ensures ∙ w.if-may_purge_at.false)
       | else-left-gt0-via-else-left-gt0 w ↦ ap (λ n. nat_lt 0 n && may_be_purged (spared c.args.sparing) (block_of e))
           (let z : c.args.left ≡ 0 = omega (arith, w.if-left-gt0.false) in z)

@@ -1,5 +1,5 @@
 use Rattle.std.proofs.Common.{◌≡◌, drop}
-use Rattle.windows.specs.Windows.{InOrder}
+use Rattle.memory_windows.specs.Windows.{InOrder}
 use Rattle.partitions.specs.Grant.{holes, larger_hole, largest}
 use Rattle.partitions.proofs.finding.largest.Given as goal
 

@@ -1,6 +1,6 @@
 use Rattle.std.proofs.Common.{◌≡◌, drop}
 use Rattle.std.specs.List.{find}
-use Rattle.windows.specs.Windows.{InOrder}
+use Rattle.memory_windows.specs.Windows.{InOrder}
 use Rattle.partitions.specs.Grant.{holes, has_room}
 use Rattle.partitions.proofs.finding.lowest.Given as goal
 

@@ -1,5 +1,5 @@
 use Rattle.std.proofs.Common.{◌≤◌, ap, length}
-use Rattle.windows.specs.Writes.{written}
+use Rattle.memory_windows.specs.Writes.{written}
 use Rattle.res_map.specs.Map.{Reference, with_datum}
 use Rattle.res_calls.specs.View.{view_open}
 use Rattle.res_calls.proofs.Standing.{inside_map, inside_some, touched_as, reference_put}

@@ -12,4 +12,5 @@ write-requires-clause-offset g c =
     (found_at c.args.at (map view_open c.args.files.now.items))
     (λ f e. offset-within c.args.from (length c.args.bytes.now) f
     (sym (c.write_refusal.ensures f
-    (ap (λ (files : List OpenFile). found_at c.args.at (map view_open files)) c.deref.ensures.value ∙ e)) ∙ no_code c.write_refusal.result c.in_default.not-Some))
+    (ap (λ (files : List OpenFile). found_at c.args.at (map view_open files)) c.deref.ensures.value ∙ e))
+    ∙ no_code c.write_refusal.result c.in_default.not-Some))

@@ -21,7 +21,8 @@ returns-clause-indexed c = λ index.
     (λ r. c.row_at-row.result ≡ (let x : Row = record { kind = r.kind; key = r.stored.id; place = c.args.index } in x)))
     c.as_slice.ensures.value c.row_at-row.ensures) c.take_out.ensures.references
     (c.place_of.ensures
-    ∙ ap (λ i. first_place (is_resource c.row_at-row.result.kind i) (map view_reference c.as_slice-4.result.now)) (to_z-of_z w32 c.row_at-row.result.key fits)
+    ∙ ap (λ i. first_place (is_resource c.row_at-row.result.kind i) (map view_reference c.as_slice-4.result.now))
+    (to_z-of_z w32 c.row_at-row.result.key fits)
     ∙ ap (λ l. first_place (is_resource c.row_at-row.result.kind c.row_at-row.result.key) (map view_reference l))
     c.as_slice-4.ensures.value)
     (c.leave.ensures is_resource) index

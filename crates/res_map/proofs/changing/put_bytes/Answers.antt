@@ -1,5 +1,5 @@
 use Rattle.std.proofs.lemmas.Result.{on_ok_weaker, on_err_weaker}
-use Rattle.windows.specs.Writes.{written}
+use Rattle.memory_windows.specs.Writes.{written}
 use Rattle.res_map.specs.Index.{is_printed}
 use Rattle.res_map.specs.Map.{Reference, is_resource, with_datum}
 use Rattle.res_map.specs.View.{view_reference}

@@ -23,5 +23,6 @@ returns-in-Some c = λ references x there own left index.
     subst (λ n. IsIndex is_printed c.leave.new.rows.items (remove references n)) at
     (c.leave.ensures is_printed references x (ap (slice_get references) at ∙ there)
     (subst (λ (o : Option Row). IsRowOf is_printed o x) some own)
-    (c.place_printed.ensures ∙ ap (λ i. first_place (is_printed row.kind i) (map view_reference c.args.refs.now)) (to_z-of_z w32 row.key fits)
+    (c.place_printed.ensures
+    ∙ ap (λ i. first_place (is_printed row.kind i) (map view_reference c.args.refs.now)) (to_z-of_z w32 row.key fits)
     ∙ ap (first_place (is_printed row.kind row.key)) (left ∙ ap (remove references) (sym at))) index)

@@ -1,10 +1,11 @@
-use Rattle.std.proofs.Common.{◌≡◌, ◌∙◌, ap, rules, map, Some, None, ◌+◌, w32, SFits}
+use Rattle.std.proofs.Common.{◌≡◌, ◌∙◌, ap, rules, map, Some, None, ◌+◌, w32, SFits, sym}
 use Rattle.std.specs.Prelude.{option_map}
 use Rattle.std.proofs.lemmas.Int.{to_z-of_z}
+use Rattle.std.proofs.lemmas.List.{drop-map}
 use Rattle.res_map.specs.Map.{is_named}
 use Rattle.res_map.specs.Index.{first_place}
 use Rattle.res_map.specs.View.{view_reference}
-use Rattle.res_map.proofs.Called.{called-none, called-from, drop-map, told-print}
+use Rattle.res_map.proofs.Called.{called-none, called-from, told-print}
 use Rattle.res_map.proofs.search.place_called.Goals as goal
 
 pub returns-in-None : goal.returns-in-None
@@ -23,7 +24,7 @@ returns-in-Some c = λ index.
     let some : c.place_told.result ≡ Some c.in-Some.from = search rules in
     c.place_named.ensures
     ∙ ap (λ l. option_map (λ n. c.in-Some.from + n) (first_place (is_named c.args.kind c.args.text.now) l))
-    (drop-map view_reference c.in-Some.from c.args.refs.now)
+    (sym (drop-map view_reference c.in-Some.from c.args.refs.now))
     ∙ called-from c.args.kind c.args.text.now references c.in-Some.from
     (told-print c.args.kind c.args.text.now c.args.rows.now references c.print_of.result _ c.place_told.result
     c.print_of.ensures (to_z-of_z w32 c.print_of.result fits) (c.place_told.ensures index.rising) index ∙ some)

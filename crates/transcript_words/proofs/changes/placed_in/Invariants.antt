@@ -1,5 +1,5 @@
 use Rattle.std.proofs.Common.{◌≡◌, ◌++◌, drop, map}
-use Rattle.heap_view.specs.View.{view_line}
+use Rattle.zone_drawing.specs.View.{view_line}
 use Rattle.transcript_words.specs.Changes.{placed}
 use Rattle.transcript_words.specs.View.{view_placed}
 use Rattle.transcript_words.proofs.changes.placed_in.Given as goal

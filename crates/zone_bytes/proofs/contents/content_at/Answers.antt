@@ -1,7 +1,7 @@
 use Rattle.std.proofs.Common.{◌+◌, sym, ap, ◌∙◌, arith, rules}
-use Rattle.heap_words.specs.Headers.{tag_number}
+use Rattle.block_headers.specs.Headers.{tag_number}
 use Rattle.block_store.specs.Block.{content_of}
-use Rattle.windows.specs.Writes.{piece}
+use Rattle.memory_windows.specs.Writes.{piece}
 use Rattle.zone_bytes.proofs.Tiles.Tags.{tag-small}
 use Rattle.zone_bytes.proofs.Places.Stepped.{Stepped, may-read, stepped}
 use Rattle.zone_bytes.proofs.Places.HeaderTells.{holds, holds-none, same-here}

@@ -1,5 +1,5 @@
 use Rattle.std.proofs.Common.{◌≡◌, length, ap, arith, rules}
-use Rattle.windows.specs.Writes.{written}
+use Rattle.memory_windows.specs.Writes.{written}
 use Rattle.zone_bytes.proofs.Tiles.Heads.{next-may}
 use Rattle.zone_bytes.proofs.Runs.Hoists.{wide, next, size-read, turned-bytes, is-moved, is-hoisted}
 use Rattle.zone_bytes.proofs.hoisting.hoist_block.Given.{Over}

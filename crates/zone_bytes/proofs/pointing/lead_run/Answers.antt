@@ -1,7 +1,7 @@
 use Rattle.std.proofs.Common.{◌+◌, ◌<◌, refl, arith, true, false, ◌≡◌, ◌∙◌}
 use denote.Enum.Bare.{sameb}
-use Rattle.heap_words.specs.contracts.header.Tag.{the_type}
-use Rattle.heap_words.specs.declared.header.Tag.TheVariants.{Relocatable}
+use Rattle.block_headers.specs.contracts.header.Tag.{the_type}
+use Rattle.block_headers.specs.declared.header.Tag.TheVariants.{Relocatable}
 use Rattle.zone_bytes.specs.Pointing.{Pointing}
 use Rattle.zone_bytes.proofs.Runs.Packed.{NextMover, passing-next, next-mover, next-free}
 use Rattle.zone_bytes.proofs.Runs.Pointers.{start-pointing, pointing-bounds, some-left, past-free, past-slot, pointed}

@@ -1,5 +1,5 @@
 use Rattle.std.proofs.Common.{◌∙◌, sym, ap, arith}
-use Rattle.heap_words.specs.Headers.{tag_number}
+use Rattle.block_headers.specs.Headers.{tag_number}
 use Rattle.block_store.specs.Block.{free_of}
 use Rattle.zone_bytes.specs.Laying.{free_first}
 use Rattle.zone_bytes.proofs.Places.Stepped.{Stepped, may-read, stepped, left-none}

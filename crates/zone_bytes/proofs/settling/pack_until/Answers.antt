@@ -2,8 +2,8 @@ use Rattle.std.proofs.Common.{◌≡◌, true, false, ◌+◌, ◌-◌, ◌<◌,
 use Rattle.std.proofs.Common.{subst, arith, append_assoc, rules}
 use Rattle.std.proofs.lemmas.List.{append-nil}
 use denote.Enum.Bare.{sameb}
-use Rattle.heap_words.specs.contracts.header.Tag.{the_type}
-use Rattle.heap_words.specs.declared.header.Tag.TheVariants.{Relocatable}
+use Rattle.block_headers.specs.contracts.header.Tag.{the_type}
+use Rattle.block_headers.specs.declared.header.Tag.TheVariants.{Relocatable}
 use Rattle.block_store.specs.Block.{Block, Free, sizes}
 use Rattle.block_store.specs.Run.{movers}
 use Rattle.zone_bytes.specs.Edges.{Noted}

@@ -1,5 +1,5 @@
 use Rattle.std.proofs.Common.{◌≡◌, ◌+◌, sym, ap, ◌∙◌, arith}
-use Rattle.heap_words.specs.Headers.{tag_number}
+use Rattle.block_headers.specs.Headers.{tag_number}
 use Rattle.block_store.specs.Block.{size}
 use Rattle.zone_bytes.specs.Joining.{Freeing, MayFree}
 use Rattle.zone_bytes.specs.Layout.{kind}

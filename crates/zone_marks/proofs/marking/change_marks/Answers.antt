@@ -1,8 +1,6 @@
 use Rattle.std.proofs.Common.{inl, inr, arith}
 use Rattle.zone_marks.proofs.Marks.Lowering.{changing-start, changing-step, changing-done, last-mark}
-use Rattle.zone_marks.proofs.Marks.Tallies.{marks-of}
 use Rattle.zone_marks.proofs.marking.change_marks.Goals as goal
-use Rattle.zone_marks.proofs.marking.change_marks.Goals.{then-loop-first-test+else-lo-above, else-loop-first-test}
 
 pub loop-first-init : goal.loop-first-init
 loop-first-init c =
@@ -27,15 +25,10 @@ loop-first-preserved c =
           (e.mark g.old g.changed (last-mark _ _ _ _ _ _ _ g (omega arith)).1);
     }
 
-pub returns-clause-marks : goal.returns-clause-marks
-returns-clause-marks c = changing-done _ _ _ _ _ _ _ c.loop-first.invariant.changing (elim c.loop-first-test.branch [
-  | then-loop-first-test+else-lo-above w ↦ inr w.if-lo-above.false
-  | else-loop-first-test w ↦ inl (omega arith)
-])
+pub returns-else-lo-above-clause-marks : goal.returns-else-lo-above-clause-marks
+returns-else-lo-above-clause-marks c =
+    changing-done _ _ _ _ _ _ _ c.loop-first.invariant.changing (inr c.if-lo-above.false)
 
-pub renew_groups-requires-clause-marks : goal.renew_groups-requires-clause-marks
-renew_groups-requires-clause-marks c = marks-of _ _ _ c.requires.sound.2 _
-    (changing-done _ _ _ _ _ _ _ c.loop-first.invariant.changing (elim c.loop-first-test.branch [
-      | then-loop-first-test+else-lo-above w ↦ inr w.if-lo-above.false
-      | else-loop-first-test w ↦ inl (omega arith)
-    ]))
+pub returns-after-loop-first-clause-marks : goal.returns-after-loop-first-clause-marks
+returns-after-loop-first-clause-marks c =
+    changing-done _ _ _ _ _ _ _ c.loop-first.invariant.changing (inl (omega arith))

@@ -1,13 +1,13 @@
 use Rattle.std.proofs.Common.{◌≤◌, ◌<◌, ◌∙◌, ap, sym, arith, rules}
 use Rattle.block_store.specs.Block.{free_of}
 use Rattle.block_store.specs.Compact.{largest_free}
+use Rattle.block_store.proofs.Zone.Listing.{free_of-le}
 use Rattle.zone_summary.specs.Stretches.{prefix}
 use Rattle.zone_summary.specs.declared.stretch.Counting.TheVariants.{Runs}
 use Rattle.zone_summary.proofs.Monoid.{join-unit_right}
 use Rattle.zone_marks.proofs.Marks.Counting.{measured-below, measured-edge, prefix-counted, walked-few, walked-start}
 use Rattle.zone_marks.proofs.Marks.Counting.{walked-step}
 use Rattle.zone_marks.proofs.Marks.Passing.{begins-here, begins-right}
-use Rattle.zone_marks.proofs.Marks.Spanned.{free-size}
 use Rattle.zone_marks.proofs.measuring.measure_up_to.Goals as goal
 
 pub loop-at-init : goal.loop-at-init
@@ -19,7 +19,7 @@ loop-at-init c = record {
 pub join-runs-requires : goal.join-runs-requires
 join-runs-requires c =
     let f = walked-few _ _ _ _ _ _ c.loop-at.invariant.walked in
-    omega (arith, prefix-counted, ap prefix c.runs.ensures, free-size c.span_at-span.ensures.here)
+    omega (arith, prefix-counted, ap prefix c.runs.ensures, free_of-le c.span_at-span.ensures.here)
 
 pub loop-at-preserved : goal.loop-at-preserved
 loop-at-preserved c =

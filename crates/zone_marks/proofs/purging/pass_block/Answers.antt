@@ -2,9 +2,9 @@ use Rattle.std.proofs.Common.{◌≡◌, ◌+◌, ◌-◌, sym, ◌∙◌, arith
 use Rattle.block_store.specs.Inner.Purging.{left_past}
 use Rattle.block_store.specs.Inner.Stretch.{opened_block}
 use Rattle.block_store.specs.Sparing.{spared}
+use Rattle.block_store.proofs.Zone.Listing.{free_of-le}
 use Rattle.zone_marks.specs.Purging.{Purge, Purging}
 use Rattle.zone_marks.proofs.Joined.Passing.{pass-way, next, freed-fits, freeing, may-free, freed-next, kept-next}
-use Rattle.zone_marks.proofs.Marks.Spanned.{free-size}
 use Rattle.zone_marks.proofs.purging.pass_block.Goals.{After-free_of_seen, After-left_after}
 use Rattle.zone_marks.proofs.purging.pass_block.Goals as goal
 
@@ -36,7 +36,7 @@ freed c p u =
     let s = c.step_at-step.ensures in
     freed-next p _ _ _ _ _ _ u _ (next p _ _ _ _ _ _ u _ _ s) _ (sym (c.left_after.ensures _ s.told) ∙ c.in-Some.is)
     _ c.free_up.ensures.lays _
-    (let e = c.free_of_seen.ensures s.here s.told in let u = s.up in omega (arith, free-size s.here))
+    (let e = c.free_of_seen.ensures s.here s.told in let u = s.up in omega (arith, free_of-le s.here))
 
 pub overflow_add-result : goal.overflow_add-result
 overflow_add-result c = omega (

@@ -1,13 +1,12 @@
 use Rattle.std.proofs.Common.{◌∙◌, ◌+◌, ap, refl, drop, length, arith, sym, append-nil, ℕ}
 use Rattle.std.specs.Io.KnownBytes.{append_known}
-use Rattle.mac_words.proofs.Plain.{rest-next}
+use Rattle.mac_words.proofs.Plain.{rest-next, on_err}
 use Rattle.applications.specs.Trying.{Running}
 use Rattle.applications.specs.Step.{course_of}
 use Rattle.applications.specs.Reports.{reports}
 use Rattle.applications.specs.Stopping.{steps_taken}
 use Rattle.applications.proofs.Rounds.{run_ends, run_goes_on}
 use Rattle.applications.proofs.Elsewhere.{run-left}
-use Rattle.applications.proofs.Filing.{on_any_err}
 use Rattle.applications.proofs.Stopping.{heard-nothing, heard-more, from-nothing, count-over, count-more, count-left, first-more}
 use Rattle.applications.proofs.application.Application.run.Goals as goal
 
@@ -83,7 +82,7 @@ returns-in_err-exit-clause-stopped g c =
     let i = c.loop-line.line-index in
     let l = c.line-item.result in
     let first = c.loop-line.invariant.3 in
-    on_any_err c.from_residual.result _ (
+    on_err c.from_residual.result _ (
       i,
       record {
         fewer = count-left c.args.script.now.blocks (drop i c.args.lines.now) (drop (i + 1) c.args.lines.now) l

@@ -1,10 +1,14 @@
-use Rattle.std.proofs.Common.{◌∙◌, ◌+◌, ◌++◌, ap, drop, List, [], ℕ, arith}
+use Rattle.std.proofs.Common.{◌∙◌, ◌+◌, ◌++◌, ap, drop, subst, List, [], ℕ, arith}
+use Rattle.std.proofs.lemmas.List.{drop_all}
+use Rattle.script_text.specs.declared.script.Line.{Line}
+use Rattle.applications.specs.Inside.{glances_grown}
 use Rattle.applications.specs.Trying.{Running, Tried, once}
 use Rattle.applications.specs.Application.{bytes_told}
 use Rattle.mac_words.proofs.Plain.{rest-next}
 use Rattle.applications.proofs.Filing.{allowed_keeps, line_allowed, extended, extends_same, extends_on}
 use Rattle.applications.proofs.Rounds.{one_more}
 use Rattle.applications.proofs.Saying.{grown-said, shown-again}
+use Rattle.applications.proofs.Seeing.{Sees, all-seen, one-seen}
 use Rattle.applications.proofs.Elsewhere.{grown-left}
 use Rattle.applications.proofs.application.Application.take_lines.Goals as goal
 
@@ -27,6 +31,11 @@ loop-line-preserved g c =
           c.in_ok-write_grow_reply.ensures.line,
       c.in_ok-tried.ensures.files (allowed_keeps l.call c.loop-line.self.names
           (line_allowed c.args.lines.now i l (omega arith) c.line-item.is c.requires.allowed)) ∙ c.loop-line.invariant.3,
+      λ before seen. one-seen (g.O.Onlooker.saw c.loop-line.onlooker) (g.O.Onlooker.saw c.look.new.self) blocks
+          (drop i c.args.lines.now) (drop (i + 1) c.args.lines.now) l c.loop-line.self c.once.new.self
+          c.in_ok-tried.tried.reply.code _ (rest-next c.args.lines.now i l (omega arith) c.line-item.is)
+          c.in_ok-tried.ensures.after c.in_ok-tried.ensures.tried.reply.code c.in_ok-look.ensures.saw
+          (c.loop-line.invariant.4 before seen),
     )
 
 pub returns-in_err-tried-clause-lies : goal.returns-in_err-tried-clause-lies
@@ -66,3 +75,28 @@ returns-in_err-write_grow_reply-clause-files g c =
 
 pub returns-clause-files : goal.returns-clause-files
 returns-clause-files g c = c.loop-line.invariant.3
+
+pub returns-clause-saw : goal.returns-clause-saw
+returns-clause-saw g c before seen =
+    let blocks = c.args.script.now.blocks in
+    let all = before ++ glances_grown blocks c.args.lines.now c.args.self.now in
+    all-seen (g.O.Onlooker.saw c.loop-line.onlooker) all
+    (subst (λ (ls : List Line). Sees (g.O.Onlooker.saw c.loop-line.onlooker) (glances_grown blocks ls c.loop-line.self) all)
+    (drop_all c.loop-line.line-index c.args.lines.now (omega arith)) (c.loop-line.invariant.4 before seen))
+
+-- where the host has no memory for what is seen
+pub returns-in_err-look-clause-lies : goal.returns-in_err-look-clause-lies
+returns-in_err-look-clause-lies g c =
+    c.in_ok-tried.ensures.lies
+    ∙ grown-left c.args.script.now.blocks (drop c.loop-line.line-index c.args.lines.now) c.args.lines.now
+    c.loop-line.self c.args.self.now c.loop-line.invariant.1
+
+pub returns-in_err-look-clause-front : goal.returns-in_err-look-clause-front
+returns-in_err-look-clause-front g c = c.loop-line.invariant.2
+
+pub returns-in_err-look-clause-files : goal.returns-in_err-look-clause-files
+returns-in_err-look-clause-files g c =
+    let l = c.line-item.result in
+    c.in_ok-tried.ensures.files (allowed_keeps l.call c.loop-line.self.names
+    (line_allowed c.args.lines.now c.loop-line.line-index l (omega arith) c.line-item.is c.requires.allowed))
+    ∙ c.loop-line.invariant.3

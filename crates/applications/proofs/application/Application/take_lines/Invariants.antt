@@ -1,10 +1,12 @@
-use Rattle.std.proofs.Common.{◌≡◌, ◌++◌, drop}
+use Rattle.std.proofs.Common.{◌≡◌, ◌++◌, List, drop}
 use Rattle.applications.specs.Application.{lines_told}
 use Rattle.applications.specs.Step.{grown}
+use Rattle.applications.specs.Inside.{Glance, glances_grown}
 use Rattle.applications.specs.Replies.{Extends}
+use Rattle.applications.proofs.Seeing.{Sees}
 use Rattle.applications.proofs.application.Application.take_lines.Given as goal
 
--- the text so far, with the lines of the calls that are left, is the text with the lines of all
+-- the text so far, with the lines of the calls that are left, is the text with the lines of all; and so is what is seen
 abbrev pub invariant-loop-line : goal.invariant-loop-line
 invariant-loop-line g l =
     (l.text.items ++ lines_told (grown l.script.blocks (drop l.line-index l.lines) l.self).lines
@@ -12,3 +14,6 @@ invariant-loop-line g l =
     × ((grown l.script.blocks (drop l.line-index l.lines) l.self).after ≡ (grown l.script.blocks l.lines l.fn.self).after)
     × Extends l.fn.text.items l.text.items
     × (l.self.resources.files ≡ l.fn.self.resources.files)
+    × ((before : List Glance) → g.O.Onlooker.saw l.fn.onlooker before
+    → Sees (g.O.Onlooker.saw l.onlooker) (glances_grown l.script.blocks (drop l.line-index l.lines) l.self)
+    (before ++ glances_grown l.script.blocks l.lines l.fn.self))

@@ -1,4 +1,5 @@
 use Rattle.std.proofs.Common.{◌≡◌, ◌∙◌, ◌+◌, ◌-◌, ◌++◌, ap, subst, arith, suc, ℕ}
+use Rattle.mac_words.proofs.Plain.{on_err}
 use Rattle.block_store.specs.Block.{sizes}
 use Rattle.applications.specs.Trying.{Running}
 use Rattle.applications.specs.Step.{step, step_in, round}
@@ -6,10 +7,12 @@ use Rattle.applications.specs.Application.{lines_told}
 use Rattle.applications.specs.Replies.{Came, CameRound, exit_of}
 use Rattle.applications.specs.declared.stepping.Next.{Next}
 use Rattle.applications.proofs.Rounds.{step_ends, step_goes_on}
+use Rattle.applications.proofs.Seeing.{Sees, again-seen, all-seen, ended-seen}
+use Rattle.applications.specs.Inside.{glances_in}
 use Rattle.applications.proofs.application.Application.take_rounds.Given.{Over}
 use Rattle.applications.proofs.application.Application.take_rounds.Goals.{In-Ended}
 use Rattle.applications.specs.Replies.{goes_on}
-use Rattle.applications.proofs.Filing.{extends_on, on_any_err, some_ends}
+use Rattle.applications.proofs.Filing.{extends_on, some_ends}
 use Rattle.applications.proofs.Elsewhere.{rounds-left}
 use Rattle.applications.proofs.application.Application.take_rounds.Goals as goal
 
@@ -62,6 +65,9 @@ loop-round-preserved g c =
       extends_on c.args.text.now.items c.loop-round.text.items c.round.new.text.items c.loop-round.invariant.3
           c.round.ensures.front,
       c.in_ok-round.ensures.stays (ap goes_on c.in-Again.is) ∙ c.loop-round.invariant.4,
+      λ before seen. again-seen (g.O.Onlooker.saw c.loop-round.onlooker) (g.O.Onlooker.saw c.round.new.onlooker)
+          c.args.script.now.blocks c.args.line.now n k c.loop-round.self c.round.new.self c.loop-round.text.items
+          c.round.new.text.items _ more came c.in_ok-round.ensures.saw (c.loop-round.invariant.5 before seen),
     )
 
 pub returns-in_err-round-clause-lies : goal.returns-in_err-round-clause-lies
@@ -91,7 +97,7 @@ returns-in_err-round-clause-front g c =
 
 pub returns-in_err-round-clause-files : goal.returns-in_err-round-clause-files
 returns-in_err-round-clause-files g c =
-    on_any_err c.from_residual.result _ (c.in_err-round.ensures.files ∙ c.loop-round.invariant.4)
+    on_err c.from_residual.result _ (c.in_err-round.ensures.files ∙ c.loop-round.invariant.4)
 
 pub returns-in-Ended-clause-front : goal.returns-in-Ended-clause-front
 returns-in-Ended-clause-front g c =
@@ -101,3 +107,34 @@ returns-in-Ended-clause-front g c =
 pub returns-in-Ended-clause-over : goal.returns-in-Ended-clause-over
 returns-in-Ended-clause-over g c = λ over.
     c.in_ok-round.ensures.stays (ap goes_on c.in-Ended.is ∙ some_ends c.in-Ended.exit over) ∙ c.loop-round.invariant.4
+
+pub returns-in-Ended-clause-saw : goal.returns-in-Ended-clause-saw
+returns-in-Ended-clause-saw g c before seen =
+    let blocks = c.args.script.now.blocks in
+    let l = c.args.line.now in
+    let r : Running = c.args.self.now in
+    let most : ℕ = c.from-most.result + 1 in
+    let n : ℕ = most - c.loop-round._round in
+    let k : ℕ = most - (c.loop-round._round + 1) in
+    let more : n ≡ suc k = omega (arith, c.loop-round-test.true) in
+    let same : most ≡ sizes r.memory.heap.zone + 1 =
+    ap (λ (x : ℕ). x + 1) (c.from-most.ensures ∙ c.len.ensures ∙ ap (λ (x : Running). sizes x.memory.heap.zone) c.self.view_is) in
+    let came = subst (λ (x : Next). CameRound (round blocks l c.loop-round.self) x c.loop-round.text.items c.round.new.text.items
+    c.round.new.self) c.in-Ended.is c.in_ok-round.ensures.came in
+    subst (λ (x : ℕ). g.O.Onlooker.saw c.round.new.onlooker (before ++ glances_in x blocks l r)) same
+    (ended-seen (g.O.Onlooker.saw c.loop-round.onlooker) (g.O.Onlooker.saw c.round.new.onlooker) blocks l n k c.loop-round.self
+    c.round.new.self c.in-Ended.exit c.loop-round.text.items c.round.new.text.items _ more came c.in_ok-round.ensures.saw
+    (c.loop-round.invariant.5 before seen))
+
+pub returns-clause-saw : goal.returns-clause-saw
+returns-clause-saw g c before seen =
+    let blocks = c.args.script.now.blocks in
+    let l = c.args.line.now in
+    let r : Running = c.args.self.now in
+    let most : ℕ = c.from-most.result + 1 in
+    let none : most - c.loop-round._round ≡ 0 = omega (arith, c.loop-round-test.false) in
+    let same : most ≡ sizes r.memory.heap.zone + 1 =
+    ap (λ (x : ℕ). x + 1) (c.from-most.ensures ∙ c.len.ensures ∙ ap (λ (x : Running). sizes x.memory.heap.zone) c.self.view_is) in
+    subst (λ (x : ℕ). g.O.Onlooker.saw c.loop-round.onlooker (before ++ glances_in x blocks l r)) same
+    (all-seen (g.O.Onlooker.saw c.loop-round.onlooker) _ (subst (λ (x : ℕ). Sees (g.O.Onlooker.saw c.loop-round.onlooker)
+    (glances_in x blocks l c.loop-round.self) (before ++ glances_in most blocks l r)) none (c.loop-round.invariant.5 before seen)))

@@ -11,7 +11,7 @@ use Rattle.desk.specs.Free.{IsFree}
 use Rattle.desk.specs.View.{DeskSeen, seen, lots, left_of}
 use Rattle.desk.proofs.Holding.{acted_in, left-ended, windows-ended, windows-stay}
 use Rattle.desk.proofs.Free.{out-of, out-closed}
-use Rattle.windows.specs.Outside.{IsOutsideAll}
+use Rattle.memory_windows.specs.Outside.{IsOutsideAll}
 use Rattle.desk.proofs.Leaving.{housed_same, housed_acted, ended_made}
 use Rattle.desk.proofs.desk.Desk.act.Goals as goal
 

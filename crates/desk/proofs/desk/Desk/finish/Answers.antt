@@ -1,14 +1,14 @@
 use Rattle.std.proofs.Common.{rules, List, ◌++◌, ◌≡◌, ◌∙◌, ap, sym, subst, refl, length, map, Option, IfSome}
 use Rattle.std.proofs.lemmas.Bool.{eqb-true}
 use Rattle.std.specs.List.{Contains}
-use Rattle.windows.specs.declared.Window.{Window}
+use Rattle.memory_windows.specs.declared.Window.{Window}
 use Rattle.desk.specs.declared.outcome.AppOutcome.{AppOutcome}
 use Rattle.desk.specs.Desk.{told}
 use Rattle.desk.specs.Held.{MadeOf, closed}
 use Rattle.desk.specs.View.{DeskSeen, seen, lots, place_seen, lot_of, told_seen}
 use Rattle.desk.proofs.Leaving.{split_first, no_length, told_next, told_end, first_out, first_made, housed_next, none_out}
-use Rattle.windows.specs.Windows.{Misses}
-use Rattle.windows.specs.Outside.{IsOutside}
+use Rattle.memory_windows.specs.Windows.{Misses}
+use Rattle.memory_windows.specs.Outside.{IsOutside}
 use Rattle.desk.specs.Phase.{window_of}
 use Rattle.partitions.specs.Granted.{granted-order}
 use Rattle.desk.specs.Lying.{AllLie}

@@ -1,6 +1,6 @@
 use Rattle.std.proofs.Common.{◌≡◌, ℕ, ◌+◌, ◌≤◌, ◌++◌, map, vec_len, vec_capacity}
-use Rattle.windows.specs.declared.Window.{Window}
-use Rattle.windows.specs.Outside.{IsOutsideAll}
+use Rattle.memory_windows.specs.declared.Window.{Window}
+use Rattle.memory_windows.specs.Outside.{IsOutsideAll}
 use Rattle.block_store.specs.Rest.{Site}
 use Rattle.desk.specs.Desk.{told}
 use Rattle.desk.specs.Held.{AreHoused}

@@ -1,8 +1,9 @@
 use Rattle.std.proofs.Common.{rules, ◌≡◌, ◌+◌, ◌-◌, ◌<◌, ◌∙◌, ap, subst, inl, sym, suc, true}
+use Rattle.mac_words.proofs.Plain.{on_err}
 use Rattle.desk.specs.Desk.{State, rounds, any_runs}
 use Rattle.desk.proofs.Free.{next-out}
 use Rattle.desk.specs.Halting.{Halt, WithinRounds, halted}
-use Rattle.desk.proofs.Halting.{rounds_next, on_any_err}
+use Rattle.desk.proofs.Halting.{rounds_next}
 use Rattle.desk.proofs.Rounds.{round_next}
 use Rattle.desk.proofs.desk.Desk.rest.Goals as goal
 
@@ -27,12 +28,12 @@ loop-preserved g c =
 pub returns-in_err-round-clause-within : goal.returns-in_err-round-clause-within
 returns-in_err-round-clause-within g c =
     let x : Halt = halted c.round.new.self.state in
-    on_any_err c.from_residual.result _ (c.loop.invariant.within x (inl c.in_err-round.ensures.within))
+    on_err c.from_residual.result _ (c.loop.invariant.within x (inl c.in_err-round.ensures.within))
 
 pub returns-in_err-round-2-clause-within : goal.returns-in_err-round-2-clause-within
 returns-in_err-round-2-clause-within g c =
     let x : Halt = halted c.round-then-any_runs.new.self.state in
-    on_any_err c.from_residual-in_err-round-2.result _ (c.loop.invariant.within x (inl c.in_err-round-2.ensures.within))
+    on_err c.from_residual-in_err-round-2.result _ (c.loop.invariant.within x (inl c.in_err-round-2.ensures.within))
 
 pub returns-in_err-round-clause-outside : goal.returns-in_err-round-clause-outside
 returns-in_err-round-clause-outside g c =

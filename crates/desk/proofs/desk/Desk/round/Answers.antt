@@ -1,8 +1,9 @@
 use Rattle.std.proofs.Common.{rules, ◌≡◌, subst, ◌+◌, ◌-◌, ◌<◌, ◌∙◌, ap, sym}
+use Rattle.mac_words.proofs.Plain.{on_err}
 use Rattle.desk.specs.Desk.{State, each_turned}
 use Rattle.desk.proofs.Free.{next-out}
 use Rattle.desk.specs.Halting.{Halt, WithinTurns, halted}
-use Rattle.desk.proofs.Halting.{turns_next, turns_halt, on_any_err}
+use Rattle.desk.proofs.Halting.{turns_next, turns_halt}
 use Rattle.desk.proofs.Rounds.{turned_next}
 use Rattle.desk.proofs.desk.Desk.round.Goals as goal
 
@@ -29,7 +30,7 @@ returns-in_err-act-clause-within g c =
     let i = c.loop-i.i in
     let less : i < n = search rules in
     let x : Halt = halted c.act.new.self.state in
-    on_any_err c.from_residual.result _
+    on_err c.from_residual.result _
     (c.loop-i.invariant.within x
     (turns_halt (λ m. halted m ≡ x) n i c.loop-i.self.state less c.in_err-act.ensures.within))
 

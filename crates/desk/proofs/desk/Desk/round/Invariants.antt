@@ -1,5 +1,5 @@
 use Rattle.std.proofs.Common.{◌≡◌, ℕ, ◌-◌}
-use Rattle.windows.specs.declared.Window.{Window}
+use Rattle.memory_windows.specs.declared.Window.{Window}
 use Rattle.block_store.specs.Rest.{Site}
 use Rattle.desk.specs.Free.{IsFree}
 use Rattle.desk.specs.Halting.{Halt, WithinTurns, WithinRound, halted}

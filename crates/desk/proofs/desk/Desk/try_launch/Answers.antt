@@ -4,6 +4,7 @@ use Rattle.std.proofs.Common.{true, slice_set, refl, sym, ap, subst}
 use Rattle.std.proofs.lemmas.List.{length-map}
 use Rattle.std.proofs.lemmas.Result.{on_ok_weaker, on_err_weaker, IfOk-weaker}
 use Rattle.mac_words.specs.declared.code.TheConstants.OsErr.{MEM_FULL}
+use Rattle.mac_words.proofs.Plain.{on_err}
 use Rattle.script_text.specs.DeskLog.{launch_of, refusal_of}
 use Rattle.desk.specs.Phase.{Live, Running, begun, waits}
 use Rattle.desk.specs.Live.{live_seen}
@@ -13,7 +14,7 @@ use Rattle.desk.specs.Ready.{sizes_seen}
 use Rattle.desk.specs.Seated.{Placed}
 use Rattle.desk.specs.View.{DeskSeen, place_seen, seen, lots}
 use Rattle.desk.proofs.Holding.{few_out, not-opened, is-opened}
-use Rattle.desk.proofs.Halting.{failed_so, stays_so, no_error, on_any_err}
+use Rattle.desk.proofs.Halting.{failed_so, stays_so, no_error}
 use Rattle.desk.proofs.Leaving.{housed_kept, housed_started}
 use Rattle.desk.proofs.Changes.{launched-none, launched-refused, launched-full, launched-begins, seen-some, seen-none, refused-ready}
 use Rattle.desk.proofs.Changes.{out_granted, waits_ready, at-some, through, replied-refused, replied-begun}
@@ -107,7 +108,8 @@ returns-in_default-begun-clause-ok g c =
     (not-opened (λ l. l.partition.window) c.in_ok-begun.begun c.self.inside.grants.windows c.begin.new.grants.windows
     c.in_default-begun.is c.in_ok-begun.ensures.windows) refl MEM_FULL refl (h
     ∙ ap (λ (t : List ℕ). t ++ refusal_of c.seat.inside.app.now.name.0.items MEM_FULL.0) c.reserve.ensures.items
-    ∙ ap (λ (n : List ℕ). s.log ++ refusal_of n MEM_FULL.0) name) ∙ ap (λ (d : DeskSeen _). launched_at c.args.i d.state) c.self.view_is)
+    ∙ ap (λ (n : List ℕ). s.log ++ refusal_of n MEM_FULL.0) name)
+    ∙ ap (λ (d : DeskSeen _). launched_at c.args.i d.state) c.self.view_is)
     c.write_app_refusal-in_default-begun.ensures.line)
 
 pub start_at-requires-clause-waits : goal.start_at-requires-clause-waits
@@ -277,7 +279,7 @@ returns-in_err-begun-clause-host g c =
       places = seen c.self.inside.seats.items;
       log = c.self.inside.log.items;
     } in
-    rw (← c.self.view_is) (on_any_err c.from_residual-in_err-begun.result _
+    rw (← c.self.view_is) (on_err c.from_residual-in_err-begun.result _
     (stays_so s c.begin.new.grants.memory c.begin.new.grants.windows c.reserve.new.self.items c.begin.ensures.size
     c.in_err-begun.ensures.err c.reserve.ensures.items))
 

@@ -1,17 +1,18 @@
 use Rattle.std.proofs.Common.{◌≡◌, drop, false}
 use Rattle.std.proofs.lemmas.Result.{on_err_weaker}
+use Rattle.mac_words.proofs.Plain.{on_err}
 use Rattle.desk.specs.Live.{live_seen}
 use Rattle.desk.specs.Outcome.{Launched}
 use Rattle.desk.specs.Phase.{leaves}
-use Rattle.desk.proofs.Halting.{turn_halts, on_any_err}
+use Rattle.desk.proofs.Halting.{turn-begun}
 use Rattle.desk.proofs.live.Live.turn.Goals as goal
 
 pub returns-in_err-end-clause-within : goal.returns-in_err-end-clause-within
 returns-in_err-end-clause-within g c =
     let x : Launched = leaves false (live_seen c.step.new.self) in
-    on_any_err c.from_residual.result _
+    on_err c.from_residual.result _
     (c.loop-line.invariant.within x
-    (turn_halts (λ m. leaves false m ≡ x) (drop c.loop-line.line-index c.rest_of-line-items.result.now) c.args.script.now
+    (turn-begun (λ m. leaves false m ≡ x) (drop c.loop-line.line-index c.rest_of-line-items.result.now) c.args.script.now
     (live_seen c.loop-line.self) c.in_err-end.ensures.stays))
 
 pub returns-clause-within : goal.returns-clause-within
@@ -19,6 +20,6 @@ returns-clause-within g c =
     let x : Launched = leaves false (live_seen c.step-2.new.self) in
     on_err_weaker c.step-2.result
     (λ stays. c.loop-line.invariant.within x
-    (turn_halts (λ m. leaves false m ≡ x) (drop c.loop-line.line-index c.rest_of-line-items.result.now) c.args.script.now
+    (turn-begun (λ m. leaves false m ≡ x) (drop c.loop-line.line-index c.rest_of-line-items.result.now) c.args.script.now
     (live_seen c.loop-line.self) stays))
     c.step-2.ensures.stays

@@ -1,30 +1,18 @@
-use Rattle.heap_calls.specs.Rows as rows
-use Rattle.heap_calls.specs.Rows.{doing_silently, purges_made}
-use Rattle.heap_calls.proofs.Same.Silent.{more_masters-silent}
-use Rattle.heap_calls.proofs.Same.NewBlocks.{more_masters-same}
-use Rattle.std.proofs.Common.{◌≡◌, is_some, sym, ◌∙◌, refl, List, ap}
+use Rattle.std.proofs.Common.{◌≡◌, ◌∙◌, refl, List, ap}
 use Rattle.std.proofs.lemmas.Result.{err_from_is_err_and}
-use Rattle.heap_calls.specs.Answer.{silent, searching, nothing}
-use Rattle.heap_calls.proofs.Tables.Replies.{add_masters}
-use Rattle.heap_calls.proofs.Tables.Searches.{more_masters_searches}
-use Rattle.heap_calls.proofs.Tables.Gone.{more_masters_gone}
-use Rattle.heap_calls.proofs.NewBlocks.Naming.{Ends, masters-ends, served-looking}
-use Rattle.heap_calls.proofs.NewBlocks.NewHandles.{agrees-more, kept-still}
-use Rattle.heap_calls.proofs.NewBlocks.Reserving.{masters_searches-is}
-use Rattle.heap_calls.proofs.Numbering.Memories.{memory_as, reply-as}
-use Rattle.heap_calls.specs.Inner.Reaching.{sized_reply}
-use Rattle.heap_calls.proofs.heap.Heap.add_masters.Given.{Over}
-use Rattle.heap_calls.proofs.heap.Heap.add_masters.Goals.{In_ok-room, After-account}
-use Rattle.heap_calls.proofs.Hearing.{stops-halted, hears-as}
-use Rattle.heap_calls.proofs.Numbering.Changing.{heap-same}
-use Rattle.block_store.specs.Block.{Masters}
 use Rattle.block_store.specs.declared.sparing.Sparing.TheVariants.{Nothing}
 use Rattle.heap_calls.specs.declared.anchor.Anchor.{Anchor}
-use Rattle.heap_calls.specs.State.{Memory}
+use Rattle.heap_calls.specs.Rows.{more_masters, doing_silently, purges_made}
 use Rattle.heap_calls.specs.Gone.{Hears}
 use Rattle.heap_calls.specs.Inner.Given.{KeepsMoves}
 use Rattle.heap_calls.specs.Inner.Telling.{base_gone}
-use Rattle.heap_calls.proofs.GoneBlocks.{base_gone-is}
+use Rattle.heap_calls.proofs.Hearing.{stops-halted, hears-as}
+use Rattle.heap_calls.proofs.NewBlocks.NewHandles.{agrees-more, kept-still}
+use Rattle.heap_calls.proofs.Numbering.Changing.{heap-same}
+use Rattle.heap_calls.proofs.Numbering.Memories.{memory_as, reply-as}
+use Rattle.heap_calls.proofs.Went.{masters-is, masters-agrees, masters_gone-is}
+use Rattle.heap_calls.proofs.heap.Heap.add_masters.Given.{Over}
+use Rattle.heap_calls.proofs.heap.Heap.add_masters.Goals.{In_ok-room, After-account}
 use Rattle.heap_calls.proofs.heap.Heap.add_masters.Goals as goal
 
 pub invariant_of-self : goal.invariant_of-self
@@ -34,53 +22,34 @@ invariant_of-self g c =
     (g.S.BlockStore.rest c.make_masters.new.store) a.names.items c.self.invariant c.make_masters.ensures.nonrelocatable
     c.in_err-room.ensures.kept
 
-made : (g : Over) (c : In_ok-room g) → Ends add_masters (g.S.BlockStore.zone c.self.inside.store)
-    (g.S.BlockStore.rest c.self.inside.store) c.self.inside.names.items
-    (sized_reply (is_some c.in_ok-room.room.place)) (g.S.BlockStore.zone c.make_masters.new.store)
-    (g.S.BlockStore.rest c.make_masters.new.store) c.self.inside.names.items
-made g c = masters-ends _ _ _ (g.met.S.BlockStore.masters c.self.inside.store) c.self.invariant _ _
-    c.make_masters.ensures.nonrelocatable c.in_ok-room.room.place c.in_ok-room.ensures.made
-
 pub invariant_of-self-2 : goal.invariant_of-self-2
-invariant_of-self-2 g c = (made g (goal.at.invariant_of-self-2 g c).In_ok-room).agrees
+invariant_of-self-2 g c =
+    let a = c.self.inside in
+    masters-agrees (g.S.BlockStore.zone a.store) (g.S.BlockStore.rest a.store) a.names.items a.log
+    c.args.self.now.memory (memory_as c.self.view_is) (g.S.BlockStore.zone c.make_masters.new.store)
+    (g.S.BlockStore.rest c.make_masters.new.store) c.self.invariant c.make_masters.ensures.nonrelocatable
+    c.in_ok-room.room.place c.in_ok-room.ensures.made
 
 -- what the call answers where the host has memory
-tabled : (g : Over) (c : After-account g) → Ends add_masters (g.S.BlockStore.zone c.self.inside.store)
-    (g.S.BlockStore.rest c.self.inside.store) c.self.inside.names.items
-    (sized_reply (is_some c.in_ok-room.room.place)) (g.S.BlockStore.zone c.make_masters.new.store)
-    (g.S.BlockStore.rest c.make_masters.new.store) c.self.inside.names.items
-    → searching (more_masters_searches c.args.self.now.memory.heap) (silent add_masters c.args.self.now.memory)
+told : (g : Over) (c : After-account g) → doing_silently more_masters c.args.self.now.memory
     ≡ (c.account.result, c.account.new.self.memory)
-tabled g c ends =
+told g c =
     let a = c.self.inside in
     rw (c.account.ensures.reply, c.account.ensures.counted, c.is_some.ensures)
-    (served-looking add_masters more_masters_searches c.args.self.now.memory (g.S.BlockStore.zone a.store) _
-    (g.S.BlockStore.rest a.store) (g.S.BlockStore.rest c.make_masters.new.store) a.names.items a.log
-    (is_some c.in_ok-room.room.place) (memory_as c.self.view_is)
-    ends c.in_ok-room.room.searches
-    (c.in_ok-room.ensures.searches ∙ sym (masters_searches-is _ _ _ (g.met.S.BlockStore.masters a.store)
-    c.self.invariant)) c.make_masters.ensures.moves)
-
--- and by its path
-told : (g : Over) (c : After-account g) → Ends add_masters (g.S.BlockStore.zone c.self.inside.store)
-    (g.S.BlockStore.rest c.self.inside.store) c.self.inside.names.items
-    (sized_reply (is_some c.in_ok-room.room.place)) (g.S.BlockStore.zone c.make_masters.new.store)
-    (g.S.BlockStore.rest c.make_masters.new.store) c.self.inside.names.items
-    → doing_silently rows.more_masters c.args.self.now.memory
-    ≡ (c.account.result, c.account.new.self.memory)
-told g c ends = more_masters-silent c.args.self.now.memory ∙ tabled g c ends
+    (masters-is (g.S.BlockStore.zone a.store) (g.S.BlockStore.rest a.store) a.names.items a.log
+    c.args.self.now.memory (memory_as c.self.view_is) (g.S.BlockStore.zone c.make_masters.new.store)
+    (g.S.BlockStore.rest c.make_masters.new.store) c.self.invariant c.in_ok-room.room.place
+    c.in_ok-room.ensures.made c.in_ok-room.room.searches c.in_ok-room.ensures.searches c.make_masters.ensures.moves)
 
 pub returns-in_err-account-clause-answer : goal.returns-in_err-account-clause-answer
 returns-in_err-account-clause-answer g c =
     let p = err_from_is_err_and c.from_residual-in_err-account.result c.from_residual-in_err-account.ensures.1 in
-    rw (p.1, p.2) (reply-as (told g (goal.at.returns-in_err-account-clause-answer g c).After-account
-    (made g (goal.at.returns-in_err-account-clause-answer g c).In_ok-room))
+    rw (p.1, p.2) (reply-as (told g (goal.at.returns-in_err-account-clause-answer g c).After-account)
     c.in_err-account.was)
 
 pub returns-clause-answer : goal.returns-clause-answer
 returns-clause-answer g c =
-    reply-as (told g (goal.at.returns-clause-answer g c).After-account
-    (made g (goal.at.returns-clause-answer g c).In_ok-room)) c.in_ok-account.was
+    reply-as (told g (goal.at.returns-clause-answer g c).After-account) c.in_ok-account.was
 
 pub returns-in_err-room-clause-stops : goal.returns-in_err-room-clause-stops
 returns-in_err-room-clause-stops g c host =
@@ -97,18 +66,16 @@ returns-in_err-room-clause-stops g c host =
 -- what the sink hears
 heard : (g : Over) (c : In_ok-room g) → (done : Type 0)
     → Hears g.K.PurgeSink.told g.K.PurgeSink.waits g.K.PurgeSink.listens done
-    (purges_made rows.more_masters c.args.self.now.memory.heap) c.args.sink.now c.make_masters.new.sink
+    (purges_made more_masters c.args.self.now.memory.heap) c.args.sink.now c.make_masters.new.sink
 heard g c done =
     let a = c.self.inside in
     let zone = g.S.BlockStore.zone a.store in
-    let rest = g.S.BlockStore.rest a.store in
-    let es = a.names.items in
-    let row = base_gone-is zone rest es (g.met.S.BlockStore.masters a.store) c.self.invariant nothing Nothing
-    (λ b. refl) refl (λ b. refl) Masters in
-    let same = ap (λ (e : List Anchor). base_gone e 272 Nothing zone) c.deref.ensures.value ∙ row
-    ∙ ap (λ (m : Memory). more_masters_gone m.heap) (memory_as c.self.view_is) in
-    hears-as g.K.PurgeSink.told g.K.PurgeSink.waits g.K.PurgeSink.listens _ _ _ _ _ _ (λ some. refl) (same
-    ∙ (more_masters-same c.args.self.now.memory.heap).tells) c.in_ok-room.ensures.hears
+    let same = ap (λ (e : List Anchor). base_gone e 272 Nothing zone) c.deref.ensures.value
+    ∙ masters_gone-is zone (g.S.BlockStore.rest a.store) a.names.items a.log c.args.self.now.memory
+    (memory_as c.self.view_is) (g.S.BlockStore.zone c.make_masters.new.store)
+    (g.S.BlockStore.rest c.make_masters.new.store) in
+    hears-as g.K.PurgeSink.told g.K.PurgeSink.waits g.K.PurgeSink.listens _ _ _ _ _ _ (λ some. refl) same
+    c.in_ok-room.ensures.hears
 
 pub returns-in_err-account-clause-hears : goal.returns-in_err-account-clause-hears
 returns-in_err-account-clause-hears g c = heard g (goal.at.returns-in_err-account-clause-hears g c).In_ok-room _

@@ -65,7 +65,8 @@ returns-in_err-held-clause-answer g c =
 tabled : (g : Over) (c : After-account g) → Reaches (g.S.BlockStore.zone c.self.inside.store)
     (g.S.BlockStore.rest c.self.inside.store).slots c.self.inside.names.items c.args.from (Ok c.in_ok-source.source)
     → moving (hand_and_hand_moves c.args.from c.args.to c.args.self.now.memory.heap)
-    (searching (hand_and_hand_searches c.args.from c.args.to c.args.self.now.memory.heap) (silent (hand_and_hand c.args.from c.args.to) c.args.self.now.memory))
+    (searching (hand_and_hand_searches c.args.from c.args.to c.args.self.now.memory.heap)
+    (silent (hand_and_hand c.args.from c.args.to) c.args.self.now.memory))
     ≡ (c.account.result, c.account.new.self.memory)
 tabled g c from =
     let a = c.self.inside in

@@ -46,7 +46,8 @@ invariant_of-self g c = agrees-kept _ _ _ _ _ c.self.invariant c.append_bytes.en
 -- what the call answers where the handle has a block
 tabled : (g : Over) (c : After-account g) → moving (pointer_and_hand_moves c.args.handle c.args.bytes.now
     c.args.self.now.memory.heap)
-    (searching (pointer_and_hand_searches c.args.handle c.args.bytes.now c.args.self.now.memory.heap) (silent (pointer_and_hand c.args.handle c.args.bytes.now) c.args.self.now.memory))
+    (searching (pointer_and_hand_searches c.args.handle c.args.bytes.now c.args.self.now.memory.heap)
+    (silent (pointer_and_hand c.args.handle c.args.bytes.now) c.args.self.now.memory))
     ≡ (c.account.result, c.account.new.self.memory)
 tabled g c =
     let a = c.self.inside in

@@ -42,8 +42,8 @@ use Rattle.heap_calls.proofs.heap.Heap.copy_handle.Goals as goal
 
 pub returns-in_err-reserve-clause-stops : goal.returns-in_err-reserve-clause-stops
 returns-in_err-reserve-clause-stops g c host =
-    stops-at-once g.S.BlockStore.TAKES_HOST g.K.PurgeSink.told g.K.PurgeSink.listens KeepsNames _ _ c.args.self.now _ c.args.sink.now (λ m. refl)
-    (rw c.reserve.ensures.items c.self.view_is)
+    stops-at-once g.S.BlockStore.TAKES_HOST g.K.PurgeSink.told g.K.PurgeSink.listens KeepsNames _ _ c.args.self.now _ c.args.sink.now
+    (λ m. refl) (rw c.reserve.ensures.items c.self.view_is)
     (rw (← c.self.view_is) (let full = c.in_err-reserve.ensures.full in let fits = c.self.inside.fits in
     omega (arith, length-map c.self.inside.names.items (name_of (g.S.BlockStore.rest c.self.inside.store).slots))))
 
@@ -122,7 +122,8 @@ tabled : (g : Over) (c : After-name_handle g) → Copied (g.S.BlockStore.zone c.
     c.self.inside.names.items
     c.args.handle c.in_ok-found.found (length c.bytes.result.now)
     → moving (hand_to_hand_moves c.args.handle c.args.self.now.memory.heap)
-    (searching (hand_to_hand_searches c.args.handle c.args.self.now.memory.heap) (silent (hand_to_hand c.args.handle) c.args.self.now.memory))
+    (searching (hand_to_hand_searches c.args.handle c.args.self.now.memory.heap)
+    (silent (hand_to_hand c.args.handle) c.args.self.now.memory))
     ≡ (
       c.name_handle.result,
       memory_of (g.S.BlockStore.zone c.copy_block.new.store)

@@ -37,8 +37,8 @@ invariant_of-self g c =
     let left = tidy (freed (is_relocatable c.in_ok-slot.slot) zone) in
     agrees-same zone zone' (g.S.BlockStore.rest a.store) (g.S.BlockStore.rest c.release.new.self) a.names.items
     c.self.invariant
-    (nonrelocatable-then zone left zone' (nonrelocatable-released c.in_ok-slot.slot zone) (nonrelocatable-same left zone' c.release.ensures.zone))
-    c.release.ensures.rest
+    (nonrelocatable-then zone left zone' (nonrelocatable-released c.in_ok-slot.slot zone)
+    (nonrelocatable-same left zone' c.release.ensures.zone)) c.release.ensures.rest
 
 pub same-self : goal.same-self
 same-self g c = fits-same _ _

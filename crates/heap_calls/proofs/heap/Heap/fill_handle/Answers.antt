@@ -24,8 +24,8 @@ use Rattle.heap_calls.proofs.heap.Heap.fill_handle.Goals as goal
 
 pub returns-in_err-reserve-clause-stops : goal.returns-in_err-reserve-clause-stops
 returns-in_err-reserve-clause-stops g c host =
-    stops-at-once g.S.BlockStore.TAKES_HOST g.K.PurgeSink.told g.K.PurgeSink.listens KeepsNames _ _ c.args.self.now _ c.args.sink.now (λ m. refl)
-    (rw c.reserve.ensures.items c.self.view_is)
+    stops-at-once g.S.BlockStore.TAKES_HOST g.K.PurgeSink.told g.K.PurgeSink.listens KeepsNames _ _ c.args.self.now _ c.args.sink.now
+    (λ m. refl) (rw c.reserve.ensures.items c.self.view_is)
     (rw (← c.self.view_is) (let full = c.in_err-reserve.ensures.full in let fits = c.self.inside.fits in
     omega (arith, length-map c.self.inside.names.items (name_of (g.S.BlockStore.rest c.self.inside.store).slots))))
 
@@ -101,11 +101,10 @@ heard : (g : Over) (c : After-name_handle g) → (done : Type 0)
 heard g c done =
     let a = c.self.inside in
     record {
-      tells = λ some listens. made-told g.K.PurgeSink.told c.args.self.now.memory (g.S.BlockStore.zone a.store) (g.S.BlockStore.rest a.store)
-          a.names.items c.deref.result.now a.log (g.met.S.BlockStore.masters a.store) (memory_as c.self.view_is)
-          c.self.invariant
-          (c.deref.ensures.value ∙ c.in_ok-reserve.ensures.items) c.args.sink.now c.fill_block.new.sink c.args.bytes.now
-          (c.in_ok-made.ensures.hears.tells refl listens);
+      tells = λ some listens. made-told g.K.PurgeSink.told c.args.self.now.memory (g.S.BlockStore.zone a.store)
+          (g.S.BlockStore.rest a.store) a.names.items c.deref.result.now a.log (g.met.S.BlockStore.masters a.store)
+          (memory_as c.self.view_is) c.self.invariant (c.deref.ensures.value ∙ c.in_ok-reserve.ensures.items) c.args.sink.now
+          c.fill_block.new.sink c.args.bytes.now (c.in_ok-made.ensures.hears.tells refl listens);
       rests = c.in_ok-made.ensures.hears.rests;
     }
 

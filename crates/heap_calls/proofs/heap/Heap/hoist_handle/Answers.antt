@@ -70,7 +70,8 @@ returns-in_default-run_of-clause-answer g c =
     c.in_default-run_of.ensures in
     move_h_hi-done c.args.self.now.memory zone rest es a.log c.args.handle f.number f.slot (memory_as c.self.view_is)
     is.0 is.1
-    c.self.invariant.apart (omega arith) zone rest there.0 there.1 free (none_placed rest rest (rest-same rest)) (hoisted-none f.slot zone none)
+    c.self.invariant.apart (omega arith) zone rest there.0 there.1 free (none_placed rest rest (rest-same rest))
+    (hoisted-none f.slot zone none)
     ∙ ap (λ m. (Ok tt, m)) (memory_as c.self.view_is)
 
 pub hoist-requires : goal.hoist-requires

@@ -30,8 +30,8 @@ use Rattle.heap_calls.proofs.heap.Heap.make_pointer.Goals as goal
 
 pub returns-in_err-reserve-clause-stops : goal.returns-in_err-reserve-clause-stops
 returns-in_err-reserve-clause-stops g c host =
-    stops-at-once g.S.BlockStore.TAKES_HOST g.K.PurgeSink.told g.K.PurgeSink.listens KeepsMoves _ _ c.args.self.now _ c.args.sink.now (λ m. refl)
-    (rw c.reserve.ensures.items c.self.view_is)
+    stops-at-once g.S.BlockStore.TAKES_HOST g.K.PurgeSink.told g.K.PurgeSink.listens KeepsMoves _ _ c.args.self.now _ c.args.sink.now
+    (λ m. refl) (rw c.reserve.ensures.items c.self.view_is)
     (rw (← c.self.view_is) (let full = c.in_err-reserve.ensures.full in let fits = c.self.inside.fits in
     omega (arith, length-map c.self.inside.names.items (name_of (g.S.BlockStore.rest c.self.inside.store).slots))))
 

@@ -80,9 +80,8 @@ invariant_of-self-2 g c =
     agrees-kept zone zone' (g.S.BlockStore.rest a.store) (g.S.BlockStore.rest c.compact.new.store) a.names.items
     c.self.invariant (nonrelocatable-then zone all zone' (nonrelocatable-then zone (purged purges sparing.Nothing zone) all
     (nonrelocatable-purged purges sparing.Nothing zone) (nonrelocatable-same (purged purges sparing.Nothing zone) all
-    c.in_ok-purge_telling.ensures.zone)) (nonrelocatable-then all (compacted None all) zone' (nonrelocatable-settled (runs_settled None all) all)
-    (nonrelocatable-same (compacted None all) zone' c.compact.ensures.zone)))
-    (kept g (goal.at.invariant_of-self-2 g c).After-compact)
+    c.in_ok-purge_telling.ensures.zone)) (nonrelocatable-then all (compacted None all) zone' (nonrelocatable-settled (runs_settled None all)
+    all) (nonrelocatable-same (compacted None all) zone' c.compact.ensures.zone))) (kept g (goal.at.invariant_of-self-2 g c).After-compact)
 
 pub returns-in_err-purge_telling-clause-stops : goal.returns-in_err-purge_telling-clause-stops
 returns-in_err-purge_telling-clause-stops g c host =

@@ -1,5 +1,6 @@
 use Rattle.std.proofs.Common.{ℕ, List, inl, inr, ◌≡◌, ◌∙◌, ap, map, subst}
 use Rattle.std.proofs.lemmas.Result.{on_ok_weaker, on_err_weaker}
+use Rattle.mac_words.proofs.Plain.{on_err}
 use Rattle.block_store.specs.Block.{Block}
 use Rattle.block_store.specs.Rest.{Rest}
 use Rattle.heap_calls.specs.declared.anchor.Anchor.{Anchor}
@@ -12,7 +13,6 @@ use Rattle.heap_calls.specs.Inner.Filling.{wanted_as}
 use Rattle.heap_calls.specs.Inner.Numbered.{memory_of}
 use Rattle.heap_calls.proofs.Hearing.{hears-if-on-ok}
 use Rattle.heap_calls.proofs.Filled.Several.{stops-first}
-use Rattle.heap_calls.proofs.NewBlocks.NewPointers.{on_err}
 use Rattle.heap_calls.proofs.Numbering.Memories.{memory_as}
 use Rattle.heap_calls.proofs.heap.Heap.new_resources.Goals as goal
 

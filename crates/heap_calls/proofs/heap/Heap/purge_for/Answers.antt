@@ -49,8 +49,8 @@ told g c =
     let served = c.has_room-served.result in
     let many : c.purges_for-purges.result ≡ blocks_purged _ zone =
     c.purges_for-purges.ensures ∙ ap (λ (p : Option ℕ). blocks_purged p zone) c.phys-bytes.ensures in
-    rw (c.account.ensures.reply, c.account.ensures.counted) (searching-done _ _ (silent (purge_mem n) c.args.self.now.memory) (sized_reply served) (memory_of zone' rest' es
-    a.log)
+    rw (c.account.ensures.reply, c.account.ensures.counted)
+    (searching-done _ _ (silent (purge_mem n) c.args.self.now.memory) (sized_reply served) (memory_of zone' rest' es a.log)
     (memory_of zone' rest' es (record a.log { searches = counted a.log.searches (c.purges_for-purges.result + 1) }))
     (purge_mem-done c.args.self.now.memory n zone zone' rest rest' es a.log served (memory_as c.self.view_is)
     (c.in_ok-purge_telling.ensures.zone ∙ ap (λ k. purge k nothing zone) many) c.purge_telling.ensures.rest

@@ -63,19 +63,15 @@ tabled g c =
     let log : Log = record a.log { searches = counted a.log.searches made.searches } in
     let found = loose_in zone rest.slots a.names.items _ c.args.handle (Ok c.in_ok-slot.slot) c.deref.ensures.value
     c.in_ok-slot.ensures in
-    rw (c.account.ensures.reply, c.account.ensures.counted, c.is_some.ensures) (moving-done _ _ _ (sized_reply (is_some made.place)) zone' rest rest' a.names.items log
-    (searching-done _ _ (silent (reallocate_handle c.args.handle c.args.size) value)
-    (sized_reply (is_some made.place)) (memory_of zone' (unmoved rest rest') a.names.items a.log)
-    (memory_of zone' (unmoved rest rest') a.names.items log)
-    (reallocate-told value zone zone' rest rest' a.names.items a.log c.args.handle found.0 c.in_ok-slot.slot c.args.size
+    rw (c.account.ensures.reply, c.account.ensures.counted, c.is_some.ensures) (moving-done _ _ _ (sized_reply (is_some made.place))
+    zone' rest rest' a.names.items log (searching-done _ _ (silent (reallocate_handle c.args.handle c.args.size) value)
+    (sized_reply (is_some made.place)) (memory_of zone' (unmoved rest rest') a.names.items a.log) (memory_of zone' (unmoved rest rest')
+    a.names.items log) (reallocate-told value zone zone' rest rest' a.names.items a.log c.args.handle found.0 c.in_ok-slot.slot c.args.size
     made (memory_as c.self.view_is) found.2 found.3 c.self.invariant.apart found.4 c.in_ok-room.ensures.answer)
     (reallocate_searches-is value zone zone' rest rest' a.names.items a.log c.args.handle found.0 c.in_ok-slot.slot
-    c.args.size made (memory_as c.self.view_is) found.2 found.3 c.self.invariant.apart found.4
-    c.in_ok-room.ensures.answer) refl)
-    (reallocate_moves-is value zone zone' rest rest' a.names.items a.log c.args.handle found.0 c.in_ok-slot.slot
-    c.args.size made (memory_as c.self.view_is) found.2 found.3 c.self.invariant.apart found.4
-    c.in_ok-room.ensures.answer)
-    c.in_ok-room.ensures.moves)
+    c.args.size made (memory_as c.self.view_is) found.2 found.3 c.self.invariant.apart found.4 c.in_ok-room.ensures.answer) refl)
+    (reallocate_moves-is value zone zone' rest rest' a.names.items a.log c.args.handle found.0 c.in_ok-slot.slot c.args.size made
+    (memory_as c.self.view_is) found.2 found.3 c.self.invariant.apart found.4 c.in_ok-room.ensures.answer) c.in_ok-room.ensures.moves)
 
 -- and by its path
 told : (g : Over) (c : After-account g) → doing_silently (rows.reallocate_handle c.args.handle c.args.size)

@@ -77,17 +77,13 @@ told g c at =
     let log : Log = record a.log { searches = counted a.log.searches made.searches } in
     let found = handle_at-by zone rest.slots es (Some h) h slot refl at in
     let mine = sym (handle_number-at es h slot at c.self.invariant.apart) in
-    rw (c.account.ensures.reply, c.account.ensures.counted, c.is_some.ensures) (moving-done _ _ _ (sized_reply (is_some made.place)) zone' rest rest' es log
-    (searching-done _ _ (silent (refill h flags x) value) (sized_reply (is_some made.place))
-    (memory_of zone' (unmoved rest rest') es a.log) (memory_of zone' (unmoved rest rest') es log)
-    (refill-told value zone zone' rest rest' es a.log h slot flags x made _ refl (memory_as c.self.view_is) found mine
-    c.in_ok-room.ensures.answer)
-    (refill_searches-is value zone zone' rest rest' es a.log h slot flags x made _ refl (memory_as c.self.view_is) found
-    mine
-    c.in_ok-room.ensures.answer) refl)
-    (refill_moves-is value zone zone' rest rest' es a.log h slot flags x made _ refl (memory_as c.self.view_is) found
-    mine
-    c.in_ok-room.ensures.answer) c.in_ok-room.ensures.moves)
+    rw (c.account.ensures.reply, c.account.ensures.counted, c.is_some.ensures)
+    (moving-done _ _ _ (sized_reply (is_some made.place)) zone' rest rest' es log
+    (searching-done _ _ (silent (refill h flags x) value) (sized_reply (is_some made.place)) (memory_of zone' (unmoved rest rest') es a.log)
+    (memory_of zone' (unmoved rest rest') es log) (refill-told value zone zone' rest rest' es a.log h slot flags x made _ refl
+    (memory_as c.self.view_is) found mine c.in_ok-room.ensures.answer) (refill_searches-is value zone zone' rest rest' es a.log h slot flags
+    x made _ refl (memory_as c.self.view_is) found mine c.in_ok-room.ensures.answer) refl) (refill_moves-is value zone zone' rest rest' es
+    a.log h slot flags x made _ refl (memory_as c.self.view_is) found mine c.in_ok-room.ensures.answer) c.in_ok-room.ensures.moves)
 
 pub returns-in_err-account-clause-answer : goal.returns-in_err-account-clause-answer
 returns-in_err-account-clause-answer g c =

@@ -1,7 +1,7 @@
 use Rattle.std.proofs.Common.{◌≡◌, ◌<◌, ◌+◌, ◌≤◌, ◌++◌, ◌∷◌, length, sym, ap, subst, arith, Option}
 use Rattle.std.specs.Option.{IsSomeAnd}
 use Rattle.block_store.specs.Block.{content_of, with_content}
-use Rattle.windows.specs.Writes.{written}
+use Rattle.memory_windows.specs.Writes.{written}
 use Rattle.block_store.specs.Room.{Spot}
 use Rattle.heap_calls.specs.Pointers.{pointed_at}
 use Rattle.heap_calls.proofs.Numbering.Answering.{at_place}

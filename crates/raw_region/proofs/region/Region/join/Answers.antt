@@ -1,7 +1,7 @@
 use Rattle.std.proofs.Common.{◌≡◌, ℕ, ◌+◌, List, length, drop, refl, ap, ◌∙◌}
 use Rattle.std.specs.List.{position_or_len}
 use Rattle.std.proofs.Common.{subst}
-use Rattle.windows.specs.Windows.{InOrder}
+use Rattle.memory_windows.specs.Windows.{InOrder}
 use Rattle.raw_region.specs.Gaps.{bytes_of, windows_of, gap_is}
 use Rattle.raw_region.specs.Regions.{IsRegion}
 use Rattle.raw_region.specs.declared.gaps.Gap.{Gap}

@@ -1,8 +1,8 @@
 use Rattle.std.proofs.Common.{rules, ◌≡◌, ◌∙◌, ap}
 use Rattle.zone_bytes.proofs.Regions.Kept.{lies-kept}
-use Rattle.windows.specs.Writes.{written}
-use Rattle.windows.proofs.Ordered.{within}
-use Rattle.windows.proofs.Outside.{got-written_outside}
+use Rattle.memory_windows.specs.Writes.{written}
+use Rattle.memory_windows.proofs.Ordered.{within}
+use Rattle.memory_windows.proofs.Outside.{got-written_outside}
 use Rattle.raw_zone.proofs.region_zones.RegionZonesZoneMaker.close.Goals as goal
 
 pub returns-clause-left : goal.returns-clause-left

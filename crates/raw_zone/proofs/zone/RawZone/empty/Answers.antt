@@ -28,7 +28,8 @@ done c =
     f.result.bytes (f.ensures.purged n.first n.unused s)
 
 pub overflow_add-self : goal.overflow_add-self
-overflow_add-self c = let f = gained-fits _ _ _ _ _ _ (done (goal.at.overflow_add-self c).After-purge_lowest-freed) c.self.inside.free c.self.invariant.free_is in
+overflow_add-self c = let f =
+    gained-fits _ _ _ _ _ _ (done (goal.at.overflow_add-self c).After-purge_lowest-freed) c.self.inside.free c.self.invariant.free_is in
     omega (arith, f)
 
 pub purgeable_left-self-inside-requires : goal.purgeable_left-self-inside-requires
@@ -77,7 +78,8 @@ returns-clause-rest c =
     subst (λ v. IsRest (rest_of v) (rest_in c.purge_lowest-freed.new.part c.self.inside.unused c.self.inside.moves c.self.inside.placings))
     c.self.view_is
     (gained-rest c.self.inside.part c.purge_lowest-freed.new.part _ _ _ _
-    (done (goal.at.returns-clause-rest c).After-purge_lowest-freed) c.purge_lowest-freed.ensures.same c.self.inside.moves c.self.inside.placings)
+    (done (goal.at.returns-clause-rest c).After-purge_lowest-freed) c.purge_lowest-freed.ensures.same c.self.inside.moves
+    c.self.inside.placings)
 
 pub seek-requires-clause-sound : goal.seek-requires-clause-sound
 seek-requires-clause-sound c = (

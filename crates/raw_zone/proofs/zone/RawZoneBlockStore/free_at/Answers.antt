@@ -91,7 +91,8 @@ returns-clause-rest c =
     subst (λ v. IsRest (rest_of v) (rest_in c.free_block-freed.new.part c.self.inside.unused c.self.inside.moves c.self.inside.placings))
     c.self.view_is
     (gained-rest c.self.inside.part c.free_block-freed.new.part _ _ _ _
-    (done (goal.at.returns-clause-rest c).After-free_block-freed) c.free_block-freed.ensures.same c.self.inside.moves c.self.inside.placings)
+    (done (goal.at.returns-clause-rest c).After-free_block-freed) c.free_block-freed.ensures.same c.self.inside.moves
+    c.self.inside.placings)
 
 pub note-requires-clause-sound : goal.note-requires-clause-sound
 note-requires-clause-sound c = (

@@ -48,7 +48,8 @@ done : (c : goal.After-purge_above-freed)
 done c a = gained-at c a.0 a.1
 
 pub overflow_add-self : goal.overflow_add-self
-overflow_add-self c = let f = gained-fits _ _ _ _ _ _ (done (goal.at.overflow_add-self c).After-purge_above-freed (here (goal.at.overflow_add-self c).After-self)) c.self.inside.free c.self.invariant.free_is in
+overflow_add-self c = let f = gained-fits _ _ _ _ _ _ (done (goal.at.overflow_add-self c).After-purge_above-freed
+    (here (goal.at.overflow_add-self c).After-self)) c.self.inside.free c.self.invariant.free_is in
     omega (arith, f)
 
 pub note-requires-clause-sound : goal.note-requires-clause-sound
@@ -66,14 +67,18 @@ note-requires-clause-marks c =
     let a = here (goal.at.note-requires-clause-marks c).After-self in (
       zone_in n.part.bytes,
       replaced-as _ _ _ _ _ _ (whole n.part.bytes n.first n.unused i c.args.place a.0 a.1)
-          (done (goal.at.note-requires-clause-marks c).After-purge_above-freed (here (goal.at.note-requires-clause-marks c).After-self)).made.zone
+          (done (goal.at.note-requires-clause-marks c).After-purge_above-freed
+          (here (goal.at.note-requires-clause-marks c).After-self)).made.zone
           (f.ensures.purged (spot-at n.part.bytes n.first n.unused i c.args.purges c.args.sparing c.args.place a.0 a.1)
           (may-purge n.part.bytes n.first n.unused i c.args.purges c.args.sparing c.args.place a.0 a.1)).replaced,
       c.self.invariant.marked,
     )
 
 pub invariant_of-self-inside : goal.invariant_of-self-inside
-invariant_of-self-inside c = ((done (goal.at.invariant_of-self-inside c).After-purge_above-freed (here (goal.at.invariant_of-self-inside c).After-self)).made.lawful, tt)
+invariant_of-self-inside c = (
+  (done (goal.at.invariant_of-self-inside c).After-purge_above-freed (here (goal.at.invariant_of-self-inside c).After-self)).made.lawful,
+  tt,
+)
 
 -- what the blocks would free, before and afterwards
 given : (c : After-purge_above-freed)
@@ -117,4 +122,5 @@ returns-clause-rest c =
     subst (λ v. IsRest (rest_of v) (rest_in c.purge_above-freed.new.part c.self.inside.unused c.self.inside.moves c.self.inside.placings))
     c.self.view_is
     (gained-rest c.self.inside.part c.purge_above-freed.new.part _ _ _ _
-    (done (goal.at.returns-clause-rest c).After-purge_above-freed (here (goal.at.returns-clause-rest c).After-self)) c.purge_above-freed.ensures.same c.self.inside.moves c.self.inside.placings)
+    (done (goal.at.returns-clause-rest c).After-purge_above-freed (here (goal.at.returns-clause-rest c).After-self))
+    c.purge_above-freed.ensures.same c.self.inside.moves c.self.inside.placings)

@@ -4,6 +4,7 @@ use Rattle.block_store.specs.Block.{count, is_masters, free_sum}
 use Rattle.block_store.specs.Room.{Spot, spot_at}
 use Rattle.block_store.specs.Rest.{IsRest}
 use Rattle.block_store.specs.Seen.{with_flags}
+use Rattle.block_store.proofs.Nonrelocatable.Placing.{size-flags}
 use Rattle.zone_bytes.specs.Decode.{zone_in}
 use Rattle.zone_bytes.specs.Stepping.{IsOnWay}
 use Rattle.zone_bytes.specs.Lawful.{IsSound}
@@ -16,7 +17,7 @@ use Rattle.zone_bytes.proofs.Places.AtPlace.{whole, low, way-at, left-at, inside
 use Rattle.zone_bytes.proofs.Places.Options.{if-spot, a-spot}
 use Rattle.zone_bytes.proofs.Laws.Lawful.{Made, rest-made, kept-made}
 use Rattle.zone_bytes.proofs.Blocks.Marked.{flagged-made, masters-flagged, free-flagged}
-use Rattle.zone_marks.proofs.Marks.Owed.{size-flags, with-marks}
+use Rattle.zone_marks.proofs.Marks.Owed.{with-marks}
 use Rattle.zone_bytes.specs.Changes.{Became}
 use Rattle.zone_bytes.specs.PurgeableBytes.{purgeable_of}
 use Rattle.raw_zone.proofs.zone.RawZoneBlockStore.set_flags.Goals as goal
@@ -150,8 +151,8 @@ returns-clause-rest c =
     (whole c.self.inside.part.bytes c.self.inside.first c.self.inside.unused c.self.invariant.sound c.args.place
     a.0 a.1) (low c.self.inside.part.bytes c.self.inside.first c.self.inside.unused c.self.invariant.sound
     c.args.place a.0 a.1) in
-    subst (λ v. IsRest (rest_of v) (rest_in c.flag_at.new.part c.self.inside.unused c.self.inside.moves c.self.inside.placings)) c.self.view_is
-    (rest-made c.self.inside.part c.flag_at.new.part (slot_in c.self.inside.part.bytes) c.self.inside.unused
+    subst (λ v. IsRest (rest_of v) (rest_in c.flag_at.new.part c.self.inside.unused c.self.inside.moves c.self.inside.placings))
+    c.self.view_is (rest-made c.self.inside.part c.flag_at.new.part (slot_in c.self.inside.part.bytes) c.self.inside.unused
     c.self.inside.moves c.self.inside.placings (rw c.flag_at.ensures.bytes m.slots)
     (ap (λ ys. count is_masters (zone_in ys)) c.flag_at.ensures.bytes ∙ ap (count is_masters) m.zone
     ∙ masters-flagged c.args.flags a.0.below a.0.here a.0.above

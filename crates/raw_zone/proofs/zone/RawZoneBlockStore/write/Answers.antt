@@ -1,7 +1,7 @@
 use Rattle.std.proofs.Common.{◌≡◌, ◌∙◌, ◌+◌, ◌≤◌, ◌++◌, ◌∷◌, ap, sym, subst, arith, length}
 use Rattle.std.specs.Option.{IfSome, IsSomeAnd}
 use Rattle.block_store.specs.Block.{content_of, with_content, count, is_masters, free_sum}
-use Rattle.windows.specs.Writes.{written}
+use Rattle.memory_windows.specs.Writes.{written}
 use Rattle.block_store.specs.Room.{spot_at}
 use Rattle.block_store.specs.Rest.{IsRest}
 use Rattle.zone_bytes.specs.Decode.{zone_in}

@@ -1,6 +1,7 @@
 use Rattle.std.proofs.Common.{◌∙◌, sym, refl}
+use Rattle.mac_words.proofs.Plain.{on_err}
 use Rattle.res_calls.specs.Given.{managers}
-use Rattle.res_calls.proofs.LastOpened.{leaves-lies, leaves_next, one_more, stops_there, on_any_err}
+use Rattle.res_calls.proofs.LastOpened.{leaves-lies, leaves_next, one_more, stops_there}
 use Rattle.res_calls.proofs.files.Resources.leave_each.Goals as goal
 
 pub returns-in_err-next-clause-lies : goal.returns-in_err-next-clause-lies
@@ -28,7 +29,7 @@ loop-alloc-preserved g c = record {
 
 pub returns-in_err-next-clause-stopped : goal.returns-in_err-next-clause-stopped
 returns-in_err-next-clause-stopped g c =
-    on_any_err c.from_residual.result _
+    on_err c.from_residual.result _
     (stops_there (managers c.loop-alloc.self c.loop-alloc.heap.memory) (managers c.leave_last.new.self
     c.leave_last.new.heap.memory)
     (managers c.args.self.now c.args.heap.now.memory) (sym c.has_own.ensures ∙ c.loop-alloc-test.true)

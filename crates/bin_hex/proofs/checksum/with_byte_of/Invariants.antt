@@ -1,7 +1,0 @@
-use Rattle.std.proofs.Common.{◌≡◌, ◌-◌}
-use Rattle.bin_hex.specs.Checksum.{with_bits, with_byte}
-use Rattle.bin_hex.proofs.checksum.with_byte_of.Given as goal
-
--- the bits that are left give the checksum of the byte
-abbrev pub invariant-loop : goal.invariant-loop
-invariant-loop l = with_bits (8 - l.counter) l.combined ≡ with_byte l.fn.sum l.fn.byte

@@ -1,0 +1,9 @@
+use Rattle.std.proofs.Common.{ap, ◌∙◌}
+use Rattle.memory_windows.specs.Writes.{written}
+use Rattle.block_headers.specs.Words.{word}
+use Rattle.block_headers.proofs.word.write_word.Goals as goal
+
+pub returns-clause-bytes : goal.returns-clause-bytes
+unfolding word
+returns-clause-bytes c = c.put_word.ensures.bytes
+    ∙ ap (λ w. written c.args.at w c.args.part.now.bytes) c.write_u32.ensures

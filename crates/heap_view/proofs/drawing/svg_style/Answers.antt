@@ -1,7 +1,0 @@
-use Rattle.std.proofs.Common.{refl}
-use Rattle.heap_view.specs.Drawing.{svg_style}
-use Rattle.heap_view.proofs.drawing.svg_style.Goals as goal
-
-pub returns : goal.returns
-unfolding svg_style
-returns c = refl

@@ -1,9 +1,0 @@
-use Rattle.std.proofs.Common.{◌≡◌, map, drop}
-use Rattle.heap_view.specs.Quiet.{same_lines}
-use Rattle.heap_view.specs.View.{view_kept}
-use Rattle.heap_view.proofs.gather.same_lines.Given as goal
-
--- whether the blocks that are left are the same says whether all are
-abbrev pub invariant-loop-line : goal.invariant-loop-line
-invariant-loop-line l = same_lines (map view_kept (drop l.line-index l.lines)) (map view_kept l.left)
-    ≡ same_lines (map view_kept l.lines) (map view_kept l.others)

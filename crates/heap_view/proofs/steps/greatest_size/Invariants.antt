@@ -1,9 +1,0 @@
-use Rattle.std.proofs.Common.{◌≡◌, ◌<◌, ◌^◌, map, drop, max}
-use Rattle.heap_view.specs.Steps.{greatest_size}
-use Rattle.heap_view.specs.View.{view_moment}
-use Rattle.heap_view.proofs.steps.greatest_size.Given as goal
-
--- the greatest of those so far and of those to come is the greatest of all
-abbrev pub invariant-loop-moment : goal.invariant-loop-moment
-invariant-loop-moment l = (max l.greatest (greatest_size (map view_moment (drop l.moment-index l.moments)))
-    ≡ greatest_size (map view_moment l.moments)) × (l.greatest < 2 ^ 96)

@@ -1,9 +1,0 @@
-use Rattle.std.proofs.Common.{◌≡◌, ◌+◌, ◌*◌, ◌≤◌, map, drop}
-use Rattle.heap_view.specs.Drawing.{line_sizes}
-use Rattle.heap_view.specs.View.{view_kept}
-use Rattle.heap_view.proofs.steps.kept_sizes.Given as goal
-
--- those that were summed, and those to come, are all
-abbrev pub invariant-loop-line : goal.invariant-loop-line
-invariant-loop-line l = (l.sum + line_sizes (map view_kept (drop l.line-index l.lines))
-    ≡ line_sizes (map view_kept l.lines)) × (l.sum ≤ 4294967296 * l.line-index)

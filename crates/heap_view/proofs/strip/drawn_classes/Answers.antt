@@ -1,5 +1,0 @@
-use Rattle.std.proofs.Common.{refl}
-use Rattle.heap_view.proofs.strip.drawn_classes.Goals as goal
-
-pub returns : goal.returns
-returns c = refl

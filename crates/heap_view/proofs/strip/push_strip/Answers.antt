@@ -1,9 +1,0 @@
-use Rattle.heap_view.specs.Strip.{strip}
-use Rattle.heap_view.proofs.Appending.{also}
-use Rattle.heap_view.proofs.strip.push_strip.Goals as goal
-
-pub returns : goal.returns
-unfolding strip
-returns c = also c.args.text.now.items _ _ (also c.args.text.now.items _ _ (also c.args.text.now.items _ _
-    (also c.args.text.now.items _ _ c.in_ok-push_strip_opened.ensures c.in_ok-push_bins.ensures) c.in_ok-put.ensures)
-    c.in_ok-push_bins-2.ensures) c.in_ok-put-2.ensures

@@ -1,6 +1,0 @@
-use Rattle.std.proofs.Common.{◌≡◌, ◌++◌, replicate}
-use Rattle.heap_view.proofs.style.push_blanks.Given as goal
-
--- the blanks so far
-abbrev pub invariant-loop-blank : goal.invariant-loop-blank
-invariant-loop-blank l = l.text.items ≡ l.fn.text.items ++ replicate l._blank 32

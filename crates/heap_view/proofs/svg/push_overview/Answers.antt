@@ -1,9 +1,0 @@
-use Rattle.heap_view.specs.Svg.{overview}
-use Rattle.heap_view.proofs.Appending.{also}
-use Rattle.heap_view.proofs.svg.push_overview.Goals as goal
-
-pub returns : goal.returns
-unfolding overview
-returns c = also c.args.text.now.items _ _ (also c.args.text.now.items _ _ (also c.args.text.now.items _ _
-    (also c.args.text.now.items _ _ c.in_ok-push_group.ensures c.in_ok-push_strip.ensures) c.in_ok-put.ensures)
-    c.in_ok-push_scale_at.ensures) c.in_ok-push_legend.ensures

@@ -1,8 +1,0 @@
-use Rattle.heap_view.specs.Svg.{row}
-use Rattle.heap_view.proofs.Appending.{also}
-use Rattle.heap_view.proofs.svg.push_row.Goals as goal
-
-pub returns : goal.returns
-unfolding row
-returns c = also c.args.text.now.items _ _ (also c.args.text.now.items _ _ (also c.args.text.now.items _ _ c.in_ok-push_group.ensures
-    c.in_ok-push_row_place.ensures) c.in_ok-push_strip.ensures) c.in_ok-put.ensures

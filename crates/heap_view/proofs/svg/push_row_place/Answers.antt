@@ -1,6 +1,0 @@
-use Rattle.heap_view.proofs.Appending.{also}
-use Rattle.heap_view.proofs.svg.push_row_place.Goals as goal
-
-pub returns : goal.returns
-returns c = also c.args.text.now.items _ _ (also c.args.text.now.items _ _ c.in_ok-put.ensures c.in_ok-push_decimal.ensures)
-    c.in_ok-put-2.ensures

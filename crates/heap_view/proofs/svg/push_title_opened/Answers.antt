@@ -1,8 +1,0 @@
-use Rattle.heap_view.specs.Svg.{title_opened}
-use Rattle.heap_view.proofs.Appending.{also}
-use Rattle.heap_view.proofs.svg.push_title_opened.Goals as goal
-
-pub returns : goal.returns
-unfolding title_opened
-returns c = also c.args.text.now.items _ _ (also c.args.text.now.items _ _ (also c.args.text.now.items _ _ c.in_ok-put.ensures
-    c.in_ok-push_part_words.ensures) c.in_ok-put-2.ensures) c.in_ok-push_decimal.ensures

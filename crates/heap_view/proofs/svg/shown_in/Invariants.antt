@@ -1,9 +1,0 @@
-use Rattle.std.proofs.Common.{◌≡◌, ◌++◌, map, drop}
-use Rattle.heap_view.specs.Svg.{shown_in}
-use Rattle.heap_view.specs.View.{view_line}
-use Rattle.heap_view.proofs.svg.shown_in.Given as goal
-
--- the blocks so far, before those that are still to come
-abbrev pub invariant-loop-line : goal.invariant-loop-line
-invariant-loop-line l = map view_line l.shown.items ++ shown_in l.window (map view_line (drop l.line-index l.lines))
-    ≡ shown_in l.window (map view_line l.lines)

@@ -1,8 +1,0 @@
-use Rattle.heap_view.proofs.Appending.{also}
-use Rattle.heap_view.proofs.text.push_line.Goals as goal
-
-pub returns : goal.returns
-returns c = also c.args.text.now.items _ _ (also c.args.text.now.items _ _ (also c.args.text.now.items _ _
-    (also c.args.text.now.items _ _ (also c.args.text.now.items _ _ (also c.args.text.now.items _ _ c.in_ok-push_opened.ensures
-    c.in_ok-push_place.ensures) c.in_ok-push_between.ensures) c.in_ok-push_state.ensures) c.in_ok-push_between-2.ensures)
-    c.in_ok-push_owned.ensures) c.in_ok-put.ensures

@@ -1,9 +1,0 @@
-use Rattle.std.proofs.Common.{◌≡◌, map, drop, max}
-use Rattle.heap_view.specs.Text.{longest}
-use Rattle.heap_view.specs.View.{view_line}
-use Rattle.heap_view.proofs.text.widest.Given as goal
-
--- the longest of those so far and of those to come is the longest of all
-abbrev pub invariant-loop-line : goal.invariant-loop-line
-invariant-loop-line l = max l.longest (longest (map view_line (drop l.line-index l.lines)))
-    ≡ longest (map view_line l.lines)

@@ -1,9 +1,0 @@
-use Rattle.std.proofs.Common.{◌≡◌, ◌+◌, ◌≤◌, map, drop}
-use Rattle.heap_view.specs.Totals.{counted}
-use Rattle.heap_view.specs.View.{view_line}
-use Rattle.heap_view.proofs.totals.count.Given as goal
-
--- those that were counted, and those to come, are all
-abbrev pub invariant-loop-line : goal.invariant-loop-line
-invariant-loop-line l = (l.count + counted l.class (map view_line (drop l.line-index l.lines))
-    ≡ counted l.class (map view_line l.lines)) × (l.count ≤ l.line-index)

@@ -1,9 +1,0 @@
-use Rattle.std.proofs.Common.{ap, ◌∙◌}
-use Rattle.windows.specs.Writes.{written}
-use Rattle.heap_words.specs.Words.{word}
-use Rattle.heap_words.proofs.word.write_word.Goals as goal
-
-pub returns-clause-bytes : goal.returns-clause-bytes
-unfolding word
-returns-clause-bytes c = c.put_word.ensures.bytes
-    ∙ ap (λ w. written c.args.at w c.args.part.now.bytes) c.write_u32.ensures

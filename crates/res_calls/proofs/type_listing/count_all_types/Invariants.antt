@@ -1,0 +1,14 @@
+use Rattle.std.proofs.Common.{◌≡◌, ◌+◌, ◌<◌, ◌^◌, length, map}
+use Rattle.res_map.specs.Map.{types}
+use Rattle.res_calls.specs.Owning.{references}
+use Rattle.res_calls.specs.Rows.{told_count}
+use Rattle.res_calls.specs.View.{view_open}
+use Rattle.res_calls.proofs.Typing.{left_from}
+use Rattle.res_calls.proofs.type_listing.count_all_types.Given as goal
+
+-- what was counted and what is left to count are what is counted in all
+abbrev pub invariant-loop-i : goal.invariant-loop-i
+invariant-loop-i l =
+    (told_count (l.total + length (left_from l.i l.files))
+    ≡ told_count (length (types (references (map view_open l.files)))))
+    × (l.total < 2 ^ 63)

@@ -1,0 +1,1 @@
+pub use Rattle.mac_words.proofs.Appending.{also}

@@ -1,0 +1,7 @@
+use Rattle.std.proofs.Common.{refl}
+use Rattle.zone_drawing.specs.Drawing.{svg_legend}
+use Rattle.zone_drawing.proofs.drawing.svg_legend.Goals as goal
+
+pub returns : goal.returns
+unfolding svg_legend
+returns c = refl

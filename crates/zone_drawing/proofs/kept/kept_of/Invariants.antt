@@ -1,0 +1,7 @@
+use Rattle.std.proofs.Common.{◌≡◌, ◌++◌, map, drop}
+use Rattle.zone_drawing.specs.View.{view_line, view_kept}
+use Rattle.zone_drawing.proofs.kept.kept_of.Given as goal
+
+-- the lines so far, before those that are still to come
+abbrev pub invariant-loop-line : goal.invariant-loop-line
+invariant-loop-line l = map view_kept l.kept.items ++ map view_line (drop l.line-index l.lines) ≡ map view_line l.lines

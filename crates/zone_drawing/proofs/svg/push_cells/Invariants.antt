@@ -1,0 +1,9 @@
+use Rattle.std.proofs.Common.{◌≡◌, ◌++◌, map, drop}
+use Rattle.zone_drawing.specs.Svg.{cells}
+use Rattle.zone_drawing.specs.View.{view_line}
+use Rattle.zone_drawing.proofs.svg.push_cells.Given as goal
+
+-- what is written, before the cells that are still to be written
+abbrev pub invariant-loop-index : goal.invariant-loop-index
+invariant-loop-index l = l.text.items ++ cells l.index (map view_line (drop l.index l.lines))
+    ≡ l.fn.text.items ++ cells 0 (map view_line l.lines)

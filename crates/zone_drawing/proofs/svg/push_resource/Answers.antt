@@ -1,0 +1,6 @@
+use Rattle.zone_drawing.proofs.Appending.{also}
+use Rattle.zone_drawing.proofs.svg.push_resource.Goals as goal
+
+pub returns : goal.returns
+returns c = also c.args.text.now.items _ _ (also c.args.text.now.items _ _ c.in_ok-push_type.ensures c.in_ok-put.ensures)
+    c.in_ok-push_id.ensures

@@ -1,0 +1,9 @@
+use Rattle.std.proofs.Common.{◌≡◌, ◌++◌, map, drop}
+use Rattle.zone_drawing.specs.Svg.{shown_in}
+use Rattle.zone_drawing.specs.View.{view_line}
+use Rattle.zone_drawing.proofs.svg.shown_in.Given as goal
+
+-- the blocks so far, before those that are still to come
+abbrev pub invariant-loop-line : goal.invariant-loop-line
+invariant-loop-line l = map view_line l.shown.items ++ shown_in l.window (map view_line (drop l.line-index l.lines))
+    ≡ shown_in l.window (map view_line l.lines)

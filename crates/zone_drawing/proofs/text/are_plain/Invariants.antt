@@ -1,0 +1,8 @@
+use Rattle.std.proofs.Common.{◌≡◌, drop}
+use Rattle.std.specs.List.{list_all}
+use Rattle.zone_drawing.specs.Text.{is_plain}
+use Rattle.zone_drawing.proofs.text.are_plain.Given as goal
+
+-- all are plain where those that are left are
+abbrev pub invariant-loop-byte : goal.invariant-loop-byte
+invariant-loop-byte l = list_all is_plain (drop l.byte-index l.bytes) ≡ list_all is_plain l.bytes

@@ -1,0 +1,8 @@
+use Rattle.zone_drawing.proofs.Appending.{also}
+use Rattle.zone_drawing.proofs.text.push_line.Goals as goal
+
+pub returns : goal.returns
+returns c = also c.args.text.now.items _ _ (also c.args.text.now.items _ _ (also c.args.text.now.items _ _
+    (also c.args.text.now.items _ _ (also c.args.text.now.items _ _ (also c.args.text.now.items _ _ c.in_ok-push_opened.ensures
+    c.in_ok-push_place.ensures) c.in_ok-push_between.ensures) c.in_ok-push_state.ensures) c.in_ok-push_between-2.ensures)
+    c.in_ok-push_owned.ensures) c.in_ok-put.ensures

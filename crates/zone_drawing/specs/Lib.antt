@@ -1,0 +1,15 @@
+pub mod Line
+pub mod View
+pub mod Digits
+pub mod Text
+pub mod Totals
+pub mod Choice
+pub mod Listing
+pub mod Bytes
+pub mod Inner
+pub mod Drawing
+pub mod Strip
+pub mod Svg
+pub mod Steps
+pub mod Quiet
+pub mod Inside

@@ -1,0 +1,8 @@
+use Rattle.std.proofs.Common.{arith}
+use Rattle.std.proofs.lemmas.Grind.{common_steps}
+use Rattle.zone_marks.proofs.Marks.Tallies.{marks-of}
+use Rattle.zone_marks.proofs.keeping.Landmarks.note.Goals as goal
+
+pub renew_groups-requires-clause-marks : goal.renew_groups-requires-clause-marks
+renew_groups-requires-clause-marks c =
+    rw c.deref.ensures.value (marks-of _ _ _ c.requires.sound.2 _ (grind (arith, common_steps)))

@@ -1,0 +1,11 @@
+use Rattle.std.specs.BTreeMap.{get}
+use Rattle.std.specs.Ordering.{nat_cmp}
+use Rattle.heap_calls.specs.Inner.Numbered.{leads_to}
+use Rattle.zone_replay.specs.Known.{tag_by}
+use Rattle.zone_replay.proofs.Entering.{all-entered, unknown}
+use Rattle.zone_replay.proofs.places.handles_of.Goals as goal
+
+pub returns : goal.returns
+returns c key = all-entered (tag_by c.args.names.now c.args.owners.now) (get nat_cmp c.loop-number.tags key) (leads_to key)
+    c.loop-number.number c.args.anchors.now _ (unknown c.args.names.now c.args.owners.now c.requires.names c.requires.owners)
+    c.loop-number-test.false (c.loop-number.invariant key)

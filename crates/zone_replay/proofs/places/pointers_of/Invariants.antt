@@ -1,0 +1,12 @@
+use Rattle.std.proofs.Common.{◌≡◌, ℕ, drop}
+use Rattle.std.specs.BTreeMap.{get}
+use Rattle.std.specs.Ordering.{nat_cmp}
+use Rattle.heap_calls.specs.Inner.Numbered.{number_from, points_to, pointer_number}
+use Rattle.zone_replay.specs.Known.{tag_by}
+use Rattle.zone_replay.proofs.Entering.{known_or}
+use Rattle.zone_replay.proofs.places.pointers_of.Given as goal
+
+-- what was entered, before what is still to come
+abbrev pub invariant-loop-number : goal.invariant-loop-number
+invariant-loop-number l = (key : ℕ) → known_or (tag_by l.names l.owners) (get nat_cmp l.tags key)
+    (number_from l.number (points_to key) (drop l.number l.anchors)) ≡ tag_by l.names l.owners (pointer_number l.anchors key)

@@ -1,0 +1,11 @@
+use Rattle.std.proofs.Common.{◌≡◌, ◌++◌, ℕ, drop, map}
+use Rattle.block_store.specs.Slot.{Slot}
+use Rattle.heap_calls.specs.Inner.Numbered.{name_of}
+use Rattle.zone_replay.specs.Words.{stands_for_handle}
+use Rattle.zone_replay.proofs.words.handles_in.Given as goal
+
+-- the numbers so far, before those that are left
+abbrev pub invariant-loop-anchor : goal.invariant-loop-anchor
+invariant-loop-anchor l = (slots : ℕ → Slot)
+    → l.handles.items ++ map stands_for_handle (map (name_of slots) (drop l.anchor-index l.anchors))
+    ≡ map stands_for_handle (map (name_of slots) l.anchors)

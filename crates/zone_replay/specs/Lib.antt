@@ -1,0 +1,9 @@
+pub mod Known
+pub mod Shown
+pub mod Behind
+pub mod Moments
+pub mod Inside
+pub mod Drawn
+pub mod Words
+pub mod Sight
+pub mod Spelled

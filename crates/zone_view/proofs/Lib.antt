@@ -1,8 +1,0 @@
-pub mod Entering
-pub mod Numbered
-pub mod Forms
-pub mod Following
-pub mod Pointed
-pub mod InWords
-mod Rows
-mod MomentRows
