@@ -47,6 +47,18 @@ int32_t macmem_hand_to_hand(macmem_zone *zone, size_t handle, size_t *copy);
 int32_t macmem_hand_and_hand(macmem_zone *zone, size_t from, size_t to);
 int32_t macmem_ptr_to_hand(macmem_zone *zone, const uint8_t *bytes, size_t count, size_t *handle);
 int32_t macmem_ptr_and_hand(macmem_zone *zone, size_t handle, const uint8_t *bytes, size_t count);
+int32_t macmem_ptr_to_x_hand(macmem_zone *zone, size_t handle, const uint8_t *bytes, size_t count);
+/* The handle whose block's content begins at a place, as macmem_where gives it. */
+int32_t macmem_recover_handle(macmem_zone *zone, uint32_t place, size_t *handle);
+/* `count` bytes of the block of a handle or a pointer, from `start` on, into another or the same, from `offset` on. */
+int32_t macmem_block_move(macmem_zone *zone, size_t from, uint32_t start, size_t to, uint32_t offset, uint32_t count);
+/* The first bytes like `old` in a handle's block, from `from` on, replaced; or `count` bytes at `from`; or only sought. `offset` becomes that
+ * after the new bytes, or that of the bytes that are found; or -1. */
+int32_t macmem_munger(macmem_zone *zone, size_t handle, uint32_t from, const uint8_t *old, size_t old_count, const uint8_t *bytes,
+                      size_t bytes_count, int64_t *offset);
+int32_t macmem_munger_count(macmem_zone *zone, size_t handle, uint32_t from, uint32_t count, const uint8_t *bytes,
+                            size_t bytes_count, int64_t *offset);
+int32_t macmem_munger_nil(macmem_zone *zone, size_t handle, uint32_t from, const uint8_t *old, size_t count, int64_t *offset);
 
 /* The properties of a handle's block. A state is a sum of bits: 128 where the block is locked, 64 where it is purgeable, 32 where the
  * handle is a resource's. */

@@ -16,7 +16,8 @@ import re
 import sys
 
 HEADER, CRATE = "include/macmem.h", "crates/macmem_c"
-NUMBERS = {"u8": "uint8_t", "u32": "uint32_t", "i16": "int16_t", "i32": "int32_t", "usize": "size_t", "bool": "bool", "*mut u8": "void *"}
+NUMBERS = {"u8": "uint8_t", "u32": "uint32_t", "i16": "int16_t", "i32": "int32_t", "i64": "int64_t", "usize": "size_t", "bool": "bool"}
+NUMBERS["*mut u8"] = "void *"
 STRUCTS = {"Kept": "macmem_zone", "Fault": "macmem_fault", "Row": "macmem_row"}
 CODES = {"MACMEM_BAD_SIZE": "BAD_SIZE", "MACMEM_HOST_MEMORY": "HOST_MEMORY", "MACMEM_FILE_FAULT": "FILE_FAULT"}
 TAKES_NO_BYTES = "Global"

@@ -82,6 +82,11 @@ const EXAMPLES = {
    "text": "NewHandle a 100\nNewHandle b 100\nHLock a\nSetHandleSize a 300\nWhere a\nWhere b\nFreeMem\nHUnlock a\nHLockHi b\nWhere b\nHLockHi b\nCompactMem 1000\nSetHandleSize b 101\nSetHandleSize b 113\nMemError\nGetHandleSize b\n"
   },
   {
+   "name": "munger.script",
+   "size": 1024,
+   "text": "PtrToHand h \"one two two\"\nMunger h 0 \"two\" \"three\"\nMunger h 9 \"two\" NIL\nMunger h 9 \"two\" \"\"\nMunger h 0 3 \"1\"\nMunger h 1 \"\" \"st\"\nMunger h 0 \"four\" \"x\"\nShow h\nMunger h 8 \"e nothing\" \"!\"\nShow h\nMunger h 9 \"!\" NIL\nMunger h 10 \"!\" NIL\n"
+  },
+  {
    "name": "parts.script",
    "size": 1024,
    "text": "# In 1024 bytes: a log that is larger than the zone is written and read in parts, and never stands in memory whole.\nCreateResFile \"Log\"\nOpenResFile \"Log\"\nNewHandle log 0\nAddResource log 'TEXT' 128 \"\"\nEmptyHandle log\n# The new bytes are 0. A line goes to the start, and one to the end, where the data grows.\nSetResourceSize log 2000\nWritePartialResource log 0 \"Monday: rain\"\nWritePartialResource log 2000 \"Sunday: sun\"\nGetResourceSizeOnDisk log\nReadPartialResource log 8 4\nReadPartialResource log 1998 13\n# There are not so many bytes, and no place to write past the end.\nReadPartialResource log 2000 12\nWritePartialResource log 2012 \"!\"\n# The log has no room in the zone. The update writes the fork all the same.\nLoadResource log\nUpdateResFile 3\n# Cut to its first line, it is read into a block. What is written now changes the stored data, and not the block: so says -188.\nSetResourceSize log 12\nLoadResource log\nWritePartialResource log 8 \"snow\"\nShow log\nReadPartialResource log 8 4\nEmptyHandle log\nReadPartialResource log 8 4\n"

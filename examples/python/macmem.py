@@ -5,7 +5,7 @@
     code, text = zone.new_handle(100)
 """
 import ctypes
-from ctypes import POINTER, Structure, byref, c_bool, c_char_p, c_int16, c_int32, c_size_t, c_uint8, c_uint32, c_void_p
+from ctypes import POINTER, Structure, byref, c_bool, c_char_p, c_int16, c_int32, c_int64, c_size_t, c_uint8, c_uint32, c_void_p
 
 HOST_MEMORY, FILE_FAULT = 65536, 65537
 
@@ -43,6 +43,12 @@ CALLS = {
     "hand_and_hand": (HANDLE + HANDLE, None),
     "ptr_to_hand": (BYTES, c_size_t),
     "ptr_and_hand": (HANDLE + BYTES, None),
+    "ptr_to_x_hand": (HANDLE + BYTES, None),
+    "recover_handle": (SIZE, c_size_t),
+    "block_move": (HANDLE + SIZE + HANDLE + SIZE + SIZE, None),
+    "munger": (HANDLE + SIZE + BYTES + BYTES, c_int64),
+    "munger_count": (HANDLE + SIZE + SIZE + BYTES, c_int64),
+    "munger_nil": (HANDLE + SIZE + BYTES, c_int64),
     "h_lock": (HANDLE, None),
     "h_unlock": (HANDLE, None),
     "h_purge": (HANDLE, None),

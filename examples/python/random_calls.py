@@ -18,6 +18,11 @@ SIZES = 512, 1024, 2048, 8192, 32768
 UNBOUND = 2**64 - 1
 
 
+def spelled_as(some):
+    """Bytes as a script spells them."""
+    return "$" + some.hex() if some else '""'
+
+
 class Trial:
     """A zone, the calls that were made on it, and what they gave."""
 
@@ -85,10 +90,36 @@ class Trial:
             self.make("PtrToHand", lambda bytes: zone.ptr_to_hand(bytes, len(bytes)), "h", (spelled, some))
         elif choose < 0.34:
             self.make("NewEmptyHandle", zone.new_empty_handle, "h")
-        elif choose < 0.38:
+        elif choose < 0.35:
+            self.make("RecoverHandle", zone.recover_handle, "h", (self.place(h[1]),) * 2)
+        elif choose < 0.39:
+            self.munger(h, spelled, some)
+        elif choose < 0.42:
             self.make("HandToHand", zone.hand_to_hand, "h", h)
         else:
             self.other_step(h, p, o, size, spelled, some)
+
+    def place(self, number):
+        """Where the content of a handle's block begins, or some place."""
+        code, place = self.zone.where(number)
+        return place if code == 0 else self.random.randrange(self.size)
+
+    def munger(self, h, spelled, some):
+        """Bytes of a handle's block that are replaced, or sought."""
+        code, shown = self.zone.bytes_of("show", h[1])
+        at, count = self.random.randrange(20), self.random.randrange(6)
+        old = shown[at : at + count] if code == 0 and self.random.random() < 0.8 else self.random.randbytes(count)
+        kind, start = self.random.random(), self.random.randrange(12)
+        if kind < 0.5:
+            words = start, spelled_as(old), spelled
+            given = self.zone.munger(h[1], start, old, len(old), some, len(some))
+        elif kind < 0.8:
+            words = start, count, spelled
+            given = self.zone.munger_count(h[1], start, count, some, len(some))
+        else:
+            words = start, spelled_as(old), "NIL"
+            given = self.zone.munger_nil(h[1], start, old, len(old))
+        self.tell(("Munger", h[0], *words), *given)
 
     def other_step(self, h, p, o, size, spelled, some):
         """One random call that makes no handle or pointer."""
@@ -123,6 +154,8 @@ class Trial:
             ("Where", zone.where, h),
             ("Where", zone.where, p),
             ("PtrAndHand", zone.ptr_and_hand, h, (spelled, some)),
+            ("PtrToXHand", zone.ptr_to_x_hand, h, (spelled, some)),
+            ("BlockMove", zone.block_move, h, at, self.random.choice((h, o, p)), at, (len(some),) * 2),
             ("Put", zone.put, h, at, (spelled, some)),
             ("PutPtr", zone.put_ptr, p, at, (spelled, some)),
             ("Show", "show", h),
@@ -139,7 +172,7 @@ class Trial:
         elif word in ("Put", "PutPtr"):
             name, offset, (spelled, some) = arguments
             self.tell((word, name[0], offset[0], spelled), call(name[1], offset[1], some, len(some)))
-        elif word == "PtrAndHand":
+        elif word in ("PtrAndHand", "PtrToXHand"):
             self.tell((word, arguments[0][0], spelled), call(arguments[0][1], some, len(some)))
         elif word in ("FreeMem", "MaxBlock", "CompactMem", "MemError"):
             self.tell((word, *[it[0] for it in arguments]), 0, call(*[it[1] for it in arguments]))

@@ -7,7 +7,7 @@ use Rattle.mac_words.specs.declared.call.Call.TheVariants as call
 use Rattle.mac_words.specs.declared.call.ControlCall.TheVariants as control
 use Rattle.block_store.specs.Block.{Block, sizes, count, is_masters}
 use Rattle.heap_calls.specs.State.{State, Memory}
-use Rattle.mac_words.specs.Told.{Told, Done, Given, Fetched, Number, Numbers, Code, Bytes, Kind, Info, Entry, Refused}
+use Rattle.mac_words.specs.Told.{Told, Done, Given, Fetched, Number, Numbers, Offset, Code, Bytes, Kind, Info, Entry, Refused}
 use Rattle.heap_calls.specs.Staying.{ease, staying}
 use Rattle.heap_calls.proofs.Tries.Parting.{parted, less_stays}
 use Rattle.heap_calls.proofs.Tries.Keeping.{served_bytes, served_masters_no_fewer, served_no_more}
@@ -41,6 +41,7 @@ full-refused (Info id kind name) e = cc
 full-refused (Entry segment flag) e = cc
 full-refused (Number n) e = cc
 full-refused (Numbers n m) e = cc
+full-refused (Offset offset) e = cc
 full-refused (Code code) e = cc
 full-refused (Bytes x) e = cc
 

@@ -21,7 +21,7 @@ use Rattle.script_text.specs.Call.{word_of}
 use Rattle.script_text.specs.declared.script.Line.{Line}
 use Rattle.script_text.specs.Transcript.{Shown, Number, values_of, type_shown}
 use Rattle.script_text.specs.Transcript.{name_shown, bytes_shown, reply_line, grow_line}
-use Rattle.mac_words.specs.Told.{Told, Done, Given, Fetched, Number as Count, Numbers, Code, Bytes, Kind, Info, Entry}
+use Rattle.mac_words.specs.Told.{Told, Done, Given, Fetched, Number as Count, Numbers, Offset, Code, Bytes, Kind, Info, Entry}
 use Rattle.mac_words.specs.Told.{Refused}
 use Rattle.heap_calls.specs.Asked.{Asked}
 use Rattle.heap_calls.specs.Asked as asks
@@ -74,6 +74,7 @@ full-shows-none (Kind kind) full = refl
 full-shows-none (Info id kind name) full = refl
 full-shows-none (Count n) full = refl
 full-shows-none (Numbers one other) full = refl
+full-shows-none (Offset offset) full = refl
 full-shows-none (Code code) full = refl
 full-shows-none (Entry segment flag) full = refl
 full-shows-none (Bytes bytes) full = let f : false ≡ true = full in cc

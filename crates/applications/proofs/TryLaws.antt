@@ -15,7 +15,7 @@ use Rattle.heap_calls.specs.Locked.{locked_place}
 use Rattle.heap_calls.specs.Standing.{pointer_place}
 use Rattle.heap_calls.specs.Emptying.{has_purgeable}
 use Rattle.heap_calls.specs.State.{State, Memory, fresh_memory}
-use Rattle.mac_words.specs.Told.{Told, Done, Given, Fetched, Number, Numbers, Code, Bytes, Kind, Info, Entry, Refused}
+use Rattle.mac_words.specs.Told.{Told, Done, Given, Fetched, Number, Numbers, Offset, Code, Bytes, Kind, Info, Entry, Refused}
 use Rattle.heap_calls.specs.Asked.{Asked}
 use Rattle.heap_calls.specs.Asked as asks
 use Rattle.heap_calls.specs.Table.{served, gone_in}
@@ -152,6 +152,7 @@ found-put (Given n) reads bytes none = refl
 found-put (Fetched handle read) reads bytes none = refl
 found-put (Number n) reads bytes none = refl
 found-put (Numbers one other) reads bytes none = refl
+found-put (Offset offset) reads bytes none = refl
 found-put (Code code) reads bytes none = refl
 found-put (Bytes x) reads bytes none = refl
 found-put (Kind kind) reads bytes none = refl

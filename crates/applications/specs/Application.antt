@@ -1,7 +1,7 @@
 use Rattle.std.specs.Prelude.{ℕ, ℤ, pos, Option, Some, None, List, [], ◌∷◌, ◌++◌, map, if◌then◌else◌}
 use Rattle.std.specs.List.{flat_map}
 use Rattle.byteorder.specs.Endian.{big_bytes}
-use Rattle.mac_words.specs.Told.{Told, Fetched, Number, Numbers, Code, Bytes, Kind, Info, Entry}
+use Rattle.mac_words.specs.Told.{Told, Fetched, Number, Numbers, Offset, Code, Bytes, Kind, Info, Entry}
 use Rattle.script_text.specs.Call.{word_of}
 use Rattle.script_text.specs.Transcript.{Shown as Value, bytes_shown, reply_line, grow_line}
 use Rattle.script_text.specs.Transcript as shows
@@ -17,6 +17,7 @@ abbrev pub numbers_told : Told → List ℤ
 numbers_told (Fetched handle read) = pos read ∷ []
 numbers_told (Number n) = pos n ∷ []
 numbers_told (Numbers one other) = pos one ∷ pos other ∷ []
+numbers_told (Offset offset) = offset ∷ []
 numbers_told (Code code) = code.0 ∷ []
 numbers_told (Info id kind name) = id ∷ []
 numbers_told (Entry segment flag) = segment ∷ pos flag ∷ []

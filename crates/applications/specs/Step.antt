@@ -168,6 +168,7 @@ names_given (call.Heap (heap.NewHandle name size)) (Some n) names = bind name.0.
 names_given (call.Heap (heap.NewEmptyHandle name)) (Some n) names = bind name.0.items n names
 names_given (call.Heap (heap.HandToHand name from)) (Some n) names = bind name.0.items n names
 names_given (call.Heap (heap.PtrToHand name bytes)) (Some n) names = bind name.0.items n names
+names_given (call.Heap (heap.RecoverHandle name place)) (Some n) names = bind name.0.items n names
 names_given (call.Heap (heap.NewPtr name size)) (Some n) names = bind name.0.items n names
 names_given (call.Resource (resource.GetResource name ty id)) (Some n) names = bind name.0.items n names
 names_given (call.Resource (resource.Get1Resource name ty id)) (Some n) names = bind name.0.items n names

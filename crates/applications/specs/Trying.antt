@@ -8,6 +8,7 @@ use Rattle.mac_words.specs.declared.call.ControlCall.{ControlCall}
 use Rattle.mac_words.specs.declared.call.ControlCall.TheVariants as control
 use Rattle.mac_words.specs.declared.call.HeapCall.{HeapCall}
 use Rattle.mac_words.specs.declared.call.HeapCall.TheVariants as heap
+use Rattle.mac_words.specs.declared.call.Replacement.TheVariants as replacement
 use Rattle.mac_words.specs.declared.resource_call.ResourceCall.{ResourceCall}
 use Rattle.mac_words.specs.declared.resource_call.ResourceCall.TheVariants as resource
 use Rattle.byteorder.specs.Endian.{big_number}
@@ -15,9 +16,10 @@ use Rattle.mac_words.specs.declared.name.OsType.{OsType}
 use denote.RawPtr.{null_ptr}
 use Rattle.block_store.specs.Rest.{Site}
 use Rattle.heap_calls.specs.State.{Memory, fresh_memory}
-use Rattle.mac_words.specs.Told.{Told, Done, Given, Fetched, Number, Numbers, Code, Bytes, Kind, Info, Entry, Refused}
+use Rattle.mac_words.specs.Told.{Told, Done, Given, Fetched, Number, Numbers, Offset, Code, Bytes, Kind, Info, Entry, Refused}
 use Rattle.heap_calls.specs.Asked.{Asked}
 use Rattle.heap_calls.specs.Asked as asks
+use Rattle.heap_calls.specs.Munging.{target_of}
 use Rattle.heap_calls.specs.Table.{served, gone_in}
 use Rattle.heap_calls.specs.Gone.{Gone}
 use Rattle.fork_format.specs.Content.{Content}
@@ -120,6 +122,7 @@ asked (heap.HNoPurge name) names = asks.HNoPurge (bound_to name.0.items names)
 asked (heap.HGetState name) names = asks.HGetState (bound_to name.0.items names)
 asked (heap.HSetState name state) names = asks.HSetState (bound_to name.0.items names) state
 asked (heap.HandleZone name) names = asks.HandleZone (bound_to name.0.items names)
+asked (heap.RecoverHandle name place) names = asks.RecoverHandle place
 asked (heap.MoveHHi name) names = asks.MoveHHi (bound_to name.0.items names)
 asked (heap.HLockHi name) names = asks.HLockHi (bound_to name.0.items names)
 asked (heap.HandToHand name from) names = asks.HandToHand (bound_to from.value.0.items names)
@@ -127,11 +130,17 @@ asked (heap.PtrToHand name bytes) names = asks.NewHandle (asks.CopyOf bytes.item
 asked (heap.HandAndHand from to) names = asks.HandAndHand (bound_to from.0.items names) (bound_to to.value.0.items names)
 asked (heap.PtrAndHand name bytes) names = asks.PtrAndHand (bound_to name.0.items names) bytes.items
 asked (heap.PtrToXHand name bytes) names = asks.PtrToXHand (bound_to name.0.items names) bytes.items
+asked (heap.Munger name from old (replacement.Bytes new)) names =
+    asks.Munger (bound_to name.0.items names) from (target_of old) new.items
+asked (heap.Munger name from old replacement.Nil) names =
+    asks.MungerNil (bound_to name.0.items names) from (target_of old)
 asked (heap.NewPtr name size) names = asks.NewPtr size
 asked (heap.DisposePtr name) names = asks.DisposePtr (bound_to name.0.items names)
 asked (heap.GetPtrSize name) names = asks.GetPtrSize (bound_to name.0.items names)
 asked (heap.SetPtrSize name size) names = asks.SetPtrSize (bound_to name.0.items names) size
 asked (heap.PtrZone name) names = asks.PtrZone (bound_to name.0.items names)
+asked (heap.BlockMove a from b to count) names =
+    asks.BlockMove (bound_to a.0.items names) from (bound_to b.value.0.items names) to count
 asked heap.FreeMem names = asks.FreeMem
 asked heap.MaxBlock names = asks.MaxBlock
 asked heap.PurgeSpace names = asks.PurgeSpace
@@ -219,6 +228,7 @@ code_told (Given n) = NO_ERR
 code_told (Fetched handle read) = NO_ERR
 code_told (Number n) = NO_ERR
 code_told (Numbers one other) = NO_ERR
+code_told (Offset offset) = NO_ERR
 code_told (Code code) = NO_ERR
 code_told (Bytes bytes) = NO_ERR
 code_told (Kind kind) = NO_ERR

@@ -6,7 +6,7 @@ ghost use Rattle.res_calls.specs.Asked as finds;
 ghost use Rattle.applications.specs.Trying.{asked, resource_asked};
 
 use crate::names::Names;
-use mac_words::{HeapCall, ResourceCall};
+use mac_words::{HeapCall, Replacement, ResourceCall};
 
 /// Returns the numbers of the handles and pointers that a call names as arguments, two at most. A
 /// name that the call binds is not an argument.
@@ -16,6 +16,7 @@ pub fn named(call: &HeapCall, names: &Names) -> (Option<usize>, Option<usize>)
 {
     match call {
         HeapCall::HandAndHand(from, to) => (names.number(from), names.number(to)),
+        HeapCall::BlockMove(from, _, to, _, _) => (names.number(from), names.number(to)),
         HeapCall::DisposeHandle(name) => (names.number(name), None),
         HeapCall::GetHandleSize(name) => (names.number(name), None),
         HeapCall::SetHandleSize(name, _) => (names.number(name), None),
@@ -33,6 +34,8 @@ pub fn named(call: &HeapCall, names: &Names) -> (Option<usize>, Option<usize>)
         HeapCall::HandToHand(_, from) => (names.number(from), None),
         HeapCall::PtrAndHand(name, _) => (names.number(name), None),
         HeapCall::PtrToXHand(name, _) => (names.number(name), None),
+        HeapCall::Munger(name, _, _, Replacement::Bytes(_)) => (names.number(name), None),
+        HeapCall::Munger(name, _, _, Replacement::Nil) => (names.number(name), None),
         HeapCall::DisposePtr(name) => (names.number(name), None),
         HeapCall::GetPtrSize(name) => (names.number(name), None),
         HeapCall::PtrZone(name) => (names.number(name), None),
@@ -45,6 +48,7 @@ pub fn named(call: &HeapCall, names: &Names) -> (Option<usize>, Option<usize>)
         HeapCall::NewHandle(..)
         | HeapCall::NewEmptyHandle(_)
         | HeapCall::PtrToHand(..)
+        | HeapCall::RecoverHandle(..)
         | HeapCall::NewPtr(..)
         | HeapCall::FreeMem
         | HeapCall::MaxBlock

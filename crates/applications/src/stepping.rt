@@ -17,7 +17,7 @@ ghost use Rattle.applications.specs.Step.{names_given, round, step, course_of, t
 ghost use Rattle.applications.specs.Step as steps;
 ghost use Rattle.applications.specs.Inside.{Glance, glances, glances_for, glances_grown};
 ghost use Rattle.applications.specs.Inside.{glances_try};
-ghost use Rattle.applications.specs.Application.{bytes_told, lines_told};
+ghost use Rattle.applications.specs.Application.{bytes_told};
 ghost use Rattle.applications.specs.Replies.{Came, CameRound, exit_of, Extends, goes_on};
 ghost use Rattle.applications.specs.Reports.{reports};
 ghost use Rattle.applications.specs.Stopping.{steps_taken, StopsAfter};
@@ -193,6 +193,7 @@ impl<'s, S: BlockStore> Application<'s, S> {
             Call::Heap(HeapCall::NewEmptyHandle(name)) => self.names.bind(name, number),
             Call::Heap(HeapCall::HandToHand(name, _)) => self.names.bind(name, number),
             Call::Heap(HeapCall::PtrToHand(name, _)) => self.names.bind(name, number),
+            Call::Heap(HeapCall::RecoverHandle(name, _)) => self.names.bind(name, number),
             Call::Heap(HeapCall::NewPtr(name, _)) => self.names.bind(name, number),
             Call::Resource(ResourceCall::GetResource(name, _, _)) => self.names.bind(name, number),
             Call::Resource(ResourceCall::Get1Resource(name, _, _)) => self.names.bind(name, number),

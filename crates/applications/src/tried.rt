@@ -2,7 +2,8 @@
 
 ghost use Rattle.std.specs.Prelude.{◌≡◌, ◌≢◌, ◌<◌, ◌^◌, ℕ, true, false, None, Err, List, IfOk};
 ghost use Rattle.std.specs.Prelude.{OnOk, OnErr, IsOk};
-ghost use Rattle.mac_words.specs.Told.{Told, Done, Given, Number, Numbers, Code, Bytes, Kind};
+ghost use Rattle.mac_words.specs.Told.{Told, Done, Given, Number, Numbers, Offset, Code, Bytes};
+ghost use Rattle.mac_words.specs.Told.{Kind};
 ghost use Rattle.applications.specs.Trying.{is_full};
 ghost use Rattle.byteorder.specs.Endian.{big_number};
 ghost use Rattle.mac_words.specs.declared.name.OsType.{OsType as Type4};
@@ -14,7 +15,7 @@ ghost use Rattle.res_calls.specs.Asked.{telling, tell_fetched, tell_info};
 ghost use Rattle.mac_words.specs.declared.attributes.Attrs.{Attrs as StoredAttrs};
 ghost use Rattle.res_calls.specs.Given.{IsAnswered, IsAnsweredUnseen, IsFetched};
 ghost use Rattle.res_calls.specs.Places.{WantsHost, seen_info};
-ghost use Rattle.applications.specs.Replies.{Says, TellsTold, TellsServed, GivenAs, exit_as};
+ghost use Rattle.applications.specs.Replies.{TellsTold, TellsServed, GivenAs, exit_as};
 
 use crate::quitting::Exit;
 use heap_calls::{Refusal, Space};
@@ -145,6 +146,48 @@ pub fn measured(answer: Result<u32, Refusal>) -> Result<Tried, AllocError>
 {
     match answer {
         Ok(number) => Ok(Tried::told(Reply::number(number))),
+        Err(Refusal::Code(code)) => Ok(Tried::told(Reply::of(code))),
+        Err(Refusal::HostMemory) => Err(AllocError),
+    }
+}
+
+/// Returns the try of a call that returns a handle that was given before.
+pub fn recovered(answer: Result<usize, OsErr>) -> Result<Tried, AllocError>
+    ensures tried { IfOk result (λ tried. TellsTold tried (told_as Given answer)) }
+    ensures is { IsOk result }
+{
+    match answer {
+        Ok(number) => Ok(Tried {
+            reply: Reply::of(OsErr::NO_ERR),
+            given: Some(number),
+            reading: None,
+            wants: false,
+            over: false,
+        }),
+        Err(code) => Ok(Tried::told(Reply::of(code))),
+    }
+}
+
+/// Returns the try of a call that returns an offset, which is negative where nothing was found.
+pub fn offset(answer: Result<i64, OsErr>) -> Result<Tried, AllocError>
+    ensures tried { IfOk result (λ tried. TellsTold tried (told_as Offset answer)) }
+    ensures is { IsOk result }
+{
+    match answer {
+        Ok(offset) => Ok(Tried::told(Reply::offset(offset))),
+        Err(code) => Ok(Tried::told(Reply::of(code))),
+    }
+}
+
+/// Returns the try of a call that returns an offset, which is negative where nothing was found, and
+/// may find the host out of memory.
+pub fn replaced(answer: Result<i64, Refusal>) -> Result<Tried, AllocError>
+    ensures tried { IfOk result (λ tried. (told : Told) → GivenAs Offset answer told
+        → TellsTold tried told) }
+    ensures host { OnOk result (answer ≢ Err Refusal.HostMemory) }
+{
+    match answer {
+        Ok(offset) => Ok(Tried::told(Reply::offset(offset))),
         Err(Refusal::Code(code)) => Ok(Tried::told(Reply::of(code))),
         Err(Refusal::HostMemory) => Err(AllocError),
     }

@@ -15,11 +15,12 @@ use crate::finding::shown_in as found_in;
 use crate::names::Names;
 use crate::naming::named;
 use crate::tried::{
-    Tried, code_of_another, completed, done, given, measured, number, shown, space, state,
+    Tried, code_of_another, completed, done, given, measured, number, offset, recovered, replaced,
+    shown, space, state,
 };
 use block_store::BlockStore;
 use heap_calls::{Heap, PurgeSink};
-use mac_words::{Call, ControlCall, HeapCall, OsErr, Reply};
+use mac_words::{Call, ControlCall, HeapCall, OsErr, Replacement, Reply};
 use res_calls::Purges;
 use script_text::Script;
 use std::alloc::AllocError;
@@ -143,6 +144,7 @@ fn answered<S: BlockStore, K: PurgeSink>(
         HeapCall::HNoPurge(_) => done(heap.h_no_purge(first)),
         HeapCall::HGetState(_) => state(heap.h_get_state(first)),
         HeapCall::HandleZone(_) => number(heap.handle_zone(first)),
+        HeapCall::RecoverHandle(_, place) => recovered(heap.recover_handle(*place)),
         HeapCall::HSetState(_, state) => done(heap.h_set_state(first, *state)),
         HeapCall::MoveHHi(_) => done(heap.move_h_hi(first)),
         HeapCall::HLockHi(_) => done(heap.h_lock_hi(first)),
@@ -151,11 +153,20 @@ fn answered<S: BlockStore, K: PurgeSink>(
         HeapCall::HandAndHand(..) => completed(heap.hand_and_hand(first, second, sink)),
         HeapCall::PtrAndHand(_, bytes) => completed(heap.pointer_and_hand(first, bytes, sink)),
         HeapCall::PtrToXHand(_, bytes) => completed(heap.pointer_to_x_hand(first, bytes, sink)),
+        HeapCall::Munger(_, from, old, Replacement::Bytes(new)) => replaced(heap.munger(
+            first, *from, old, new, sink,
+        )),
+        HeapCall::Munger(_, from, old, Replacement::Nil) => offset(heap.munger_nil(
+            first, *from, old,
+        )),
         HeapCall::NewPtr(_, size) => given(heap.new_pointer(*size, sink)),
         HeapCall::DisposePtr(_) => done(heap.dispose_pointer(first)),
         HeapCall::GetPtrSize(_) => number(heap.get_pointer_size(first)),
         HeapCall::PtrZone(_) => number(heap.pointer_zone(first)),
         HeapCall::SetPtrSize(_, size) => completed(heap.set_pointer_size(first, *size, sink)),
+        HeapCall::BlockMove(_, start, _, offset, count) => done(heap.block_move(
+            first, *start, second, *offset, *count,
+        )),
         HeapCall::FreeMem => number(Ok(heap.free_mem())),
         HeapCall::MaxBlock => number(Ok(heap.max_block())),
         HeapCall::PurgeSpace => space(heap.purge_space()),

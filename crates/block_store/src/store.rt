@@ -1,7 +1,7 @@
 //! The contract of a store of blocks.
 
 ghost use Rattle.std.specs.Prelude.{◌≡◌, ℕ, ◌+◌, ◌*◌, ◌≤◌, ◌<◌, ◌%◌, ◌&&◌, ◌⊎◌, ◌∷◌, ◌++◌, List};
-ghost use Rattle.std.specs.Prelude.{Bool, true, false, length, take, replicate, is_some, IsTrue};
+ghost use Rattle.std.specs.Prelude.{Bool, true, false, length, take, drop, replicate, is_some, IsTrue};
 ghost use Rattle.std.specs.Prelude.{IsSome, IfSome, IsSomeAnd, OnOk, OnErr, IsErr, MatchOption};
 ghost use Rattle.std.specs.Option.{option_map};
 ghost use Rattle.mac_words.specs.Size.{padded};
@@ -360,16 +360,17 @@ pub trait BlockStore {
             ++ with_content (written from bytes.now (content_of s.here)) s.here ∷ s.above) }
         ensures rest { IsRest (rest self.old) (rest self.new) };
 
-    /// Writes the first `bytes` bytes of one block into another block, or into the same block, from
-    /// an offset on.
-    fn copy(&mut self, source: u32, bytes: u32, place: u32, from: u32)
-        requires source { IsSomeAnd (spot_at source (zone self.old)) (λ s. bytes
+    /// Writes `bytes` bytes of one block, from the offset `start` on, into another block, or into
+    /// the same block, from the offset `from` on. The two stretches may overlap.
+    fn copy(&mut self, source: u32, start: u32, bytes: u32, place: u32, from: u32)
+        requires source { IsSomeAnd (spot_at source (zone self.old)) (λ s. start + bytes
             ≤ length (content_of s.here)) }
         requires within { IsSomeAnd (spot_at place (zone self.old)) (λ s. from + bytes
             ≤ length (content_of s.here)) }
         ensures zone { IfSome (spot_at source (zone self.old)) (λ t.
             IfSome (spot_at place (zone self.old)) (λ s. zone self.new ≡ s.below ++ with_content
-            (written from (take bytes (content_of t.here)) (content_of s.here)) s.here ∷ s.above)) }
+            (written from (take bytes (drop start (content_of t.here))) (content_of s.here)) s.here
+            ∷ s.above)) }
         ensures rest { IsRest (rest self.old) (rest self.new) };
 
     /// A zone has at most 2^27 bytes.

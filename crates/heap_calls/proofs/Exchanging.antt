@@ -3,11 +3,10 @@ use Rattle.std.proofs.Common.{cond, arith, Option, Some, None, Result, Ok, Err, 
 use Rattle.std.proofs.lemmas.List.{append-nil}
 use Rattle.std.proofs.lemmas.Bool.{le-leb}
 use Rattle.std.specs.Option.{option_map, ok_or}
-use Rattle.std.specs.Prelude.{◌⊎◌, is_some, unwrap_or}
+use Rattle.std.specs.Prelude.{is_some, unwrap_or}
 use Rattle.mac_words.specs.Size.{phys}
 use Rattle.mac_words.specs.declared.code.OsErr.{OsErr}
 use Rattle.mac_words.specs.declared.code.TheConstants.OsErr.{MEM_FULL, NIL_HANDLE, PROFILE}
-use Rattle.memory_windows.specs.Writes.{written}
 use Rattle.block_store.specs.Block.{Block, Free, Nonrelocatable, Masters, Relocatable, count, is_relocatable, content_of}
 use Rattle.block_store.specs.Block.{resized}
 use Rattle.block_store.specs.Room.{Spot, spot}
@@ -35,27 +34,27 @@ use Rattle.heap_calls.proofs.Rows.Standing.{sized-fits}
 use Rattle.heap_calls.proofs.Rows.Weighing.{alone, named-there}
 use Rattle.heap_calls.proofs.Same.Growing.{same-handle}
 
--- What PtrToXHand does: SetHandleSize, and bytes that are then put.
+-- SetHandleSize, and bytes that are then put: what PtrToXHand does, and Munger where the block grows.
 
 -- what a call did in a memory
-abbrev done_in : Memory → rows.Done (Unit {0}) → Result (Unit {0}) OsErr × Memory
+abbrev pub done_in : Memory → rows.Done (Unit {0}) → Result (Unit {0}) OsErr × Memory
 done_in m d = moving (work d m.heap).lowered (searching (work d m.heap).searches (d.reply, record m { heap = heap_after d m.heap }))
 
 -- no call that is refused was done
-not-both : {R : Type 0} (code : OsErr) (a b : Memory)
+pub not-both : {R : Type 0} (code : OsErr) (a b : Memory)
     → (let x : Result (Unit {0}) OsErr × Memory = (Err code, a) in x) ≡ (Ok tt, b) → R
 not-both code a b e =
     let never : (let r : Result (Unit {0}) OsErr = Err code in r) ≡ Ok tt = ap (λ (x : Result (Unit {0}) OsErr × Memory). x.0) e
     in cc
 
 -- the handle of a name does not hang on the zone
-at-same : (handle : Option ℕ) (s : State) (zone : List Block)
+pub at-same : (handle : Option ℕ) (s : State) (zone : List Block)
     → handle_at handle (let now : State = record s { zone = zone } in now) ≡ handle_at handle s
 at-same None s zone = refl
 at-same (Some h) s zone = refl
 
 -- a handle that is looked up where its block is another one
-relook : (r : Result Known OsErr) (s now : State) (held : Held) (at : Spot) → held_at r s ≡ Ok held
+pub relook : (r : Result Known OsErr) (s now : State) (held : Held) (at : Spot) → held_at r s ≡ Ok held
     → spot (is_relocatable held.number) now.zone ≡ Some at
     → held_at r now ≡ Ok (let k : Held = record { number = held.number; at = at } in k)
 relook (Err code) s now held at e there = cc
@@ -74,7 +73,7 @@ relook (Ok k) s now held at e there = by_spot (spot (is_relocatable k.number) s.
         ∙ ap (λ (j : ℕ). (let r : Result Held OsErr = Ok (record { number = j; at = at }) in r)) number
 
 -- a block that is found is counted
-spot-count : (test : Block → Bool) (zone : List Block) (s : Spot) → spot test zone ≡ Some s → 1 ≤ count test zone
+pub spot-count : (test : Block → Bool) (zone : List Block) (s : Spot) → spot test zone ≡ Some s → 1 ≤ count test zone
 spot-count test zone s e =
     let whole : count test zone ≡ count test (s.below ++ s.here ∷ s.above) = ap (count test) (spot-is test zone s e) in
     let parts = total-append (λ b. cond {A = ℕ} (test b) 1 0) s.below (s.here ∷ s.above) in
@@ -125,8 +124,8 @@ module _ (s : State) (held : Held) (n : ℕ) (there : Spared (is_relocatable hel
         sized-fits held.number n s.zone after held.at there.there
         (λ of none. size-new of sp none n s.zone held.at sp named there.there once found) at e
 
--- the row, and that of SetHandleSize, on a block that was found
-module _ (x : List ℕ) (s : State) (held : Held)
+-- a block that was found: its size and then bytes in it, and SetHandleSize
+module _ (wanted i : ℕ) (x : List ℕ) (s : State) (held : Held)
   where
     abbrev own : Block → Bool
     own = is_relocatable held.number
@@ -138,66 +137,67 @@ module _ (x : List ℕ) (s : State) (held : Held)
     sized n = rows.changed own (sought n) s
 
     abbrev filled : rows.Done (Unit {0})
-    filled = rows.sized_written own held (length x) 0 x s
+    filled = rows.sized_written own held wanted i x s
 
     abbrev write : List Move
-    write = Write held.number 0 x ∷ []
+    write = Write held.number i x ∷ []
 
     -- they are the same where no room is found
-    pub unfilled : (sought (length x)).found ≡ false → filled ≡ sized (length x)
+    pub unfilled : (sought wanted).found ≡ false → filled ≡ sized wanted
     unfilled e = ap (λ (t : Bool). (let d : rows.Done (Unit {0}) = record {
-      reply = reply_of (sought (length x)).found tt;
+      reply = reply_of (sought wanted).found tt;
       names = s.names;
       spared = own;
-      path = cond t ((sought (length x)).path ++ write) (sought (length x)).path;
+      path = cond t ((sought wanted).path ++ write) (sought wanted).path;
     } in d)) e
 
     -- and where no block has either size
-    pub unsized : (n : ℕ) → phys n ≡ None → phys (length x) ≡ None → filled ≡ sized n
+    pub unsized : (n : ℕ) → phys n ≡ None → phys wanted ≡ None → filled ≡ sized n
     unsized n small large =
         ap (λ (o : Option ℕ). rows.changed own (around [] write (cond (is_some o)
-        (seek_resized (resized (length x) held.at.here) own s.zone held.at) no_room)) s) large
+        (seek_resized (resized wanted held.at.here) own s.zone held.at) no_room)) s) large
         ∙ sym (ap (λ (o : Option ℕ). rows.changed own (cond (is_some o)
         (seek_resized (resized n held.at.here) own s.zone held.at) no_room) s) small)
 
     -- what is purged is the same
-    pub same-gone : (work filled s).gone ≡ (work (sized (length x)) s).gone
-    same-gone = cases (sought (length x)).found
+    pub same-gone : (work filled s).gone ≡ (work (sized wanted) s).gone
+    same-gone = cases (sought wanted).found
       where
-        cases : (t : Bool) → (did own (cond t ((sought (length x)).path ++ write) (sought (length x)).path) s.zone).gone
-            ≡ (did own (sought (length x)).path s.zone).gone
+        cases : (t : Bool) → (did own (cond t ((sought wanted).path ++ write) (sought wanted).path) s.zone).gone
+            ≡ (did own (sought wanted).path s.zone).gone
         cases true =
-            ap (λ (d : Did). d.gone) (did-append own (sought (length x)).path write s.zone)
-            ∙ append-nil (did own (sought (length x)).path s.zone).gone
+            ap (λ (d : Did). d.gone) (did-append own (sought wanted).path write s.zone)
+            ∙ append-nil (did own (sought wanted).path s.zone).gone
         cases false = refl
 
 -- the bytes are written as Put writes them
-written-there : (handle : Option ℕ) (x : List ℕ) (m mid : Memory) (held : Held) → look_up handle m.heap ≡ Ok held
+written-there : (handle : Option ℕ) (wanted i : ℕ) (x : List ℕ) → i + length x ≤ wanted → (m mid : Memory) (held : Held)
+    → look_up handle m.heap ≡ Ok held
     → Spared (is_relocatable held.number) m.heap held → count (is_relocatable held.number) m.heap.zone ≤ 1
-    → (sought x m.heap held (length x)).found ≡ true → done_in m (sized x m.heap held (length x)) ≡ (Ok tt, mid)
-    → done_in m (filled x m.heap held) ≡ silent (put handle 0 x) mid
-written-there handle x m mid held is there once found e =
-    ap (λ (t : Bool). whole (reply_of t tt) (did sp (cond t (path ++ write x m.heap held) path) m.heap.zone)) found
-    ∙ ap (whole (Ok tt)) (did-append sp path (write x m.heap held) m.heap.zone)
-    ∙ ap (λ (k : ℕ). leaves (unwrap_or (option_map (rewritten 0 x) (spot sp zone)) zone) (first.searches + k) (first.lowered + k))
+    → (sought wanted i x m.heap held wanted).found ≡ true → done_in m (sized wanted i x m.heap held wanted) ≡ (Ok tt, mid)
+    → done_in m (filled wanted i x m.heap held) ≡ silent (put handle i x) mid
+written-there handle wanted i x within m mid held is there once found e =
+    ap (λ (t : Bool). whole (reply_of t tt) (did sp (cond t (path ++ write wanted i x m.heap held) path) m.heap.zone)) found
+    ∙ ap (whole (Ok tt)) (did-append sp path (write wanted i x m.heap held) m.heap.zone)
+    ∙ ap (λ (k : ℕ). leaves (unwrap_or (option_map (rewritten i x) (spot sp zone)) zone) (first.searches + k) (first.lowered + k))
     (let z : 0 + 0 ≡ 0 = omega arith in z)
-    ∙ ap (λ (k : ℕ). leaves (unwrap_or (option_map (rewritten 0 x) (spot sp zone)) zone) k (first.lowered + 0))
+    ∙ ap (λ (k : ℕ). leaves (unwrap_or (option_map (rewritten i x) (spot sp zone)) zone) k (first.lowered + 0))
     (let z : first.searches + 0 ≡ first.searches = omega arith in z)
-    ∙ ap (λ (k : ℕ). leaves (unwrap_or (option_map (rewritten 0 x) (spot sp zone)) zone) first.searches k)
+    ∙ ap (λ (k : ℕ). leaves (unwrap_or (option_map (rewritten i x) (spot sp zone)) zone) first.searches k)
     (let z : first.lowered + 0 ≡ first.lowered = omega arith in z)
-    ∙ ap (λ (o : Option Spot). leaves (unwrap_or (option_map (rewritten 0 x) o) zone) first.searches first.lowered) at.1
+    ∙ ap (λ (o : Option Spot). leaves (unwrap_or (option_map (rewritten i x) o) zone) first.searches first.lowered) at.1
     ∙ sym (ap (λ (t : Bool). puts (cond {A = Result (Unit {0}) OsErr × State} t
-    (Ok tt, record now { zone = rewritten 0 x at.0 }) (refused PROFILE now))) fits)
+    (Ok tt, record now { zone = rewritten i x at.0 }) (refused PROFILE now))) fits)
     ∙ sym (ap (λ (r : Result Held OsErr). puts (on r)) (relook (handle_at handle m.heap) m.heap now held at.0 is at.1))
     ∙ sym (ap (λ (r : Result Known OsErr). puts (on (held_at r now))) (at-same handle m.heap zone))
-    ∙ ap (λ (y : Result (Unit {0}) OsErr × Memory). silent (put handle 0 x) y.1)
+    ∙ ap (λ (y : Result (Unit {0}) OsErr × Memory). silent (put handle i x) y.1)
     (sym (ap (λ (t : Bool). whole (reply_of t tt) first) found) ∙ e)
   where
     sp : Block → Bool
     sp = is_relocatable held.number
 
     path : List Move
-    path = (sought x m.heap held (length x)).path
+    path = (sought wanted i x m.heap held wanted).path
 
     first : Did
     first = did sp path m.heap.zone
@@ -215,11 +215,11 @@ written-there handle x m mid held is there once found e =
     whole reply d = moving d.lowered (searching d.searches (reply, record m { heap = record m.heap { zone = d.zone } }))
 
     at : (at : Spot) × (spot sp zone ≡ Some at)
-    at = block-there m.heap held (length x) there once
+    at = block-there m.heap held wanted there once
 
-    fits : nat_le (0 + length x) (length (content_of at.0.here)) ≡ true
-    fits = le-leb (0 + length x) (length (content_of at.0.here))
-        (omega (arith, block-fits m.heap held (length x) there once found at.0 at.1))
+    fits : nat_le (i + length x) (length (content_of at.0.here)) ≡ true
+    fits = le-leb (i + length x) (length (content_of at.0.here))
+        (omega (arith, within, block-fits m.heap held wanted there once found at.0 at.1))
 
     -- what Put answers in the heap that is left
     mid_memory : Memory
@@ -229,91 +229,118 @@ written-there handle x m mid held is there once found e =
     puts y = (y.0, record mid_memory { heap = y.1 })
 
     on : Result Held OsErr → Result (Unit {0}) OsErr × State
-    on r = answers.for_found r now (λ held. written_at 0 x held.at now)
+    on r = answers.for_found r now (λ held. written_at i x held.at now)
+
+-- the call that does so
+abbrev pub filling : Option ℕ → ℕ → ℕ → List ℕ → State → rows.Done (Unit {0})
+filling handle wanted i x s = rows.for_found (look_up handle s) s (λ held. rows.sized_written (is_relocatable held.number)
+    held wanted i x s)
 
 -- what is refused: the same
-replace-refused : (handle : Option ℕ) (x : List ℕ) (n : ℕ) (m after : Memory) (code : OsErr) → IsSizeOf (length x) n
+pub fill-refused : (handle : Option ℕ) (wanted i : ℕ) (x : List ℕ) (n : ℕ) (m after : Memory) (code : OsErr) → IsSizeOf wanted n
     → doing_silently (rows.set_handle_size handle n) m ≡ (Err code, after)
-    → doing_silently (rows.pointer_to_x_hand handle x) m ≡ (Err code, after)
-replace-refused handle x n m after code size e = by_found (look_up handle m.heap) e
+    → doing_silently (filling handle wanted i x) m ≡ (Err code, after)
+fill-refused handle wanted i x n m after code size e = by_found (look_up handle m.heap) e
   where
-    by_found : (r : Result Held OsErr) → done_in m (rows.for_found r m.heap (λ held. sized x m.heap held n)) ≡ (Err code, after)
-        → done_in m (rows.for_found r m.heap (λ held. filled x m.heap held)) ≡ (Err code, after)
+    by_found : (r : Result Held OsErr) → done_in m (rows.for_found r m.heap (λ held. sized wanted i x m.heap held n)) ≡ (Err code, after)
+        → done_in m (rows.for_found r m.heap (λ held. filled wanted i x m.heap held)) ≡ (Err code, after)
     by_found (Err why) e = e
     by_found (Ok held) e = by_size size
       where
-        by_room : (t : Bool) → (sought x m.heap held (length x)).found ≡ t
-            → done_in m (sized x m.heap held (length x)) ≡ (Err code, after)
-            → done_in m (filled x m.heap held) ≡ (Err code, after)
-        by_room false none e = ap (done_in m) (unfilled x m.heap held none) ∙ e
+        by_room : (t : Bool) → (sought wanted i x m.heap held wanted).found ≡ t
+            → done_in m (sized wanted i x m.heap held wanted) ≡ (Err code, after)
+            → done_in m (filled wanted i x m.heap held) ≡ (Err code, after)
+        by_room false none e = ap (done_in m) (unfilled wanted i x m.heap held none) ∙ e
         by_room true there e =
             let never : (let r : Result (Unit {0}) OsErr = Ok tt in r) ≡ Err code =
             sym (ap (λ (t : Bool). reply_of t tt) there) ∙ ap (λ (y : Result (Unit {0}) OsErr × Memory). y.0) e in cc
 
-        by_size : IsSizeOf (length x) n → done_in m (filled x m.heap held) ≡ (Err code, after)
-        by_size (inl same) = by_room (sought x m.heap held (length x)).found refl
-            (subst (λ (k : ℕ). done_in m (sized x m.heap held k) ≡ (Err code, after)) same e)
-        by_size (inr (small, large)) = ap (done_in m) (unsized x m.heap held n small large) ∙ e
+        by_size : IsSizeOf wanted n → done_in m (filled wanted i x m.heap held) ≡ (Err code, after)
+        by_size (inl same) = by_room (sought wanted i x m.heap held wanted).found refl
+            (subst (λ (k : ℕ). done_in m (sized wanted i x m.heap held k) ≡ (Err code, after)) same e)
+        by_size (inr (small, large)) = ap (done_in m) (unsized wanted i x m.heap held n small large) ∙ e
 
 -- and what the host stops
-pub replace-stopped : (handle : Option ℕ) (x : List ℕ) (n : ℕ) (m left : Memory) (why : Refusal) → IsSizeOf (length x) n
+pub fill-stopped : (handle : Option ℕ) (wanted i : ℕ) (x : List ℕ) (n : ℕ) (m left : Memory) (why : Refusal) → IsSizeOf wanted n
     → IsAnswer (doing_silently (rows.set_handle_size handle n) m) (Err why) left
-    → IsAnswer (doing_silently (rows.pointer_to_x_hand handle x) m) (Err why) left
-replace-stopped handle x n m left (Code code) size e = replace-refused handle x n m left code size e
-replace-stopped handle x n m left HostMemory size e = tt
+    → IsAnswer (doing_silently (filling handle wanted i x) m) (Err why) left
+fill-stopped handle wanted i x n m left (Code code) size e = fill-refused handle wanted i x n m left code size e
+fill-stopped handle wanted i x n m left HostMemory size e = tt
 
 -- what is purged
-pub replace-purges : (handle : Option ℕ) (x : List ℕ) (n : ℕ) (s : State) → IsSizeOf (length x) n
-    → purges_made (rows.set_handle_size handle n) s ≡ purges_made (rows.pointer_to_x_hand handle x) s
-replace-purges handle x n s size = by_found (look_up handle s)
+pub fill-purges : (handle : Option ℕ) (wanted i : ℕ) (x : List ℕ) (n : ℕ) (s : State) → IsSizeOf wanted n
+    → purges_made (rows.set_handle_size handle n) s ≡ purges_made (filling handle wanted i x) s
+fill-purges handle wanted i x n s size = by_found (look_up handle s)
   where
     gone : rows.Done (Unit {0}) → List Gone
     gone d = told_blocks (length s.names) (work d s).gone
 
-    by_found : (r : Result Held OsErr) → gone (rows.for_found r s (λ held. sized x s held n))
-        ≡ gone (rows.for_found r s (λ held. filled x s held))
+    by_found : (r : Result Held OsErr) → gone (rows.for_found r s (λ held. sized wanted i x s held n))
+        ≡ gone (rows.for_found r s (λ held. filled wanted i x s held))
     by_found (Err why) = refl
     by_found (Ok held) = by_size size
       where
-        by_size : IsSizeOf (length x) n → gone (sized x s held n) ≡ gone (filled x s held)
+        by_size : IsSizeOf wanted n → gone (sized wanted i x s held n) ≡ gone (filled wanted i x s held)
         by_size (inl same) =
-            ap (λ (k : ℕ). gone (sized x s held k)) same ∙ sym (ap (told_blocks (length s.names)) (same-gone x s held))
-        by_size (inr (small, large)) = sym (ap gone (unsized x s held n small large))
+            ap (λ (k : ℕ). gone (sized wanted i x s held k)) same ∙ sym (ap (told_blocks (length s.names)) (same-gone wanted i x s held))
+        by_size (inr (small, large)) = sym (ap gone (unsized wanted i x s held n small large))
 
 -- what is written: as Put does in what SetHandleSize leaves
-pub replace-written : (handle : Option ℕ) (x : List ℕ) (n : ℕ) (m mid : Memory) → IsSizeOf (length x) n
+pub fill-written : (handle : Option ℕ) (wanted i : ℕ) (x : List ℕ) (n : ℕ) (m mid : Memory) → IsSizeOf wanted n
+    → i + length x ≤ wanted
     → ((h : ℕ) → h < length m.heap.names → count (is_relocatable h) m.heap.zone ≤ 1)
     → doing_silently (rows.set_handle_size handle n) m ≡ (Ok tt, mid)
-    → doing_silently (rows.pointer_to_x_hand handle x) m ≡ silent (put handle 0 x) mid
-replace-written handle x n m mid size once e = by_found (look_up handle m.heap) refl e
+    → doing_silently (filling handle wanted i x) m ≡ silent (put handle i x) mid
+fill-written handle wanted i x n m mid size within once e = by_found (look_up handle m.heap) refl e
   where
     s : State
     s = m.heap
 
     by_found : (r : Result Held OsErr) → look_up handle s ≡ r
-        → done_in m (rows.for_found r s (λ held. sized x s held n)) ≡ (Ok tt, mid)
-        → done_in m (rows.for_found r s (λ held. filled x s held)) ≡ silent (put handle 0 x) mid
+        → done_in m (rows.for_found r s (λ held. sized wanted i x s held n)) ≡ (Ok tt, mid)
+        → done_in m (rows.for_found r s (λ held. filled wanted i x s held)) ≡ silent (put handle i x) mid
     by_found (Err why) is e = not-both why _ mid e
     by_found (Ok held) is e = by_size size
       where
         there : Spared (is_relocatable held.number) s held
         there = is-spared (is_relocatable held.number) handle s held is (λ b not. not)
 
-        refused-not : {R : Type 0} → done_in m (sized x s held n) ≡ (Ok tt, mid) → (sought x s held n).found ≡ false → R
+        refused-not : {R : Type 0} → done_in m (sized wanted i x s held n) ≡ (Ok tt, mid) → (sought wanted i x s held n).found ≡ false → R
         refused-not e none =
             let never : (let r : Result (Unit {0}) OsErr = Err MEM_FULL in r) ≡ Ok tt =
             sym (ap (λ (t : Bool). reply_of t tt) none) ∙ ap (λ (y : Result (Unit {0}) OsErr × Memory). y.0) e in cc
 
-        by_room : (t : Bool) → (sought x s held (length x)).found ≡ t → done_in m (sized x s held (length x)) ≡ (Ok tt, mid)
-            → done_in m (filled x s held) ≡ silent (put handle 0 x) mid
+        by_room : (t : Bool) → (sought wanted i x s held wanted).found ≡ t → done_in m (sized wanted i x s held wanted) ≡ (Ok tt, mid)
+            → done_in m (filled wanted i x s held) ≡ silent (put handle i x) mid
         by_room false none e =
             let never : (let r : Result (Unit {0}) OsErr = Err MEM_FULL in r) ≡ Ok tt =
             sym (ap (λ (t : Bool). reply_of t tt) none) ∙ ap (λ (y : Result (Unit {0}) OsErr × Memory). y.0) e in cc
-        by_room true found e = written-there handle x m mid held is there (once held.number there.within) found e
+        by_room true found e = written-there handle wanted i x within m mid held is there (once held.number there.within) found e
 
-        by_size : IsSizeOf (length x) n → done_in m (filled x s held) ≡ silent (put handle 0 x) mid
-        by_size (inl same) = by_room (sought x s held (length x)).found refl
-            (subst (λ (k : ℕ). done_in m (sized x s held k) ≡ (Ok tt, mid)) same e)
+        by_size : IsSizeOf wanted n → done_in m (filled wanted i x s held) ≡ silent (put handle i x) mid
+        by_size (inl same) = by_room (sought wanted i x s held wanted).found refl
+            (subst (λ (k : ℕ). done_in m (sized wanted i x s held k) ≡ (Ok tt, mid)) same e)
         by_size (inr (small, large)) = refused-not e
             (ap (λ (o : Option ℕ). (let r : Sought = cond (is_some o)
             (seek_resized (resized n held.at.here) (is_relocatable held.number) s.zone held.at) no_room in r).found) small)
+
+-- PtrToXHand
+replace-refused : (handle : Option ℕ) (x : List ℕ) (n : ℕ) (m after : Memory) (code : OsErr) → IsSizeOf (length x) n
+    → doing_silently (rows.set_handle_size handle n) m ≡ (Err code, after)
+    → doing_silently (rows.pointer_to_x_hand handle x) m ≡ (Err code, after)
+replace-refused handle x n = fill-refused handle (length x) 0 x n
+
+pub replace-stopped : (handle : Option ℕ) (x : List ℕ) (n : ℕ) (m left : Memory) (why : Refusal) → IsSizeOf (length x) n
+    → IsAnswer (doing_silently (rows.set_handle_size handle n) m) (Err why) left
+    → IsAnswer (doing_silently (rows.pointer_to_x_hand handle x) m) (Err why) left
+replace-stopped handle x n = fill-stopped handle (length x) 0 x n
+
+pub replace-purges : (handle : Option ℕ) (x : List ℕ) (n : ℕ) (s : State) → IsSizeOf (length x) n
+    → purges_made (rows.set_handle_size handle n) s ≡ purges_made (rows.pointer_to_x_hand handle x) s
+replace-purges handle x n = fill-purges handle (length x) 0 x n
+
+pub replace-written : (handle : Option ℕ) (x : List ℕ) (n : ℕ) (m mid : Memory) → IsSizeOf (length x) n
+    → ((h : ℕ) → h < length m.heap.names → count (is_relocatable h) m.heap.zone ≤ 1)
+    → doing_silently (rows.set_handle_size handle n) m ≡ (Ok tt, mid)
+    → doing_silently (rows.pointer_to_x_hand handle x) m ≡ silent (put handle 0 x) mid
+replace-written handle x n m mid size = fill-written handle (length x) 0 x n m mid size (omega arith)

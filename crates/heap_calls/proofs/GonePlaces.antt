@@ -1,5 +1,5 @@
 use Rattle.std.proofs.Common.{◌≡◌, ℕ, ◌-◌, ◌<◌, zero, suc, Bool, true, false, not, ◌&&◌, List, [], ◌∷◌, ◌++◌, length, map}
-use Rattle.std.proofs.Common.{refl, sym, ◌∙◌, ap, cond, Option, Some, Result, Ok, Err, is_some, slice_get, inl, inr}
+use Rattle.std.proofs.Common.{refl, sym, ◌∙◌, ap, cond, Option, Some, Result, Ok, Err, is_some, slice_get}
 use Rattle.std.specs.Option.{option_map}
 use Rattle.std.proofs.lemmas.Bool.{false≢true}
 use Rattle.std.proofs.lemmas.List.{map-id, length-map, length-replicate}

@@ -91,8 +91,3 @@ stops-halted takes told listens keeps another first old new sink heard kept back
     | inr all ↦ inr (inl (record { same = back all.same all.kept; silent = all.silent; why = inl all.why }))
   ];
 }
-
--- What holds in any case holds where there is a value.
-pub on_ok-always : {T E P : Type 0} (result : Result T E) → P → OnOk result P
-on_ok-always (Ok value) p = p
-on_ok-always (Err fault) p = tt

@@ -19,3 +19,9 @@ mod Worked
 mod Same
 pub mod Rows
 pub mod Went
+pub mod Exchanged
+mod Finding
+mod BlockMoves
+mod Recovered
+pub mod Sought
+mod Munged

@@ -1,4 +1,5 @@
 pub mod Knowing
+pub mod NamedBlocks
 pub mod KnownChanges
 pub mod LastPutLaws
 pub mod Fullness

@@ -1,4 +1,4 @@
-use Rattle.std.specs.Prelude.{ℕ, ◌+◌, ◌-◌, Bool, true, false, Option, Some, None, Result, Ok, Err, List, [], ◌∷◌, ◌++◌}
+use Rattle.std.specs.Prelude.{ℕ, ℤ, pos, negsuc, ◌+◌, ◌-◌, Bool, true, false, Option, Some, None, Result, Ok, Err, List, [], ◌∷◌, ◌++◌}
 use Rattle.std.specs.Prelude.{length, slice_get, slice_set, unwrap_or, nat_le, if◌then◌else◌}
 use Rattle.std.specs.Option.{option_map, ok_or}
 use Rattle.mac_words.specs.Size.{phys}
@@ -15,6 +15,8 @@ use Rattle.block_store.specs.Compact.{largest_free, largest_run, compacted}
 use Rattle.block_store.specs.Rest.{counted}
 use Rattle.heap_calls.specs.State.{Role, Plain, Resource, SystemResource, Meaning, Handle, Pointer, Disposed, State}
 use Rattle.heap_calls.specs.State.{Memory}
+use Rattle.heap_calls.specs.Munging.{Target, found_in}
+use Rattle.heap_calls.specs.declared.munging.Occurrence.{Occurrence}
 use Rattle.block_store.specs.declared.measures.TheConstants.{HEADER_SIZE}
 
 -- The calls of the Memory Manager. Inside Macintosh: Memory, chapter 2, "Memory Manager Routines". A call takes a
@@ -102,6 +104,19 @@ get_handle_size handle s = on_block handle s (λ held. (Ok (length (content_of h
 -- See decision 234 (`HandleZone` and `PtrZone` return 0).
 abbrev pub handle_zone : Option ℕ → State → Answer ℕ
 handle_zone handle s = for_found (handle_at handle s) s (λ k. (Ok 0, s))
+
+-- The place of what Munger finds in a handle's block, from the offset i on, where it puts nothing there: -1 where nothing
+-- was found; -30001 (profileErr) where the offset is past the end of the block's content.
+-- See decision 244 (`Munger` replaces what it finds, or what stands at the end).
+abbrev pub place_found : Option Occurrence → ℤ
+place_found None = negsuc 0
+place_found (Some found) = pos found.at
+
+abbrev pub place_in : Target → ℕ → List ℕ → Result ℤ OsErr
+place_in old i bytes = if nat_le i (length bytes) then Ok (place_found (found_in old i bytes)) else Err PROFILE
+
+abbrev pub munger_nil : Option ℕ → ℕ → Target → State → Answer ℤ
+munger_nil handle i old s = on_block handle s (λ held. (place_in old i (content_of held.at.here), s))
 
 -- FreeMem: the number of free bytes of the zone, the headers of free blocks included.
 abbrev pub free_mem : State → Answer ℕ

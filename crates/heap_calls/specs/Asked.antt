@@ -3,6 +3,7 @@ use Rattle.mac_words.specs.declared.code.OsErr.{OsErr}
 use Rattle.mac_words.specs.Told.{Told, Refused}
 use Rattle.heap_calls.specs.State.{State, Memory}
 use Rattle.heap_calls.specs.Answer.{Answer, noting, searching, moving}
+use Rattle.heap_calls.specs.Munging.{Target}
 
 -- The bytes of a new handle's block: so many bytes 0, or a copy of these bytes.
 -- See decision 233 (PtrToHand is NewHandle with a copy of bytes).
@@ -36,17 +37,21 @@ pub data Asked : Type 0 where
   HGetState : (handle : Option ℕ) → Asked
   HSetState : (handle : Option ℕ) (state : ℕ) → Asked
   HandleZone : (handle : Option ℕ) → Asked
+  RecoverHandle : (place : ℕ) → Asked
   MoveHHi : (handle : Option ℕ) → Asked
   HLockHi : (handle : Option ℕ) → Asked
   HandToHand : (handle : Option ℕ) → Asked
   HandAndHand : (from : Option ℕ) (to : Option ℕ) → Asked
   PtrAndHand : (handle : Option ℕ) (bytes : List ℕ) → Asked
   PtrToXHand : (handle : Option ℕ) (bytes : List ℕ) → Asked
+  Munger : (handle : Option ℕ) (offset : ℕ) (old : Target) (new : List ℕ) → Asked
+  MungerNil : (handle : Option ℕ) (offset : ℕ) (old : Target) → Asked
   NewPtr : (size : ℕ) → Asked
   DisposePtr : (pointer : Option ℕ) → Asked
   GetPtrSize : (pointer : Option ℕ) → Asked
   SetPtrSize : (pointer : Option ℕ) (size : ℕ) → Asked
   PtrZone : (pointer : Option ℕ) → Asked
+  BlockMove : (from : Option ℕ) (start : ℕ) (to : Option ℕ) (offset : ℕ) (count : ℕ) → Asked
   FreeMem : Asked
   MaxBlock : Asked
   PurgeSpace : Asked

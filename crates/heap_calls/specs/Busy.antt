@@ -6,6 +6,7 @@ use Rattle.mac_words.specs.declared.code.TheConstants.OsErr.{LOCKED, PROFILE}
 use Rattle.heap_calls.specs.State.{Role, Plain, Resource, SystemResource, Meaning, Handle, Pointer, Disposed}
 use Rattle.heap_calls.specs.State.{State, Memory}
 use Rattle.heap_calls.specs.Answer.{Known, Held, handle_at, look_up}
+use Rattle.heap_calls.specs.Pointers.{block_named}
 
 -- Busy names: the handles and pointers that a waiting call names, while a grow-zone script runs. Inside Macintosh:
 -- Memory, chapter 1, "Low-Memory Conditions" and "Grow-Zone Functions".
@@ -107,6 +108,18 @@ abbrev pub either_barred : Option ℕ → Memory → Option OsErr
 either_barred None m = None
 either_barred (Some n) m = either_bars m.log.busy n (slice_get m.heap.names n)
 
+-- The code with which a number bars a call that changes the bytes of its block, by what the number stands for.
+abbrev pub either_guards : Places → ℕ → Option Meaning → Option OsErr
+either_guards busy n None = None
+either_guards busy n (Some (Handle role)) = option_or (bar (is_busy n busy)) (guard role)
+either_guards busy n (Some Pointer) = bar (is_busy n busy)
+either_guards busy n (Some Disposed) = None
+
+-- The code with which the handle or the pointer that a name is bound to bars a call that changes its block's bytes.
+abbrev pub either_change_barred : Option ℕ → Memory → Option OsErr
+either_change_barred None m = None
+either_change_barred (Some n) m = either_guards m.log.busy n (slice_get m.heap.names n)
+
 -- The code of a second handle, which is looked up only where the first has a block.
 abbrev pub next_barred : Result Held OsErr → Option OsErr → Option OsErr
 next_barred (Err code) other = None
@@ -115,6 +128,12 @@ next_barred (Ok held) other = other
 -- The code with which the first or the second of two handles bars a call.
 abbrev pub both_barred : Option ℕ → Option ℕ → Memory → Option OsErr
 both_barred from to m = option_or (barred from m) (next_barred (look_up from m.heap) (change_barred to m))
+
+-- The code with which the first or the second of two handles or pointers bars a call that copies bytes of the first into
+-- the second.
+abbrev pub move_barred : Option ℕ → Option ℕ → Memory → Option OsErr
+move_barred from to m =
+    option_or (either_barred from m) (next_barred (block_named from m.heap) (either_change_barred to m))
 
 -- The heap after a call that set this code.
 abbrev pub keep_code : OsErr → Memory → Memory

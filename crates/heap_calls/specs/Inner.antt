@@ -16,6 +16,7 @@ pub mod Telling
 pub mod Halting
 pub mod Reaching
 pub mod Loose
+pub mod Munging
 pub mod Appending
 pub mod Naming
 pub mod Filling

@@ -1,12 +1,13 @@
-use Rattle.std.specs.Prelude.{◌≡◌, ℕ, ◌==◌, ◌++◌, Some, Ok, List, [], ◌∷◌, replicate, if◌then◌else◌}
+use Rattle.std.specs.Prelude.{◌≡◌, ℕ, ◌==◌, ◌++◌, Some, Ok, List, [], ◌∷◌, take, drop, replicate, if◌then◌else◌}
 use Rattle.block_store.specs.Block.{content_of, resized_content}
 use Rattle.memory_windows.specs.Writes.{written}
 use Rattle.heap_calls.specs.State.{State}
 use Rattle.heap_calls.specs.Answer.{Held}
 use Rattle.heap_calls.specs.Pointers.{block_named}
 use Rattle.heap_calls.specs.Asked.{Asked, NewHandle, SetHandleSize, ReallocateHandle, HandToHand, HandAndHand}
-use Rattle.mac_words.specs.Told.{Told, Done, Given}
-use Rattle.heap_calls.specs.Asked.{PtrAndHand, PtrToXHand, NewPtr, SetPtrSize, Put, PutPtr, new_bytes}
+use Rattle.mac_words.specs.Told.{Told, Done, Given, Offset}
+use Rattle.heap_calls.specs.Munging.{found_in, munged}
+use Rattle.heap_calls.specs.Asked.{PtrAndHand, PtrToXHand, Munger, NewPtr, SetPtrSize, BlockMove, Put, PutPtr, new_bytes}
 
 -- The bytes last put into each handle's and each pointer's block, computed from the history of calls alone, without
 -- any block.
@@ -27,6 +28,10 @@ put_by (HandToHand (Some a)) (Given k) bytes h = if k == h then bytes a else byt
 put_by (HandAndHand (Some a) (Some b)) Done bytes h = if b == h then bytes b ++ bytes a else bytes h
 put_by (PtrAndHand (Some k) x) Done bytes h = if k == h then bytes k ++ x else bytes h
 put_by (PtrToXHand (Some k) x) Done bytes h = if k == h then x else bytes h
+put_by (Munger (Some k) i old x) (Offset at) bytes h =
+    if k == h then munged (found_in old i (bytes k)) x (bytes k) else bytes h
+put_by (BlockMove (Some a) i (Some b) j n) Done bytes h =
+    if b == h then written j (take n (drop i (bytes a))) (bytes b) else bytes h
 put_by (NewPtr n) (Given k) bytes h = if k == h then replicate n 0 else bytes h
 put_by (SetPtrSize (Some k) n) Done bytes h = if k == h then resized_content n (bytes k) else bytes h
 put_by asked told bytes h = bytes h

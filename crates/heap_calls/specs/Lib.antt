@@ -1,6 +1,7 @@
 pub mod Inner
 pub mod State
 pub mod Answer
+pub mod Munging
 pub mod Asked
 pub mod LastPut
 pub mod Locked

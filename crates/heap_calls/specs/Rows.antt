@@ -1,8 +1,8 @@
-use Rattle.std.specs.Prelude.{ℕ, ◌+◌, Bool, ◌||◌, Option, Some, None, Result, Ok, Err, List, [], ◌∷◌, ◌++◌, length}
-use Rattle.std.specs.Prelude.{replicate, nat_lt, if◌then◌else◌}
+use Rattle.std.specs.Prelude.{ℕ, ℤ, pos, negsuc, ◌+◌, ◌-◌, Bool, ◌||◌, Option, Some, None, Result, Ok, Err, List, []}
+use Rattle.std.specs.Prelude.{◌∷◌, ◌++◌, length, replicate, nat_le, nat_lt, if◌then◌else◌}
 use Rattle.mac_words.specs.Size.{phys}
 use Rattle.mac_words.specs.declared.code.OsErr.{OsErr}
-use Rattle.mac_words.specs.declared.code.TheConstants.OsErr.{MEM_FULL, PURGED}
+use Rattle.mac_words.specs.declared.code.TheConstants.OsErr.{MEM_FULL, PROFILE, PURGED}
 use Rattle.block_store.specs.Block.{Block, Free, Nonrelocatable, Masters, Relocatable, content_of, is_relocatable, no_flags}
 use Rattle.block_store.specs.Room.{spot}
 use Rattle.block_store.specs.Grow.{freed}
@@ -11,9 +11,11 @@ use Rattle.moves.specs.Seeking.{Sought, no_room, seek, if_fits, seek_slot, then_
 use Rattle.heap_calls.specs.State.{Plain, Meaning, Handle, Pointer, State, Memory, used_slots, all_slots}
 use Rattle.heap_calls.specs.Answer.{Answer, Held, look_up, handle_at, nothing, silent, searching, moving}
 use Rattle.heap_calls.specs.Asked.{NewBytes, Zeros, CopyOf, new_size, new_bytes, packing}
+use Rattle.heap_calls.specs.Munging.{Target, found_in, behind}
 use Rattle.heap_calls.specs.Pointers.{pointed_at}
 use Rattle.heap_calls.specs.Purging.{is_loose}
 use Rattle.heap_calls.specs.Gone.{Gone, gone_of}
+use Rattle.heap_calls.specs.declared.munging.Occurrence.{Occurrence}
 
 -- The calls that search for room, each as one path of moves. Inside Macintosh: Memory, chapter 2, "Memory Manager
 -- Routines".
@@ -186,6 +188,32 @@ pointer_and_hand handle x s =
 abbrev pub pointer_to_x_hand : Option ℕ → List ℕ → State → Done (Unit {0})
 pointer_to_x_hand handle x s = for_found (look_up handle s) s
     (λ held. sized_written (is_relocatable held.number) held (length x) 0 x s)
+
+-- A reply with another value, and what did it.
+abbrev pub reply_with : {T U : Type 0} → U → Result T OsErr → Result U OsErr
+reply_with value (Ok other) = Ok value
+reply_with value (Err code) = Err code
+
+abbrev pub replying : {T U : Type 0} → U → Done T → Done U
+replying value d = record { reply = reply_with value d.reply; names = d.names; spared = d.spared; path = d.path }
+
+-- The bytes that were found in a handle's block, from an offset on, replaced by x: the block gets the size, and what
+-- stood behind them stands behind x. The reply is the offset behind x, or -1 where nothing was found.
+abbrev pub replaced : (Block → Bool) → Held → Option Occurrence → List ℕ → State → Done ℤ
+replaced spared held None x s = record { reply = Ok (negsuc 0); names = s.names; spared = spared; path = [] }
+replaced spared held (Some found) x s = replying (pos (found.at + length x)) (sized_written spared held
+    (length bytes - found.count + length x) found.at (x ++ behind found bytes) s)
+  where
+    bytes : List ℕ
+    bytes = content_of held.at.here
+
+-- Munger: the first bytes like the target from the offset i on, in a handle's block, which is spared, replaced by x;
+-- -30001 (profileErr) where the offset is past the end of the block's content. Inside Macintosh: Text, chapter 5.
+-- See decision 244 (`Munger` replaces what it finds, or what stands at the end).
+abbrev pub munger : Option ℕ → ℕ → Target → List ℕ → State → Done ℤ
+munger handle i old x s = for_found (look_up handle s) s (λ held. if nat_le i (length (content_of held.at.here))
+    then replaced (is_relocatable held.number) held (found_in old i (content_of held.at.here)) x s
+    else refused PROFILE s)
 
 -- ReallocateHandle: a new block of n bytes, all 0, for a handle, whose old block is freed first; -112 (memPurErr) where
 -- the old block is locked.

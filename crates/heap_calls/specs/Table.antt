@@ -1,6 +1,6 @@
 use Rattle.std.specs.Prelude.{ℕ, Bool, true, false, Option, Some, None, List, [], if◌then◌else◌}
 use Rattle.mac_words.specs.Size.{phys}
-use Rattle.mac_words.specs.Told.{Told, Done, Given, Number, Numbers, Code, Bytes, Refused}
+use Rattle.mac_words.specs.Told.{Told, Done, Given, Number, Numbers, Offset, Code, Bytes, Refused}
 use Rattle.mac_words.specs.declared.code.OsErr.{OsErr}
 use Rattle.block_store.specs.Block.{Block}
 use Rattle.block_store.specs.Room.{purge}
@@ -9,15 +9,15 @@ use Rattle.heap_calls.specs.Asked.{Asked, NewHandle, NewEmptyHandle, DisposeHand
 use Rattle.heap_calls.specs.Asked.{ReallocateHandle, EmptyHandle, HLock, HUnlock, HPurge, HNoPurge, HGetState, HSetState}
 use Rattle.heap_calls.specs.Asked.{MoveHHi, HLockHi, HandToHand, HandAndHand, PtrAndHand, NewPtr, DisposePtr, GetPtrSize}
 use Rattle.heap_calls.specs.Asked.{SetPtrSize, FreeMem, MaxBlock, PurgeSpace, CompactMem, PurgeMem, MaxMem, ReserveMem}
-use Rattle.heap_calls.specs.Asked.{PtrToXHand}
+use Rattle.heap_calls.specs.Asked.{PtrToXHand, RecoverHandle, BlockMove, Munger, MungerNil}
 use Rattle.heap_calls.specs.Asked.{MoreMasters, MemError, Put, Show, PutPtr, ShowPtr, Where, HandleZone, PtrZone}
 use Rattle.heap_calls.specs.Asked.{telling, seeking, packing}
 use Rattle.heap_calls.specs.Answer.{Answer, dispose_handle, get_handle_size, free_mem, h_lock, h_unlock}
 use Rattle.heap_calls.specs.Answer.{move_h_hi, h_lock_hi, max_block, compact_mem, put, show, noting, silent, moving}
-use Rattle.heap_calls.specs.Answer.{look_up, nothing, handle_zone}
+use Rattle.heap_calls.specs.Answer.{look_up, nothing, handle_zone, munger_nil}
 use Rattle.heap_calls.specs.Slots.{slotted_zone}
 use Rattle.heap_calls.specs.Pointers.{dispose_pointer, get_pointer_size, pointer_zone, put_pointer, show_pointer}
-use Rattle.heap_calls.specs.Pointers.{place_of}
+use Rattle.heap_calls.specs.Pointers.{place_of, block_move, recover_handle}
 use Rattle.heap_calls.specs.Purging.{h_purge, h_no_purge, h_get_state, h_set_state, empty_handle}
 use Rattle.heap_calls.specs.Purging.{purge_mem, purge_space, max_mem, blocks_purged}
 use Rattle.heap_calls.specs.Copying.{copying_zone}
@@ -27,12 +27,13 @@ use Rattle.heap_calls.specs.Gone.{Gone, purge_mem_gone, max_mem_gone, gone_unles
 use Rattle.heap_calls.specs.Rows as rows
 use Rattle.heap_calls.specs.Rows.{doing, searches_made, moves_made, purges_made}
 use Rattle.heap_calls.specs.Busy.{barred, change_barred, both_barred, pointer_barred, either_barred, keep_code, unless}
-use Rattle.heap_calls.specs.Busy.{unless_silent}
+use Rattle.heap_calls.specs.Busy.{unless_silent, move_barred}
 
 -- The table of the Memory Manager's calls: a row a call. Inside Macintosh: Memory, chapter 2, "Memory Manager Routines".
 
 -- What may bar a call: nothing; a busy handle; a busy handle, or that of a System resource; the first of these of one
--- handle, and the second of another; a busy pointer; a busy handle or pointer.
+-- handle, and the second of another; a busy pointer; a busy handle or pointer; a busy handle or pointer, and a second one
+-- that is busy or that of a System resource.
 -- See decision 36 (busy names are tested before a call's row).
 pub data Bar : Type 0 where
   Open : Bar
@@ -41,6 +42,7 @@ pub data Bar : Type 0 where
   OnBoth : (from : Option ℕ) (to : Option ℕ) → Bar
   OnPointer : (pointer : Option ℕ) → Bar
   OnEither : (name : Option ℕ) → Bar
+  OnMove : (from : Option ℕ) (to : Option ℕ) → Bar
 
 -- The code with which a call is barred.
 abbrev pub barred_by : Bar → Memory → Option OsErr
@@ -50,6 +52,7 @@ barred_by (OnChange handle) m = change_barred handle m
 barred_by (OnBoth from to) m = both_barred from to m
 barred_by (OnPointer pointer) m = pointer_barred pointer m
 barred_by (OnEither name) m = either_barred name m
+barred_by (OnMove from to) m = move_barred from to m
 
 -- The handles and the pointers on which a call is made.
 abbrev pub first_of : Bar → Option ℕ
@@ -59,9 +62,11 @@ first_of (OnChange handle) = handle
 first_of (OnBoth from to) = from
 first_of (OnPointer pointer) = pointer
 first_of (OnEither name) = name
+first_of (OnMove from to) = from
 
 abbrev pub second_of : Bar → Option ℕ
 second_of (OnBoth from to) = to
+second_of (OnMove from to) = to
 second_of bar = None
 
 -- A row: what may bar the call, how a transcript prints its reply, and its answer. A plain call searches for no room,
@@ -210,6 +215,7 @@ row (HNoPurge handle) = Plain (OnHandle handle) done (h_no_purge handle)
 row (HGetState handle) = Plain (OnHandle handle) Number (h_get_state handle)
 row (HSetState handle state) = Plain (OnHandle handle) done (h_set_state handle state)
 row (HandleZone handle) = Plain (OnHandle handle) Number (handle_zone handle)
+row (RecoverHandle place) = Plain Open Given (recover_handle place)
 row (MoveHHi handle) = Plain (OnHandle handle) done (move_h_hi handle)
 row (HLockHi handle) = Plain (OnHandle handle) done (h_lock_hi handle)
 row (HandToHand handle) = Leaves (λ s. copying_zone (look_up handle s) s)
@@ -217,11 +223,14 @@ row (HandToHand handle) = Leaves (λ s. copying_zone (look_up handle s) s)
 row (HandAndHand from to) = Does (OnBoth from to) done (rows.hand_and_hand from to)
 row (PtrAndHand handle bytes) = Does (OnChange handle) done (rows.pointer_and_hand handle bytes)
 row (PtrToXHand handle bytes) = Does (OnChange handle) done (rows.pointer_to_x_hand handle bytes)
+row (Munger handle offset old new) = Does (OnChange handle) Offset (rows.munger handle offset old new)
+row (MungerNil handle offset old) = Plain (OnHandle handle) Offset (munger_nil handle offset old)
 row (NewPtr size) = Does Open Given (rows.new_pointer size)
 row (DisposePtr pointer) = Plain (OnPointer pointer) done (dispose_pointer pointer)
 row (GetPtrSize pointer) = Plain (OnPointer pointer) Number (get_pointer_size pointer)
 row (SetPtrSize pointer size) = Does (OnPointer pointer) done (rows.set_pointer_size pointer size)
 row (PtrZone pointer) = Plain (OnPointer pointer) Number (pointer_zone pointer)
+row (BlockMove from start to offset count) = Plain (OnMove from to) done (block_move from start to offset count)
 row FreeMem = Plain Open Number free_mem
 row MaxBlock = Plain Open Number max_block
 row PurgeSpace = Plain Open (λ space. Numbers space.0 space.1) purge_space

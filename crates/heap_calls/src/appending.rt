@@ -257,7 +257,7 @@ fn copy_behind<S: BlockStore>(store: &mut S, source: u32, bytes: u32, slot: u32,
     let Some(place) = store.place_of(slot) else {
         unreachable!()
     };
-    store.copy(from, bytes, place, len);
+    store.copy(from, 0, bytes, place, len);
 }
 
 /// Appends bytes to the block of `slot`, which stands at `place`.

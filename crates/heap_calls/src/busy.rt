@@ -4,10 +4,12 @@ ghost use Rattle.std.specs.Prelude.{◌≡◌, Err, is_ok, if◌then◌else◌};
 ghost use Rattle.heap_calls.specs.Answer.{look_up};
 ghost use Rattle.heap_calls.specs.Busy.{is_busy, busied, eased, with_busy, keep_code};
 ghost use Rattle.heap_calls.specs.Busy.{barred, change_barred, pointer_barred, either_barred};
-ghost use Rattle.heap_calls.specs.Busy.{both_barred};
+ghost use Rattle.heap_calls.specs.Busy.{both_barred, either_change_barred, move_barred};
+ghost use Rattle.heap_calls.specs.Pointers.{block_named};
 
 use crate::anchor::{slot_of, target_of};
 use crate::heap::{Heap, find_block};
+use crate::pointers::find_named;
 use block_store::BlockStore;
 use mac_words::OsErr;
 
@@ -97,6 +99,38 @@ impl<S: BlockStore> Heap<S> {
             None if self.finds_block(from) => self.change_barred(to),
             None => None,
         }
+    }
+
+    /// Returns the code with which the handle or the pointer that a name is bound to bars a call
+    /// that changes the block's bytes: -117 (memLockedErr) where it is busy, else -30001
+    /// (profileErr) where it is a System resource's handle.
+    fn either_change_barred(&self, name: Option<usize>) -> Option<OsErr>
+        ensures { result ≡ either_change_barred name self.now.memory }
+    {
+        match target_of(&self.names, name) {
+            Ok(_) => self.pointer_barred(name),
+            Err(_) => self.change_barred(name),
+        }
+    }
+
+    /// Returns the code with which one of two handles or pointers bars a call that copies bytes of
+    /// the block of `from` into that of `to`. The second is looked up only where the first has a
+    /// block.
+    pub(crate) fn move_barred(&self, from: Option<usize>, to: Option<usize>) -> Option<OsErr>
+        ensures { result ≡ move_barred from to self.now.memory }
+    {
+        match self.either_barred(from) {
+            Some(code) => Some(code),
+            None if self.finds_named(from) => self.either_change_barred(to),
+            None => None,
+        }
+    }
+
+    /// Reports whether the handle or the pointer that a name is bound to has a block.
+    fn finds_named(&self, name: Option<usize>) -> bool
+        ensures { result ≡ is_ok (block_named name self.now.memory.heap) }
+    {
+        find_named(&self.store, &self.names, name).is_ok()
     }
 
     /// Reports whether the handle that a name is bound to has a block.

@@ -176,6 +176,6 @@ fn copy_block<S: BlockStore, K: PurgeSink>(
     let Some(to) = store.place_of(slot) else {
         unreachable!()
     };
-    store.copy(from, size, to, 0);
+    store.copy(from, 0, size, to, 0);
     Ok(made)
 }

@@ -15,9 +15,9 @@ ghost use Rattle.heap_calls.specs.State.{fresh_memory};
 ghost use Rattle.heap_calls.specs.Answer.{nothing, dispose_handle, get_handle_size, free_mem, put};
 ghost use Rattle.heap_calls.specs.Answer.{show, noting, silent, code_of, handle_zone};
 ghost use Rattle.heap_calls.specs.Pointers.{place_of};
-ghost use Rattle.block_store.specs.declared.measures.TheConstants.{SLOTS_A_BLOCK};
+ghost use Rattle.block_store.specs.declared.measures.TheConstants.{SLOTS_A_BLOCK, GREATEST_ZONE};
 ghost use Rattle.heap_calls.specs.Left.{Stops, Unreserved, slot_step};
-ghost use Rattle.std.specs.Prelude.{Some};
+ghost use Rattle.std.specs.Prelude.{Some, IfOk};
 
 use crate::anchor::{Anchor, name_handle, slot_of};
 use crate::log::Log;
@@ -338,7 +338,8 @@ impl<S: BlockStore> Heap<S> {
 
     /// Returns the bytes of the block of a handle, whether the handle is busy or not.
     pub(crate) fn block_bytes(&self, handle: Option<usize>) -> Result<&[u8], OsErr>
-        ensures { IsShown (silent (show handle) self.now.memory) result self.now.memory }
+        ensures shown { IsShown (silent (show handle) self.now.memory) result self.now.memory }
+        ensures small { IfOk result (λ bytes. length bytes.now ≤ GREATEST_ZONE) }
     {
         let place = find_block(&self.store, &self.names, handle)?;
         Ok(self.store.bytes(place))

@@ -4,7 +4,6 @@ ghost use Rattle.std.specs.Prelude.{◌≡◌, ◌<◌, ◌++◌, ◌∷◌, [],
 ghost use Rattle.std.specs.Prelude.{OnOk, IfOk, IfErr, IsTrue};
 ghost use Rattle.script_text.specs.Job.{System, App as AppLine, File, input_seen, app_names};
 ghost use Rattle.script_text.specs.JobFacts.{AreInOrder};
-ghost use Rattle.script_text.specs.Script.{spelled};
 ghost use Rattle.fork_commands.specs.Reading.{fork_in};
 ghost use Rattle.fork_tasks.specs.Accesses.{Read, and_then};
 ghost use Rattle.fork_tasks.specs.Fault.{message_of, IsForkFault};

@@ -4,11 +4,9 @@
 ghost use Rattle.std.specs.Prelude.{◌≡◌, ◌++◌, ◌∷◌, [], map, length, Ok, OnOk, IfOk};
 ghost use Rattle.fork_format.specs.Canonical.{canon};
 ghost use Rattle.applications.specs.Trying.{no_content};
-ghost use Rattle.job_tasks.specs.Gathering.{IsGiven, fork_found, file_given, source_given};
-ghost use Rattle.job_tasks.specs.Gathering.{with_source};
+ghost use Rattle.job_tasks.specs.Gathering.{IsGiven, fork_found, file_given};
 ghost use Rattle.job_tasks.specs.Loading.{part_seen, path_of, own_path, system_path, nothing_given};
 ghost use Rattle.job_tasks.specs.Loading.{with_found, with_part, with_parts, forks_seen};
-ghost use Rattle.job_tasks.specs.Loading.{sources_of};
 
 use crate::gathering::{FoundFork, Source, fork_of, name_copy, push_source};
 use applications::empty_content;

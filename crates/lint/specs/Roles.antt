@@ -1,4 +1,5 @@
-use Rattle.script_text.specs.Argument.{Kind, Label, Size, Id, Byte, ResType, Bytes, File, Text, Switch, Path}
+use Rattle.script_text.specs.Argument.{Kind, Label, Size, Id, Byte, ResType, Bytes, File, Text, Switch, Target}
+use Rattle.script_text.specs.Argument.{Replacement, Path}
 use Rattle.lint.specs.declared.role.Role.{Role}
 use Rattle.lint.specs.declared.role.Role.TheVariants as role
 
@@ -9,15 +10,20 @@ kind role.Source = Label
 kind role.Target = Label
 kind role.Pointer = Label
 kind role.Variable = Label
+kind role.From = Label
+kind role.Into = Label
 kind role.GrowZone = Label
 kind role.Size = Size
 kind role.Offset = Size
 kind role.Count = Size
+kind role.Place = Size
 kind role.Number = Size
 kind role.Id = Id
 kind role.Byte = Byte
 kind role.Type = ResType
 kind role.Bytes = Bytes
+kind role.Old = Target
+kind role.New = Replacement
 kind role.File = File
 kind role.Text = Text
 kind role.Switch = Switch

@@ -16,18 +16,10 @@ const NO_TEMPORARY: &str = "there is no temporary memory: leave the line out";
 const ONE_ZONE: &str = "the partition is the one zone: leave the line out";
 
 /// The calls that are not here.
-const ABSENT: [AbsentCall; 26] = [
+const ABSENT: [AbsentCall; 22] = [
     AbsentCall {
         word: "ApplicationZone",
         instead: ONE_ZONE,
-    },
-    AbsentCall {
-        word: "BlockMove",
-        instead: "use Put or PutPtr with the bytes",
-    },
-    AbsentCall {
-        word: "BlockMoveData",
-        instead: "use Put or PutPtr with the bytes",
     },
     AbsentCall {
         word: "GZSaveHnd",
@@ -66,10 +58,6 @@ const ABSENT: [AbsentCall; 26] = [
         instead: ONE_ZONE,
     },
     AbsentCall {
-        word: "Munger",
-        instead: "use SetHandleSize, and Put with the bytes",
-    },
-    AbsentCall {
         word: "NewHandleSys",
         instead: "the partition is the one zone: use NewHandle",
     },
@@ -84,10 +72,6 @@ const ABSENT: [AbsentCall; 26] = [
     AbsentCall {
         word: "RGetResource",
         instead: "the System file is searched last: use GetResource",
-    },
-    AbsentCall {
-        word: "RecoverHandle",
-        instead: "a handle is known by its name: leave the line out",
     },
     AbsentCall {
         word: "SetApplLimit",

@@ -6,7 +6,7 @@ ghost use Rattle.lint.specs.Roles.{kind};
 ghost use Rattle.lint.specs.declared.role.Role.TheVariants as role;
 
 use crate::role::Role;
-use mac_words::{FileName, Label, Name, OsType};
+use mac_words::{FileName, Label, Name, OsType, Replacement, Target};
 use script_text::{Argument, path_in};
 use std::alloc::{AllocError, Global};
 
@@ -34,15 +34,18 @@ pub fn is_value(alloc: Global, role: Role, token: &[u8]) -> Result<bool, AllocEr
         | Role::Target
         | Role::Pointer
         | Role::Variable
+        | Role::From
+        | Role::Into
         | Role::GrowZone
         | Role::Application => spells::<Label>(alloc, token),
-        Role::Size | Role::Offset | Role::Count | Role::Number | Role::Memory => {
-            spells::<u32>(alloc, token)
-        }
+        Role::Size | Role::Offset | Role::Count | Role::Place | Role::Number | Role::Memory =>
+            spells::<u32>(alloc, token),
         Role::Id => spells::<i16>(alloc, token),
         Role::Byte => spells::<u8>(alloc, token),
         Role::Type => spells::<OsType>(alloc, token),
         Role::Bytes => spells::<Vec<u8>>(alloc, token),
+        Role::Old => spells::<Target>(alloc, token),
+        Role::New => spells::<Replacement>(alloc, token),
         Role::File => spells::<FileName>(alloc, token),
         Role::Text => spells::<Name>(alloc, token),
         Role::Switch => spells::<bool>(alloc, token),

@@ -190,18 +190,27 @@ pub(crate) fn hint_of(role: Role, found: &[u8]) -> Option<Hint<'_>> {
         | Role::Target
         | Role::Pointer
         | Role::Variable
+        | Role::From
+        | Role::Into
         | Role::GrowZone
         | Role::Application => name_hint(found),
         Role::Size
         | Role::Offset
         | Role::Count
+        | Role::Place
         | Role::Number
         | Role::Memory
         | Role::Id
         | Role::Byte => number_hint(role, found),
         Role::Type => type_hint(found),
-        Role::Bytes | Role::File | Role::Text | Role::System | Role::Fork | Role::Script =>
-            bytes_hint(found),
+        Role::Bytes
+        | Role::Old
+        | Role::New
+        | Role::File
+        | Role::Text
+        | Role::System
+        | Role::Fork
+        | Role::Script => bytes_hint(found),
         Role::Switch => None,
     }
 }

@@ -14,6 +14,10 @@ pub enum Role {
     Pointer,
     /// `name` of `Where`: a variable for a handle or a pointer.
     Variable,
+    /// `a` of `BlockMove`: a variable for a handle or a pointer from which bytes are taken.
+    From,
+    /// `b` of `BlockMove`: a variable for a handle or a pointer that gets bytes.
+    Into,
     /// `name`: the name of a grow-zone script.
     GrowZone,
     /// `size`, in bytes.
@@ -22,6 +26,8 @@ pub enum Role {
     Offset,
     /// `count`, in bytes.
     Count,
+    /// `place`: where the content of a block stands.
+    Place,
     /// `n`: the number of a file, an index or an entry.
     Number,
     /// `id`: the ID of a resource.
@@ -32,6 +38,10 @@ pub enum Role {
     Type,
     /// `bytes`.
     Bytes,
+    /// `old`: the bytes that are replaced, or how many there are.
+    Old,
+    /// `new`: the bytes that are put in their place, or `NIL`.
+    New,
     /// `file`: a file's name.
     File,
     /// `text`: a resource's name.
@@ -55,18 +65,21 @@ impl Role {
     pub(crate) fn name(self) -> &'static str {
         match self {
             Role::Handle => "h",
-            Role::Source => "a",
-            Role::Target => "b",
+            Role::Source | Role::From => "a",
+            Role::Target | Role::Into => "b",
             Role::Pointer => "p",
             Role::Variable | Role::GrowZone => "name",
             Role::Size => "size",
             Role::Offset => "offset",
             Role::Count => "count",
+            Role::Place => "place",
             Role::Number => "n",
             Role::Id => "id",
             Role::Byte => "byte",
             Role::Type => "type",
             Role::Bytes => "bytes",
+            Role::Old => "old",
+            Role::New => "new",
             Role::File => "file",
             Role::Text => "text",
             Role::Switch => "switch",
@@ -83,16 +96,19 @@ impl Role {
         match self {
             Role::Handle | Role::Source | Role::Target => "the name of a handle",
             Role::Pointer => "the name of a pointer",
-            Role::Variable => "the name of a handle or a pointer",
+            Role::Variable | Role::From | Role::Into => "the name of a handle or a pointer",
             Role::GrowZone => "the name of a grow-zone script",
             Role::Size => "a size in decimal digits",
             Role::Offset => "an offset in decimal digits",
             Role::Count => "a count in decimal digits",
+            Role::Place => "a place in decimal digits, as Where returns it",
             Role::Number => "a number in decimal digits",
             Role::Id => "an ID in decimal digits",
             Role::Byte => "a number from 0 to 255 in decimal digits",
             Role::Type => "a type, four bytes in single quotes",
             Role::Bytes => "bytes, in double quotes or as $ and hexadecimal digits",
+            Role::Old => "bytes, in double quotes or as $ and hexadecimal digits, or a count",
+            Role::New => "bytes, in double quotes or as $ and hexadecimal digits, or NIL",
             Role::File => "a file's name of 1 to 63 bytes, in double quotes",
             Role::Text => "a resource's name of at most 255 bytes, in double quotes",
             Role::Switch => "TRUE or FALSE",

@@ -109,6 +109,15 @@ pub fn roles_of(word: CallWord) -> &'static [Role]
         CallWord::LoadSeg | CallWord::UnloadSeg => &[Role::Id],
         CallWord::PutPtr => &[Role::Pointer, Role::Offset, Role::Bytes],
         CallWord::Where => &[Role::Variable],
+        CallWord::RecoverHandle => &[Role::Handle, Role::Place],
+        CallWord::Munger => &[Role::Handle, Role::Offset, Role::Old, Role::New],
+        CallWord::BlockMove | CallWord::BlockMoveData => &[
+            Role::From,
+            Role::Offset,
+            Role::Into,
+            Role::Offset,
+            Role::Count,
+        ],
     }
 }
 

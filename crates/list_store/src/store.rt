@@ -297,8 +297,8 @@ impl BlockStore for ListStore {
         write_at(&mut self.blocks, place, from, bytes);
     }
 
-    fn copy(&mut self, source: u32, bytes: u32, place: u32, from: u32) {
-        copy_at(&mut self.blocks, source, bytes, place, from);
+    fn copy(&mut self, source: u32, start: u32, bytes: u32, place: u32, from: u32) {
+        copy_at(&mut self.blocks, source, start, bytes, place, from);
     }
 
     ghost small = { store-small };

@@ -54,6 +54,9 @@ pub enum HeapCall {
     HSetState(Label, u8),
     /// Returns the place of the heap zone that a handle is of, as the offset from its start.
     HandleZone(Label),
+    /// Binds the name to the handle of the relocatable block whose content stands at the given
+    /// offset from the start of the partition.
+    RecoverHandle(Label, u32),
     /// Moves a handle's block to the top of its run of movable blocks.
     MoveHHi(Label),
     /// Moves a handle's block to the top of its run of movable blocks, and locks the block.
@@ -68,6 +71,9 @@ pub enum HeapCall {
     PtrAndHand(Label, Vec<u8>),
     /// Replaces the bytes of a handle's block with other bytes; the block gets their size.
     PtrToXHand(Label, Vec<u8>),
+    /// Searches a handle's block for bytes, from an offset on, and replaces them; returns the offset
+    /// behind the new bytes, or where the bytes were found if nothing is to replace them, or -1.
+    Munger(Label, u32, Target, Replacement),
     /// Binds the name to a pointer to a new nonrelocatable block with the given number of bytes 0.
     NewPtr(Label, u32),
     /// Disposes of a nonrelocatable block.
@@ -79,6 +85,10 @@ pub enum HeapCall {
     /// Returns the place of the heap zone that a nonrelocatable block is in, as the offset from its
     /// start.
     PtrZone(Label),
+    /// Copies bytes of the first block, from an offset on, into the second, from another offset on.
+    /// Each is the block of a handle or of a pointer, and both may be the same. The last number is
+    /// how many bytes.
+    BlockMove(Label, u32, Box<Label>, u32, u32),
     /// Returns the total size in bytes of the free blocks, headers included.
     FreeMem,
     /// Returns the size of the largest block that could be allocated after compaction, without
@@ -112,6 +122,21 @@ pub enum HeapCall {
     ShowPtr(Label),
     /// Returns the offset of a block's content from the start of the partition.
     Where(Label),
+}
+
+/// What `Munger` replaces: the first bytes like these, or a number of bytes at the offset itself, for
+/// which the manual has the pointer NIL and a length.
+#[derive(Debug, Drop)]
+pub enum Target {
+    Bytes(Vec<u8>),
+    Length(u32),
+}
+
+/// What `Munger` puts there: bytes, or with the pointer NIL nothing, and the block stays as it is.
+#[derive(Debug, Drop)]
+pub enum Replacement {
+    Bytes(Vec<u8>),
+    Nil,
 }
 
 /// A call by which an application says how it is run: which grow-zone script is run when there is

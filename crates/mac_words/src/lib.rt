@@ -14,7 +14,7 @@ mod segment_call;
 mod size;
 
 pub use attributes::Attrs;
-pub use call::{Call, ControlCall, HeapCall};
+pub use call::{Call, ControlCall, HeapCall, Replacement, Target};
 pub use code::OsErr;
 pub use digits::{lower_digit, upper_digit};
 pub use laws::{attribute_bits_are_the_manuals, codes_are_the_manuals};

@@ -96,6 +96,23 @@ impl Reply {
         Reply::count(number as usize)
     }
 
+    /// Returns a reply of code 0 and an offset, which is negative where nothing was found.
+    pub fn offset(offset: i64) -> Reply
+        ensures code { result.code ≡ OsErr.NO_ERR }
+        ensures numbers { result.numbers.items ≡ offset ∷ [] }
+        ensures ty { result.ty ≡ None }
+        ensures name { result.name ≡ None }
+    {
+        let mut numbers = ArrayVec::new();
+        numbers.push(offset);
+        Reply {
+            code: OsErr::NO_ERR,
+            numbers,
+            ty: None,
+            name: None,
+        }
+    }
+
     /// Returns a reply of code 0 and a count.
     pub fn count(number: usize) -> Reply
         requires { number < 2 ^ 63 }

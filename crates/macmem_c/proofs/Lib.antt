@@ -6,3 +6,4 @@ mod Giving
 mod Writing
 mod Listing
 mod Lining
+mod Serving

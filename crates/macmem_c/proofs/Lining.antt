@@ -9,10 +9,6 @@ use Rattle.lint.specs.declared.wrong.Fault.{Fault}
 use Rattle.macmem_c.specs.Described.{faulty_line, AreLines, AreFaulty}
 
 -- what follows from a promise of a call that did what it says
-pub also_ok : {A E : Type 0} (P Q : A → Type 0) (r : Result A E) → ((a : A) → P a → Q a) → IfOk r P → IfOk r Q
-also_ok P Q (Ok a) step h = step a h
-also_ok P Q (Err e) step h = tt
-
 pub also_on : {A E : Type 0} (P Q : Type 0) (r : Result A E) → (P → Q) → OnOk r P → OnOk r Q
 also_on P Q (Ok a) step h = step h
 also_on P Q (Err e) step h = tt

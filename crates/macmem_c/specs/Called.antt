@@ -1,5 +1,5 @@
 use Rattle.std.specs.Prelude.{◌≡◌, ℕ, ℤ, Option, Some, None, List, length}
-use Rattle.mac_words.specs.Told.{Told, Given, Number, Numbers, Bytes}
+use Rattle.mac_words.specs.Told.{Told, Given, Number, Numbers, Offset, Bytes}
 use Rattle.heap_calls.specs.Asked.{Asked}
 use Rattle.heap_calls.specs.State.{CountedMemory}
 use Rattle.heap_calls.specs.Table.{served}
@@ -30,6 +30,15 @@ number_or before told = before
 abbrev pub number_after : Asked → Option CountedMemory → ℕ → ℕ
 number_after asked None before = before
 number_after asked (Some heap) before = number_or before (served asked heap.memory).0
+
+-- The offset that C has after the call: that of the reply, or the one before.
+abbrev pub offset_or : ℤ → Told → ℤ
+offset_or before (Offset offset) = offset
+offset_or before told = before
+
+abbrev pub offset_after : Asked → Option CountedMemory → ℤ → ℤ
+offset_after asked None before = before
+offset_after asked (Some heap) before = offset_or before (served asked heap.memory).0
 
 -- The two numbers that C has are those of a reply that has two.
 abbrev pub are_told : Told → ℕ → ℕ → Type 0

@@ -1,9 +1,7 @@
 //! Why nothing is made of the bytes of files.
 
 ghost use Rattle.std.specs.Prelude.{◌≡◌, true, false};
-ghost use Rattle.fork_commands.specs.Faults.{number_of, line_of};
-ghost use Rattle.macmem_c.specs.Codes.{host_memory};
-ghost use Rattle.macmem_c.specs.Faults.{Tells, TellsPair, IsFault, file_fault};
+ghost use Rattle.macmem_c.specs.Faults.{Tells, TellsPair, IsFault};
 
 use crate::codes::HOST_MEMORY;
 use fork_commands::{FileFault, PairFault, Place, WorkFault};

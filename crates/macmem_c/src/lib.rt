@@ -12,6 +12,7 @@ mod kept;
 mod keys;
 mod linted;
 mod loose;
+mod moving;
 mod pairs;
 mod pointers;
 mod properties;

@@ -466,7 +466,7 @@ impl BlockStore for RawZone {
     fn move_to(&mut self, place: u32, number: u32, bytes: u32) -> Result<(), AllocError> {
         self.carve_nonrelocatable(place, bytes)?;
         let old = self.block_of(number);
-        self.copy(old.place, old.length.min(bytes), place, 0);
+        self.copy(old.place, 0, old.length.min(bytes), place, 0);
         self.release(number);
         self.adopt(place, number, old.flags);
         self.placings = self.placings.saturating_add(1);
@@ -513,10 +513,10 @@ impl BlockStore for RawZone {
         put_bytes(&mut self.part, place + HEADER_SIZE + from, bytes);
     }
 
-    fn copy(&mut self, source: u32, bytes: u32, place: u32, from: u32) {
+    fn copy(&mut self, source: u32, start: u32, bytes: u32, place: u32, from: u32) {
         move_bytes(
             &mut self.part,
-            source + HEADER_SIZE,
+            source + HEADER_SIZE + start,
             place + HEADER_SIZE + from,
             bytes,
         );

@@ -12,16 +12,10 @@ use Rattle.res_calls.specs.declared.files.OpenFile.{OpenFile as StoredOpenFile}
 use Rattle.res_calls.specs.declared.find.Spot.{Spot}
 use Rattle.res_calls.specs.View.{view_open}
 use Rattle.res_calls.proofs.Standing.{index_whole}
+use Rattle.res_calls.proofs.Typing.{told_small, told_more}
 use Rattle.res_calls.proofs.Finding.{spot_from, spot_start, here_spot, on_spot, either_stands, again_from, placed_from}
 
 -- What is counted and indexed through all open files; an ID that is free.
-
--- a count that is told once is told so again
-told_small : (n : ℕ) → n < 2 ^ 63 → told_count n ≡ n
-told_small n small = omega arith
-
-told_more : (m n : ℕ) → told_count (told_count m + n) ≡ told_count (m + n)
-told_more m n = omega arith
 
 pub count_start : (kind : ℕ) (files : List StoredOpenFile) → told_count (0 + count_each kind (map view_open files))
     ≡ told_count (count_each kind (map view_open files))

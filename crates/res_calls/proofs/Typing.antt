@@ -1,13 +1,14 @@
 use Rattle.std.proofs.Common.{◌≡◌, ℕ, zero, suc, ◌+◌, ◌-◌, ◌<◌, ◌≤◌, ◌^◌, ◌==◌, Bool, true, false, not, ◌||◌, List, [], ◌∷◌, ◌++◌, length}
-use Rattle.std.proofs.Common.{inl, inr, map, drop, take, Option, Some, None, refl, sym, ◌∙◌, ap, arith, cond, get_or, slice_get}
-use Rattle.std.specs.Prelude.{◌≢◌, ◌⊎◌, filter}
+use Rattle.std.proofs.Common.{map, drop, take, Option, Some, None, refl, sym, ◌∙◌, ap, arith, cond, get_or, slice_get}
+use Rattle.std.specs.Prelude.{◌≢◌, filter}
 use Rattle.std.specs.List.{list_any}
-use Rattle.std.proofs.lemmas.Bool.Decides.{Decides-eqb, eqb_tells}
+use Rattle.std.proofs.lemmas.Bool.Decides.{Decides-eqb}
 use Rattle.std.proofs.lemmas.List.{drop_all, length-append, map-append, map_more}
 use Rattle.std.proofs.lemmas.List.Elements.{filter-append}
 use Rattle.std.proofs.lemmas.List.Folds.{list_any-append}
 use Rattle.byteorder.specs.Endian.{big_number}
 use Rattle.fork_format.specs.Content.{distinct}
+use Rattle.fork_format.proofs.Bools.{flips}
 use Rattle.fork_format.proofs.Rest.{rest-map}
 use Rattle.mac_words.specs.declared.name.OsType.{OsType}
 use Rattle.res_map.specs.Map.{Reference, nth, types}
@@ -23,16 +24,6 @@ use Rattle.res_calls.specs.View.{view_open}
 -- a number is among others
 abbrev pub among : ℕ → List ℕ → Bool
 among k ns = list_any (λ (n : ℕ). n == k) ns
-
-eq-turned : (m n : ℕ) → (m == n) ≡ (n == m)
-eq-turned m n = by_tests (eqb_tells m n) (eqb_tells n m)
-  where
-    by_tests : ((m == n) ≡ true) × (m ≡ n) ⊎ ((m == n) ≡ false) × (m ≢ n)
-        → ((n == m) ≡ true) × (n ≡ m) ⊎ ((n == m) ≡ false) × (n ≢ m) → (m == n) ≡ (n == m)
-    by_tests (inl one) (inl other) = one.0 ∙ sym other.0
-    by_tests (inl one) (inr other) = absurd (other.1 (sym one.1))
-    by_tests (inr one) (inl other) = absurd (one.1 (sym other.1))
-    by_tests (inr one) (inr other) = one.0 ∙ sym other.0
 
 or-nothing : (t : Bool) → (t || false) ≡ t
 or-nothing true = refl
@@ -106,7 +97,7 @@ distinct-append (m ∷ ms) ns =
     ∙ ap (λ (l : List ℕ). m ∷ filter others (distinct ms) ++ l)
     (filter-both (λ k. k == m) (λ k. among k ms) (distinct ns)
     ∙ filter-same (λ k. not (k == m || among k ms)) (λ k. not (m == k || among k ms))
-    (λ k. ap (λ (t : Bool). not (t || among k ms)) (eq-turned k m)) (distinct ns))
+    (λ k. ap (λ (t : Bool). not (t || among k ms)) (flips k m)) (distinct ns))
 
 -- the types of a file that no file before it has, and those of the files behind it that neither they nor it have
 next-types : (before : List OpenFile) (f : OpenFile) (older : List OpenFile)
@@ -251,10 +242,10 @@ left-next files i x inside is =
 left-all : (files : List StoredOpenFile) → left_from 0 files ≡ types (references (map view_open files))
 left-all files = filter-all (types (references (map view_open files)))
 
-told_more : (m n : ℕ) → told_count (told_count m + n) ≡ told_count (m + n)
+pub told_more : (m n : ℕ) → told_count (told_count m + n) ≡ told_count (m + n)
 told_more m n = omega arith
 
-told_small : (n : ℕ) → n < 2 ^ 63 → told_count n ≡ n
+pub told_small : (n : ℕ) → n < 2 ^ 63 → told_count n ≡ n
 told_small n small = omega arith
 
 pub types_start : (files : List StoredOpenFile)

@@ -4,7 +4,6 @@
 
 ghost use Rattle.std.specs.Prelude.{◌≡◌, ◌≢◌, ◌+◌, Err, None, Some, if◌then◌else◌, is_some, length};
 ghost use Rattle.std.specs.Prelude.{map, nat_lt, option_map, true};
-ghost use Rattle.heap_calls.specs.State.{Memory};
 ghost use Rattle.memory_windows.specs.Writes.{piece};
 ghost use Rattle.res_calls.specs.Files.{Found, Resources as ResourcesValue};
 ghost use Rattle.res_calls.specs.Given.{IsAnswered, IsAnsweredUnseen, managers};

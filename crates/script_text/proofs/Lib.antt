@@ -5,6 +5,7 @@ mod Shown
 mod Spelled
 pub mod Rows
 mod BlockRows
+mod HeapRows
 mod ResourceRows
 mod SegmentRows
 mod JobInputs

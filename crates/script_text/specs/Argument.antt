@@ -2,9 +2,13 @@ use Rattle.std.specs.Prelude.{ℕ, ℤ, pos, neg_ℤ, ◌+◌, ◌-◌, ◌*◌,
 use Rattle.std.specs.Prelude.{Some, None, Result, Ok, Err, List, [], ◌∷◌, length, take, slice_index, bytes_eq, codes}
 use Rattle.std.specs.Prelude.{option_and_then, if◌then◌else◌}
 use Rattle.std.specs.List.{list_all}
-use Rattle.std.specs.Option.{option_map, ok_or}
+use Rattle.std.specs.Option.{option_map, option_or, ok_or}
 use Rattle.std.specs.Char.{is_ascii_digit, is_ascii_alphabetic, is_ascii_alphanumeric}
 use Rattle.std.specs.Str.{is_utf8}
+use Rattle.mac_words.specs.declared.call.Target.{Target as Replaced}
+use Rattle.mac_words.specs.declared.call.Target.TheVariants as target
+use Rattle.mac_words.specs.declared.call.Replacement.{Replacement as New}
+use Rattle.mac_words.specs.declared.call.Replacement.TheVariants as replacement
 use Rattle.script_text.specs.declared.fault.FaultKind.{FaultKind}
 use Rattle.script_text.specs.declared.fault.FaultKind.TheVariants.{BadArgument}
 use Rattle.script_text.specs.Reading.{◌>>=◌}
@@ -21,6 +25,8 @@ pub data Kind : Type 0 where
   File : Kind
   Text : Kind
   Switch : Kind
+  Target : Kind
+  Replacement : Kind
   Path : Kind
 
 -- The value of an argument.
@@ -30,6 +36,7 @@ pub data Value : Type 0 where
   Signed : (number : ℤ) → Value
   Raw : (bytes : List ℕ) → Value
   Flag : (on : Bool) → Value
+  Nil : Value
 
 -- Whether a byte is a letter, a digit or _.
 abbrev pub is_label_byte : ℕ → Bool
@@ -114,6 +121,24 @@ abbrev pub switch : List ℕ → Option Bool
 switch token =
     if bytes_eq token (codes "TRUE") then Some true else if bytes_eq token (codes "FALSE") then Some false else None
 
+-- Bytes, or a number of bytes.
+-- See decision 244 (`Munger` takes bytes, or in place of NIL and a length a number).
+abbrev pub bytes_or_number : List ℕ → Option Value
+bytes_or_number token = option_or (option_map Raw (bytes token)) (option_map Number (number 10 2147483647 token))
+
+-- Bytes, or the word NIL.
+abbrev pub bytes_or_nil : List ℕ → Option Value
+bytes_or_nil token = if bytes_eq token (codes "NIL") then Some Nil else option_map Raw (bytes token)
+
+-- The value of what `Munger` replaces, and of what it puts there.
+abbrev pub target_seen : Replaced → Value
+target_seen (target.Bytes bytes) = Raw bytes.items
+target_seen (target.Length n) = Number n
+
+abbrev pub replacement_seen : New → Value
+replacement_seen (replacement.Bytes bytes) = Raw bytes.items
+replacement_seen replacement.Nil = Nil
+
 -- Bytes that are UTF-8.
 abbrev pub of_utf8 : Option (List ℕ) → Option (List ℕ)
 of_utf8 None = None
@@ -136,6 +161,8 @@ value Bytes token = option_map Raw (bytes token)
 value File token = option_map Raw (of_length (λ n. nat_le 1 n && nat_le n 63) (bytes token))
 value Text token = option_map Raw (of_length (λ n. nat_le n 255) (bytes token))
 value Switch token = option_map Flag (switch token)
+value Target token = bytes_or_number token
+value Replacement token = bytes_or_nil token
 value Path token = option_map Raw (path token)
 
 -- The argument of this kind at the front of a text, and the text after it.

@@ -14,8 +14,9 @@ use Rattle.script_text.specs.declared.word.CallWord.{CallWord}
 use Rattle.script_text.specs.declared.word.CallWord.TheVariants as word
 use Rattle.script_text.specs.declared.word.TheConstants.{WORDS}
 use Rattle.script_text.specs.Reading.{◌>>=◌}
-use Rattle.script_text.specs.Argument.{Kind, Label, Size, Id, Byte, ResType, Bytes, File, Text, Switch, Value, Letters}
-use Rattle.script_text.specs.Argument.{Number, Signed, Raw, Flag, arguments}
+use Rattle.script_text.specs.Argument.{Kind, Label, Size, Id, Byte, ResType, Bytes, File, Text, Switch, Target}
+use Rattle.script_text.specs.Argument.{Replacement, Value, Letters, Number, Signed, Raw, Flag, target_seen}
+use Rattle.script_text.specs.Argument.{replacement_seen, arguments}
 
 -- The table of calls: how each call is spelled, and the kinds of its arguments.
 abbrev pub row : CallWord → List ℕ × List Kind
@@ -33,6 +34,7 @@ row word.HNoPurge = (codes "HNoPurge", Label ∷ [])
 row word.HGetState = (codes "HGetState", Label ∷ [])
 row word.HSetState = (codes "HSetState", Label ∷ Byte ∷ [])
 row word.HandleZone = (codes "HandleZone", Label ∷ [])
+row word.RecoverHandle = (codes "RecoverHandle", Label ∷ Size ∷ [])
 row word.MoveHHi = (codes "MoveHHi", Label ∷ [])
 row word.HLockHi = (codes "HLockHi", Label ∷ [])
 row word.HandToHand = (codes "HandToHand", Label ∷ Label ∷ [])
@@ -40,11 +42,13 @@ row word.PtrToHand = (codes "PtrToHand", Label ∷ Bytes ∷ [])
 row word.HandAndHand = (codes "HandAndHand", Label ∷ Label ∷ [])
 row word.PtrAndHand = (codes "PtrAndHand", Label ∷ Bytes ∷ [])
 row word.PtrToXHand = (codes "PtrToXHand", Label ∷ Bytes ∷ [])
+row word.Munger = (codes "Munger", Label ∷ Size ∷ Target ∷ Replacement ∷ [])
 row word.NewPtr = (codes "NewPtr", Label ∷ Size ∷ [])
 row word.DisposePtr = (codes "DisposePtr", Label ∷ [])
 row word.GetPtrSize = (codes "GetPtrSize", Label ∷ [])
 row word.SetPtrSize = (codes "SetPtrSize", Label ∷ Size ∷ [])
 row word.PtrZone = (codes "PtrZone", Label ∷ [])
+row word.BlockMove = (codes "BlockMove", Label ∷ Size ∷ Label ∷ Size ∷ Size ∷ [])
 row word.FreeMem = (codes "FreeMem", [])
 row word.MaxBlock = (codes "MaxBlock", [])
 row word.PurgeSpace = (codes "PurgeSpace", [])
@@ -112,6 +116,7 @@ row word.NewPtrClear = (codes "NewPtrClear", Label ∷ Size ∷ [])
 row word.SizeResource = (codes "SizeResource", Label ∷ [])
 row word.MaxSizeRsrc = (codes "MaxSizeRsrc", Label ∷ [])
 row word.InlineGetHandleSize = (codes "InlineGetHandleSize", Label ∷ [])
+row word.BlockMoveData = (codes "BlockMoveData", Label ∷ Size ∷ Label ∷ Size ∷ Size ∷ [])
 
 -- The word of the call that a word names: some calls have another name.
 -- See decision 232 (another name of a call is a word for the call).
@@ -121,6 +126,7 @@ meant word.NewPtrClear = word.NewPtr
 meant word.SizeResource = word.GetResourceSizeOnDisk
 meant word.MaxSizeRsrc = word.GetResourceSizeOnDisk
 meant word.InlineGetHandleSize = word.GetHandleSize
+meant word.BlockMoveData = word.BlockMove
 meant w = w
 
 -- The spelling of a call.
@@ -147,6 +153,7 @@ heap_spoken (heap.HNoPurge h) = (word.HNoPurge, Letters h.0.items ∷ [])
 heap_spoken (heap.HGetState h) = (word.HGetState, Letters h.0.items ∷ [])
 heap_spoken (heap.HSetState h byte) = (word.HSetState, Letters h.0.items ∷ Number byte ∷ [])
 heap_spoken (heap.HandleZone h) = (word.HandleZone, Letters h.0.items ∷ [])
+heap_spoken (heap.RecoverHandle h place) = (word.RecoverHandle, Letters h.0.items ∷ Number place ∷ [])
 heap_spoken (heap.MoveHHi h) = (word.MoveHHi, Letters h.0.items ∷ [])
 heap_spoken (heap.HLockHi h) = (word.HLockHi, Letters h.0.items ∷ [])
 heap_spoken (heap.HandToHand b a) = (word.HandToHand, Letters b.0.items ∷ Letters a.value.0.items ∷ [])
@@ -154,11 +161,15 @@ heap_spoken (heap.PtrToHand h bytes) = (word.PtrToHand, Letters h.0.items ∷ Ra
 heap_spoken (heap.HandAndHand a b) = (word.HandAndHand, Letters a.0.items ∷ Letters b.value.0.items ∷ [])
 heap_spoken (heap.PtrAndHand h bytes) = (word.PtrAndHand, Letters h.0.items ∷ Raw bytes.items ∷ [])
 heap_spoken (heap.PtrToXHand h bytes) = (word.PtrToXHand, Letters h.0.items ∷ Raw bytes.items ∷ [])
+heap_spoken (heap.Munger h offset old new) =
+    (word.Munger, Letters h.0.items ∷ Number offset ∷ target_seen old ∷ replacement_seen new ∷ [])
 heap_spoken (heap.NewPtr p size) = (word.NewPtr, Letters p.0.items ∷ Number size ∷ [])
 heap_spoken (heap.DisposePtr p) = (word.DisposePtr, Letters p.0.items ∷ [])
 heap_spoken (heap.GetPtrSize p) = (word.GetPtrSize, Letters p.0.items ∷ [])
 heap_spoken (heap.SetPtrSize p size) = (word.SetPtrSize, Letters p.0.items ∷ Number size ∷ [])
 heap_spoken (heap.PtrZone p) = (word.PtrZone, Letters p.0.items ∷ [])
+heap_spoken (heap.BlockMove a from b to count) =
+    (word.BlockMove, Letters a.0.items ∷ Number from ∷ Letters b.value.0.items ∷ Number to ∷ Number count ∷ [])
 heap_spoken heap.FreeMem = (word.FreeMem, [])
 heap_spoken heap.MaxBlock = (word.MaxBlock, [])
 heap_spoken heap.PurgeSpace = (word.PurgeSpace, [])

@@ -3,7 +3,9 @@
 ghost use Rattle.std.specs.Prelude.{◌≡◌, Some, is_some, IfOk};
 ghost use Rattle.std.specs.List.{list_all};
 ghost use Rattle.script_text.specs.Argument.{Kind, Label as LabelKind, Size, Id, Byte, ResType};
-ghost use Rattle.script_text.specs.Argument.{Bytes, File, Text, Switch, Value, Letters, Number};
+ghost use Rattle.script_text.specs.Argument.{Bytes, File, Text, Switch, Target as TargetKind};
+ghost use Rattle.script_text.specs.Argument.{Replacement as ReplacementKind, Value, Letters, Number};
+ghost use Rattle.script_text.specs.Argument.{target_seen, replacement_seen};
 ghost use Rattle.script_text.specs.Argument.{Signed, Raw, Flag, is_label_byte as is_label_byte_of};
 ghost use Rattle.script_text.specs.Argument.{begins_label as begins_label_of, label, number};
 ghost use Rattle.script_text.specs.Argument.{number_within, id, digit, byte_at, hex_bytes};
@@ -12,7 +14,7 @@ ghost use Rattle.std.specs.Option.{option_map};
 ghost use Rattle.script_text.specs.Reading.{Finds};
 
 use arrayvec::ArrayVec;
-use mac_words::{FileName, Label, Name, OsType};
+use mac_words::{FileName, Label, Name, OsType, Replacement, Target};
 use std::alloc::{AllocError, Global};
 
 /// The greatest size, offset or index that an argument states.
@@ -290,6 +292,35 @@ impl Argument for bool {
             b"TRUE" => Ok(Some(true)),
             b"FALSE" => Ok(Some(false)),
             _ => Ok(None),
+        }
+    }
+}
+
+impl Argument for Target {
+    ghost kind = { TargetKind };
+
+    ghost seen = { target_seen };
+
+    fn find(alloc: Global, token: &[u8]) -> Result<Option<Self>, AllocError> {
+        match bytes_in(alloc, token)? {
+            Some(bytes) => Ok(Some(Target::Bytes(bytes))),
+            None => Ok(number_in(token, 10, GREATEST_SIZE).map(Target::Length)),
+        }
+    }
+}
+
+impl Argument for Replacement {
+    ghost kind = { ReplacementKind };
+
+    ghost seen = { replacement_seen };
+
+    fn find(alloc: Global, token: &[u8]) -> Result<Option<Self>, AllocError> {
+        match token {
+            b"NIL" => Ok(Some(Replacement::Nil)),
+            _ => match bytes_in(alloc, token)? {
+                Some(bytes) => Ok(Some(Replacement::Bytes(bytes))),
+                None => Ok(None),
+            },
         }
     }
 }

@@ -112,3 +112,20 @@ pub fn four<A: Argument + Drop, B: Argument + Drop, C: Argument + Drop, D: Argum
     let (b, c, d) = three(alloc, rest)?;
     Ok((a, b, c, d))
 }
+
+/// Reads five arguments, after which the text must be at its end.
+pub fn five<
+    A: Argument + Drop,
+    B: Argument + Drop,
+    C: Argument + Drop,
+    D: Argument + Drop,
+    E: Argument + Drop,
+>(alloc: Global, text: &[u8]) -> Result<(A, B, C, D, E), FaultKind>
+    ensures { Gives (λ x. A.seen x.0 ∷ B.seen x.1 ∷ C.seen x.2 ∷ D.seen x.3 ∷ E.seen x.4 ∷ [])
+        result
+        (arguments (A.kind ∷ B.kind ∷ C.kind ∷ D.kind ∷ E.kind ∷ []) text.now) }
+{
+    let (a, rest) = first(alloc, text)?;
+    let (b, c, d, e) = four(alloc, rest)?;
+    Ok((a, b, c, d, e))
+}

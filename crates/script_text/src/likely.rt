@@ -8,11 +8,12 @@ static OF_FOUR: [CallWord; 1] = [CallWord::Show];
 
 static OF_FIVE: [CallWord; 2] = [CallWord::HLock, CallWord::Where];
 
-static OF_SIX: [CallWord; 4] = [
+static OF_SIX: [CallWord; 5] = [
     CallWord::NewPtr,
     CallWord::HPurge,
     CallWord::MaxMem,
     CallWord::PutPtr,
+    CallWord::Munger,
 ];
 
 static OF_SEVEN: [CallWord; 7] = [
@@ -34,7 +35,7 @@ static OF_EIGHT: [CallWord; 6] = [
     CallWord::UniqueID,
 ];
 
-static OF_NINE: [CallWord; 8] = [
+static OF_NINE: [CallWord; 9] = [
     CallWord::NewHandle,
     CallWord::PtrToHand,
     CallWord::HGetState,
@@ -43,6 +44,7 @@ static OF_NINE: [CallWord; 8] = [
     CallWord::CallEntry,
     CallWord::ShowEntry,
     CallWord::Unique1ID,
+    CallWord::BlockMove,
 ];
 
 static OF_TEN: [CallWord; 17] = [
@@ -91,7 +93,7 @@ static OF_TWELVE: [CallWord; 4] = [
     CallWord::SizeResource,
 ];
 
-static OF_THIRTEEN: [CallWord; 7] = [
+static OF_THIRTEEN: [CallWord; 9] = [
     CallWord::DisposeHandle,
     CallWord::SetHandleSize,
     CallWord::GetHandleSize,
@@ -99,6 +101,8 @@ static OF_THIRTEEN: [CallWord; 7] = [
     CallWord::UpdateResFile,
     CallWord::WriteResource,
     CallWord::WaitNextEvent,
+    CallWord::RecoverHandle,
+    CallWord::BlockMoveData,
 ];
 
 static OF_FOURTEEN: [CallWord; 6] = [

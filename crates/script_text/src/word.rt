@@ -7,7 +7,7 @@ ghost use Rattle.script_text.specs.Reading.{Gives};
 ghost use Rattle.script_text.specs.declared.word.CallWord as declared;
 
 use crate::argument::Argument;
-use crate::arguments::{four, none, one, three, two};
+use crate::arguments::{five, four, none, one, three, two};
 use crate::fault::FaultKind;
 use crate::likely::likely;
 use mac_words::{Call, ControlCall, HeapCall, ResourceCall, SegmentCall};
@@ -30,6 +30,7 @@ pub enum CallWord {
     HGetState,
     HSetState,
     HandleZone,
+    RecoverHandle,
     MoveHHi,
     HLockHi,
     HandToHand,
@@ -37,11 +38,13 @@ pub enum CallWord {
     HandAndHand,
     PtrAndHand,
     PtrToXHand,
+    Munger,
     NewPtr,
     DisposePtr,
     GetPtrSize,
     SetPtrSize,
     PtrZone,
+    BlockMove,
     FreeMem,
     MaxBlock,
     PurgeSpace,
@@ -109,6 +112,7 @@ pub enum CallWord {
     SizeResource,
     MaxSizeRsrc,
     InlineGetHandleSize,
+    BlockMoveData,
 }
 
 /// The calls by the part of the toolbox that they belong to: for each its word, the enums that hold
@@ -147,6 +151,8 @@ macro_rules! calls {
                     "sets locked and purgeable from bits 128 and 64 of byte";
                 HandleZone = Heap HeapCall one(h)
                     "returns where the zone of the handle begins: 0";
+                RecoverHandle = Heap HeapCall two(h, place)
+                    "binds h to the handle of the block whose content stands at place";
                 MoveHHi = Heap HeapCall one(h)
                     "moves the block to the top of its run of movable blocks";
                 HLockHi = Heap HeapCall one(h)
@@ -161,6 +167,8 @@ macro_rules! calls {
                     "appends bytes to the block";
                 PtrToXHand = Heap HeapCall two(h, bytes)
                     "replaces the bytes of the block, which gets their size";
+                Munger = Heap HeapCall four(h, offset, old, new)
+                    "puts new for the first old from offset on; returns the offset behind it";
             }
             "The Memory Manager, nonrelocatable blocks" {
                 NewPtr = Heap HeapCall two(p, size)
@@ -173,6 +181,8 @@ macro_rules! calls {
                     "changes the logical size, in place; new bytes are 0";
                 PtrZone = Heap HeapCall one(p)
                     "returns where the zone of the block begins: 0";
+                BlockMove = Heap HeapCall five(a, offset, b, offset, count)
+                    "copies count bytes of a, from an offset on, to an offset of b";
             }
             "The Memory Manager, the heap zone" {
                 FreeMem = Heap HeapCall none()
@@ -319,6 +329,8 @@ macro_rules! calls {
                     "GetResourceSizeOnDisk, since stored data has no room to spare";
                 InlineGetHandleSize = GetHandleSize Heap HeapCall one(h)
                     "GetHandleSize";
+                BlockMoveData = BlockMove Heap HeapCall five(a, offset, b, offset, count)
+                    "BlockMove, of bytes that are no code";
             }
             [EmptyHandle DisposeHandle DisposePtr HPurge HNoPurge HUnlock ReleaseResource UnloadSeg]
         }
@@ -385,6 +397,9 @@ macro_rules! arm {
     };
     ($given:expr, $alloc:expr, $text:expr; $word:ident $group:ident $calls:ident four($a:ident, $b:ident, $c:ident, $d:ident)) => {
         $given.of_four($alloc, $text, |a, b, c, d| Call::$group($calls::$word(a, b, c, d)))
+    };
+    ($given:expr, $alloc:expr, $text:expr; $word:ident $group:ident $calls:ident five($a:ident, $b:ident, $c:ident, $d:ident, $e:ident)) => {
+        $given.of_five($alloc, $text, |a, b, c, d, e| Call::$group($calls::$word(a, b, c, d, e)))
     };
 }
 
@@ -475,7 +490,7 @@ macro_rules! is_held {
 pub const CALLS: &str = calls!(listed);
 
 /// The words of all calls, in the order of the tables.
-pub static WORDS: [CallWord; 93] = calls!(words);
+pub static WORDS: [CallWord; 97] = calls!(words);
 
 /// Returns the word that a token spells, if the word is one of the few of the token's length that
 /// are tried first.
@@ -627,6 +642,28 @@ impl CallWord {
     {
         let (a, b, c, d) = four(alloc, text)?;
         Ok(make(a, b, c, d))
+    }
+
+    /// Reads the five arguments of a word from a text and makes the call.
+    #[tactic(auto, using(crate::proofs::Allowed::meant_stands))]
+    fn of_five<
+        A: Argument + Drop,
+        B: Argument + Drop,
+        C: Argument + Drop,
+        D: Argument + Drop,
+        E: Argument + Drop,
+        F: FnOnce(A, B, C, D, E) -> Call,
+    >(self, alloc: Global, text: &[u8], make: F) -> Result<Call, FaultKind>
+        requires callable { F.IsAlwaysCallable make }
+        requires kinds { kinds self ≡ A.kind ∷ B.kind ∷ C.kind ∷ D.kind ∷ E.kind ∷ [] }
+        requires made { (a : A) → (b : B) → (c : C) → (d : D) → (e : E)
+            → (call : Call) → F.post make a b c d e call → spoken call
+            ≡ (meant self, A.seen a ∷ B.seen b ∷ C.seen c ∷ D.seen d ∷ E.seen e ∷ []) }
+        ensures call { Gives spoken result (call_read self text.now) }
+        ensures word { IfOk result (λ call. may_stand (word_of call) ≡ may_stand self) }
+    {
+        let (a, b, c, d, e) = five(alloc, text)?;
+        Ok(make(a, b, c, d, e))
     }
 
     /// Reads the arguments of a word from a text and makes the call.

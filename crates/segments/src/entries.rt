@@ -5,7 +5,7 @@
 ghost use Rattle.std.specs.Prelude.{◌≡◌, ◌+◌, ◌*◌, ◌≤◌, ◌<◌, ◌^◌, length, map, IfOk, IfSome};
 ghost use Rattle.fork_format.specs.Fork.{number, offsets};
 ghost use Rattle.segments.specs.Table as table;
-ghost use Rattle.segments.specs.Table.{is_entry, is_of, set_loaded, loaded_from};
+ghost use Rattle.segments.specs.Table.{is_of, set_loaded, loaded_from};
 ghost use Rattle.segments.specs.View.{view_entry, view_entries, are_own, named_by};
 
 use crate::entry::Entry;

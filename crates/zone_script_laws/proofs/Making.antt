@@ -17,7 +17,7 @@ use Rattle.zone_scripts.specs.Parts.{Part, Relocated, Fixed, Gap, numbered, phys
 use Rattle.zone_scripts.specs.Lines.{Line, MoreMasters, NewHandle, NewPtr, HLock, HPurge, HUnlock, name_of, making, NamesDiffer}
 use Rattle.zone_script_laws.specs.Runs.{Runs}
 use Rattle.zone_script_laws.proofs.Fixed.{Stay, stay-append}
-use Rattle.zone_script_laws.proofs.Parted.{spot-first}
+use Rattle.heap_calls.proofs.Exchanged.{spot-parted}
 use Rattle.zone_script_laws.proofs.Calls.{more_masters-done, new_pointer-done, new_handle-done}
 use Rattle.zone_script_laws.proofs.Serving.{Serves, serves-more_masters, serves-new_pointer, serves-new_handle, serves-lock, serves-unlock}
 use Rattle.zone_script_laws.proofs.Serving.{serves-purge}
@@ -155,7 +155,7 @@ handle-one name flags size rest m b holds bs g names s stay low slots fits small
 
     at : (f : Flags) → spot (is_relocatable (length names)) (block f)
         ≡ Some (record { below = bs; here = Relocatable (length names) f (replicate size 0); above = free (g - padded size) })
-    at f = spot-first (is_relocatable (length names)) bs (Relocatable (length names) f (replicate size 0)) (free (g - padded size))
+    at f = spot-parted (is_relocatable (length names)) bs (Relocatable (length names) f (replicate size 0)) (free (g - padded size))
         ((low (length names) (omega arith)).handle) (same-number (length names))
 
     finish : (t : Bool) → flags.purgeable ≡ t → (m' : Memory)

@@ -14,16 +14,9 @@ use Rattle.block_store.proofs.Zone.Tidy.{has-tidy}
 use Rattle.block_store.proofs.Regroup.Packed.{tidy-below}
 use Rattle.block_store.proofs.Zone.Absence.{freed-absent}
 use Rattle.heap_calls.proofs.Room.Packing.{tidy-left}
+use Rattle.heap_calls.proofs.Exchanged.{spot-parted}
 
 -- One block of a zone, found by its name and changed.
-
--- the first block that passes
-pub spot-first : (test : Block → Bool) (below : List Block) (b : Block) (above : List Block) → has test below ≡ false
-    → test b ≡ true → spot test (below ++ b ∷ above) ≡ Some (record { below = below; here = b; above = above })
-spot-first test [] b above none is = cond-true (test b) _ _ is
-spot-first test (c ∷ below) b above none is =
-    let parts = or_parts (test c) (has test below) none in
-    cond-false (test c) _ _ parts.0 ∙ ap (option_map (raised c)) (spot-first test below b above parts.1 is)
 
 -- what is tidied twice
 pub tidied-both : (below : List Block) (b : Block) (above : List Block)
@@ -38,7 +31,7 @@ pub spot-relocatable : (n : ℕ) (flags : Flags) (content : List ℕ) (below abo
     ≡ Some (record { below = tidy below; here = Relocatable n flags content; above = tidy above })
 spot-relocatable n flags content below above is none =
     ap (spot (is_relocatable n)) (tidy-parted below (Relocatable n flags content) above refl)
-    ∙ spot-first (is_relocatable n) (tidy below) (Relocatable n flags content) (tidy above)
+    ∙ spot-parted (is_relocatable n) (tidy below) (Relocatable n flags content) (tidy above)
     (has-tidy (is_relocatable n) (λ k. refl) below ∙ none) is
 
 -- and of a pointer
@@ -48,7 +41,7 @@ pub spot-nonrelocatable : (n : ℕ) (content : List ℕ) (below above : List Blo
     ≡ Some (record { below = tidy below; here = Nonrelocatable n content; above = tidy above })
 spot-nonrelocatable n content below above is none =
     ap (spot (is_nonrelocatable n)) (tidy-parted below (Nonrelocatable n content) above refl)
-    ∙ spot-first (is_nonrelocatable n) (tidy below) (Nonrelocatable n content) (tidy above)
+    ∙ spot-parted (is_nonrelocatable n) (tidy below) (Nonrelocatable n content) (tidy above)
     (has-tidy (is_nonrelocatable n) (λ k. refl) below ∙ none) is
 
 -- a pointer's block that is freed

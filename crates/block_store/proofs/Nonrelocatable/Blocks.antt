@@ -1,6 +1,6 @@
 use Rattle.std.proofs.Common.{◌≡◌, ℕ, ◌+◌, ◌-◌, ◌*◌, ◌≤◌, Bool, true, false, ◌==◌, List, [], ◌∷◌, ◌++◌, length, take}
-use Rattle.std.proofs.Common.{refl, sym, ◌∙◌, ap, cond, subst, arith, Result, Ok, Err, replicate}
-use Rattle.std.proofs.lemmas.List.{length-replicate, length-take-le}
+use Rattle.std.proofs.Common.{refl, sym, ◌∙◌, ap, cond, drop, subst, arith, Result, Ok, Err, replicate}
+use Rattle.std.proofs.lemmas.List.{length-replicate, length-take-le, length-drop}
 use Rattle.std.specs.Result.{OnOk, OnErr}
 use Rattle.std.specs.Option.{IfSome, IsSomeAnd}
 use Rattle.mac_words.specs.Size.{padded}
@@ -102,20 +102,22 @@ lawful-nonrelocatable_freed slots bytes all zone zone' place lawful after =
     (aligned-freed (is_nonrelocatable place) zone lawful.aligned)
     after (placed-tidy 0 fewer (placed-freed 0 (is_nonrelocatable place) zone lawful.placed))
 
--- the first bytes of a block in another
-pub lawful-copied : (slots : ℕ → Slot) (bytes all : ℕ) (zone zone' : List Block) (source n place from : ℕ)
+-- bytes of a block in another
+pub lawful-copied : (slots : ℕ → Slot) (bytes all : ℕ) (zone zone' : List Block) (source start n place from : ℕ)
     → Lawful slots bytes all zone
-    → IsSomeAnd (spot_at source zone) (λ s. n ≤ length (content_of s.here))
+    → IsSomeAnd (spot_at source zone) (λ s. start + n ≤ length (content_of s.here))
     → IsSomeAnd (spot_at place zone) (λ s. from + n ≤ length (content_of s.here))
     → IfSome (spot_at source zone) (λ t. IfSome (spot_at place zone)
-    (λ s. zone' ≡ s.below ++ with_content (written from (take n (content_of t.here)) (content_of s.here)) s.here
+    (λ s. zone' ≡ s.below ++ with_content (written from (take n (drop start (content_of t.here))) (content_of s.here)) s.here
     ∷ s.above)) → Lawful slots bytes all zone'
-lawful-copied slots bytes all zone zone' source n place from lawful fits within after =
-    let at = the_some (spot_at source zone) (λ s. n ≤ length (content_of s.here))
+lawful-copied slots bytes all zone zone' source start n place from lawful fits within after =
+    let at = the_some (spot_at source zone) (λ s. start + n ≤ length (content_of s.here))
     (λ t. IfSome (spot_at place zone) (λ s. zone' ≡ s.below ++ with_content
-    (written from (take n (content_of t.here)) (content_of s.here)) s.here ∷ s.above)) fits after in
-    let x = take n (content_of at.0.here) in
-    let many : n ≡ length x = sym (length-take-le n (content_of at.0.here) at.2) in
+    (written from (take n (drop start (content_of t.here))) (content_of s.here)) s.here ∷ s.above)) fits after in
+    let x = take n (drop start (content_of at.0.here)) in
+    let rest = length-drop start (content_of at.0.here) in
+    let fit = at.2 in
+    let many : n ≡ length x = sym (length-take-le n (drop start (content_of at.0.here)) (omega (arith, rest, fit))) in
     lawful-written slots bytes all zone zone' place from x lawful
     (let P : ℕ → Type 0 = λ k. IsSomeAnd (spot_at place zone) (λ s. from + k ≤ length (content_of s.here)) in
     subst P many within) at.3

@@ -6,6 +6,7 @@ use Rattle.block_store.specs.Slot.{Slot}
 use Rattle.heap_calls.specs.Answer.{Held, look_up}
 use Rattle.heap_calls.specs.Inner.Given.{FindsBlock}
 use Rattle.heap_calls.specs.Inner.Numbered.{state_of}
+use Rattle.heap_calls.specs.Inner.Pointing.{FindsHeld}
 use Rattle.heap_calls.specs.declared.anchor.Anchor.{Anchor}
 
 -- What bars a call, as a store's names and slots say it.
@@ -15,3 +16,9 @@ pub found-held : (zone : List Block) (slots : ℕ → Slot) (es : List Anchor) (
     → FindsBlock zone slots es handle r → is_ok r ≡ is_ok (look_up handle (state_of zone slots es))
 found-held zone slots es handle (Ok place) found = sym (ap (λ (o : Result Held OsErr). is_ok o) found.2)
 found-held zone slots es handle (Err code) found = sym (ap (λ (o : Result Held OsErr). is_ok o) found)
+
+-- the same for what the name of a handle or a pointer leads to
+pub found-named : (looked : Result Held OsErr) (zone : List Block) (es : List Anchor) (r : Result ℕ OsErr)
+    → FindsHeld looked zone es r → is_ok r ≡ is_ok looked
+found-named looked zone es (Ok place) found = sym (ap (λ (o : Result Held OsErr). is_ok o) found.2)
+found-named looked zone es (Err code) found = sym (ap (λ (o : Result Held OsErr). is_ok o) found)

@@ -1,6 +1,7 @@
 use Rattle.std.proofs.Common.{◌≡◌, ℕ, ◌+◌, ◌/◌, ◌%◌, ◌≤◌, Bool, true, false, ◌==◌, List, ◌∷◌, ◌++◌}
 use Rattle.std.proofs.Common.{length, slice_set, refl, sym, ◌∙◌, ap, subst, cond, Option, Some, None, Result, Ok}
 use Rattle.std.proofs.Common.{Err, nat_le, nat_lt}
+use Rattle.std.proofs.Common.{take, drop}
 use Rattle.std.proofs.lemmas.Bool.{leb-true}
 use Rattle.std.proofs.lemmas.Option.{same_Some}
 use Rattle.std.specs.Option.{option_map}
@@ -24,6 +25,7 @@ use Rattle.heap_calls.specs.Answer.{hoisted, move_h_hi, look_up, handle_at, for_
 use Rattle.heap_calls.specs.Answer as calls
 use Rattle.heap_calls.specs.Slots.{slotted, more_masters}
 use Rattle.heap_calls.specs.Pointers.{pointed_at}
+use Rattle.heap_calls.specs.Pointers.{block_named, moved_into}
 use Rattle.heap_calls.specs.Purging.{emptied_at, is_loose, blocks_purged}
 use Rattle.heap_calls.specs.Purging.{purgeable, purged_all}
 use Rattle.heap_calls.specs.Asked.{Asked}
@@ -41,6 +43,7 @@ use Rattle.heap_calls.proofs.Rows.Reads.{quiet-same}
 use Rattle.block_store.proofs.Zone.Alike.{stands, Alike, alike-refl, alike-then, alike-append, alike-cons, alike-tidy}
 use Rattle.block_store.proofs.Zone.Alike.{alike-purged, alike-freed, alike-changed, alike-high, alike-compacted}
 use Rattle.block_store.proofs.Zone.Alike.{alike-based, alike-room}
+use Rattle.heap_calls.proofs.Promises.NamedBlocks.{named-spot}
 
 -- What each call leaves of the lowest block that passes a test, where no block of a run does.
 
@@ -311,6 +314,17 @@ module _ (seen : Block → Bool) (steady : Steady seen)
     alike-quiet (asked.PutPtr (Some p) i x) m quiet loose leaves =
         alike-found (pointed_at (Some p) m.heap) m.heap (λ held. written_at i x held.at m.heap)
         (λ held is. alike-put_at (is_nonrelocatable p) i x m.heap held.at (pointed_at-spot p m.heap held is).0)
+    alike-quiet (asked.BlockMove from i to j n) m quiet loose leaves =
+        alike-found (block_named from m.heap) m.heap
+        (λ a. for_found (block_named to m.heap) m.heap (moved_into i j n a m.heap))
+        (λ a is. alike-found (block_named to m.heap) m.heap (moved_into i j n a m.heap)
+        (λ b e. by_test a b (named-spot to m.heap b e) (nat_le (i + n) (length (content_of a.at.here)))))
+      where
+        by_test : (a b : Held) → ((test : Block → Bool) × (spot test m.heap.zone ≡ Some b.at)) → (t : Bool)
+            → Alike seen m.heap.zone (cond {A = Answer (Unit {0})} t
+            (written_at j (take n (drop i (content_of a.at.here))) b.at m.heap) (refused PROFILE m.heap)).1.zone
+        by_test a b there true = alike-put_at there.0 j (take n (drop i (content_of a.at.here))) m.heap b.at there.1
+        by_test a b there false = same m.heap.zone
     alike-quiet a m quiet loose leaves = unmoved m.heap (answered a m).1.heap (quiet-same a refl quiet m)
 
     -- each call

@@ -1,6 +1,7 @@
 use Rattle.std.proofs.Common.{◌≡◌, ℕ, ◌+◌, ◌/◌, ◌%◌, ◌≤◌, Bool, true, false, not, ◌&&◌, ◌||◌, ◌==◌, List, [], ◌∷◌, ◌++◌}
 use Rattle.std.proofs.Common.{length, slice_set, refl, sym, ◌∙◌, ap, subst, cond, arith, Option, Some, None, Result, Ok}
 use Rattle.std.proofs.Common.{Err, replicate, nat_le, nat_lt, append-nil}
+use Rattle.std.proofs.Common.{take, drop}
 use Rattle.std.proofs.lemmas.Bool.{cond-false}
 use Rattle.std.proofs.lemmas.Bool.Decides.{Decides-eqb}
 use Rattle.std.proofs.lemmas.Option.{same_Some}
@@ -28,6 +29,7 @@ use Rattle.heap_calls.specs.Answer.{hoisted, move_h_hi, look_up, handle_at, for_
 use Rattle.heap_calls.specs.Answer as calls
 use Rattle.heap_calls.specs.Slots.{slotted, more_masters}
 use Rattle.heap_calls.specs.Pointers.{pointed_at}
+use Rattle.heap_calls.specs.Pointers.{block_named, moved_into}
 use Rattle.heap_calls.specs.Purging.{is_resource, block_bits, emptied_at, is_loose, reallocated, blocks_purged}
 use Rattle.heap_calls.specs.Purging.{purgeable}
 use Rattle.heap_calls.specs.Purging as purging
@@ -54,6 +56,7 @@ use Rattle.heap_calls.proofs.Rows.Reads.{quiet-same}
 use Rattle.heap_calls.proofs.Promises.AlikeCalls.{flagged-number}
 use Rattle.heap_calls.proofs.Promises.KnownChanges.{hoisted-all}
 use Rattle.block_store.proofs.Zone.Surviving.{settled-all, purged-all, base-all}
+use Rattle.heap_calls.proofs.Promises.NamedBlocks.{named-spot}
 
 -- Each block that may not be purged is there after each call that doesn't let it go.
 
@@ -248,6 +251,16 @@ module _ (of : Block → ℕ) (none : (n : ℕ) → of (Free n) ≡ 0) (filled :
     of-quiet (asked.PutPtr (Some p) i x) m quiet spares =
         of-found (pointed_at (Some p) m.heap) m.heap (λ held. written_at i x held.at m.heap)
         (λ held is. of-put_at (is_nonrelocatable p) i x m.heap held.at (pointed_at-spot p m.heap held is).0)
+    of-quiet (asked.BlockMove from i to j n) m quiet spares =
+        of-found (block_named from m.heap) m.heap (λ a. for_found (block_named to m.heap) m.heap (moved_into i j n a m.heap))
+        (λ a is. of-found (block_named to m.heap) m.heap (moved_into i j n a m.heap)
+        (λ b e. by_test a b (named-spot to m.heap b e) (nat_le (i + n) (length (content_of a.at.here)))))
+      where
+        by_test : (a b : Held) → ((test : Block → Bool) × (spot test m.heap.zone ≡ Some b.at)) → (t : Bool)
+            → total of m.heap.zone ≤ total of (cond {A = Answer (Unit {0})} t
+            (written_at j (take n (drop i (content_of a.at.here))) b.at m.heap) (refused PROFILE m.heap)).1.zone
+        by_test a b there true = of-put_at there.0 j (take n (drop i (content_of a.at.here))) m.heap b.at there.1
+        by_test a b there false = omega arith
     of-quiet a m quiet spares = unmoved m.heap (answered a m).1.heap (quiet-same a refl quiet m)
 
 module _ (of : Block → ℕ) (none : (n : ℕ) → of (Free n) ≡ 0) (goes : (b : Block) → is_purgeable b ≡ true → of b ≡ 0)

@@ -33,7 +33,9 @@ use Rattle.block_store.proofs.Zone.Zones.{joined-is}
 use Rattle.block_store.proofs.Plain.Counters.{counted-none}
 use Rattle.heap_calls.specs.Table.{row_searches}
 use Rattle.std.proofs.Common.{append-nil, subst}
+use Rattle.std.proofs.Common.{ℤ, nat_le, ◌-◌}
 use Rattle.mac_words.specs.declared.code.TheConstants.OsErr.{PURGED}
+use Rattle.mac_words.specs.declared.code.TheConstants.OsErr.{PROFILE}
 use Rattle.block_store.specs.Block.{total, resized}
 use Rattle.block_store.proofs.Zone.Totals.{total-append}
 use Rattle.moves.specs.Moves.{Move, Put, Base, Drop, Write, Did, did}
@@ -46,6 +48,8 @@ use Rattle.heap_calls.specs.Rows.{work, is_unused}
 use Rattle.heap_calls.proofs.Same.NewBlocks.{made-same, hand_to_hand-same}
 use Rattle.heap_calls.proofs.Same.Resizing.{held-spot, pointer-spot}
 use Rattle.block_store.proofs.Zone.Keeping.{tidied, freed-is, unless-le, based-le}
+use Rattle.heap_calls.specs.Munging.{found_in, behind}
+use Rattle.heap_calls.specs.declared.munging.Occurrence.{Occurrence}
 
 -- A call searches for room no more often than once for each block and once more.
 
@@ -345,6 +349,26 @@ row_few (asked.PtrAndHand handle x) m masters =
 row_few (asked.PtrToXHand handle x) m masters =
     found-few (look_up handle m.heap) m.heap _ (length m.heap.zone + 1)
     (λ held e. sized-few handle m.heap held e (is_relocatable held.number) (length x) 0 x)
+row_few (asked.Munger handle i old x) m masters =
+    found-few (look_up handle m.heap) m.heap (λ held. call held (nat_le i (length (content_of held.at.here))))
+    (length m.heap.zone + 1) (λ held e. by_test held e (nat_le i (length (content_of held.at.here))))
+  where
+    call : Held → Bool → rows.Done ℤ
+    call held t =
+        if t then rows.replaced (is_relocatable held.number) held (found_in old i (content_of held.at.here)) x m.heap
+        else rows.refused PROFILE m.heap
+
+    by_found : (held : Held) → look_up handle m.heap ≡ Ok held → (o : Option Occurrence)
+        → (work (rows.replaced (is_relocatable held.number) held o x m.heap) m.heap).searches ≤ length m.heap.zone + 1
+    by_found held e None = omega arith
+    by_found held e (Some f) =
+        sized-few handle m.heap held e (is_relocatable held.number)
+        (length (content_of held.at.here) - f.count + length x) f.at (x ++ behind f (content_of held.at.here))
+
+    by_test : (held : Held) → look_up handle m.heap ≡ Ok held → (t : Bool)
+        → (work (call held t) m.heap).searches ≤ length m.heap.zone + 1
+    by_test held e true = by_found held e (found_in old i (content_of held.at.here))
+    by_test held e false = omega arith
 row_few (asked.NewPtr n) m masters = cases (is_some (phys n))
   where
     new : Block

@@ -1,9 +1,11 @@
 use Rattle.std.proofs.Common.{◌≡◌, ℕ, ◌+◌, ◌≤◌, ◌/◌, ◌%◌, ◌==◌, Bool, true, false, ◌||◌, List, [], ◌∷◌, ◌++◌, length}
 use Rattle.std.proofs.Common.{replicate, refl, sym, ◌∙◌, ap, subst, cond, arith, Option, Some, None, Result, Ok, Err}
 use Rattle.std.proofs.Common.{slice_get, slice_set, nat_le}
+use Rattle.std.proofs.Common.{ℤ, pos, negsuc, ◌-◌, take, drop}
 use Rattle.std.specs.Prelude.{is_some, if◌then◌else◌}
 use Rattle.mac_words.specs.Size.{phys}
 use Rattle.mac_words.specs.Told.{Told, Done, Given, Refused}
+use Rattle.mac_words.specs.Told.{Offset}
 use Rattle.mac_words.specs.declared.code.OsErr.{OsErr}
 use Rattle.mac_words.specs.declared.code.TheConstants.OsErr.{MEM_FULL, PROFILE, PURGED}
 use Rattle.memory_windows.specs.Writes.{written}
@@ -27,6 +29,7 @@ use Rattle.heap_calls.specs.Answer.{Answer, Held, nothing, refused, disposed_of,
 use Rattle.heap_calls.specs.Answer.{handle_at, for_found, written_at, on_block}
 use Rattle.heap_calls.specs.Answer as calls
 use Rattle.heap_calls.specs.Pointers.{pointed_at}
+use Rattle.heap_calls.specs.Pointers.{pointed, block_named, named_block, moved_into}
 use Rattle.heap_calls.specs.Purging.{emptied_at, is_loose, blocks_purged, purgeable}
 use Rattle.heap_calls.specs.Purging.{purged_all}
 use Rattle.heap_calls.specs.Asked.{Asked, told_as}
@@ -41,11 +44,18 @@ use Rattle.heap_calls.proofs.Rows.Reads.{reads-same}
 use Rattle.heap_calls.proofs.Promises.Knowing.{Known, for_handle, look_up-spot, handle_at-name, pointed_at-spot}
 use Rattle.heap_calls.proofs.Promises.Knowing.{known-at}
 use Rattle.heap_calls.proofs.Promises.Knowing.{known-pointed, known-less, with_bytes, with-same, with-other}
+use Rattle.heap_calls.proofs.Promises.Knowing.{holds-known}
 use Rattle.heap_calls.proofs.Promises.KnownChanges.{More, known-based, known-new, known-sparing, known-new_pointer}
 use Rattle.heap_calls.proofs.Promises.KnownChanges.{known-disposed, known-disposed_pointer, known-put}
 use Rattle.heap_calls.proofs.Promises.KnownChanges.{known-put_pointer}
 use Rattle.heap_calls.proofs.Promises.KnownChanges.{known-grown, known-grown_pointer, known-emptied, known-renewed}
 use Rattle.heap_calls.proofs.Promises.KnownChanges.{known-flags, known-hoisted, known-filled, written-all, written-behind}
+use Rattle.std.proofs.Math.Path.{fun_ext}
+use Rattle.std.proofs.lemmas.Bool.{leb-true}
+use Rattle.std.proofs.lemmas.Bool.Decides.{Decides-eqb}
+use Rattle.heap_calls.specs.Munging.{found_in, behind, munged}
+use Rattle.heap_calls.specs.declared.munging.Occurrence.{Occurrence}
+use Rattle.heap_calls.proofs.Finding.{found-within, written-munged}
 
 -- Each call keeps what is known of each block's bytes.
 
@@ -220,6 +230,35 @@ module _ (s : State) (bytes : ℕ → List ℕ) (known : Known s bytes) (tells :
         (written-behind len x (bytes h) (ap (λ (c : Block). length (content_of c)) (sym (known-at s bytes known h b.at at).1)))
         done_told
 
+-- bytes that were written into the block of a handle or a pointer
+known-named : (s : State) (bytes : ℕ → List ℕ) → Known s bytes → (k i : ℕ) (x : List ℕ) (tells : Told → ℕ → List ℕ)
+    → ((code : OsErr) → bytes ≡ tells (Refused code)) → with_bytes k (written i x (bytes k)) bytes ≡ tells Done
+    → Known (for_found (block_named (Some k) s) s (λ b. written_at i x b.at s)).1
+    (tells (done (for_found (block_named (Some k) s) s (λ b. written_at i x b.at s)).0))
+known-named s bytes known k i x tells refused_told done_told = by_name (slice_get s.names k) refl
+  where
+    Knows : Result Held OsErr → Type 0
+    Knows r = Known (for_found r s (λ b. written_at i x b.at s)).1 (tells (done (for_found r s (λ b. written_at i x b.at s)).0))
+
+    of_handle : Knows (look_up (Some k) s)
+    of_handle = known-written_at s bytes known (is_relocatable k) i x tells refused_told
+        (λ at found. subst (Known (record s { zone = at.below ++ with_content (written i x (content_of at.here)) at.here ∷ at.above }))
+        done_told (known-put s bytes known k i x at found (with_bytes k (written i x (bytes k)) bytes)
+        (with-other k (written i x (bytes k)) bytes) (sym (with-same k (written i x (bytes k)) bytes))))
+        (look_up (Some k) s) (λ b is. (look_up-spot k s b is).0)
+
+    of_pointer : Knows (pointed_at (Some k) s)
+    of_pointer = known-written_at s bytes known (is_nonrelocatable k) i x tells refused_told
+        (λ at found. subst (Known (record s { zone = at.below ++ with_content (written i x (content_of at.here)) at.here ∷ at.above }))
+        done_told (known-put_pointer s bytes known k i x at found))
+        (pointed_at (Some k) s) (λ b is. (pointed_at-spot k s b is).0)
+
+    by_name : (o : Option Meaning) → slice_get s.names k ≡ o → Knows (named_block k o s)
+    by_name None is = of_handle
+    by_name (Some (names.Handle role)) is = of_handle
+    by_name (Some names.Pointer) is = subst Knows (ap (λ (o : Option Meaning). pointed k o s) is) of_pointer
+    by_name (Some names.Disposed) is = of_handle
+
 -- each call keeps what is known, with the bytes that it put
 pub step-known : (a : Asked) (m : Memory) (bytes : ℕ → List ℕ) → Known m.heap bytes
     → Known (answered a m).1.heap (put_by a (answered a m).0 bytes)
@@ -367,6 +406,122 @@ step-known (asked.PtrToXHand (Some h) x) m bytes known =
     let f = look_up-spot h s b e in
     known-written s bytes known tells (λ code. refl) (is_relocatable b.number) h (length x) 0 b x x f.0 f.1
     (written-all x (bytes h)) refl)
+step-known (asked.Munger None i old x) m bytes known = known
+step-known (asked.Munger (Some h) i old x) m bytes known =
+    done-found s bytes known tells (λ code. refl) Offset (look_up (Some h) s)
+    (λ b. call b (nat_le i (length (content_of b.at.here))))
+    (λ b e. by_test b (look_up-spot h s b e) (nat_le i (length (content_of b.at.here))) refl)
+  where
+    s : State
+    s = m.heap
+
+    tells : Told → ℕ → List ℕ
+    tells t = put_by (asked.Munger (Some h) i old x) t bytes
+
+    call : Held → Bool → rows.Done ℤ
+    call b t = if t then rows.replaced (is_relocatable b.number) b (found_in old i (content_of b.at.here)) x s
+        else rows.refused PROFILE s
+
+    -- what is told where these bytes were found
+    told-found : (o : Option Occurrence) → found_in old i (bytes h) ≡ o → (at : ℤ)
+        → with_bytes h (munged o x (bytes h)) bytes ≡ tells (Offset at)
+    told-found o is at = ap (λ (f : Option Occurrence). with_bytes h (munged f x (bytes h)) bytes) (sym is)
+
+    -- nothing was found
+    none-put : with_bytes h (bytes h) bytes ≡ bytes
+    none-put = fun_ext (λ k. cases k (h == k) refl)
+      where
+        cases : (k : ℕ) (t : Bool) → (h == k) ≡ t → cond t (bytes h) (bytes k) ≡ bytes k
+        cases k true e = ap bytes ((Decides-eqb h k).0 e)
+        cases k false e = refl
+
+    by_found : (b : Held) → (spot (is_relocatable h) s.zone ≡ Some b.at) → b.number ≡ h → i ≤ length (content_of b.at.here)
+        → content_of b.at.here ≡ bytes h → (o : Option Occurrence) → found_in old i (content_of b.at.here) ≡ o
+        → Known (heap_after (rows.replaced (is_relocatable b.number) b o x s) s)
+        (tells (told_as {T = ℤ} Offset (rows.replaced (is_relocatable b.number) b o x s).reply))
+    by_found b at named fits same None is =
+        subst (Known s) (sym none-put ∙ told-found None (ap (found_in old i) (sym same) ∙ is) (negsuc 0)) known
+    by_found b at named fits same (Some f) is = by_reply (rows.sized_written sp b n f.at y s).reply written_known
+      where
+        sp : Block → Bool
+        sp = is_relocatable b.number
+
+        n : ℕ
+        n = length (content_of b.at.here) - f.count + length x
+
+        y : List ℕ
+        y = x ++ behind f (content_of b.at.here)
+
+        last : List ℕ
+        last = munged (Some f) x (bytes h)
+
+        -- what the call leaves known, told as a call that returns nothing
+        leaves : Told → ℕ → List ℕ
+        leaves Done = with_bytes h last bytes
+        leaves t = bytes
+
+        within : f.at + f.count ≤ length (content_of b.at.here)
+        within = found-within old i (content_of b.at.here) f fits is
+
+        so : written f.at y (resized_content n (bytes h)) ≡ last
+        so = ap (λ (d : List ℕ). written f.at y (resized_content n d)) (sym same)
+            ∙ written-munged f x (content_of b.at.here) within
+            ∙ ap (munged (Some f) x) same
+
+        written_known : Known (heap_after (rows.sized_written sp b n f.at y s) s)
+            (leaves (done (rows.sized_written sp b n f.at y s).reply))
+        written_known = known-written s bytes known leaves (λ code. refl) sp h n f.at b y last at named so refl
+
+        by_reply : (r : Result (Unit {0}) OsErr)
+            → Known (heap_after (rows.sized_written sp b n f.at y s) s) (leaves (done r))
+            → Known (heap_after (rows.sized_written sp b n f.at y s) s)
+            (tells (told_as {T = ℤ} Offset (rows.reply_with (pos (f.at + length x)) r)))
+        by_reply (Ok u) there = subst (Known (heap_after (rows.sized_written sp b n f.at y s) s))
+            (told-found (Some f) (ap (found_in old i) (sym same) ∙ is) (pos (f.at + length x))) there
+        by_reply (Err code) there = there
+
+    by_test : (b : Held) → (spot (is_relocatable h) s.zone ≡ Some b.at) × (b.number ≡ h) → (t : Bool)
+        → nat_le i (length (content_of b.at.here)) ≡ t
+        → Known (heap_after (call b t) s) (tells (told_as {T = ℤ} Offset (call b t).reply))
+    by_test b f true e =
+        by_found b f.0 f.1 (leb-true i (length (content_of b.at.here)) e)
+        (ap content_of (known-at s bytes known h b.at f.0).1) (found_in old i (content_of b.at.here)) refl
+    by_test b f false e = known
+step-known (asked.BlockMove None i to j n) m bytes known = known
+step-known (asked.BlockMove (Some a) i None j n) m bytes known = by_from (block_named (Some a) m.heap)
+  where
+    by_from : (r : Result Held OsErr)
+        → Known (for_found r m.heap (λ b. for_found (block_named None m.heap) m.heap (moved_into i j n b m.heap))).1 bytes
+    by_from (Err code) = known
+    by_from (Ok b) = known
+step-known (asked.BlockMove (Some a) i (Some b) j n) m bytes known = by_from (block_named (Some a) m.heap) refl
+  where
+    s : State
+    s = m.heap
+
+    tells : Told → ℕ → List ℕ
+    tells t = put_by (asked.BlockMove (Some a) i (Some b) j n) t bytes
+
+    Knows : Answer (Unit {0}) → Type 0
+    Knows answer = Known answer.1 (tells (done answer.0))
+
+    moved : List ℕ → Bool → Held → Answer (Unit {0})
+    moved x t held = if t then written_at j (take n (drop i x)) held.at s else refused PROFILE s
+
+    by_test : (x : List ℕ) → x ≡ bytes a → (t : Bool) → Knows (for_found (block_named (Some b) s) s (moved x t))
+    by_test x same true = known-named s bytes known b j (take n (drop i x)) tells (λ code. refl)
+        (ap (λ (y : List ℕ). with_bytes b (written j (take n (drop i y)) (bytes b)) bytes) same)
+    by_test x same false = by_to (block_named (Some b) s)
+      where
+        by_to : (r : Result Held OsErr) → Knows (for_found r s (moved x false))
+        by_to (Err code) = known
+        by_to (Ok held) = known
+
+    by_from : (r : Result Held OsErr) → block_named (Some a) s ≡ r
+        → Knows (for_found r s (λ held. for_found (block_named (Some b) s) s (moved_into i j n held s)))
+    by_from (Err code) is = known
+    by_from (Ok held) is = by_test (content_of held.at.here) (holds-known s bytes known a held is)
+        (nat_le (i + n) (length (content_of held.at.here)))
 step-known (asked.NewPtr n) m bytes known =
     let s = m.heap in
     let tells : Told → ℕ → List ℕ = λ t. put_by (asked.NewPtr n) t bytes in

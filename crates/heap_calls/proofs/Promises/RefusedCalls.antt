@@ -2,8 +2,11 @@ use Rattle.std.proofs.Common.{◌≡◌, ◌≢◌, ℕ, ◌+◌, ◌≤◌, Boo
 use Rattle.std.proofs.Common.{◌∙◌}
 use Rattle.std.proofs.Common.{ap, subst, cond, arith, Option, Some, None, Result, Ok, Err, replicate, nat_le}
 use Rattle.std.proofs.Common.{slice_get, slice_set, ◌/◌, ◌%◌, ◌==◌}
+use Rattle.std.proofs.Common.{ℤ, pos, ◌-◌}
+use Rattle.std.proofs.Common.{take, drop}
 use Rattle.std.specs.Option.{option_map, ok_or}
 use Rattle.std.specs.Prelude.{unwrap_or}
+use Rattle.std.specs.Prelude.{if◌then◌else◌}
 use Rattle.mac_words.specs.Size.{phys}
 use Rattle.mac_words.specs.declared.code.OsErr.{OsErr}
 use Rattle.mac_words.specs.declared.code.TheConstants.OsErr.{NIL_HANDLE, LOCKED, PROFILE, PURGED}
@@ -13,19 +16,20 @@ use Rattle.block_store.specs.Block.{with_content, no_flags, sizes, tidy, count}
 use Rattle.memory_windows.specs.Writes.{written}
 use Rattle.block_store.specs.Room.{Spot, spot}
 use Rattle.block_store.specs.Grow.{freed}
-use Rattle.block_store.proofs.Zone.Tidy.{spot-is, spot-passes}
-use Rattle.block_store.proofs.Zone.Totals.{total-append}
 use Rattle.heap_calls.specs.State.{State, Memory, Role, Plain, Resource, SystemResource, Meaning, Handle, Pointer}
 use Rattle.heap_calls.specs.State.{Disposed}
 use Rattle.heap_calls.specs.Answer.{Answer, Known, Held, nothing, given, refused, disposed_of, rebuilt, flagged}
 use Rattle.heap_calls.specs.Answer.{change_flags, hoisted, look_up, held_at, handle_at, known_as, for_found, written_at}
 use Rattle.heap_calls.specs.Answer.{on_block, code_of, without}
+use Rattle.heap_calls.specs.Answer.{munger_nil, place_in}
 use Rattle.heap_calls.specs.Answer as calls
 use Rattle.heap_calls.specs.Pointers.{pointed_at, block_named, dispose_pointer}
 use Rattle.heap_calls.specs.Pointers.{get_pointer_size, pointer_zone, put_pointer, show_pointer, place_of}
+use Rattle.heap_calls.specs.Pointers.{recover_handle, block_move, moved_into}
 use Rattle.heap_calls.specs.Purging.{is_resource, block_bits, bit, emptied_at, is_loose, h_purge}
 use Rattle.heap_calls.specs.Purging.{h_no_purge, h_get_state, h_set_state, empty_handle, purge_mem}
 use Rattle.mac_words.specs.Told.{Told, Done, Given, Number, Bytes, Refused}
+use Rattle.mac_words.specs.Told.{Offset}
 use Rattle.heap_calls.specs.Asked.{Asked, told_as}
 use Rattle.heap_calls.specs.Table.{answered}
 use Rattle.moves.specs.Moves.{Move, Put, Base, Drop, Write, Did, did}
@@ -43,6 +47,9 @@ use Rattle.heap_calls.specs.Copying.{copying_zone}
 use Rattle.heap_calls.specs.Table.{zone_left}
 use Rattle.heap_calls.proofs.Promises.KnownChanges.{none-spot, hoisted-all}
 use Rattle.heap_calls.proofs.Promises.Knowing.{look_up-spot}
+use Rattle.heap_calls.proofs.Exchanging.{spot-count}
+use Rattle.heap_calls.specs.Munging.{found_in, behind}
+use Rattle.heap_calls.specs.declared.munging.Occurrence.{Occurrence}
 
 -- A refused call leaves all as it was, but for the zone where the table says so.
 
@@ -67,6 +74,9 @@ given-tells value code e = cc
 
 number-tells : Tells {T = ℕ} Number
 number-tells value code e = cc
+
+offset-tells : Tells {T = ℤ} Offset
+offset-tells value code e = cc
 
 bytes-tells : Tells {T = List ℕ} Bytes
 bytes-tells value code e = cc
@@ -152,18 +162,6 @@ found-again k zone s held is there {code = code} = by_name (slice_get s.names k)
     by_name (Some Pointer) is = cc
     by_name (Some Disposed) is = cc
 
--- there is one that passes where it was found
-found-count : (test : Block → Bool) (zone : List Block) (at : Spot) → spot test zone ≡ Some at → 1 ≤ count test zone
-found-count test zone at found =
-    let here : cond {A = ℕ} (test at.here) 1 0 ≡ 1 =
-    ap {B = ℕ} (λ (t : Bool). cond t 1 0) (spot-passes test zone at found) in
-    omega (
-      arith,
-      ap (count test) (spot-is test zone at found),
-      total-append (λ b. cond (test b) 1 0) at.below
-          (at.here ∷ at.above),
-    )
-
 -- flags are changed of each block that is found
 flags-refused : (change : Flags → Flags) (handle : Option ℕ) (s : State) (code : OsErr)
     → (change_flags change handle s).0 ≡ Err code → look_up handle s ≡ Err code
@@ -205,7 +203,7 @@ locked_high-leaves (Some k) s = by_held (look_up (Some k) s) (λ held is. is)
     by_mover held is false = refused-leaves LOCKED s
     by_mover held is true = λ code e.
         let own = look_up-spot k s held is in
-        let one = found-count (is_relocatable k) s.zone held.at own.0 in
+        let one = spot-count (is_relocatable k) s.zone held.at own.0 in
         let rises : ℕ → Type 0 = λ j. count (is_relocatable k) s.zone ≤ count (is_relocatable k) (hoisted j s.zone) in
         let more : rises held.number = subst rises (sym own.1)
         (hoisted-all (λ b. cond (is_relocatable k b) 1 0) (λ n. refl) k s.zone) in
@@ -309,6 +307,15 @@ sized-leaves sp held n i x s =
     let write : List Move = Write held.number i x ∷ [] in
     changed-leaves sp (around [] write sought) s
     (around-refused sp [] write sought (size-refused sp n s.zone held.at))
+
+-- a call with another reply leaves what it left
+replied-leaves : {T U : Type 0} (value : U) (d : rows.Done T) (s : State) → Leaves s.zone s (d.reply, heap_after d s)
+    → Leaves s.zone s ((rows.replying value d).reply, heap_after (rows.replying value d) s)
+replied-leaves {T} {U} value d s leaves code e = leaves code (by_reply d.reply e)
+  where
+    by_reply : (r : Result T OsErr) → rows.reply_with {T = T} {U = U} value r ≡ Err code → r ≡ Err code
+    by_reply (Ok x) e = cc
+    by_reply (Err why) e = let same : why ≡ code = cc in ap (λ (c : OsErr). (let r : Result T OsErr = Err c in r)) same
 
 append-leaves : (sp : Block → Bool) (held : Held) (x : List ℕ) (s : State)
     → Leaves s.zone s ((rows.append sp held x s).reply, heap_after (rows.append sp held x s) s)
@@ -429,6 +436,49 @@ refused_leaves (asked.PtrToXHand handle x) m =
     handle x) m).1 m.heap.zone
     (done-found (look_up handle m.heap) m.heap _
     (λ held. sized-leaves (is_relocatable held.number) held (length x) 0 x m.heap)) refl refl refl
+refused_leaves (asked.Munger handle i old x) m =
+    noted Offset offset-tells (answer_made (rows.munger handle i old x) m.heap) m (answered (asked.Munger handle i old
+    x) m).1 m.heap.zone
+    (done-found (look_up handle m.heap) m.heap (λ held. call held (nat_le i (length (content_of held.at.here))))
+    (λ held. by_test held (nat_le i (length (content_of held.at.here))))) refl refl refl
+  where
+    call : Held → Bool → rows.Done ℤ
+    call held t =
+        if t then rows.replaced (is_relocatable held.number) held (found_in old i (content_of held.at.here)) x m.heap
+        else rows.refused PROFILE m.heap
+
+    by_found : (held : Held) (o : Option Occurrence) → Leaves m.heap.zone m.heap (
+      (rows.replaced (is_relocatable held.number) held o x m.heap).reply,
+      heap_after (rows.replaced (is_relocatable held.number) held o x m.heap) m.heap,
+    )
+    by_found held None = λ code e. cc
+    by_found held (Some f) =
+        let n = length (content_of held.at.here) - f.count + length x in
+        let y = x ++ behind f (content_of held.at.here) in
+        replied-leaves (pos (f.at + length x)) (rows.sized_written (is_relocatable held.number) held n f.at y m.heap) m.heap
+        (sized-leaves (is_relocatable held.number) held n f.at y m.heap)
+
+    by_test : (held : Held) (t : Bool) → Leaves m.heap.zone m.heap ((call held t).reply, heap_after (call held t) m.heap)
+    by_test held true = by_found held (found_in old i (content_of held.at.here))
+    by_test held false = λ code e. refl
+refused_leaves (asked.MungerNil handle i old) m =
+    noted Offset offset-tells (munger_nil handle i old m.heap) m (answered (asked.MungerNil handle i old) m).1 m.heap.zone
+    (found-leaves (look_up handle m.heap) m.heap (λ held. (place_in old i (content_of held.at.here), m.heap))
+    (λ held code e. refl)) refl refl refl
+refused_leaves (asked.RecoverHandle place) m =
+    noted Given given-tells (recover_handle place m.heap) m (answered (asked.RecoverHandle place) m).1 m.heap.zone
+    (λ code e. refl) refl refl refl
+refused_leaves (asked.BlockMove from i to j n) m =
+    noted (λ _. Done) done-tells (block_move from i to j n m.heap) m (answered (asked.BlockMove from i to j n) m).1
+    m.heap.zone
+    (found-leaves (block_named from m.heap) m.heap (λ a. for_found (block_named to m.heap) m.heap (moved_into i j n a m.heap))
+    (λ a. found-leaves (block_named to m.heap) m.heap (moved_into i j n a m.heap)
+    (λ b. by_test a b (nat_le (i + n) (length (content_of a.at.here)))))) refl refl refl
+  where
+    by_test : (a b : Held) (t : Bool) → Leaves {T = Unit {0}} m.heap.zone m.heap (cond t
+        (written_at j (take n (drop i (content_of a.at.here))) b.at m.heap) (refused PROFILE m.heap))
+    by_test a b true = written-leaves j (take n (drop i (content_of a.at.here))) b.at m.heap
+    by_test a b false = refused-leaves PROFILE m.heap
 refused_leaves (asked.NewPtr n) m =
     noted Given given-tells (answer_made (rows.new_pointer n) m.heap) m (answered (asked.NewPtr n) m).1 m.heap.zone
     (given-leaves nothing (if_fits n sought) m.heap Pointer (fits-refused nothing n sought (seek-refused nothing

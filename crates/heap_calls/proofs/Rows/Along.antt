@@ -1,9 +1,11 @@
 use Rattle.std.proofs.Common.{arith, ◌≡◌, ℕ, ◌+◌, ◌<◌, ◌≤◌, Bool, true, false, ◌||◌, List, ◌∷◌, [], length, replicate, Option, Some}
 use Rattle.std.proofs.Common.{None}
 use Rattle.std.proofs.Common.{Result, Ok, Err, refl, sym, ◌∙◌, ap, subst, is_some, if◌then◌else◌}
+use Rattle.std.proofs.Common.{ℤ, nat_le, ◌-◌, ◌++◌}
 use Rattle.mac_words.specs.Size.{phys}
 use Rattle.mac_words.specs.declared.code.OsErr.{OsErr}
 use Rattle.mac_words.specs.declared.code.TheConstants.OsErr.{PURGED}
+use Rattle.mac_words.specs.declared.code.TheConstants.OsErr.{PROFILE}
 use Rattle.block_store.specs.Block.{Block, Free, Nonrelocatable, Masters, Relocatable, is_purgeable, is_relocatable}
 use Rattle.block_store.specs.Block.{is_nonrelocatable, content_of, no_flags}
 use Rattle.block_store.specs.Room.{spot, may_be_purged}
@@ -25,6 +27,10 @@ use Rattle.heap_calls.specs.Table as table
 use Rattle.heap_calls.proofs.Same.Resizing.{pointer-spot}
 use Rattle.heap_calls.proofs.Rows.Found.{look_up-within, spared-stays, or-false}
 use Rattle.heap_calls.proofs.Promises.Knowing.{handle_at-name}
+use Rattle.heap_calls.specs.Munging.{found_in, behind}
+use Rattle.heap_calls.specs.declared.munging.Occurrence.{Occurrence}
+use Rattle.heap_calls.proofs.Finding.{found-within, behind-fits}
+use Rattle.std.proofs.lemmas.Bool.{leb-true}
 
 -- What a law of moves must allow, for the path of each row to keep to it.
 
@@ -162,6 +168,34 @@ row-along M s (asked.PtrToXHand handle x) law =
     found-along M s (asked.PtrToXHand handle x) law (look_up handle s) _ (λ held e.
     written-along M s (asked.PtrToXHand handle x) law (is_relocatable held.number) held (length x) 0 x
     (is-spared (is_relocatable held.number) handle s held e (λ b not. not)) (omega arith))
+row-along M s (asked.Munger handle i old x) law =
+    found-along M s (asked.Munger handle i old x) law (look_up handle s) (λ held. call held (nat_le i (length (bytes held))))
+    (λ held e. by_test held (is-spared (is_relocatable held.number) handle s held e (λ b not. not))
+    (nat_le i (length (bytes held))) refl)
+  where
+    bytes : Held → List ℕ
+    bytes held = content_of held.at.here
+
+    call : Held → Bool → rows.Done ℤ
+    call held t = if t then rows.replaced (is_relocatable held.number) held (found_in old i (bytes held)) x s
+        else rows.refused PROFILE s
+
+    by_found : (held : Held) → Spared (is_relocatable held.number) s held → i ≤ length (bytes held) → (o : Option Occurrence)
+        → found_in old i (bytes held) ≡ o
+        → Along (M (rows.replaced (is_relocatable held.number) held o x s).spared)
+        (rows.replaced (is_relocatable held.number) held o x s).spared
+        (rows.replaced (is_relocatable held.number) held o x s).path s.zone
+    by_found held there within None is = tt
+    by_found held there within (Some f) is =
+        written-along M s (asked.Munger handle i old x) law (is_relocatable held.number) held
+        (length (bytes held) - f.count + length x) f.at (x ++ behind f (bytes held)) there
+        (omega (arith, behind-fits f x (bytes held) (found-within old i (bytes held) f within is)))
+
+    by_test : (held : Held) → Spared (is_relocatable held.number) s held → (t : Bool) → nat_le i (length (bytes held)) ≡ t
+        → Along (M (call held t).spared) (call held t).spared (call held t).path s.zone
+    by_test held there true e =
+        by_found held there (leb-true i (length (bytes held)) e) (found_in old i (bytes held)) refl
+    by_test held there false e = tt
 row-along M s (asked.NewPtr n) law =
     let new = Nonrelocatable (length s.names) (replicate n 0) in
     along-if (M nothing) nothing (is_some (phys n)) (seek (Base new) nothing s.zone) s.zone

@@ -43,6 +43,7 @@ by-kind P path purge max rest (asked.HandToHand handle) = path (asked.HandToHand
 by-kind P path purge max rest (asked.HandAndHand from to) = path (asked.HandAndHand from to) refl
 by-kind P path purge max rest (asked.PtrAndHand handle x) = path (asked.PtrAndHand handle x) refl
 by-kind P path purge max rest (asked.PtrToXHand handle x) = path (asked.PtrToXHand handle x) refl
+by-kind P path purge max rest (asked.Munger handle i old x) = path (asked.Munger handle i old x) refl
 by-kind P path purge max rest (asked.NewPtr n) = path (asked.NewPtr n) refl
 by-kind P path purge max rest (asked.SetPtrSize pointer n) = path (asked.SetPtrSize pointer n) refl
 by-kind P path purge max rest (asked.ReserveMem n) = path (asked.ReserveMem n) refl

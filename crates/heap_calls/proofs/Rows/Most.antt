@@ -1,9 +1,11 @@
 use Rattle.std.proofs.Common.{◌≡◌, ℕ, ◌+◌, ◌≤◌, Bool, true, false, ◌||◌, List, [], ◌∷◌, ◌++◌, length, replicate, refl}
 use Rattle.std.proofs.Common.{ap, cond}
 use Rattle.std.proofs.Common.{arith, is_some, Option, Some, None, Result, Ok, Err}
+use Rattle.std.proofs.Common.{ℤ, nat_le, ◌-◌}
 use Rattle.mac_words.specs.Size.{phys}
 use Rattle.mac_words.specs.declared.code.OsErr.{OsErr}
 use Rattle.mac_words.specs.declared.code.TheConstants.OsErr.{PURGED}
+use Rattle.mac_words.specs.declared.code.TheConstants.OsErr.{PROFILE}
 use Rattle.block_store.specs.Block.{Block, Free, Nonrelocatable, Masters, Relocatable, total, is_relocatable}
 use Rattle.block_store.specs.Block.{content_of, no_flags}
 use Rattle.block_store.specs.Room.{spot}
@@ -25,6 +27,9 @@ use Rattle.heap_calls.specs.Rows as rows
 use Rattle.heap_calls.specs.Rows.{work, is_unused, next_block}
 use Rattle.heap_calls.specs.Table.{Row, row}
 use Rattle.heap_calls.specs.Table as table
+use Rattle.std.specs.Prelude.{if◌then◌else◌}
+use Rattle.heap_calls.specs.Munging.{found_in, behind}
+use Rattle.heap_calls.specs.declared.munging.Occurrence.{Occurrence}
 
 -- What the path of a row purges comes to no more than there was, by any measure.
 
@@ -135,6 +140,25 @@ module _ (of : Block → ℕ) (none : (k : ℕ) → of (Free k) ≡ 0) (masters 
         found-most (look_up handle s) _ (λ held. append-most (is_relocatable held.number) held x)
     row-most (asked.PtrToXHand handle x) =
         found-most (look_up handle s) _ (λ held. written-most (is_relocatable held.number) held (length x) 0 x)
+    row-most (asked.Munger handle i old x) = found-most (look_up handle s)
+        (λ held. call held (nat_le i (length (content_of held.at.here))))
+        (λ held. by_test held (nat_le i (length (content_of held.at.here))))
+      where
+        call : Held → Bool → rows.Done ℤ
+        call held t =
+            if t then rows.replaced (is_relocatable held.number) held (found_in old i (content_of held.at.here)) x s
+            else rows.refused PROFILE s
+
+        by_found : (held : Held) (o : Option Occurrence)
+            → total of (work (rows.replaced (is_relocatable held.number) held o x s) s).gone ≤ total of s.zone
+        by_found held None = omega arith
+        by_found held (Some f) =
+            written-most (is_relocatable held.number) held (length (content_of held.at.here) - f.count + length x) f.at
+            (x ++ behind f (content_of held.at.here))
+
+        by_test : (held : Held) (t : Bool) → total of (work (call held t) s).gone ≤ total of s.zone
+        by_test held true = by_found held (found_in old i (content_of held.at.here))
+        by_test held false = omega arith
     row-most (asked.NewPtr n) = if-most of nothing none (is_some (phys n))
         (Base (Nonrelocatable (length s.names) (replicate n 0))) (λ y. refl) s.zone
     row-most (asked.SetPtrSize pointer n) =

@@ -2,7 +2,7 @@ use Rattle.std.proofs.Common.{◌≡◌, ◌+◌, Bool, true, false, ◌||◌, l
 use Rattle.mac_words.specs.declared.code.OsErr.{OsErr}
 use Rattle.block_store.specs.Block.{sizes, content_of}
 use Rattle.heap_calls.specs.State.{State, Memory}
-use Rattle.heap_calls.specs.Answer.{Answer, look_up, handle_at, for_found, on_block}
+use Rattle.heap_calls.specs.Answer.{Answer, look_up, handle_at, for_found, on_block, place_in}
 use Rattle.heap_calls.specs.Pointers.{pointed_at, block_named}
 use Rattle.heap_calls.specs.Purging.{is_resource, block_bits}
 use Rattle.heap_calls.specs.Asked.{Asked}
@@ -17,6 +17,8 @@ reads (asked.HGetState handle) = true
 reads (asked.GetPtrSize pointer) = true
 reads (asked.HandleZone handle) = true
 reads (asked.PtrZone pointer) = true
+reads (asked.RecoverHandle place) = true
+reads (asked.MungerNil handle i old) = true
 reads asked.FreeMem = true
 reads asked.MaxBlock = true
 reads asked.PurgeSpace = true
@@ -44,6 +46,9 @@ reads-same (asked.GetPtrSize pointer) e m = found-same (pointed_at pointer m.hea
     (λ held. (Ok (length (content_of held.at.here)), m.heap)) (λ held. refl)
 reads-same (asked.HandleZone handle) e m = found-same (handle_at handle m.heap) m.heap (λ k. (Ok 0, m.heap)) (λ k. refl)
 reads-same (asked.PtrZone pointer) e m = found-same (pointed_at pointer m.heap) m.heap (λ held. (Ok 0, m.heap)) (λ held. refl)
+reads-same (asked.RecoverHandle place) e m = refl
+reads-same (asked.MungerNil handle i old) e m = found-same (look_up handle m.heap) m.heap
+    (λ held. (place_in old i (content_of held.at.here), m.heap)) (λ held. refl)
 reads-same asked.FreeMem e m = refl
 reads-same asked.MaxBlock e m = refl
 reads-same asked.PurgeSpace e m = refl

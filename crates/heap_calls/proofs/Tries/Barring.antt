@@ -10,6 +10,8 @@ use Rattle.heap_calls.specs.Table as table
 use Rattle.heap_calls.specs.Busy.{Places, idle, is_busy, bar, known_bars, pointer_bars, either_bars, barred}
 use Rattle.heap_calls.specs.Busy.{guard, known_guards, change_barred, NoneGuarded}
 use Rattle.heap_calls.specs.Busy.{pointer_barred, either_barred, next_barred, both_barred, keep_code}
+use Rattle.heap_calls.specs.Busy.{either_guards, either_change_barred, move_barred}
+use Rattle.heap_calls.specs.Pointers.{block_named}
 use Rattle.heap_calls.specs.Table.{gate, notes}
 use Rattle.heap_calls.specs.Table.{gated, served}
 use Rattle.heap_calls.specs.Refused.{BarredLeaves}
@@ -79,6 +81,41 @@ module _ (P : Option OsErr → Type 0) (m : Memory) (none : P None) (one : (n : 
         by_first (Err code) = by_held (look_up from m.heap)
         by_first (Ok known) = by_bar (is_busy known.number m.log.busy) (one known.number)
 
+    by-either-change : (name : Option ℕ) → P (either_change_barred name m)
+    by-either-change None = none
+    by-either-change (Some n) = by_meaning (slice_get m.heap.names n) refl
+      where
+        by_meaning : (o : Option Meaning) → slice_get m.heap.names n ≡ o → P (either_guards m.log.busy n o)
+        by_meaning None is = none
+        by_meaning (Some (Handle role)) is = of n role is
+        by_meaning (Some Pointer) is = one n
+        by_meaning (Some Disposed) is = none
+
+    by-move : (from to : Option ℕ) → P (move_barred from to m)
+    by-move None to = by_held (block_named None m.heap)
+      where
+        by_held : (r : Result Held OsErr) → P (next_barred r (either_change_barred to m))
+        by_held (Err code) = none
+        by_held (Ok held) = by-either-change to
+    by-move (Some n) to = by_meaning (slice_get m.heap.names n)
+      where
+        other : Option OsErr
+        other = next_barred (block_named (Some n) m.heap) (either_change_barred to m)
+
+        by_held : (r : Result Held OsErr) → P (next_barred r (either_change_barred to m))
+        by_held (Err code) = none
+        by_held (Ok held) = by-either-change to
+
+        by_bar : (t : Bool) → P (bar t) → P (option_or (bar t) other)
+        by_bar true bars = bars
+        by_bar false free = by_held (block_named (Some n) m.heap)
+
+        by_meaning : (o : Option Meaning) → P (option_or (either_bars m.log.busy n o) other)
+        by_meaning None = by_held (block_named (Some n) m.heap)
+        by_meaning (Some (Handle role)) = by_bar (is_busy n m.log.busy) (one n)
+        by_meaning (Some Pointer) = by_bar (is_busy n m.log.busy) (one n)
+        by_meaning (Some Disposed) = by_held (block_named (Some n) m.heap)
+
     by-bar : (b : Bar) → P (barred_by b m)
     by-bar table.Open = none
     by-bar (table.OnHandle handle) = by-handle handle
@@ -86,6 +123,7 @@ module _ (P : Option OsErr → Type 0) (m : Memory) (none : P None) (one : (n : 
     by-bar (table.OnBoth from to) = by-both from to
     by-bar (table.OnPointer pointer) = by-pointer pointer
     by-bar (table.OnEither name) = by-either name
+    by-bar (table.OnMove from to) = by-move from to
 
     pub by-gate : (a : Asked) → P (gate a m)
     by-gate a = by-bar (bar_of (row a))

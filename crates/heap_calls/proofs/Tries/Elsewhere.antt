@@ -10,7 +10,7 @@ use Rattle.heap_calls.specs.Asked as asked
 use Rattle.heap_calls.specs.Gone.{gone_unless}
 use Rattle.heap_calls.specs.Rows.{purges_made}
 use Rattle.heap_calls.specs.Table.{gone_in}
-use Rattle.heap_calls.specs.Busy.{keep_code, pointer_barred, either_barred}
+use Rattle.heap_calls.specs.Busy.{keep_code, pointer_barred, either_barred, move_barred}
 use Rattle.heap_calls.specs.Table.{gate, gated, notes, served}
 use Rattle.heap_calls.proofs.Gates.Served.{served-gated}
 
@@ -34,6 +34,13 @@ either-elsewhere : (window : Site) (name : Option ℕ) (m : Memory)
 either-elsewhere window None m = refl
 either-elsewhere window (Some n) m = refl
 
+move-elsewhere : (window : Site) (from to : Option ℕ) (m : Memory)
+    → move_barred from to (elsewhere window m) ≡ move_barred from to m
+move-elsewhere window None None m = refl
+move-elsewhere window None (Some b) m = refl
+move-elsewhere window (Some a) None m = refl
+move-elsewhere window (Some a) (Some b) m = refl
+
 bar-elsewhere : (window : Site) (b : Bar) (m : Memory) → barred_by b (elsewhere window m) ≡ barred_by b m
 bar-elsewhere window table.Open m = refl
 bar-elsewhere window (table.OnHandle handle) m = refl
@@ -41,6 +48,7 @@ bar-elsewhere window (table.OnChange handle) m = refl
 bar-elsewhere window (table.OnBoth from to) m = refl
 bar-elsewhere window (table.OnPointer pointer) m = pointer-elsewhere window pointer m
 bar-elsewhere window (table.OnEither name) m = either-elsewhere window name m
+bar-elsewhere window (table.OnMove from to) m = move-elsewhere window from to m
 
 pub gate-elsewhere : (window : Site) (a : Asked) (m : Memory) → gate a (elsewhere window m) ≡ gate a m
 gate-elsewhere window a m = bar-elsewhere window (bar_of (row a)) m

@@ -1,6 +1,8 @@
 use Rattle.std.proofs.Common.{◌≡◌, ℕ, ◌+◌, ◌/◌, ◌%◌, zero, suc, Bool, true, false, ◌==◌, List, [], ◌∷◌, ◌++◌}
 use Rattle.std.proofs.Common.{length, refl, sym, ◌∙◌, ap, subst, cond, arith, Option, Some, None, Result, Ok, Err}
 use Rattle.std.proofs.Common.{nat_le, slice_get, slice_set}
+use Rattle.std.proofs.Common.{ℤ}
+use Rattle.std.proofs.Common.{take, drop}
 use Rattle.std.proofs.lemmas.Bool.Decides.{Decides-eqb}
 use Rattle.std.specs.Option.{option_map, ok_or}
 use Rattle.mac_words.specs.declared.code.OsErr.{OsErr}
@@ -18,6 +20,7 @@ use Rattle.heap_calls.specs.Answer.{look_up, known_as, handle_at, for_found, wri
 use Rattle.heap_calls.specs.Answer as calls
 use Rattle.heap_calls.specs.Pointers.{pointed, pointed_at}
 use Rattle.heap_calls.specs.Pointers.{dispose_pointer}
+use Rattle.heap_calls.specs.Pointers.{block_named, moved_into}
 use Rattle.heap_calls.specs.Purging.{emptied_at, is_loose}
 use Rattle.heap_calls.specs.Asked.{Asked}
 use Rattle.heap_calls.specs.Table.{answered}
@@ -30,6 +33,9 @@ use Rattle.heap_calls.specs.Owned.{resource_meant, resource_role_at}
 use Rattle.heap_calls.proofs.Promises.Knowing.{pushed}
 use Rattle.heap_calls.proofs.Tries.Gating.{served-holds}
 use Rattle.heap_calls.proofs.Rows.Reads.{reads-same}
+use Rattle.std.specs.Prelude.{if◌then◌else◌}
+use Rattle.heap_calls.specs.Munging.{found_in}
+use Rattle.heap_calls.specs.declared.munging.Occurrence.{Occurrence}
 
 -- No call of the Memory Manager makes a resource's handle, changes its role, or disposes of it.
 
@@ -235,6 +241,32 @@ row-keeps (asked.HandAndHand from to) m =
     done-found (look_up from m.heap) m.heap _ (λ a. done-found (look_up to m.heap) m.heap _ (λ b h. refl))
 row-keeps (asked.PtrAndHand handle x) m = done-found (look_up handle m.heap) m.heap _ (λ held h. refl)
 row-keeps (asked.PtrToXHand handle x) m = done-found (look_up handle m.heap) m.heap _ (λ held h. refl)
+row-keeps (asked.Munger handle i old x) m =
+    done-found (look_up handle m.heap) m.heap (λ held. call held (nat_le i (length (content_of held.at.here))))
+    (λ held. by_test held (nat_le i (length (content_of held.at.here))))
+  where
+    call : Held → Bool → rows.Done ℤ
+    call held t =
+        if t then rows.replaced (is_relocatable held.number) held (found_in old i (content_of held.at.here)) x m.heap
+        else rows.refused PROFILE m.heap
+
+    by_found : (held : Held) (o : Option Occurrence)
+        → Keeps m.heap (heap_after (rows.replaced (is_relocatable held.number) held o x m.heap) m.heap)
+    by_found held None h = refl
+    by_found held (Some f) h = refl
+
+    by_test : (held : Held) (t : Bool) → Keeps m.heap (heap_after (call held t) m.heap)
+    by_test held true = by_found held (found_in old i (content_of held.at.here))
+    by_test held false = λ h. refl
+row-keeps (asked.BlockMove from i to j n) m =
+    found-keeps (block_named from m.heap) m.heap (λ a. for_found (block_named to m.heap) m.heap (moved_into i j n a m.heap))
+    (λ a. found-keeps (block_named to m.heap) m.heap (moved_into i j n a m.heap)
+    (λ b. by_test a b (nat_le (i + n) (length (content_of a.at.here)))))
+  where
+    by_test : (a b : Held) (t : Bool) → Keeps m.heap (cond {A = Answer (Unit {0})} t
+        (written_at j (take n (drop i (content_of a.at.here))) b.at m.heap) (refused PROFILE m.heap)).1
+    by_test a b true = written-keeps j (take n (drop i (content_of a.at.here))) b.at m.heap
+    by_test a b false = λ h. refl
 row-keeps (asked.NewPtr n) m = given-keeps Pointer refl _ m.heap
 row-keeps (asked.DisposePtr pointer) m = unpointed-keeps pointer m.heap
 row-keeps (asked.SetPtrSize pointer n) m = done-found (pointed_at pointer m.heap) m.heap _ (λ held h. refl)

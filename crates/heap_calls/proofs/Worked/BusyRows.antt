@@ -1,12 +1,16 @@
 use Rattle.std.proofs.Common.{◌≡◌, ℕ, List, [], ◌∷◌, refl, Some, None, true, false}
+use Rattle.std.proofs.Common.{pos, negsuc}
 use Rattle.mac_words.specs.declared.code.TheConstants.OsErr.{NO_ERR, LOCKED, NIL_HANDLE, WRONG_ZONE, PURGED}
+use Rattle.mac_words.specs.declared.code.TheConstants.OsErr.{PROFILE}
 use Rattle.heap_calls.specs.State.{Memory, fresh_memory}
 use Rattle.mac_words.specs.Told.{Told, Done, Given, Number, Bytes, Code, Refused}
+use Rattle.mac_words.specs.Told.{Offset}
 use Rattle.heap_calls.specs.Asked.{Asked}
 use Rattle.heap_calls.specs.Asked as asks
 use Rattle.heap_calls.specs.Busy.{idle, busied, eased, is_busy, with_busy}
 use Rattle.heap_calls.specs.Table.{served}
 use Rattle.block_store.specs.Rest.{Site}
+use Rattle.heap_calls.specs.Munging.{Like, Many}
 
 -- Calls while names are busy, by the definitions alone.
 
@@ -78,6 +82,43 @@ replaced_bytes : (window : Site) → told (Ask (asks.NewHandle (asks.Zeros 10)) 
     ∷ Ask (asks.EmptyHandle (Some 0)) ∷ Ask (asks.PtrToXHand (Some 0) []) ∷ []) (fresh_memory 1024 window)
     ≡ Given 0 ∷ Done ∷ Bytes (7 ∷ 8 ∷ []) ∷ Number 2 ∷ Refused NIL_HANDLE ∷ Done ∷ Refused NIL_HANDLE ∷ []
 replaced_bytes window = refl
+
+-- the handle of a block, by where its content stands; nothing stands elsewhere, and no handle's where a pointer's does
+recovered : (window : Site) → told (Ask (asks.NewPtr 4) ∷ Ask (asks.NewHandle (asks.Zeros 4)) ∷ Ask (asks.NewHandle (asks.Zeros 2))
+    ∷ Ask (asks.Where (Some 2)) ∷ Ask (asks.RecoverHandle 352) ∷ Ask (asks.RecoverHandle 320) ∷ Ask (asks.RecoverHandle 321)
+    ∷ Ask asks.MemError ∷ Ask (asks.RecoverHandle 288) ∷ Ask (asks.RecoverHandle 0) ∷ Ask (asks.EmptyHandle (Some 1))
+    ∷ Ask (asks.RecoverHandle 320) ∷ []) (fresh_memory 1024 window)
+    ≡ Given 0 ∷ Given 1 ∷ Given 2 ∷ Number 352 ∷ Given 2 ∷ Given 1 ∷ Refused WRONG_ZONE ∷ Code WRONG_ZONE
+    ∷ Refused WRONG_ZONE ∷ Refused WRONG_ZONE ∷ Done ∷ Refused WRONG_ZONE ∷ []
+recovered window = refl
+
+-- bytes that are copied within a block, up and down, and into a pointer's; past the ends; and for busy names
+moved_bytes : (window : Site) → told (Ask (asks.NewHandle (asks.CopyOf (1 ∷ 2 ∷ 3 ∷ 4 ∷ []))) ∷ Ask (asks.NewPtr 2)
+    ∷ Ask (asks.BlockMove (Some 0) 0 (Some 0) 1 3) ∷ Ask (asks.Show (Some 0)) ∷ Ask (asks.BlockMove (Some 0) 2 (Some 0) 0 2)
+    ∷ Ask (asks.Show (Some 0)) ∷ Ask (asks.BlockMove (Some 0) 1 (Some 1) 0 2) ∷ Ask (asks.ShowPtr (Some 1))
+    ∷ Ask (asks.BlockMove (Some 0) 3 (Some 1) 0 2) ∷ Ask (asks.BlockMove (Some 0) 0 (Some 1) 1 2)
+    ∷ Ask (asks.BlockMove None 9 (Some 1) 0 1) ∷ Ask (asks.BlockMove (Some 1) 9 None 0 1) ∷ Ask asks.MemError ∷ Busy 1
+    ∷ Ask (asks.BlockMove (Some 0) 0 (Some 1) 0 1) ∷ Ask (asks.BlockMove (Some 1) 0 (Some 0) 0 1)
+    ∷ Ask (asks.BlockMove None 0 (Some 1) 0 1) ∷ Idle 1 ∷ Ask (asks.BlockMove (Some 1) 0 (Some 0) 0 1) ∷ [])
+    (fresh_memory 1024 window)
+    ≡ Given 0 ∷ Given 1 ∷ Done ∷ Bytes (1 ∷ 1 ∷ 2 ∷ 3 ∷ []) ∷ Done ∷ Bytes (2 ∷ 3 ∷ 2 ∷ 3 ∷ []) ∷ Done ∷ Bytes (3 ∷ 2 ∷ [])
+    ∷ Refused PROFILE ∷ Refused PROFILE ∷ Refused NIL_HANDLE ∷ Refused NIL_HANDLE ∷ Code NIL_HANDLE ∷ Refused LOCKED
+    ∷ Refused LOCKED ∷ Refused NIL_HANDLE ∷ Done ∷ []
+moved_bytes window = refl
+
+-- bytes that are found, and others in their place: longer, shorter, none; put in; so many; what stands at the end
+munged_bytes : (window : Site) → told (Ask (asks.NewHandle (asks.CopyOf (1 ∷ 2 ∷ 3 ∷ 2 ∷ 3 ∷ [])))
+    ∷ Ask (asks.Munger (Some 0) 0 (Like (2 ∷ 3 ∷ [])) (7 ∷ 8 ∷ 9 ∷ [])) ∷ Ask (asks.Show (Some 0))
+    ∷ Ask (asks.MungerNil (Some 0) 1 (Like (2 ∷ 3 ∷ []))) ∷ Ask (asks.Munger (Some 0) 4 (Like (2 ∷ 3 ∷ [])) [])
+    ∷ Ask (asks.Show (Some 0)) ∷ Ask (asks.Munger (Some 0) 1 (Like []) (5 ∷ [])) ∷ Ask (asks.Munger (Some 0) 3 (Many 9) (6 ∷ []))
+    ∷ Ask (asks.Show (Some 0)) ∷ Ask (asks.Munger (Some 0) 0 (Like (4 ∷ [])) (5 ∷ []))
+    ∷ Ask (asks.Munger (Some 0) 2 (Like (7 ∷ 6 ∷ 5 ∷ [])) (4 ∷ [])) ∷ Ask (asks.Show (Some 0))
+    ∷ Ask (asks.MungerNil (Some 0) 3 (Like (4 ∷ []))) ∷ Ask (asks.MungerNil (Some 0) 4 (Like [])) ∷ Ask asks.MemError
+    ∷ Ask (asks.Munger None 0 (Like []) []) ∷ []) (fresh_memory 1024 window)
+    ≡ Given 0 ∷ Offset (pos 4) ∷ Bytes (1 ∷ 7 ∷ 8 ∷ 9 ∷ 2 ∷ 3 ∷ []) ∷ Offset (pos 4) ∷ Offset (pos 4)
+    ∷ Bytes (1 ∷ 7 ∷ 8 ∷ 9 ∷ []) ∷ Offset (pos 2) ∷ Offset (pos 4) ∷ Bytes (1 ∷ 5 ∷ 7 ∷ 6 ∷ []) ∷ Offset (negsuc 0)
+    ∷ Offset (pos 3) ∷ Bytes (1 ∷ 5 ∷ 4 ∷ []) ∷ Offset (negsuc 0) ∷ Refused PROFILE ∷ Code PROFILE ∷ Refused NIL_HANDLE ∷ []
+munged_bytes window = refl
 
 -- a number that became busy twice is idle at once, and a fourth isn't kept
 twice_busy : is_busy 7 (eased 7 (busied 7 (busied 7 idle))) ≡ false

@@ -1,6 +1,6 @@
--- The first bytes of one block written into another.
-use Rattle.std.proofs.Common.{◌≡◌, ℕ, ◌+◌, ◌≤◌, Some, List, ◌∷◌, ◌++◌, length, take, drop, sym, ap, ◌∙◌, arith}
-use Rattle.std.proofs.lemmas.List.{length-take-le, take-take}
+-- Bytes of one block written into another.
+use Rattle.std.proofs.Common.{◌≡◌, ℕ, ◌+◌, ◌-◌, ◌≤◌, Some, List, ◌∷◌, ◌++◌, length, take, drop, sym, ap, ◌∙◌, arith}
+use Rattle.std.proofs.lemmas.List.{length-take-le, length-drop, drop-take, drop-drop, take-take}
 use Rattle.memory_windows.specs.Writes.{written}
 use Rattle.block_store.specs.Block.{free_sum, count, is_masters, content_of, with_content}
 use Rattle.block_store.specs.Room.{Spot, spot_at}
@@ -16,22 +16,36 @@ pub holds-inside : (xs : List ℕ) (place n : ℕ) (s : Spot) → Standing xs pl
     → place + 16 + n ≤ length xs
 holds-inside xs place n s a l = omega (arith, content-room)
 
-module _ (xs : List ℕ) (first unused source n place from : ℕ) (i : IsSound xs first unused) (t s : Spot)
+-- the bytes of a piece that begins at a place
+piece-inside : (xs content : List ℕ) (at start n : ℕ) → start + n ≤ length content → take (length content) (drop at xs) ≡ content
+    → take n (drop (at + start) xs) ≡ take n (drop start content)
+piece-inside xs content at start n l e =
+    let more = length content - (start + n) in
+    let sum : length content ≡ start + (n + more) = omega arith in
+    let cut : take n (drop start (take (start + (n + more)) (drop at xs))) ≡ take n (drop (at + start) xs) =
+    ap (take n) (drop-take start (n + more) (drop at xs)) ∙ take-take n (n + more) (drop start (drop at xs)) (omega arith)
+    ∙ ap (take n) (drop-drop start at xs) in
+    sym cut ∙ ap (λ (k : ℕ). take n (drop start (take k (drop at xs)))) (sym sum) ∙ ap (λ l. take n (drop start l)) e
+
+module _ (xs : List ℕ) (first unused source start n place from : ℕ) (i : IsSound xs first unused) (t s : Spot)
     (at : spot_at source (zone_in xs) ≡ Some t) (to : spot_at place (zone_in xs) ≡ Some s)
-    (l : n ≤ length (content_of t.here)) (w : from + n ≤ length (content_of s.here)) where
+    (l : start + n ≤ length (content_of t.here)) (w : from + n ≤ length (content_of s.here)) where
   abbrev x : List ℕ
-  x = take n (content_of t.here)
+  x = take n (drop start (content_of t.here))
 
   abbrev new : List ℕ
-  new = written (place + 16 + from) (take n (drop (source + 16) xs)) xs
+  new = written (place + 16 + from) (take n (drop (source + 16 + start) xs)) xs
 
   pub copied : Made new first unused (s.below
       ++ with_content (written from x (content_of s.here)) s.here ∷ s.above) (slot_in xs)
   copied =
       let a = standing xs first unused place i s to in
       let b = standing xs first unused source i t at in
-      let e : take n (drop (source + 16) xs) ≡ x = grind (arith, take-take, held-piece) in
-      rw e (written-in _ _ _ i _ _ x _ _ _ a.whole a.low (omega (arith, length-take-le n (content_of t.here) l)))
+      let rest = length-drop start (content_of t.here) in
+      let e : take n (drop (source + 16 + start) xs) ≡ x =
+      piece-inside xs (content_of t.here) (source + 16) start n l (held-piece _ _ source xs b.tile) in
+      rw e (written-in _ _ _ i _ _ x _ _ _ a.whole a.low
+      (omega (arith, length-take-le n (drop start (content_of t.here)) (omega arith))))
 
   pub copied-kept : (free : ℕ) → free ≡ free_sum (zone_in xs) → IsKept new first unused free
   copied-kept free f =

@@ -1,4 +1,7 @@
-use Rattle.std.proofs.Common.{ℕ, Option, Some, sym, subst}
+use Rattle.std.proofs.Common.{◌≡◌, ℕ, ◌+◌, ◌≤◌, length, Option, Some, sym, subst, arith}
+use Rattle.std.specs.Option.{IsSomeAnd}
+use Rattle.block_store.specs.Block.{content_of}
+use Rattle.block_store.specs.Room.{spot_at}
 use Rattle.heap_calls.specs.Inner.Copied.{IsCopy}
 use Rattle.heap_calls.proofs.NewBlocks.Copies.{source-there, new-there, may-read, may-write, copy-done}
 use Rattle.heap_calls.proofs.Room.Staying.{nonrelocatable-then}
@@ -24,10 +27,13 @@ unreachable-requires-in_default-place_of-2 g c =
 pub copy-requires-clause-source : goal.copy-requires-clause-source
 copy-requires-clause-source g c =
     let store = c.new_block.new.store in
-    may-read c.args.source c.args.size c.in-Some.slot (g.S.BlockStore.zone c.args.store.now)
+    let Holds : ℕ → Type 0 = λ n. IsSomeAnd (spot_at c.in-Some-place_of.from (g.S.BlockStore.zone store))
+    (λ s. n ≤ length (content_of s.here)) in
+    let same : c.args.size ≡ 0 + c.args.size = omega arith in
+    subst Holds same (may-read c.args.source c.args.size c.in-Some.slot (g.S.BlockStore.zone c.args.store.now)
     (g.S.BlockStore.rest c.args.store.now) (g.S.BlockStore.zone store) (g.S.BlockStore.rest store)
     c.in_ok-made.made.slot c.in-Some.is c.in_ok-made.ensures.answer c.requires.used
-    (g.met.S.BlockStore.once store c.in-Some.slot) c.requires.size c.in-Some-place_of.from c.in-Some-place_of.ensures
+    (g.met.S.BlockStore.once store c.in-Some.slot) c.requires.size c.in-Some-place_of.from c.in-Some-place_of.ensures)
 
 pub copy-requires-clause-within : goal.copy-requires-clause-within
 copy-requires-clause-within g c =

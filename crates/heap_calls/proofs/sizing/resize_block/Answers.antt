@@ -5,12 +5,13 @@ use Rattle.std.proofs.lemmas.Result.{on_ok_weaker}
 use Rattle.heap_calls.specs.Gone.{Hears}
 use Rattle.heap_calls.specs.Inner.Telling.{still_gone}
 use Rattle.heap_calls.proofs.GoneForSizes.{stays-gone}
-use Rattle.heap_calls.proofs.Hearing.{hears-as, on_ok-always}
+use Rattle.heap_calls.proofs.Hearing.{hears-as}
 use Rattle.heap_calls.proofs.Sizes.GrowingInPlace.{spot_if}
 use Rattle.block_store.specs.Block.{is_relocatable, is_nonrelocatable, resized, size as size_of}
 use Rattle.block_store.specs.Sparing.{spared}
 use Rattle.block_store.specs.Run.{has, in_run}
 use Rattle.block_store.specs.Room.{Spot, spot_at, filled}
+use Rattle.block_store.proofs.Content.Resizing.{on_ok}
 use Rattle.heap_calls.proofs.Numbering.Answering.{at_place}
 use Rattle.heap_calls.proofs.Sizes.Resizing.{stands-still, moves, searches-still, searches-moved, is-to-grow, is-to-fit}
 use Rattle.heap_calls.proofs.Sizes.Resizing.{grown-done}
@@ -113,7 +114,7 @@ returns-clause-moves g c =
     c.block_at.ensures c.can_move.ensures c.if-can_move.false in
     let more = is-to-grow c.args.slot c.args.size c.in-Some.bytes c.bytes_of.result zone k.0 k.1
     (sym c.phys.ensures ∙ c.in-Some.is) c.bytes_of.ensures c.if-bytes-bytes_of.false in
-    on_ok-always c.grow_in_place.result (packs-none (g.S.BlockStore.rest c.args.store.now)
+    on_ok c.grow_in_place.result (packs-none (g.S.BlockStore.rest c.args.store.now)
     (g.S.BlockStore.rest c.grow_in_place.new.store)
     (size_moves (is_relocatable c.args.slot) (spared c.args.sparing) c.args.size zone)
     c.grow_in_place.ensures.rest.moves

@@ -1,4 +1,5 @@
-use Rattle.macmem_c.proofs.Lining.{also_ok, found_lines}
+use Rattle.fork_commands.proofs.Pairs.{also_ok}
+use Rattle.macmem_c.proofs.Lining.{found_lines}
 use Rattle.macmem_c.proofs.linted.script_lines.Goals as goal
 
 pub returns : goal.returns

@@ -7,7 +7,7 @@ pub invariant_of-self : goal.invariant_of-self
 invariant_of-self c =
     let self = c.args.self.now in
     let lawful = lawful-copied (slots_of self.slots.items) self.bytes (length self.slots.items)
-    (blocks_of self.blocks.items) (blocks_of c.copy_at.new.entries.items) c.args.source c.args.bytes c.args.place
+    (blocks_of self.blocks.items) (blocks_of c.copy_at.new.entries.items) c.args.source c.args.start c.args.bytes c.args.place
     c.args.from (record {
       covered = self.covered;
       masters = self.masters;

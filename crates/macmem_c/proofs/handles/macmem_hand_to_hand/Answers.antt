@@ -1,0 +1,35 @@
+use Rattle.std.proofs.Common.{◌∙◌, Some, refl, sym, ap, rules, w32, SFits}
+use Rattle.mac_words.specs.Told.{Given}
+use Rattle.heap_calls.specs.Asked.{HandToHand}
+use Rattle.macmem_c.proofs.Serving.{serves-in-c, numbers-in-c}
+use Rattle.macmem_c.proofs.handles.macmem_hand_to_hand.Goals as goal
+
+pub returns-clause-served : goal.returns-clause-served
+returns-clause-served c =
+    let fits : SFits w32 c.number_in.result = search rules in
+    serves-in-c (HandToHand (Some c.args.handle)) Given _ _
+    c.hand_to_hand-made.result c.number_in.result fits (λ n. refl) (record {
+      before = _;
+      after = _;
+      was = c.take-boxed.ensures.taken ∙ ap Some (sym c.deref_mut.ensures.value ∙ sym c.behind-boxed.view_is);
+      is = c.of.ensures;
+      result = _;
+      row = refl;
+      answer = c.hand_to_hand-made.ensures.answer;
+    })
+    c.number_in.ensures.code
+
+pub returns-clause-number : goal.returns-clause-number
+returns-clause-number c =
+    let fits : SFits w32 c.number_in.result = search rules in
+    numbers-in-c (HandToHand (Some c.args.handle)) Given _ _
+    c.hand_to_hand-made.result _ _ c.number_in.result fits (λ n. refl) (record {
+      before = _;
+      after = _;
+      was = c.take-boxed.ensures.taken ∙ ap Some (sym c.deref_mut.ensures.value ∙ sym c.behind-boxed.view_is);
+      is = c.of.ensures;
+      result = _;
+      row = refl;
+      answer = c.hand_to_hand-made.ensures.answer;
+    })
+    c.number_in.ensures.number c.number_in.ensures.code

@@ -1,0 +1,27 @@
+use Rattle.std.proofs.Common.{◌∙◌, Some, refl, sym, ap, rules, w32, SFits}
+use Rattle.mac_words.specs.Told.{Number}
+use Rattle.heap_calls.specs.Asked.{GetPtrSize, telling}
+use Rattle.macmem_c.proofs.Serving.{serves-c, numbers}
+use Rattle.macmem_c.proofs.pointers.macmem_get_ptr_size.Goals as goal
+
+pub returns-clause-served : goal.returns-clause-served
+returns-clause-served c =
+    let fits : SFits w32 c.number_of.result = search rules in
+    serves-c (GetPtrSize (Some c.args.pointer)) Number _ _
+    c.get_pointer_size-told.result c.number_of.result fits (λ n. refl) (record {
+      before = _;
+      after = _;
+      was = c.take-boxed.ensures.taken ∙ ap Some (sym c.deref_mut.ensures.value ∙ sym c.behind-boxed.view_is);
+      is = c.of.ensures;
+      answer = ap (telling Number) c.get_pointer_size-told.ensures.answer;
+    })
+    c.number_of.ensures.code
+
+pub returns-clause-number : goal.returns-clause-number
+returns-clause-number c = numbers (GetPtrSize (Some c.args.pointer)) Number _ _ c.get_pointer_size-told.result _ _ (λ n. refl) (record {
+  before = _;
+  after = _;
+  was = c.take-boxed.ensures.taken ∙ ap Some (sym c.deref_mut.ensures.value ∙ sym c.behind-boxed.view_is);
+  is = c.of.ensures;
+  answer = ap (telling Number) c.get_pointer_size-told.ensures.answer;
+}) c.number_of.ensures.number

@@ -1,0 +1,18 @@
+use Rattle.std.proofs.Common.{◌∙◌, Some, refl, sym, ap, rules, w32, SFits}
+use Rattle.heap_calls.specs.Asked.{HUnlock, telling}
+use Rattle.heap_calls.specs.Table.{done}
+use Rattle.macmem_c.proofs.Serving.{serves-c}
+use Rattle.macmem_c.proofs.properties.macmem_h_unlock.Goals as goal
+
+pub returns : goal.returns
+returns c =
+    let fits : SFits w32 c.code_of.result = search rules in
+    serves-c (HUnlock (Some c.args.handle)) done _ _
+    c.h_unlock-done.result c.code_of.result fits (λ u. refl) (record {
+      before = _;
+      after = _;
+      was = c.take-boxed.ensures.taken ∙ ap Some (sym c.deref_mut.ensures.value ∙ sym c.behind-boxed.view_is);
+      is = c.of.ensures;
+      answer = ap (telling done) c.h_unlock-done.ensures.answer;
+    })
+    c.code_of.ensures

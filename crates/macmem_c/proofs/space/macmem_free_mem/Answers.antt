@@ -1,0 +1,24 @@
+use Rattle.std.proofs.Common.{◌∙◌, Some, Ok, refl, sym, ap}
+use Rattle.mac_words.specs.Codes.{noErr}
+use Rattle.mac_words.specs.Told.{Number}
+use Rattle.heap_calls.specs.Asked.{FreeMem, telling}
+use Rattle.macmem_c.proofs.Serving.{serves, numbers}
+use Rattle.macmem_c.proofs.space.macmem_free_mem.Goals as goal
+
+pub returns-clause-served : goal.returns-clause-served
+returns-clause-served c = serves FreeMem Number _ _ (Ok c.free_mem-number.result) noErr (λ n. refl) (record {
+  before = _;
+  after = _;
+  was = c.take-boxed.ensures.taken ∙ ap Some (sym c.deref_mut.ensures.value ∙ sym c.behind-boxed.view_is);
+  is = c.of.ensures;
+  answer = ap (telling Number) c.free_mem-number.ensures;
+}) refl
+
+pub returns-clause-number : goal.returns-clause-number
+returns-clause-number c = numbers FreeMem Number _ _ (Ok c.free_mem-number.result) 0 _ (λ n. refl) (record {
+  before = _;
+  after = _;
+  was = c.take-boxed.ensures.taken ∙ ap Some (sym c.deref_mut.ensures.value ∙ sym c.behind-boxed.view_is);
+  is = c.of.ensures;
+  answer = ap (telling Number) c.free_mem-number.ensures;
+}) refl

@@ -1,0 +1,24 @@
+use Rattle.std.proofs.Common.{◌∙◌, Some, Ok, refl, sym, ap}
+use Rattle.mac_words.specs.Codes.{noErr}
+use Rattle.mac_words.specs.Told.{Number}
+use Rattle.heap_calls.specs.Asked.{MaxBlock, telling}
+use Rattle.macmem_c.proofs.Serving.{serves, numbers}
+use Rattle.macmem_c.proofs.space.macmem_max_block.Goals as goal
+
+pub returns-clause-served : goal.returns-clause-served
+returns-clause-served c = serves MaxBlock Number _ _ (Ok c.max_block-number.result) noErr (λ n. refl) (record {
+  before = _;
+  after = _;
+  was = c.take-boxed.ensures.taken ∙ ap Some (sym c.deref_mut.ensures.value ∙ sym c.behind-boxed.view_is);
+  is = c.of.ensures;
+  answer = ap (telling Number) c.max_block-number.ensures.answer;
+}) refl
+
+pub returns-clause-number : goal.returns-clause-number
+returns-clause-number c = numbers MaxBlock Number _ _ (Ok c.max_block-number.result) 0 _ (λ n. refl) (record {
+  before = _;
+  after = _;
+  was = c.take-boxed.ensures.taken ∙ ap Some (sym c.deref_mut.ensures.value ∙ sym c.behind-boxed.view_is);
+  is = c.of.ensures;
+  answer = ap (telling Number) c.max_block-number.ensures.answer;
+}) refl
