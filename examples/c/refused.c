@@ -5,6 +5,7 @@
  * -Wl,--wrap=malloc,--wrap=realloc,--wrap=free. */
 #include <macmem.h>
 
+#include <stdbool.h>
 #include <stdio.h>
 #include <stdlib.h>
 #include <string.h>
@@ -59,6 +60,34 @@ static void fill(macmem_zone *zone)
     }
 }
 
+/* Whether a handle's block has just these bytes. */
+static bool holds(macmem_zone *zone, size_t handle, const char *bytes)
+{
+    uint8_t out[32];
+    size_t len = 0;
+    return macmem_show(zone, handle, out, sizeof out, &len) == 0 && len == strlen(bytes) && memcmp(out, bytes, len) == 0;
+}
+
+/* Seeks bytes in a block and replaces them: both are done, or the block and the offset are as they were. */
+static void munge(macmem_zone *zone)
+{
+    static const char before[] = "one two", after[] = "one three";
+    size_t handle = SIZE_MAX;
+    int64_t offset = 77;
+    if (macmem_ptr_to_hand(zone, (const uint8_t *)before, strlen(before), &handle) != 0)
+        return;
+    int32_t code = macmem_munger(zone, handle, 0, (const uint8_t *)"two", 3, (const uint8_t *)"three", 5, &offset);
+    bool stopped = code == MACMEM_HOST_MEMORY;
+    if (stopped ? offset != 77 : code != 0 || offset != 9)
+        wrong("Munger", code);
+    if (!holds(zone, handle, stopped ? before : after))
+        wrong("Munger left other bytes", code);
+    offset = 77;
+    code = macmem_munger_nil(zone, handle, 0, (const uint8_t *)"one", 3, &offset);
+    if (code == MACMEM_HOST_MEMORY ? offset != 77 : code != 0 || offset != 0)
+        wrong("Munger with NIL", code);
+}
+
 /* The transcript of a script is whole, or there is none. */
 static void replay(void)
 {
@@ -79,6 +108,7 @@ int main(void)
         int32_t code = macmem_zone_new(ZONE, &zone);
         if (code == 0) {
             fill(&zone);
+            munge(&zone);
             macmem_zone_free(&zone);
         } else if (code != MACMEM_HOST_MEMORY) {
             wrong("macmem_zone_new", code);
