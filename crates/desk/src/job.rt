@@ -13,7 +13,7 @@ pub struct AppFile {
 }
 
 /// An application, as it is given.
-#[derive(Debug, Drop)]
+#[derive(Drop)]
 pub struct App {
     /// The application's name, which is also the name of its own file.
     pub name: Label,
@@ -30,7 +30,7 @@ pub struct App {
 }
 
 /// What is given for a run: a memory, a System file, applications, and the events.
-#[derive(Debug, Drop)]
+#[derive(Drop)]
 pub struct Job {
     /// The number of bytes of the memory: 512 to 134,217,728, a multiple of 16.
     pub memory: u32,

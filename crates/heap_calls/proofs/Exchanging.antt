@@ -1,10 +1,8 @@
 use Rattle.std.proofs.Common.{◌≡◌, ℕ, ◌+◌, ◌≤◌, ◌<◌, Bool, true, false, List, [], ◌∷◌, ◌++◌, length, refl, sym, ◌∙◌, ap, subst}
 use Rattle.std.proofs.Common.{cond, arith, Option, Some, None, Result, Ok, Err, nat_le, inl, inr}
-use Rattle.std.proofs.lemmas.List.{append-nil}
 use Rattle.std.proofs.lemmas.Bool.{le-leb}
 use Rattle.std.specs.Option.{option_map, ok_or}
 use Rattle.std.specs.Prelude.{is_some, unwrap_or}
-use Rattle.mac_words.specs.Size.{phys}
 use Rattle.mac_words.specs.declared.code.OsErr.{OsErr}
 use Rattle.mac_words.specs.declared.code.TheConstants.OsErr.{MEM_FULL, NIL_HANDLE, PROFILE}
 use Rattle.block_store.specs.Block.{Block, Free, Nonrelocatable, Masters, Relocatable, count, is_relocatable, content_of}
@@ -13,7 +11,7 @@ use Rattle.block_store.specs.Room.{Spot, spot}
 use Rattle.block_store.proofs.Zone.Tidy.{spot-passes, spot-is}
 use Rattle.block_store.proofs.Zone.Totals.{total-append}
 use Rattle.moves.specs.Moves.{Move, Write, Did, did, rewritten}
-use Rattle.moves.specs.Seeking.{Sought, no_room, seek_resized, seek_size, around}
+use Rattle.moves.specs.Seeking.{Sought, no_room, seek_resized, seek_size}
 use Rattle.moves.proofs.Conserved.{keeps, only-purgeable}
 use Rattle.moves.proofs.Paths.{did-append}
 use Rattle.moves.proofs.Rows.{size-new, size-weighs}
@@ -22,12 +20,8 @@ use Rattle.heap_calls.specs.Answer.{Held, Known, held_at, handle_at, look_up, pu
 use Rattle.heap_calls.specs.Answer.{written_at}
 use Rattle.heap_calls.specs.Answer as answers
 use Rattle.heap_calls.specs.Inner.Filling.{IsSizeOf}
-use Rattle.heap_calls.specs.Inner.Given.{IsAnswer}
-use Rattle.heap_calls.specs.declared.refusal.Refusal.{Refusal}
-use Rattle.heap_calls.specs.declared.refusal.Refusal.TheVariants.{Code, HostMemory}
 use Rattle.heap_calls.specs.Rows as rows
-use Rattle.heap_calls.specs.Rows.{doing_silently, heap_after, purges_made, reply_of, told_blocks, work}
-use Rattle.heap_calls.specs.Gone.{Gone}
+use Rattle.heap_calls.specs.Rows.{doing_silently, heap_after, reply_of, work}
 use Rattle.heap_calls.proofs.Promises.KnownChanges.{none-spot}
 use Rattle.heap_calls.proofs.Rows.Along.{Spared, is-spared}
 use Rattle.heap_calls.proofs.Rows.Standing.{sized-fits}
@@ -142,34 +136,6 @@ module _ (wanted i : ℕ) (x : List ℕ) (s : State) (held : Held)
     abbrev write : List Move
     write = Write held.number i x ∷ []
 
-    -- they are the same where no room is found
-    pub unfilled : (sought wanted).found ≡ false → filled ≡ sized wanted
-    unfilled e = ap (λ (t : Bool). (let d : rows.Done (Unit {0}) = record {
-      reply = reply_of (sought wanted).found tt;
-      names = s.names;
-      spared = own;
-      path = cond t ((sought wanted).path ++ write) (sought wanted).path;
-    } in d)) e
-
-    -- and where no block has either size
-    pub unsized : (n : ℕ) → phys n ≡ None → phys wanted ≡ None → filled ≡ sized n
-    unsized n small large =
-        ap (λ (o : Option ℕ). rows.changed own (around [] write (cond (is_some o)
-        (seek_resized (resized wanted held.at.here) own s.zone held.at) no_room)) s) large
-        ∙ sym (ap (λ (o : Option ℕ). rows.changed own (cond (is_some o)
-        (seek_resized (resized n held.at.here) own s.zone held.at) no_room) s) small)
-
-    -- what is purged is the same
-    pub same-gone : (work filled s).gone ≡ (work (sized wanted) s).gone
-    same-gone = cases (sought wanted).found
-      where
-        cases : (t : Bool) → (did own (cond t ((sought wanted).path ++ write) (sought wanted).path) s.zone).gone
-            ≡ (did own (sought wanted).path s.zone).gone
-        cases true =
-            ap (λ (d : Did). d.gone) (did-append own (sought wanted).path write s.zone)
-            ∙ append-nil (did own (sought wanted).path s.zone).gone
-        cases false = refl
-
 -- the bytes are written as Put writes them
 written-there : (handle : Option ℕ) (wanted i : ℕ) (x : List ℕ) → i + length x ≤ wanted → (m mid : Memory) (held : Held)
     → look_up handle m.heap ≡ Ok held
@@ -236,55 +202,6 @@ abbrev pub filling : Option ℕ → ℕ → ℕ → List ℕ → State → rows.
 filling handle wanted i x s = rows.for_found (look_up handle s) s (λ held. rows.sized_written (is_relocatable held.number)
     held wanted i x s)
 
--- what is refused: the same
-pub fill-refused : (handle : Option ℕ) (wanted i : ℕ) (x : List ℕ) (n : ℕ) (m after : Memory) (code : OsErr) → IsSizeOf wanted n
-    → doing_silently (rows.set_handle_size handle n) m ≡ (Err code, after)
-    → doing_silently (filling handle wanted i x) m ≡ (Err code, after)
-fill-refused handle wanted i x n m after code size e = by_found (look_up handle m.heap) e
-  where
-    by_found : (r : Result Held OsErr) → done_in m (rows.for_found r m.heap (λ held. sized wanted i x m.heap held n)) ≡ (Err code, after)
-        → done_in m (rows.for_found r m.heap (λ held. filled wanted i x m.heap held)) ≡ (Err code, after)
-    by_found (Err why) e = e
-    by_found (Ok held) e = by_size size
-      where
-        by_room : (t : Bool) → (sought wanted i x m.heap held wanted).found ≡ t
-            → done_in m (sized wanted i x m.heap held wanted) ≡ (Err code, after)
-            → done_in m (filled wanted i x m.heap held) ≡ (Err code, after)
-        by_room false none e = ap (done_in m) (unfilled wanted i x m.heap held none) ∙ e
-        by_room true there e =
-            let never : (let r : Result (Unit {0}) OsErr = Ok tt in r) ≡ Err code =
-            sym (ap (λ (t : Bool). reply_of t tt) there) ∙ ap (λ (y : Result (Unit {0}) OsErr × Memory). y.0) e in cc
-
-        by_size : IsSizeOf wanted n → done_in m (filled wanted i x m.heap held) ≡ (Err code, after)
-        by_size (inl same) = by_room (sought wanted i x m.heap held wanted).found refl
-            (subst (λ (k : ℕ). done_in m (sized wanted i x m.heap held k) ≡ (Err code, after)) same e)
-        by_size (inr (small, large)) = ap (done_in m) (unsized wanted i x m.heap held n small large) ∙ e
-
--- and what the host stops
-pub fill-stopped : (handle : Option ℕ) (wanted i : ℕ) (x : List ℕ) (n : ℕ) (m left : Memory) (why : Refusal) → IsSizeOf wanted n
-    → IsAnswer (doing_silently (rows.set_handle_size handle n) m) (Err why) left
-    → IsAnswer (doing_silently (filling handle wanted i x) m) (Err why) left
-fill-stopped handle wanted i x n m left (Code code) size e = fill-refused handle wanted i x n m left code size e
-fill-stopped handle wanted i x n m left HostMemory size e = tt
-
--- what is purged
-pub fill-purges : (handle : Option ℕ) (wanted i : ℕ) (x : List ℕ) (n : ℕ) (s : State) → IsSizeOf wanted n
-    → purges_made (rows.set_handle_size handle n) s ≡ purges_made (filling handle wanted i x) s
-fill-purges handle wanted i x n s size = by_found (look_up handle s)
-  where
-    gone : rows.Done (Unit {0}) → List Gone
-    gone d = told_blocks (length s.names) (work d s).gone
-
-    by_found : (r : Result Held OsErr) → gone (rows.for_found r s (λ held. sized wanted i x s held n))
-        ≡ gone (rows.for_found r s (λ held. filled wanted i x s held))
-    by_found (Err why) = refl
-    by_found (Ok held) = by_size size
-      where
-        by_size : IsSizeOf wanted n → gone (sized wanted i x s held n) ≡ gone (filled wanted i x s held)
-        by_size (inl same) =
-            ap (λ (k : ℕ). gone (sized wanted i x s held k)) same ∙ sym (ap (told_blocks (length s.names)) (same-gone wanted i x s held))
-        by_size (inr (small, large)) = sym (ap gone (unsized wanted i x s held n small large))
-
 -- what is written: as Put does in what SetHandleSize leaves
 pub fill-written : (handle : Option ℕ) (wanted i : ℕ) (x : List ℕ) (n : ℕ) (m mid : Memory) → IsSizeOf wanted n
     → i + length x ≤ wanted
@@ -325,20 +242,6 @@ fill-written handle wanted i x n m mid size within once e = by_found (look_up ha
             (seek_resized (resized n held.at.here) (is_relocatable held.number) s.zone held.at) no_room in r).found) small)
 
 -- PtrToXHand
-replace-refused : (handle : Option ℕ) (x : List ℕ) (n : ℕ) (m after : Memory) (code : OsErr) → IsSizeOf (length x) n
-    → doing_silently (rows.set_handle_size handle n) m ≡ (Err code, after)
-    → doing_silently (rows.pointer_to_x_hand handle x) m ≡ (Err code, after)
-replace-refused handle x n = fill-refused handle (length x) 0 x n
-
-pub replace-stopped : (handle : Option ℕ) (x : List ℕ) (n : ℕ) (m left : Memory) (why : Refusal) → IsSizeOf (length x) n
-    → IsAnswer (doing_silently (rows.set_handle_size handle n) m) (Err why) left
-    → IsAnswer (doing_silently (rows.pointer_to_x_hand handle x) m) (Err why) left
-replace-stopped handle x n = fill-stopped handle (length x) 0 x n
-
-pub replace-purges : (handle : Option ℕ) (x : List ℕ) (n : ℕ) (s : State) → IsSizeOf (length x) n
-    → purges_made (rows.set_handle_size handle n) s ≡ purges_made (rows.pointer_to_x_hand handle x) s
-replace-purges handle x n = fill-purges handle (length x) 0 x n
-
 pub replace-written : (handle : Option ℕ) (x : List ℕ) (n : ℕ) (m mid : Memory) → IsSizeOf (length x) n
     → ((h : ℕ) → h < length m.heap.names → count (is_relocatable h) m.heap.zone ≤ 1)
     → doing_silently (rows.set_handle_size handle n) m ≡ (Ok tt, mid)

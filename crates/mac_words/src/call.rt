@@ -5,7 +5,7 @@ use crate::resource_call::ResourceCall;
 use crate::segment_call::SegmentCall;
 
 /// A call of a script. Each table of calls is an enum of its own.
-#[derive(Debug, Drop)]
+#[derive(Drop)]
 pub enum Call {
     /// A call of the Memory Manager.
     Heap(HeapCall),
@@ -22,7 +22,7 @@ pub enum Call {
 /// *Inside Macintosh: Memory*, chapter 2, "Memory Manager Routines". `Put`, `Show`, `PutPtr`,
 /// `ShowPtr` and `Where` stand for what an application does with a pointer, or with the master
 /// pointer to which a handle leads.
-#[derive(Debug, Drop)]
+#[derive(Drop)]
 pub enum HeapCall {
     /// Binds the name to a new handle, whose block has the given number of bytes 0.
     NewHandle(Label, u32),
@@ -72,7 +72,7 @@ pub enum HeapCall {
     /// Replaces the bytes of a handle's block with other bytes; the block gets their size.
     PtrToXHand(Label, Vec<u8>),
     /// Searches a handle's block for bytes, from an offset on, and replaces them; returns the offset
-    /// behind the new bytes, or where the bytes were found if nothing is to replace them, or -1.
+    /// after the new bytes, or where the bytes were found if nothing is to replace them, or -1.
     Munger(Label, u32, Target, Replacement),
     /// Binds the name to a pointer to a new nonrelocatable block with the given number of bytes 0.
     NewPtr(Label, u32),
@@ -126,14 +126,14 @@ pub enum HeapCall {
 
 /// What `Munger` replaces: the first bytes like these, or a number of bytes at the offset itself, for
 /// which the manual has the pointer NIL and a length.
-#[derive(Debug, Drop)]
+#[derive(Drop)]
 pub enum Target {
     Bytes(Vec<u8>),
     Length(u32),
 }
 
 /// What `Munger` puts there: bytes, or with the pointer NIL nothing, and the block stays as it is.
-#[derive(Debug, Drop)]
+#[derive(Drop)]
 pub enum Replacement {
     Bytes(Vec<u8>),
     Nil,
@@ -145,7 +145,7 @@ pub enum Replacement {
 /// *Inside Macintosh: Memory*, chapter 2, "Memory Manager Routines"; *Inside Macintosh: Processes*,
 /// chapter 2, "Process Manager Routines"; *Inside Macintosh: Macintosh Toolbox Essentials*, chapter
 /// 2, "Event Manager Routines".
-#[derive(Debug, Drop)]
+#[derive(Drop)]
 pub enum ControlCall {
     /// Sets the grow-zone script; the name `none` removes it.
     SetGrowZone(Label),

@@ -8,7 +8,7 @@ use crate::name::{FileName, Label, Name, OsType};
 ///
 /// *More Macintosh Toolbox*, chapter 1, "Resource Manager Routines". Calls that return a handle
 /// also report whether the resource's stored data was read for it, as 1 or 0.
-#[derive(Debug, Drop)]
+#[derive(Drop)]
 pub enum ResourceCall {
     /// Opens a file's resource fork, makes it the current one, and returns its number.
     OpenResFile(FileName),

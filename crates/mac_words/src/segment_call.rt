@@ -6,7 +6,7 @@
 /// *Inside Macintosh: Processes*, chapter 7, "Segment Manager Routines". `CallEntry` stands for
 /// what an application does when it calls a routine through its jump table, and `ShowEntry` for an
 /// inspection of an entry.
-#[derive(Debug, Drop)]
+#[derive(Drop)]
 pub enum SegmentCall {
     /// Loads a segment and locks its block.
     LoadSeg(i16),

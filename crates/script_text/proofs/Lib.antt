@@ -15,3 +15,4 @@ mod JobRows
 mod Utf8
 pub mod Allowed
 pub mod Numerals
+mod Searches

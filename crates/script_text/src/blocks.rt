@@ -13,7 +13,7 @@ use std::marker::Model;
 
 /// Grow-zone scripts in the order of their names, each with its lines. Names are compared, not
 /// hashed: no choice of names makes a look-up slow.
-#[derive(Debug, Drop)]
+#[derive(Drop)]
 pub struct Blocks {
     lines: BTreeMap<Label, Vec<Line>>,
 }

@@ -4,13 +4,16 @@ ghost use Rattle.std.specs.Prelude.{◌≡◌, ◌<◌, ◌∷◌, ◌==◌, len
 ghost use Rattle.std.specs.Str.Lines.{lines, strip_carriage_return};
 ghost use Rattle.std.specs.List.{position};
 
+use memchr::memchr;
+
 /// The greatest length of a line in bytes.
 pub const LONGEST_LINE: usize = 65_535;
 
+#[tactic(auto, using(crate::proofs::Searches::first_is))]
 fn line_end(text: &[u8]) -> Option<usize>
     ensures { result ≡ position (λ b. b == 10) text.now }
 {
-    text.iter().position(|b| *b == b'\n')
+    memchr(b'\n', text)
 }
 
 fn without_return(line: &[u8]) -> &[u8]

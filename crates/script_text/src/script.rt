@@ -16,7 +16,7 @@ use std::hash::{DefaultHasher, Hasher};
 use std::marker::Model;
 
 /// A line of a script that holds a call.
-#[derive(Debug, Drop)]
+#[derive(Drop)]
 pub struct Line {
     /// The line's number, from 1 on, skipped lines counted.
     pub number: usize,
@@ -24,7 +24,7 @@ pub struct Line {
 }
 
 /// A script that was read: its steps in order, and its grow-zone scripts by name.
-#[derive(Debug, Drop)]
+#[derive(Drop)]
 pub struct Script {
     steps: Vec<Line>,
     blocks: Blocks,

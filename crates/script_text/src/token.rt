@@ -7,6 +7,7 @@ ghost use Rattle.script_text.specs.Token.{token_at};
 ghost use Rattle.script_text.specs.Reading.{Gives};
 
 use crate::fault::FaultKind;
+use memchr::memchr2;
 
 fn is_space_or_tab(byte: u8) -> bool
     ensures { result ≡ is_blank byte }
@@ -14,10 +15,11 @@ fn is_space_or_tab(byte: u8) -> bool
     byte == b' ' || byte == b'\t'
 }
 
+#[tactic(auto, using(crate::proofs::Searches::first_is))]
 fn blank_in(text: &[u8]) -> Option<usize>
     ensures { result ≡ position is_blank text.now }
 {
-    text.iter().position(|b| is_space_or_tab(*b))
+    memchr2(b' ', b'\t', text)
 }
 
 fn word_in(text: &[u8]) -> Option<usize>

@@ -168,7 +168,7 @@ macro_rules! calls {
                 PtrToXHand = Heap HeapCall two(h, bytes)
                     "replaces the bytes of the block, which gets their size";
                 Munger = Heap HeapCall four(h, offset, old, new)
-                    "puts new for the first old from offset on; returns the offset behind it";
+                    "puts new for the first old from offset on; returns the offset after it";
             }
             "The Memory Manager, nonrelocatable blocks" {
                 NewPtr = Heap HeapCall two(p, size)
@@ -360,8 +360,8 @@ macro_rules! spelling_of {
         [$($held:ident)*]
     ) => {
         match $given {
-            $($(CallWord::$word => stringify!($word).as_bytes(),)*)*
-            $(CallWord::$other => stringify!($other).as_bytes(),)*
+            $($(CallWord::$word => stringify!($word),)*)*
+            $(CallWord::$other => stringify!($other),)*
         }
     };
 }
@@ -525,7 +525,7 @@ impl CallWord {
     pub fn text(self) -> &'static [u8]
         ensures { result.now ≡ spelling self }
     {
-        calls!(spelling_of self)
+        calls!(spelling_of self).as_bytes()
     }
 
     /// Returns the call's own word, where the word is another name of a call.
