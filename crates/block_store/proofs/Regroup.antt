@@ -3,6 +3,7 @@ pub mod Parts
 pub mod RunScans
 pub mod RunSpots
 pub mod RunLooks
+pub mod PackedRuns
 pub mod RunsAbove
 pub mod RunLists
 pub mod Packed

@@ -1,5 +1,6 @@
-use Rattle.std.specs.Prelude.{◌≡◌, ℕ, ◌+◌, ◌≤◌, ◌%◌, zero, suc, Bool, false, Option, Some, None, List, [], ◌∷◌, ◌++◌}
-use Rattle.std.specs.Prelude.{length, max, nat_lt, if◌then◌else◌}
+use Rattle.std.specs.Prelude.{◌≡◌, ℕ, ◌+◌, ◌≤◌, ◌%◌, zero, suc, Bool, true, false, Option, Some, None, List, []}
+use Rattle.std.specs.Prelude.{◌∷◌, ◌++◌}
+use Rattle.std.specs.Prelude.{length, max, nat_lt, ◌==◌, if◌then◌else◌}
 use native.Mathlib.Nat.{ℕ_set}
 use Rattle.std.specs.Option.{option_map}
 use Rattle.mac_words.specs.Size.{padded}
@@ -55,6 +56,21 @@ abbrev pub lowered_in_runs : ℕ → List (List Block) → ℕ
 lowered_in_runs zero runs = 0
 lowered_in_runs (suc k) [] = 0
 lowered_in_runs (suc k) (run ∷ runs) = lowered_in_run run + lowered_in_runs k runs
+
+-- Whether a run has a block. A run without a block stands between two neighbouring blocks that stay.
+abbrev pub has_block : List Block → Bool
+has_block [] = false
+has_block (b ∷ run) = true
+
+-- How many of the k lowest runs have a block.
+abbrev pub stretches : ℕ → List (List Block) → ℕ
+stretches zero runs = 0
+stretches (suc k) [] = 0
+stretches (suc k) (run ∷ runs) = (if has_block run then 1 else 0) + stretches k runs
+
+-- How many of the runs have a block; none where compaction of all of them moves a block.
+abbrev pub packed_stretches : List (List Block) → Option ℕ
+packed_stretches runs = if lowered_in_runs (length runs) runs == 0 then Some (stretches (length runs) runs) else None
 
 -- The least of 0 .. n that passes the test; n where none of them does.
 abbrev pub least_or_last : (ℕ → Bool) → ℕ → ℕ

@@ -22,7 +22,8 @@ pub use measures::{
 pub use purged_sums::{free_after_in, largest_after_in};
 pub use run_search::{RunScan, find_run_in, has_run_of, run_of_in, scan_run};
 pub use runs::{
-    largest_free_in, largest_run_in, next_run_in, purgeable_in_run_in, run_has_free_in,
+    largest_free_in, largest_run_in, next_run_in, packed_runs_in, purgeable_in_run_in,
+    run_has_free_in,
 };
 pub use sparing::{Seen, Sparing};
 pub use store::BlockStore;

@@ -2,14 +2,15 @@
 
 ghost use Rattle.std.specs.Prelude.{◌≡◌, ◌<◌, ◌^◌, ◌&&◌, nat_lt};
 ghost use Rattle.block_store.specs.Block.{Block, sizes, free_sum};
-ghost use Rattle.block_store.specs.Run.{segments, has_free};
+ghost use Rattle.block_store.specs.Run.{runs, segments, has_free};
 ghost use Rattle.block_store.specs.Room.{may_be_purged, lowest_purged, count_of};
 ghost use Rattle.block_store.specs.Sparing.{spared};
 ghost use Rattle.block_store.specs.Compact.{largest_free, largest_run, place_behind, beyond};
+ghost use Rattle.block_store.specs.Compact.{packed_stretches};
 ghost use Rattle.block_store.specs.Seen.{seen};
 
 use crate::sparing::{Seen, Sparing};
-use crate::walk::{Walk, free_of_seen, is_in_run, may_purge_now, size_of_seen};
+use crate::walk::{Walk, free_of_seen, is_counted_free, is_in_run, may_purge_now, size_of_seen};
 
 /// Returns the size in bytes of the largest free block; 0 where there is no free block.
 pub fn largest_free_in<W: Walk>(walk: &mut W) -> u32
@@ -56,6 +57,33 @@ pub fn next_run_in<W: Walk>(walk: &mut W) -> Option<u32>
         }
     }
     None
+}
+
+/// Returns how many runs have a block; `None` where compaction of all runs moves a block.
+pub fn packed_runs_in<W: Walk>(walk: &mut W) -> Option<u32>
+    requires { sizes (W.rest walk.old) < 2 ^ 32 }
+    ensures { result ≡ packed_stretches (runs (W.rest walk.old)) }
+{
+    let mut count = 0;
+    let mut within = false;
+    let mut free = false;
+    while let Some(block) = walk.next_block() {
+        if !is_in_run(block) {
+            within = false;
+            free = false;
+        } else {
+            if !within {
+                count += 1;
+            }
+            within = true;
+            if is_counted_free(block, Sparing::Nothing) {
+                free = true;
+            } else if free {
+                return None;
+            }
+        }
+    }
+    Some(count)
 }
 
 /// Reports whether a block is purged where `left` purges are left.

@@ -6,7 +6,7 @@ use Rattle.block_store.specs.Block.{no_flags, resized}
 use Rattle.block_store.specs.Run.{has_free, segments, runs}
 use Rattle.block_store.specs.Room.{Spot, spot, put_at_base, put_in_place, purge, count_of}
 use Rattle.block_store.specs.Grow.{growth, grow_up, grow_mover}
-use Rattle.block_store.specs.Compact.{runs_settled}
+use Rattle.block_store.specs.Compact.{runs_settled, stretches}
 use Rattle.heap_calls.specs.State.{State, used_slots, all_slots}
 use Rattle.heap_calls.specs.Answer.{nothing}
 use Rattle.heap_calls.specs.Slots.{slotted}
@@ -68,17 +68,6 @@ resized_at n (Some s) = resized n s.here
 abbrev pub size_searches : (Block → Bool) → (Block → Bool) → ℕ → List Block → ℕ
 size_searches test spared n zone = if is_some (phys n) then growth_searches test spared (resized_at n (spot test zone))
     zone (spot test zone) else 0
-
--- Whether a run has a block. A run without a block stands between two neighbouring blocks that stay.
-abbrev pub has_block : List Block → Bool
-has_block [] = false
-has_block (b ∷ run) = true
-
--- How many of the k lowest runs have a block.
-abbrev pub stretches : ℕ → List (List Block) → ℕ
-stretches zero runs = 0
-stretches (suc k) [] = 0
-stretches (suc k) (run ∷ runs) = (if has_block run then 1 else 0) + stretches k runs
 
 -- The searches of CompactMem: one more than the runs with blocks that it compacts.
 abbrev pub compact_mem_searches : ℕ → State → ℕ

@@ -1,0 +1,24 @@
+use Rattle.std.proofs.Common.{◌≡◌, ℕ, ◌+◌, ◌==◌, Bool, List, Option, Some, None, cond, map, length}
+use Rattle.block_store.specs.Block.{Block, count, is_mover}
+use Rattle.block_store.specs.Run.{Segments, Stretch}
+use Rattle.block_store.specs.Rest.{lowered_in_run}
+use Rattle.block_store.specs.Compact.{lowered_in_runs, has_block, stretches}
+
+-- What a walk counts of packed runs.
+
+-- the runs above the lowest one
+abbrev pub higher : Segments → List (List Block)
+higher s = map (λ (p : Stretch). p.run) s.rest
+
+-- how many blocks are to move, where a Free block stands below or not
+abbrev pub to_move : Bool → Segments → ℕ
+to_move free s = cond free (count is_mover s.first) (lowered_in_run s.first)
+    + lowered_in_runs (length (higher s)) (higher s)
+
+-- how many runs have a block that isn't counted yet, where the lowest run is counted or not
+abbrev pub uncounted : Bool → Segments → ℕ
+uncounted within s = cond within 0 (cond (has_block s.first) 1 0) + stretches (length (higher s)) (higher s)
+
+-- what the walk comes to, from where it has counted n
+abbrev pub packed_from : ℕ → Bool → Bool → Segments → Option ℕ
+packed_from n within free s = cond (to_move free s == 0) (Some (n + uncounted within s)) None
