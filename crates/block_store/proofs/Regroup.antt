@@ -12,6 +12,7 @@ pub mod Lowered
 pub mod AllLowered
 pub mod LoweredExamples
 pub mod Settling
+pub mod Still
 pub mod NextRuns
 pub mod MostRoom
 pub mod RoomAbove

@@ -59,7 +59,8 @@ pub fn next_run_in<W: Walk>(walk: &mut W) -> Option<u32>
     None
 }
 
-/// Returns how many runs have a block; `None` where compaction of all runs moves a block.
+/// Returns how many runs have a block, where no block would move if all runs were compacted; `None`
+/// where one would move.
 pub fn packed_runs_in<W: Walk>(walk: &mut W) -> Option<u32>
     requires { sizes (W.rest walk.old) < 2 ^ 32 }
     ensures { result ≡ packed_stretches (runs (W.rest walk.old)) }

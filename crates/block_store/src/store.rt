@@ -11,14 +11,14 @@ ghost use Rattle.block_store.specs.Block.{is_relocatable, is_masters, no_flags, 
 ghost use Rattle.block_store.specs.Block.{with_content, resized};
 ghost use Rattle.memory_windows.specs.Writes.{written};
 ghost use Rattle.block_store.specs.Run.{has, has_free, settle, low, high, with_run, run_at};
-ghost use Rattle.block_store.specs.Run.{segments};
+ghost use Rattle.block_store.specs.Run.{runs, segments};
 ghost use Rattle.block_store.specs.Room.{spot, spot_at, filled, may_be_purged, lowest_purged};
 ghost use Rattle.block_store.specs.Room.{count_of};
 ghost use Rattle.block_store.specs.Grow.{freed, grow_up, taken};
 ghost use Rattle.block_store.specs.Find.{FindsLowest, FindsLowestRun, IsEdge};
 ghost use Rattle.block_store.specs.Fewest.{serves, serves_block, IsFewest};
 ghost use Rattle.block_store.specs.Compact.{largest_free, largest_run, next_run, NoneRises};
-ghost use Rattle.block_store.specs.Compact.{lowered, Aligned, Placed};
+ghost use Rattle.block_store.specs.Compact.{lowered, packed_stretches, Aligned, Placed};
 ghost use Rattle.block_store.specs.Slot.{Unused, Used, is_used, is_resource};
 ghost use Rattle.block_store.specs.Sparing.{purged, opened, spared, most_purges};
 ghost use Rattle.block_store.specs.declared.sparing.Sparing.TheVariants.{Nothing};
@@ -110,6 +110,11 @@ pub trait BlockStore {
     fn next_run(&self, run: u32) -> Option<u32>
         requires { IsSome (run_at run (zone self.now)) }
         ensures { IfSome (run_at run (zone self.now)) (λ r. result ≡ next_run r) };
+
+    /// Returns how many runs have a block, where no block would move if all runs were compacted;
+    /// `None` where one would move.
+    fn packed_runs(&self) -> Option<u32>
+        ensures { result ≡ packed_stretches (runs (zone self.now)) };
 
     /// Returns the place of the block that is purged next, if there is one. A block that counts as
     /// free is joined with its free neighbours.

@@ -6,11 +6,12 @@ ghost use Rattle.block_store.specs.Room.{place};
 ghost use Rattle.block_store.specs.Run.{runs};
 ghost use Rattle.block_store.specs.Rest.{KeepsSlots, counted};
 ghost use Rattle.block_store.specs.Compact.{has_room, runs_settled, compacted, lowered_in_runs};
+ghost use Rattle.block_store.specs.Compact.{stretches};
 ghost use Rattle.heap_calls.specs.Asked.{packing};
 ghost use Rattle.heap_calls.specs.Inner.Given.{seen_in_run};
 ghost use Rattle.heap_calls.specs.Answer.{max_block, compact_mem, noting};
 ghost use Rattle.heap_calls.specs.Moves.{compact_mem_moves};
-ghost use Rattle.heap_calls.specs.Searches.{stretches, compact_mem_searches};
+ghost use Rattle.heap_calls.specs.Searches.{compact_mem_searches};
 
 use crate::heap::Heap;
 use block_store::{BlockStore, HEADER_SIZE, Seen};
@@ -57,6 +58,24 @@ impl<S: BlockStore> Heap<S> {
 ///
 /// *Inside Macintosh: Memory*, chapter 1, "Heap Compaction".
 pub fn compact<S: BlockStore>(store: &mut S, bytes: Option<u32>) -> u32
+    ensures zone { S.zone store.new ≡ compacted bytes (S.zone store.old) }
+    ensures moves { (S.rest store.new).moves ≡ counted (S.rest store.old).moves
+        (lowered_in_runs (runs_settled bytes (S.zone store.old)) (runs (S.zone store.old))) }
+    ensures placed { (S.rest store.new).placed ≡ (S.rest store.old).placed }
+    ensures rest { KeepsSlots (S.rest store.old) (S.rest store.new) }
+    ensures runs { result
+        ≡ stretches (runs_settled bytes (S.zone store.old)) (runs (S.zone store.old)) }
+{
+    if !has_room(store, bytes) {
+        if let Some(stretches) = store.packed_runs() {
+            return stretches;
+        }
+    }
+    settle_runs(store, bytes)
+}
+
+/// Compacts runs, one after another, as `compact` does, whether blocks move or not.
+fn settle_runs<S: BlockStore>(store: &mut S, bytes: Option<u32>) -> u32
     ensures zone { S.zone store.new ≡ compacted bytes (S.zone store.old) }
     ensures moves { (S.rest store.new).moves ≡ counted (S.rest store.old).moves
         (lowered_in_runs (runs_settled bytes (S.zone store.old)) (runs (S.zone store.old))) }

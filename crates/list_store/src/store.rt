@@ -27,7 +27,7 @@ use crate::walk::{
 use block_store::{
     BlockStore, Flags, GREATEST_ZONE, LEAST_ZONE, MASTERS_SIZE, SLOTS_A_BLOCK, Seen, Sparing, UNIT,
     find_free_in, find_run_in, free_after_in, largest_after_in, largest_free_in, largest_run_in,
-    next_purgeable_in, place_in, purgeable_in, room_above_in, run_of_in,
+    next_purgeable_in, packed_runs_in, place_in, purgeable_in, room_above_in, run_of_in,
 };
 use std::alloc::{AllocError, Global};
 
@@ -187,6 +187,10 @@ impl BlockStore for ListStore {
 
     fn next_run(&self, run: u32) -> Option<u32> {
         run_above(&self.blocks, run)
+    }
+
+    fn packed_runs(&self) -> Option<u32> {
+        packed_runs_in(&mut walk_over(&self.blocks))
     }
 
     fn run_of(&self, number: u32, bytes: u32) -> Option<u32> {

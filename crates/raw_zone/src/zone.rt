@@ -7,7 +7,7 @@ ghost use Rattle.block_store.specs.Sparing.{purged};
 
 use block_store::{
     BlockStore, Flags, GREATEST_ZONE, HEADER_SIZE, LEAST_ZONE, MASTERS_SIZE, SLOTS_A_BLOCK, Seen,
-    Sparing, UNIT, Walk, find_run_in, next_purgeable_in, next_run_in, purgeable_in,
+    Sparing, UNIT, Walk, find_run_in, next_purgeable_in, next_run_in, packed_runs_in, purgeable_in,
     purgeable_in_run_in, run_has_free_in,
 };
 use raw_region::Part;
@@ -315,6 +315,10 @@ impl BlockStore for RawZone {
             Some(bytes) => Some(run + bytes),
             None => None,
         }
+    }
+
+    fn packed_runs(&self) -> Option<u32> {
+        packed_runs_in(&mut walk_from(&self.part, 0))
     }
 
     fn next_purgeable(&self, sparing: Sparing) -> Option<u32> {

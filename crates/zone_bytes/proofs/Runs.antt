@@ -7,7 +7,6 @@ pub mod Raises
 pub mod NextRuns
 pub mod Hoists
 pub mod Changed
-pub mod Still
 pub mod PackedAt
 pub mod RaisedAt
 pub mod HoistedAt

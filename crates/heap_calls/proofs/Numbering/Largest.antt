@@ -15,7 +15,7 @@ use Rattle.mac_words.specs.declared.code.TheConstants.OsErr.{NO_ERR}
 use Rattle.heap_calls.specs.State.{State, Memory}
 use Rattle.heap_calls.specs.Answer.{Answer, compact_mem, noting, code_of}
 use Rattle.heap_calls.specs.declared.anchor.Anchor.{Anchor}
-use Rattle.heap_calls.specs.Searches.{stretches}
+use Rattle.block_store.specs.Compact.{stretches}
 use Rattle.heap_calls.specs.Inner.Numbered.{state_of, memory_of, handle_number, pointer_number}
 use Rattle.heap_calls.proofs.Room.Stretches.{stretches-rename}
 use Rattle.heap_calls.proofs.Numbering.Changing.{silent-kept}

@@ -24,7 +24,8 @@ use Rattle.heap_calls.specs.Purging.{is_loose, purgeable}
 use Rattle.heap_calls.specs.Inner.Search.{tries}
 use Rattle.heap_calls.specs.Searches.{room_searches, slot_searches, ready_searches, block_searches}
 use Rattle.heap_calls.proofs.Tables.Searches.{found_searches}
-use Rattle.heap_calls.specs.Searches.{stretches, compact_mem_searches}
+use Rattle.block_store.specs.Compact.{stretches}
+use Rattle.heap_calls.specs.Searches.{compact_mem_searches}
 use Rattle.heap_calls.specs.Asked.{Asked}
 use Rattle.heap_calls.specs.Table as table
 use Rattle.heap_calls.specs.Table.{answered, Row, row, answer_of, searches_of}

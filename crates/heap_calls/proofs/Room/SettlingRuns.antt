@@ -15,7 +15,7 @@ use Rattle.block_store.proofs.Regroup.Settling.{keeps-next, moves-end, moves-nex
 use Rattle.block_store.proofs.Regroup.Settling.{runs-few, settled-enough, settled-next, zone-end}
 use Rattle.block_store.proofs.Zone.Zones.{joined-segments}
 use Rattle.heap_calls.specs.Inner.Given.{seen_in_run}
-use Rattle.heap_calls.specs.Searches.{stretches}
+use Rattle.block_store.specs.Compact.{stretches}
 use Rattle.heap_calls.proofs.Numbering.Hoisting.{rest-same}
 use Rattle.heap_calls.proofs.Room.Stretches.{stretches-end, stretches-le, stretches-next}
 

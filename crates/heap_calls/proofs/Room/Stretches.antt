@@ -16,7 +16,7 @@ use Rattle.block_store.specs.Inner.NthRun.{nth_run, FindsRun}
 use Rattle.block_store.specs.Inner.Packing.{Loose}
 use Rattle.block_store.proofs.Regroup.Parts.{AreParts, in-parts}
 use Rattle.heap_calls.specs.Inner.Given.{seen_in_run}
-use Rattle.heap_calls.specs.Searches.{has_block, stretches}
+use Rattle.block_store.specs.Compact.{has_block, stretches}
 use Rattle.heap_calls.proofs.Room.Packing.{Solid, solid-tidy}
 use Rattle.block_store.proofs.Regroup.Settling.{settled_spot, nth-settled}
 

@@ -5,7 +5,8 @@ use Rattle.block_store.specs.Compact.{compacted, lowered_in_runs, runs_settled}
 use Rattle.heap_calls.specs.State.{Memory}
 use Rattle.heap_calls.specs.Answer.{compact_mem, noting}
 use Rattle.heap_calls.specs.Moves.{compact_mem_moves}
-use Rattle.heap_calls.specs.Searches.{stretches, compact_mem_searches}
+use Rattle.block_store.specs.Compact.{stretches}
+use Rattle.heap_calls.specs.Searches.{compact_mem_searches}
 use Rattle.heap_calls.specs.Inner.Numbered.{memory_of, handle_number, pointer_number}
 use Rattle.heap_calls.proofs.Numbering.Changing.{agrees-kept, unmoved, unmoved-is}
 use Rattle.heap_calls.proofs.Room.MoveCounts.{moving-done}

@@ -16,7 +16,7 @@ use Rattle.zone_bytes.proofs.Places.Options.{a-spot}
 use Rattle.raw_zone.specs.Parted.{zone_of, rest_of}
 use Rattle.zone_bytes.proofs.Runs.Changed.{ChangedRun, if-one, settled-run, replaced-run}
 use Rattle.zone_bytes.proofs.Runs.Edged.{settled-edges}
-use Rattle.zone_bytes.proofs.Runs.Still.{still}
+use Rattle.block_store.proofs.Regroup.Still.{still}
 use Rattle.zone_marks.proofs.Marks.Owed.{with-marks}
 use Rattle.raw_zone.proofs.zone.RawZone.pack.Goals as goal
 use Rattle.raw_zone.proofs.zone.RawZone.pack.Goals.{After-self, After-settle_run-packed}

@@ -2,9 +2,9 @@ use Rattle.std.proofs.Common.{◌+◌, sym, ◌∙◌, arith}
 use Rattle.block_store.proofs.Regroup.NextRuns.{run-edge}
 use Rattle.heap_calls.proofs.Room.SettlingRuns.{Counts, IsCompacted, SettledTo, begins, few, one-more, goes-on, higher}
 use Rattle.heap_calls.proofs.Room.SettlingRuns.{ends-there, ends-above}
-use Rattle.heap_calls.proofs.compaction.compact.Given.{Over}
-use Rattle.heap_calls.proofs.compaction.compact.Goals.{After-from-stretches, After-settle, After-loop-bytes, In_default}
-use Rattle.heap_calls.proofs.compaction.compact.Goals as goal
+use Rattle.heap_calls.proofs.compaction.settle_runs.Given.{Over}
+use Rattle.heap_calls.proofs.compaction.settle_runs.Goals.{After-from-stretches, After-settle, After-loop-bytes, In_default}
+use Rattle.heap_calls.proofs.compaction.settle_runs.Goals as goal
 
 pub loop-bytes-init : goal.loop-bytes-init
 loop-bytes-init g c = begins c.args.bytes (g.S.BlockStore.zone c.args.store.now) (g.S.BlockStore.rest c.args.store.now)

@@ -1,16 +1,22 @@
--- A run of which no block moves down when it is packed lies packed.
-use Rattle.std.proofs.Common.{◌≡◌, ℕ, ◌+◌, true, false, not, Some, List, [], ◌∷◌, ◌++◌, refl, sym, ap, ◌∙◌, arith}
-use Rattle.std.proofs.Common.{append_assoc}
+use Rattle.std.proofs.Common.{◌≡◌, ℕ, ◌+◌, zero, suc, true, false, not, Some, List, [], ◌∷◌, ◌++◌, length, map, refl}
+use Rattle.std.proofs.Common.{sym, ap, ◌∙◌, arith, append_assoc}
+use Rattle.std.proofs.lemmas.List.{append-nil}
 use Rattle.std.proofs.lemmas.Bool.{cond-true}
 use Rattle.block_store.specs.Block.{Block, Free, Relocatable, add, count, free, free_sum, is_mover, tidy}
 use Rattle.block_store.specs.Rest.{lowered_in_run}
-use Rattle.block_store.specs.Run.{RunSpot, movers, run_at, settle, with_run}
+use Rattle.block_store.specs.Run.{RunSpot, Stretch, joined, movers, run_at, runs, segments, settle, with_run}
+use Rattle.block_store.specs.Compact.{lowered_in_runs, settled, settled_runs}
 use Rattle.block_store.specs.Inner.Packing.{Loose}
 use Rattle.block_store.proofs.Regroup.Packed.{tidy-below, tidy-free}
+use Rattle.block_store.proofs.Regroup.Parts.{AreParts, in-parts}
 use Rattle.block_store.proofs.Regroup.RunLists.{run_at-is, run_at-parts}
+use Rattle.block_store.proofs.Regroup.Settling.{settled-tidy}
 use Rattle.block_store.proofs.Zone.Joining.{joined-free}
 use Rattle.block_store.proofs.Zone.Leading.{none-count}
 use Rattle.block_store.proofs.Zone.Passing.{filter-none}
+use Rattle.block_store.proofs.Zone.Zones.{joined-segments}
+
+-- A run of which no block moves down when it is packed lies packed.
 
 -- Free blocks one after another are one Free block
 frees : (n : ℕ) (run above : List Block) → Loose run → count is_mover run ≡ 0
@@ -38,3 +44,22 @@ pub still : (place : ℕ) (zone : List Block) (r : RunSpot) → tidy zone ≡ zo
 still place zone r t e z =
     ap tidy (append_assoc r.below (settle r.run) r.above) ∙ tidy-below r.below _ _
     (still-run r.run r.above (run_at-parts place zone r e).loose z) ∙ ap tidy (run_at-is place zone r e) ∙ t
+
+-- nor do the lowest runs of some, where none of them has a block that moves
+still-runs : (k : ℕ) (run : List Block) (parts : List Stretch) → Loose run → AreParts parts
+    → (let rs : List (List Block) = run ∷ map (λ (p : Stretch). p.run) parts in lowered_in_runs (length rs) rs ≡ 0)
+    → tidy (settled_runs k run parts) ≡ tidy (joined run parts)
+still-runs zero run parts l are z = refl
+still-runs (suc k) run [] l are z =
+    ap tidy (sym (append-nil (settle run))) ∙ still-run run [] l (omega (arith, z)) ∙ ap tidy (append-nil run)
+still-runs (suc k) run (p ∷ parts) l are z =
+    still-run run (p.barrier ∷ settled_runs k p.run parts) l (omega (arith, z))
+    ∙ tidy-below run _ _ (ap (add p.barrier) (still-runs k p.run parts are.1 are.2 (omega (arith, z))))
+
+-- a zone in which compaction moves no block stays as it is with runs compacted
+pub still-settled : (k : ℕ) (zone : List Block) → tidy zone ≡ zone
+    → lowered_in_runs (length (runs zone)) (runs zone) ≡ 0 → settled k zone ≡ zone
+still-settled k zone t z =
+    sym (settled-tidy k zone t)
+    ∙ still-runs k (segments zone).first (segments zone).rest (in-parts zone).0 (in-parts zone).1 z
+    ∙ ap tidy (joined-segments zone) ∙ t

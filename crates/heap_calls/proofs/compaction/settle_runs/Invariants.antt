@@ -1,7 +1,7 @@
 use Rattle.std.proofs.Common.{◌-◌}
 use Rattle.block_store.specs.Block.{sizes}
 use Rattle.heap_calls.proofs.Room.SettlingRuns.{IsNext}
-use Rattle.heap_calls.proofs.compaction.compact.Given as goal
+use Rattle.heap_calls.proofs.compaction.settle_runs.Given as goal
 
 -- the runs below this one are settled
 abbrev pub invariant-loop-bytes : goal.invariant-loop-bytes

@@ -1,0 +1,20 @@
+use Rattle.std.proofs.Common.{◌∙◌, ap, sym, subst, ◌<◌, ◌^◌}
+use Rattle.block_store.specs.Block.{sizes}
+use Rattle.block_store.specs.Compact.{packed_stretches}
+use Rattle.block_store.specs.Run.{runs}
+use Rattle.raw_zone.specs.Parted.{zone_of}
+use Rattle.zone_bytes.proofs.Places.AtPlace.{left-zone, on-way, sizes-fit}
+use Rattle.raw_zone.proofs.zone.RawZoneBlockStore.packed_runs.Goals as goal
+
+pub walk_from-requires : goal.walk_from-requires
+walk_from-requires c = let z = c.self.inside in on-way z.part.bytes z.first z.unused c.self.invariant.sound
+
+pub packed_runs_in-requires : goal.packed_runs_in-requires
+packed_runs_in-requires c =
+    let z = c.self.inside in
+    subst (λ l. sizes l < 2 ^ 32) (sym c.walk_from.ensures)
+    (sizes-fit z.part.bytes z.first z.unused c.self.invariant.sound)
+
+pub returns : goal.returns
+returns c = c.packed_runs_in.ensures ∙ ap (λ l. packed_stretches (runs l))
+    (c.walk_from.ensures ∙ left-zone c.self.inside.part.bytes ∙ ap zone_of c.self.view_is)
