@@ -1,5 +1,5 @@
 use Rattle.std.proofs.Common.{◌≡◌, ℕ, ◌+◌, ◌-◌, ◌≤◌, ◌<◌, zero, suc, Bool, true, false, ◌==◌, List, [], ◌∷◌, ◌++◌}
-use Rattle.std.proofs.Common.{length, take, drop, refl, sym, ◌∙◌, ap, cond, map, subst, arith}
+use Rattle.std.proofs.Common.{length, take, drop, refl, sym, ◌∙◌, ap, cond, subst, arith}
 use Rattle.std.proofs.Common.{Option, Some, None, Result, Ok, Err, nat_le, ◌⊎◌, inl, inr}
 use Rattle.std.proofs.lemmas.Option.{none-some, same_Some}
 use Rattle.std.proofs.lemmas.Bool.{cond-true, or_parts}

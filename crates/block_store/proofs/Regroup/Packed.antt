@@ -15,7 +15,7 @@ use Rattle.block_store.specs.Run.{RunSpot, with_run}
 use Rattle.block_store.specs.Compact.{beyond}
 use Rattle.block_store.specs.Rest.{lowered_in_run}
 use Rattle.block_store.specs.Inner.Stretch.{is_free}
-use Rattle.block_store.specs.Room.{Spot, raised}
+use Rattle.block_store.specs.Room.{Spot}
 use Rattle.block_store.specs.Inner.Packing.{Loose, cleared, cleared_first, packed, run_of_index, run_between}
 use Rattle.block_store.proofs.Zone.Totals.{total-append, total-le}
 use Rattle.block_store.proofs.Zone.Tidy.{Adds, total-tidy}

@@ -1,4 +1,4 @@
-use Rattle.std.proofs.Common.{◌≡◌, ℕ, ◌+◌, ◌==◌, Bool, List, Option, Some, None, cond, map, length}
+use Rattle.std.proofs.Common.{ℕ, ◌+◌, ◌==◌, Bool, List, Option, Some, None, cond, map, length}
 use Rattle.block_store.specs.Block.{Block, count, is_mover}
 use Rattle.block_store.specs.Run.{Segments, Stretch}
 use Rattle.block_store.specs.Rest.{lowered_in_run}

@@ -1,9 +1,12 @@
 use Rattle.std.proofs.Common.{◌≡◌, ℕ, ◌+◌, ◌≤◌, ◌<◌, ◌⊎◌, inl, inr, Bool, true, false, List, length, Option, Some, None}
-use Rattle.std.proofs.Common.{refl, sym, ◌∙◌, ap, subst, arith}
+use Rattle.std.proofs.Common.{refl, sym, ◌∙◌, ap, cond, subst, arith, ◌==◌}
+use Rattle.std.proofs.lemmas.Option.{none-some, same_Some}
+use Rattle.std.proofs.lemmas.Bool.Decides.{nat_tests}
 use mir.Val.{bool_byte}
 use Rattle.std.specs.Option.{option_map, IfSome}
 use Rattle.block_store.specs.Block.{Block, sizes, tidy}
-use Rattle.block_store.specs.Compact.{compacted, lowered_in_runs, has_room, next_run, runs_settled, settled}
+use Rattle.block_store.specs.Compact.{compacted, lowered_in_runs, has_room, next_run, packed_stretches, runs_settled}
+use Rattle.block_store.specs.Compact.{settled}
 use Rattle.block_store.specs.Inner.NthRun.{FindsRun}
 use Rattle.block_store.specs.Rest.{Rest, IsRest, KeepsSlots, counted, lowered_in_run, with_moves}
 use Rattle.block_store.specs.Room.{Spot, spot_at}
@@ -13,6 +16,7 @@ use Rattle.block_store.specs.declared.sparing.Seen.{Seen}
 use Rattle.block_store.proofs.Regroup.NextRuns.{first-run, next-higher, next-settled, sizes-settled}
 use Rattle.block_store.proofs.Regroup.Settling.{keeps-next, moves-end, moves-next, next-past, next-within, none-next}
 use Rattle.block_store.proofs.Regroup.Settling.{runs-few, settled-enough, settled-next, zone-end}
+use Rattle.block_store.proofs.Regroup.Still.{still-settled}
 use Rattle.block_store.proofs.Zone.Zones.{joined-segments}
 use Rattle.heap_calls.specs.Inner.Given.{seen_in_run}
 use Rattle.block_store.specs.Compact.{stretches}
@@ -164,3 +168,29 @@ higher bytes start first zone rest place n next i above =
     let found = next-higher i.k place next zone i.found above in
     let size = ap sizes i.so_far.zone_is ∙ sizes-settled i.k start in
     (found.0, omega (arith, found.1, size))
+
+-- where no block moves, nothing changes, and all runs count
+pub packed : (bytes : Option ℕ) (start : List Block) (first : Rest) (n : ℕ) → tidy start ≡ start
+    → has_room bytes start ≡ false → Some n ≡ packed_stretches (runs start) → IsCompacted bytes start first start first n
+packed bytes start first n tidied full e = cases (lowered_in_runs all rs == 0) refl e
+  where
+    rs : List (List Block)
+    rs = runs start
+
+    all : ℕ
+    all = length rs
+
+    cases : (t : Bool) → (lowered_in_runs all rs == 0) ≡ t → Some n ≡ cond t (Some (stretches all rs)) None
+        → IsCompacted bytes start first start first n
+    cases false d e = absurd (none-some n (sym e))
+    cases true d e =
+        let none : lowered_in_runs all rs ≡ 0 = grind (arith, nat_tests, d) in
+        ends all bytes start first start first n (record {
+          within = omega arith;
+          zone_is = sym (still-settled all start tidied none);
+          moves = omega (arith, none);
+          keeps = rest-same first;
+          placed = refl;
+          count = same_Some _ _ e;
+          none = λ j less. ap (has_room bytes) (still-settled j start tidied none) ∙ full;
+        }) (inr (omega arith))
