@@ -1,5 +1,4 @@
 pub mod Replaced
-pub mod Named
 pub mod Owned
 pub mod Refilled
 pub mod Adding

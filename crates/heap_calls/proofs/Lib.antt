@@ -19,6 +19,7 @@ mod Worked
 mod Same
 pub mod Rows
 pub mod Went
+pub mod Made
 pub mod Exchanged
 mod Finding
 mod BlockMoves

@@ -3,7 +3,6 @@ pub mod NewPointers
 pub mod NewHandles
 pub mod Renewing
 pub mod NewSlots
-pub mod Reserving
 pub mod Copies
 pub mod CopiedHandles
 pub mod Naming

@@ -1,22 +1,26 @@
-use Rattle.std.proofs.Common.{◌≡◌, ℕ, Bool, true, false, List, [], ◌∷◌, length, map, Option, Some, None, Result, Err}
-use Rattle.std.proofs.Common.{refl, sym, ◌∙◌, ap, subst, is_some}
+use Rattle.std.proofs.Common.{◌≡◌, ℕ, Bool, List, [], ◌∷◌, ◌++◌, length, map, Option, Some, None, Result, Err}
+use Rattle.std.proofs.Common.{refl, sym, ◌∙◌, ap, subst, cond, is_some}
+use Rattle.std.proofs.lemmas.List.{length-map}
 use Rattle.std.specs.Option.{option_map}
 use Rattle.std.specs.Prelude.{unwrap_or}
 use Rattle.mac_words.specs.Size.{phys}
 use Rattle.mac_words.specs.declared.code.OsErr.{OsErr}
 use Rattle.mac_words.specs.declared.code.TheConstants.OsErr.{MEM_FULL}
 use Rattle.block_store.specs.Block.{Block, Free, Masters, size, rename, rename_block}
-use Rattle.block_store.specs.Room.{room, purge, put_at_base}
+use Rattle.block_store.specs.Room.{room, put_at_base}
 use Rattle.block_store.specs.Rest.{Rest, counted}
 use Rattle.block_store.specs.declared.sparing.Sparing.TheVariants as sparing
 use Rattle.block_store.proofs.Plain.Counters.{counted-none}
-use Rattle.moves.specs.Moves.{Move, Purge, Base, Did, did, moved, rename_did}
-use Rattle.moves.specs.Seeking.{Sought, sought, purges_for, seek, rename_sought}
+use Rattle.moves.specs.Moves as moves
+use Rattle.moves.specs.Moves.{Move, Base, Did, did, one, rename_move, rename_did}
+use Rattle.moves.specs.Seeking.{Sought, seek, rename_sought}
+use Rattle.moves.proofs.Paths.{Along, along-seek}
 use Rattle.moves.proofs.Renamed.{Names, PathNames, did-rename}
 use Rattle.moves.proofs.Searches.{seek-rename}
-use Rattle.heap_calls.specs.State.{State, Memory}
+use Rattle.heap_calls.specs.State.{State, Memory, Meaning}
 use Rattle.heap_calls.specs.Answer.{nothing}
-use Rattle.heap_calls.specs.Rows.{Done, work, doing_silently, purges_made, changed, room_for, more_masters, reserve_mem}
+use Rattle.heap_calls.specs.Rows.{Done, work, doing_silently, purges_made, reply_of, given, changed, room_for}
+use Rattle.heap_calls.specs.Rows.{more_masters, reserve_mem}
 use Rattle.heap_calls.specs.declared.anchor.Anchor.{Anchor}
 use Rattle.heap_calls.specs.declared.log.Log.{Log}
 use Rattle.heap_calls.specs.Inner.Base.{base, base_searches, IsBaseAt}
@@ -71,17 +75,35 @@ doing-is {T = T} call value zone zone' rest rest' es es' log log' r d is worked 
     } in
     subst P is (done ∙ ap (λ (m : Memory). (r, m)) kept)
 
--- the names of the blocks of a search
+-- what a store did is what a path does; so many searches were made
+pub record Follows (spared : Block → Bool) (zone : List Block) (p : Sought) (found : Bool) (searches : ℕ)
+    (zone' : List Block) (rest rest' : Rest) : Type 0 where
+  pub finds : found ≡ p.found
+  pub leaves : zone' ≡ (did spared p.path zone).zone
+  pub looks : searches ≡ (did spared p.path zone).searches
+  pub lowers : rest'.moves ≡ counted rest.moves (did spared p.path zone).lowered
+
+pub follows-none : {spared : Block → Bool} {zone zone' : List Block} {p : Sought} {found : Bool} {searches : ℕ}
+    {rest rest' : Rest} → found ≡ p.found → zone' ≡ (did spared p.path zone).zone
+    → searches ≡ (did spared p.path zone).searches → 0 ≡ (did spared p.path zone).lowered → rest'.moves ≡ rest.moves
+    → Follows spared zone p found searches zone' rest rest'
+follows-none {rest = rest} finds leaves looks none still = record {
+  finds = finds;
+  leaves = leaves;
+  looks = looks;
+  lowers = still ∙ sym (counted-none rest.moves) ∙ ap (counted rest.moves) none;
+}
+
+-- a path names each block of its moves
+pub path-names : (f g : ℕ → ℕ) (spared : Block → Bool) (path : List Move) (zone : List Block)
+    → Along (λ m z. Names f g m) spared path zone → PathNames f g path
+path-names f g spared [] zone all = tt
+path-names f g spared (m ∷ path) zone all = (all.0, path-names f g spared path (one spared m zone).zone all.1)
+
 pub seek-names : (f g : ℕ → ℕ) (p : Block → Bool) (m : Move) → Names f g m → (zone : List Block)
     → PathNames f g (seek m p zone).path
-seek-names f g p m names zone = cases (is_some (moved p m (purge k p zone)))
-  where
-    k : ℕ
-    k = purges_for (λ (z : List Block). is_some (moved p m z)) p zone
-
-    cases : (t : Bool) → PathNames f g (sought k t (Purge k ∷ m ∷ [])).path
-    cases true = (tt, (tt, (names, tt)))
-    cases false = (tt, tt)
+seek-names f g p m names zone = path-names f g p (seek m p zone).path zone
+    (along-seek (λ m z. Names f g m) p (λ n z. tt) (λ k z. tt) m (λ z. names) zone)
 
 module _ (zone : List Block) (rest : Rest) (es : List Anchor) (log : Log) (value : Memory)
     (is : memory_of zone rest es log ≡ value) (zone' : List Block) (rest' : Rest)
@@ -100,20 +122,41 @@ module _ (zone : List Block) (rest : Rest) (es : List Anchor) (log : Log) (value
     Stays = (map (name_of rest'.slots) es ≡ map (name_of rest.slots) es) × (rest'.window ≡ rest.window)
 
     -- a call that changes the zone where there is room
-    pub changed-is : (call : State → Done (Unit {0})) (p : Sought) → PathNames f g p.path
-        → call s ≡ changed nothing (rename_sought f g p) s → (found : Bool) (n : ℕ) → found ≡ p.found
-        → zone' ≡ (did nothing p.path zone).zone → n ≡ (did nothing p.path zone).searches
-        → rest'.moves ≡ counted rest.moves (did nothing p.path zone).lowered → Stays
-        → doing_silently call value
+    pub changed-is : (call : State → Done (Unit {0})) (spared spared' : Block → Bool)
+        → ((b : Block) → spared (rename_block f g b) ≡ spared' b) → (p : Sought) → PathNames f g p.path
+        → call s ≡ changed spared (rename_sought f g p) s → (found : Bool) (n : ℕ)
+        → Follows spared' zone p found n zone' rest rest' → Stays → doing_silently call value
         ≡ (sized_reply found, memory_of zone' rest' es (record log { searches = counted log.searches n }))
-    changed-is call p names row found n finds leaves looks lowers stays =
+    changed-is call spared spared' spares p names row found n did stays =
         doing-is call value zone zone' rest rest' es es log (record log { searches = counted log.searches n })
-        (sized_reply found) (did nothing p.path zone) is
-        (ap (λ (d : Done (Unit {0})). work d s) row
-        ∙ did-rename f g nothing nothing (λ b. refl) p.path names zone)
-        (ap (λ (d : Done (Unit {0})). d.reply) row ∙ ap sized_reply (sym finds))
-        (ap (λ (d : Done (Unit {0})). d.names) row ∙ sym stays.0) leaves lowers
-        (ap (λ (k : ℕ). let l : Log = record log { searches = counted log.searches k } in l) looks) stays.1
+        (sized_reply found) (moves.did spared' p.path zone) is
+        (ap (λ (d : Done (Unit {0})). work d s) row ∙ did-rename f g spared spared' spares p.path names zone)
+        (ap (λ (d : Done (Unit {0})). d.reply) row ∙ ap sized_reply (sym did.finds))
+        (ap (λ (d : Done (Unit {0})). d.names) row ∙ sym stays.0) did.leaves did.lowers
+        (ap (λ (k : ℕ). let l : Log = record log { searches = counted log.searches k } in l) did.looks) stays.1
+
+    -- a call that gives a new number where there is room, by the entries with the new one
+    pub given-is : (call : State → Done ℕ) (name : Meaning) (spared spared' : Block → Bool) (es' : List Anchor)
+        → ((b : Block) → spared (rename_block (handle_number es') (pointer_number es') b) ≡ spared' b)
+        → (p : Sought) → PathNames (handle_number es') (pointer_number es') p.path
+        → rename (handle_number es') (pointer_number es') zone ≡ s.zone
+        → call s ≡ given name spared (rename_sought (handle_number es') (pointer_number es') p) s → (found : Bool) (n : ℕ)
+        → Follows spared' zone p found n zone' rest rest'
+        → map (name_of rest'.slots) es' ≡ cond found (s.names ++ name ∷ []) s.names → rest'.window ≡ rest.window
+        → doing_silently call value
+        ≡ (reply_of found (length es), memory_of zone' rest' es' (record log { searches = counted log.searches n }))
+    given-is call name spared spared' es' spares p names kept row found n did named lies =
+        let f' = handle_number es' in
+        let g' = pointer_number es' in
+        doing-is call value zone zone' rest rest' es es' log (record log { searches = counted log.searches n })
+        (reply_of found (length es)) (moves.did spared' p.path zone) is
+        (ap (λ (d : Done ℕ). work d s) row ∙ ap (moves.did spared (map (rename_move f' g') p.path)) (sym kept)
+        ∙ did-rename f' g' spared spared' spares p.path names zone)
+        (ap (λ (d : Done ℕ). d.reply) row ∙ ap (λ (t : Bool). reply_of t (length s.names)) (sym did.finds)
+        ∙ ap (reply_of found) (length-map es (name_of rest.slots)))
+        (ap (λ (d : Done ℕ). d.names) row ∙ ap (λ (t : Bool). cond t (s.names ++ name ∷ []) s.names) (sym did.finds)
+        ∙ sym named) did.leaves did.lowers
+        (ap (λ (k : ℕ). let l : Log = record log { searches = counted log.searches k } in l) did.looks) lies
 
     -- one that makes room at the base of a run
     base-is : (call : State → Done (Unit {0})) (new : Block) → rename_block f g new ≡ new
@@ -124,12 +167,13 @@ module _ (zone : List Block) (rest : Rest) (es : List Anchor) (log : Log) (value
         ≡ (sized_reply (is_some after), memory_of zone' rest' es (record log { searches = counted log.searches n }))
     base-is call new same row after at n leaves looks still stays =
         let a = base-agrees 0 nothing new zone in
-        changed-is call (seek (Base new) nothing zone) (seek-names f g nothing (Base new) tt zone)
+        changed-is call nothing nothing (λ b. refl) (seek (Base new) nothing zone)
+        (seek-names f g nothing (Base new) tt zone)
         (row ∙ ap (λ (r : Sought). changed nothing r s) (ap (λ (b : Block). seek (Base b) nothing s.zone) (sym same)
         ∙ seek-rename f g nothing nothing (λ b. refl) (Base new) tt zone)) (is_some after) n
-        (sym (ap is_some at) ∙ a.finds) (leaves ∙ sym (ap (λ (o : Option (List Block)). unwrap_or o zone) at) ∙ a.leaves)
-        (looks ∙ sym (searches-base new sparing.Nothing zone) ∙ a.looks)
-        (still ∙ sym (counted-none rest.moves) ∙ ap (counted rest.moves) a.lowers) stays
+        (follows-none (sym (ap is_some at) ∙ a.finds)
+        (leaves ∙ sym (ap (λ (o : Option (List Block)). unwrap_or o zone) at) ∙ a.leaves)
+        (looks ∙ sym (searches-base new sparing.Nothing zone) ∙ a.looks) a.lowers still) stays
 
     -- what it purges
     base_gone-is : (new : Block) → base_gone es (size new) sparing.Nothing zone

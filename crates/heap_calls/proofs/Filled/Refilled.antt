@@ -31,7 +31,7 @@ use Rattle.heap_calls.specs.Inner.Filling.{refilled_moves}
 use Rattle.heap_calls.specs.Inner.Loose.{renewed, renewed_searches, renewed_moves}
 use Rattle.heap_calls.specs.Inner.NewBlock.{fresh_block, zone_with_block}
 use Rattle.heap_calls.specs.Inner.Numbered.{state_of, memory_of, handle_number, pointer_number}
-use Rattle.heap_calls.proofs.Filled.Named.{no_room-alike}
+use Rattle.heap_calls.proofs.Made.{no_room-alike}
 use Rattle.heap_calls.proofs.Filled.Replaced.{new-fresh, put-replaced}
 use Rattle.heap_calls.proofs.Numbering.Changing.{silent-kept, unmoved, unmoved-is}
 use Rattle.heap_calls.proofs.Numbering.Answering.{handle_at-refused}

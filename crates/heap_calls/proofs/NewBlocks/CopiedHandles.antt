@@ -18,7 +18,7 @@ use Rattle.heap_calls.specs.State.{State, Memory}
 use Rattle.heap_calls.specs.declared.log.Log.{Log}
 use Rattle.heap_calls.specs.declared.anchor.Anchor.{Anchor}
 use Rattle.heap_calls.specs.declared.anchor.Anchor.TheVariants.{Handle}
-use Rattle.heap_calls.specs.Answer.{refused, for_found, given, look_up, silent, searching, moving}
+use Rattle.heap_calls.specs.Answer.{Answer, refused, for_found, given, look_up, silent, searching, moving}
 use Rattle.heap_calls.specs.State as names
 use Rattle.heap_calls.specs.Slots.{slotted, if_ready}
 use Rattle.heap_calls.proofs.Tables.Replies.{new_block, hand_to_hand}
@@ -43,7 +43,6 @@ use Rattle.heap_calls.proofs.Numbering.Answering.{place-small, header-fits}
 use Rattle.heap_calls.specs.Inner.Given.{slot_of}
 use Rattle.heap_calls.specs.declared.anchor.Found.{Found}
 use Rattle.heap_calls.proofs.Numbering.Changing.{agrees-now, block-given, agrees-kept, kept}
-use Rattle.heap_calls.proofs.NewBlocks.Reserving.{IsRefused}
 use Rattle.heap_calls.proofs.NewBlocks.NewHandles.{slotted-is, slot_searches-is, block_searches-placement}
 use Rattle.heap_calls.proofs.NewBlocks.NewHandles.{no_room-rename}
 use Rattle.heap_calls.proofs.NewBlocks.NewHandles.{agrees-more, state-more, state-kept, with_handle, searched-done}
@@ -51,6 +50,11 @@ use Rattle.heap_calls.proofs.Numbering.MoveNames.{block_moves-placement}
 use Rattle.heap_calls.proofs.Room.MoveCounts.{not-moved}
 
 -- HandToHand.
+
+-- a call that was refused, and left this
+abbrev IsRefused : {T : Type 0} → (State → Answer T) → List Block → Rest → List Anchor → List Block → Rest → Type 0
+IsRefused row zone rest es zone' rest' = (row (state_of zone rest.slots es)
+    ≡ (Err MEM_FULL, state_of zone' rest'.slots es)) × (Agrees zone' rest' es) × (rest'.window ≡ rest.window)
 
 -- a size that has room
 phys-fits : (n : ℕ) → n ≤ GREATEST_ZONE → is_some (phys n) ≡ true

@@ -10,20 +10,17 @@ use Rattle.heap_calls.specs.declared.anchor.Anchor.{Anchor}
 use Rattle.heap_calls.specs.declared.log.Log.{Log}
 use Rattle.heap_calls.specs.State.{State, Memory}
 use Rattle.heap_calls.specs.Answer.{Answer, silent, searching, moving}
-use Rattle.heap_calls.proofs.Tables.Replies.{new_handle, new_empty_handle, hand_to_hand}
+use Rattle.heap_calls.proofs.Tables.Replies.{hand_to_hand}
 use Rattle.heap_calls.proofs.Tables.Moves.{hand_to_hand_moves}
 use Rattle.heap_calls.proofs.Tables.Searches.{hand_to_hand_searches}
 use Rattle.heap_calls.specs.Inner.Copied.{IsCopy}
 use Rattle.heap_calls.specs.declared.anchor.Found.{Found}
 use Rattle.heap_calls.specs.declared.anchor.Anchor.TheVariants.{Handle}
 use Rattle.heap_calls.specs.Inner.Naming.{entered, number_of}
-use Rattle.heap_calls.specs.Inner.NewBlock.{IsNewBlock, new_searches}
-use Rattle.heap_calls.specs.Inner.NewSlot.{TakesSlot}
+use Rattle.heap_calls.specs.Inner.NewBlock.{new_searches}
 use Rattle.heap_calls.specs.Inner.Numbered.{Agrees, KeepsNonrelocatable, no_number, state_of, memory_of}
 use Rattle.heap_calls.specs.Inner.Packed.{Packs, new_moves}
-use Rattle.heap_calls.proofs.NewBlocks.NewHandles.{searched-done, new_handle-done, new_handle-refused, handle-agrees}
-use Rattle.heap_calls.proofs.NewBlocks.NewHandles.{handle-window}
-use Rattle.heap_calls.proofs.NewBlocks.Reserving.{empty-refused, empty-done, empty-agrees, empty-window}
+use Rattle.heap_calls.proofs.NewBlocks.NewHandles.{searched-done}
 use Rattle.heap_calls.proofs.NewBlocks.CopiedHandles.{copy-none, copy-agrees, copy-window, copied-done}
 use Rattle.heap_calls.proofs.NewBlocks.CopiedHandles.{copy_searches-is, copy_moves-is}
 use Rattle.heap_calls.proofs.Numbering.Changing.{unmoved}
@@ -47,13 +44,7 @@ module _ {T : Type 0} (row : State → Answer T) (looks moves : State → ℕ) (
     (is : memory_of zone rest es log ≡ value) (ends : Ends row zone rest es r zone' rest' es') (n : ℕ)
     (looked : n ≡ looks (state_of zone rest.slots es)) (now : log' ≡ record log { searches = counted log.searches n })
   where
-    -- it looked for room
-    ended-looking : rest'.moves ≡ rest.moves
-        → searching (looks value.heap) (silent row value) ≡ (r, memory_of zone' rest' es' log')
-    ended-looking same = searched-done row looks value zone zone' rest rest' es es' log log' r n is ends.answer
-        ends.window same looked now
-
-    -- and packed
+    -- it looked for room, and packed
     ended-packing : (m : ℕ) → moves (state_of zone rest.slots es) ≡ m → Packs m rest rest'
         → moving (moves value.heap) (searching (looks value.heap) (silent row value))
         ≡ (r, memory_of zone' rest' es' log')
@@ -68,40 +59,11 @@ module _ (row : State → Answer ℕ) (looks moves : State → ℕ) (value : Mem
     (names : Names row zone rest es slot zone' rest') (n : ℕ) (looked : n ≡ looks (state_of zone rest.slots es))
     (now : log' ≡ record log { searches = counted log.searches n })
   where
-    pub named-looking : rest'.moves ≡ rest.moves
-        → searching (looks value.heap) (silent row value)
-        ≡ (number_of slot es, memory_of zone' rest' (entered slot es) log')
-    named-looking same = ended-looking row looks moves value zone zone' rest rest' es (entered slot es) log log'
-        (number_of slot es) is names n looked now same
-
     pub named-packing : (m : ℕ) → moves (state_of zone rest.slots es) ≡ m → Packs m rest rest'
         → moving (moves value.heap) (searching (looks value.heap) (silent row value))
         ≡ (number_of slot es, memory_of zone' rest' (entered slot es) log')
     named-packing m moved packed = ended-packing row looks moves value zone zone' rest rest' es (entered slot es) log
         log' (number_of slot es) is names n looked now m moved packed
-
-module _ (zone : List Block) (rest : Rest) (es : List Anchor) (masters : rest.all ≡ 64 * count is_masters zone)
-    (agrees : Agrees zone rest es) (zone' : List Block) (rest' : Rest) (nonrelocatable : KeepsNonrelocatable zone zone')
-  where
-    pub new-names : (n : ℕ) (slot : Option ℕ) → IsNewBlock sparing.Nothing n zone rest slot zone' rest'
-        → Names (new_handle n) zone rest es slot zone' rest'
-    new-names n None h = let r = new_handle-refused zone rest es n masters agrees zone' rest' nonrelocatable h in
-        record { answer = r.0; agrees = r.1; window = r.2 }
-    new-names n (Some slot) p = record {
-      answer = new_handle-done zone rest es n masters agrees zone' rest' nonrelocatable slot p;
-      agrees = handle-agrees zone rest es n masters agrees zone' rest' nonrelocatable slot p;
-      window = handle-window zone rest es n masters agrees zone' rest' nonrelocatable slot p;
-    }
-
-    pub empty-names : (slot : Option ℕ) → TakesSlot sparing.Nothing zone rest slot zone' rest'
-        → Names new_empty_handle zone rest es slot zone' rest'
-    empty-names None h = let r = empty-refused zone rest es masters agrees zone' rest' nonrelocatable h in
-        record { answer = r.0; agrees = r.1; window = r.2 }
-    empty-names (Some slot) p = record {
-      answer = empty-done zone rest es masters agrees zone' rest' nonrelocatable slot p;
-      agrees = empty-agrees zone rest es masters agrees zone' rest' nonrelocatable slot p;
-      window = empty-window zone rest es masters agrees zone' rest' nonrelocatable slot p;
-    }
 
 -- the handle that is copied: its entry, and its block of n bytes
 pub record Copied (zone : List Block) (es : List Anchor) (handle : Option ℕ) (f : Found) (n : ℕ) : Type 0 where

@@ -1,23 +1,20 @@
 use Rattle.block_store.specs.Slot.{is_used}
-use Rattle.std.proofs.Common.{◌≡◌, ℕ, ◌+◌, ◌-◌, ◌*◌, ◌<◌, zero, suc, Bool, true, false, List, [], ◌∷◌, ◌++◌, length}
-use Rattle.std.proofs.Common.{refl, sym, ◌∙◌, ap, subst, cond, map, arith, Option, Some, None, Result, Ok, Err, is_some}
-use Rattle.std.proofs.Common.{nat_lt, replicate, count_by, inl, inr}
-use Rattle.std.proofs.lemmas.List.{map-append, length-replicate}
+use Rattle.std.proofs.Common.{◌≡◌, ℕ, ◌-◌, ◌*◌, ◌<◌, zero, suc, Bool, true, false, List, [], ◌∷◌, ◌++◌, length}
+use Rattle.std.proofs.Common.{refl, sym, ◌∙◌, ap, subst, map, arith, Option, Some, None, Result}
+use Rattle.std.proofs.Common.{nat_lt, count_by}
+use Rattle.std.proofs.lemmas.List.{map-append}
 use Rattle.std.proofs.lemmas.Bool.{cond-true, cond-false, false_from_ne_true}
 use Rattle.std.proofs.lemmas.Bool.Decides.{Decides-ltb}
 use Rattle.std.specs.Option.{option_map}
-use Rattle.mac_words.specs.Size.{phys, padded}
+use Rattle.mac_words.specs.Size.{padded}
 use Rattle.mac_words.specs.declared.code.OsErr.{OsErr}
-use Rattle.mac_words.specs.declared.code.TheConstants.OsErr.{MEM_FULL}
 use Rattle.block_store.specs.Block.{Block, Masters, Relocatable, size, count, free_of, free_sum, free, rename}
 use Rattle.block_store.specs.Block.{rename_block, is_mover, is_masters, no_flags, tidy}
 use Rattle.block_store.specs.Run.{low, movers, has_free, change_run}
 use Rattle.block_store.specs.Room.{rename_spot, filled, place, room, purge, count_of, put_at_base, put_in_place}
-use Rattle.block_store.specs.Slot.{Slot}
 use Rattle.block_store.specs.Rest.{Rest, KeepsSlots, counted}
 use Rattle.block_store.specs.Sparing.{spared, opened}
 use Rattle.block_store.specs.declared.sparing.Sparing.{Sparing}
-use Rattle.block_store.specs.declared.sparing.Sparing.TheVariants as sparing
 use Rattle.block_store.proofs.Renamed.Renaming.{size-rename, free_of-rename, free-rename, total-rename, filter-rename}
 use Rattle.block_store.proofs.Renamed.Renaming.{is_mover-rename, tidy-rename, change_run-rename, has_free-rename}
 use Rattle.block_store.proofs.Renamed.Renaming.{place-rename, purge-rename, room-rename, put_in_place-rename}
@@ -26,22 +23,18 @@ use Rattle.block_store.proofs.Plain.Trials.{least-map}
 use Rattle.heap_calls.specs.declared.log.Log.{Log}
 use Rattle.heap_calls.specs.declared.anchor.Anchor.{Anchor}
 use Rattle.heap_calls.specs.declared.anchor.Anchor.TheVariants.{Handle}
-use Rattle.heap_calls.specs.State.{State, Memory, Plain, used_slots, all_slots, uses_slot}
-use Rattle.heap_calls.specs.State as names
-use Rattle.heap_calls.specs.Answer.{Answer, nothing, given, refused, silent, searching}
-use Rattle.heap_calls.specs.Slots.{more_masters, slotted, if_ready}
+use Rattle.heap_calls.specs.State.{State, Memory, used_slots, all_slots, uses_slot}
+use Rattle.heap_calls.specs.Answer.{Answer, silent, searching}
+use Rattle.heap_calls.specs.Slots.{more_masters, slotted}
 use Rattle.heap_calls.specs.Inner.Search.{tries, placement_searches}
-use Rattle.heap_calls.specs.Searches.{room_searches, slot_searches, ready_searches, block_searches, new_handle_searches}
+use Rattle.heap_calls.specs.Searches.{room_searches, slot_searches}
 use Rattle.heap_calls.specs.Inner.Base.{base_searches}
 use Rattle.heap_calls.specs.Inner.NewSlot.{zone_with_masters, zone_slotted, zone_searches, HasMore}
-use Rattle.heap_calls.specs.Inner.NewBlock.{place_searches, ready_count, new_searches, HasNoRoom, IsPut, IsNewBlock}
 use Rattle.heap_calls.specs.Inner.Numbered.{state_of, memory_of, name_of, handle_number, pointer_number, KeepsNonrelocatable}
 use Rattle.heap_calls.specs.Inner.Numbered.{Agrees}
 use Rattle.heap_calls.proofs.NewBlocks.NewSlots.{tries-map, searches-base}
-use Rattle.heap_calls.proofs.Numbering.Changing.{names-same, masters-rename, silent-done, es', agrees-now, block-given}
-use Rattle.heap_calls.proofs.Numbering.Changing.{agrees-kept}
+use Rattle.heap_calls.proofs.Numbering.Changing.{names-same, masters-rename, silent-done, es'}
 use Rattle.heap_calls.proofs.Numbering.Looking.{count_of-rename, room_searches-rename}
-use Rattle.heap_calls.proofs.Tables.Replies.{new_block, new_handle}
 
 -- A store's new slots and blocks, seen as the heap's.
 
@@ -224,33 +217,6 @@ module _ (zone : List Block) (rest : Rest) (es : List Anchor) (masters : rest.al
             ∙ base_searches-is Masters
         cases (suc n) e = cond-true {A = ℕ} (nat_lt (used_slots s) (all_slots s)) 0 _ (some-left n e)
 
--- the searches of NewHandle
-pub new_handle_searches-is : (zone : List Block) (rest : Rest) (es : List Anchor) (n : ℕ)
-    → rest.all ≡ 64 * count is_masters zone → Agrees zone rest es
-    → new_handle_searches n (state_of zone rest.slots es) ≡ new_searches sparing.Nothing n rest.unused zone
-new_handle_searches-is zone rest es n masters agrees =
-    ap (λ a. a + ready_searches (slotted nothing s) looks) (slot_searches-is zone rest es masters agrees nothing
-    sparing.Nothing (λ b. refl) refl)
-    ∙ ap (λ o. zone_searches sparing.Nothing rest.unused zone + ready_searches o looks)
-    (slotted-is zone rest es masters agrees nothing sparing.Nothing (λ b. refl) refl)
-    ∙ ap (λ a. zone_searches sparing.Nothing rest.unused zone + a)
-    (ready (zone_slotted sparing.Nothing rest.unused zone))
-  where
-    s : State
-    s = state_of zone rest.slots es
-
-    looks : State → ℕ
-    looks ready = cond (is_some (phys n)) (block_searches nothing (replicate n 0) ready) 0
-
-    ready : (o : Option (List Block)) → ready_searches (option_map (λ z. state_of z rest.slots es) o) looks
-        ≡ ready_count o (place_searches sparing.Nothing n)
-    ready None = refl
-    ready (Some z) =
-        ap (λ a. cond {A = ℕ} (is_some (phys n)) a 0)
-        (block_searches-placement (handle_number es) (pointer_number es) nothing sparing.Nothing (λ b. refl)
-        (length (map (name_of rest.slots) es)) (replicate n 0) z refl
-        ∙ ap (λ k. placement_searches (padded k) sparing.Nothing z) (length-replicate n 0))
-
 -- what a call that searches for room gives, told of the whole heap
 pub searched-done : {T : Type 0} (row : State → Answer T) (looks : State → ℕ) (value : Memory) (zone zone' : List Block)
     (rest rest' : Rest) (es es' : List Anchor) (log log' : Log) (r : Result T OsErr) (n : ℕ)
@@ -270,80 +236,6 @@ searched-done {T = T} row looks value zone zone' rest rest' es es' log log' r n 
 -- the entries with a new handle
 abbrev pub with_handle : List Anchor → ℕ → List Anchor
 with_handle es slot = es ++ Handle slot false ∷ []
-
--- NewHandle, where its block was put in its place
-module _ (zone : List Block) (rest : Rest) (es : List Anchor) (n : ℕ) (masters : rest.all ≡ 64 * count is_masters zone)
-    (agrees : Agrees zone rest es)
-    (zone' : List Block) (rest' : Rest) (nonrelocatable : KeepsNonrelocatable zone zone')
-  where
-    abbrev old : State
-    old = state_of zone rest.slots es
-
-    -- where there is a slot
-    abbrev then_block : State → Answer ℕ
-    then_block ready = cond (is_some (phys n)) (new_block nothing (replicate n 0) ready) (refused MEM_FULL ready)
-
-    with_slot : (o : Option (List Block)) → zone_slotted sparing.Nothing rest.unused zone ≡ o
-        → new_handle n old ≡ if_ready (option_map (λ z. state_of z rest.slots es) o) old then_block
-    with_slot o is = ap (λ o. if_ready o old then_block) (slotted-is zone rest es masters agrees nothing sparing.Nothing
-        (λ b. refl) refl ∙ ap (option_map (λ z. state_of z rest.slots es)) is)
-
-    pub handle-agrees : (slot : ℕ) → IsPut sparing.Nothing n slot zone rest zone' rest'
-        → Agrees zone' rest' (with_handle es slot)
-    handle-agrees slot p = agrees-now p.ready p.more rest' es slot
-        (agrees-more zone rest p.more es agrees (λ k. refl) p.has_more) p.was p.slots.slots p.one p.slots.all p.none
-        zone' nonrelocatable
-
-    pub handle-window : (slot : ℕ) → IsPut sparing.Nothing n slot zone rest zone' rest' → rest'.window ≡ rest.window
-    handle-window slot p = p.slots.window ∙ p.has_more.window
-
-    pub new_handle-done : (slot : ℕ) → IsPut sparing.Nothing n slot zone rest zone' rest'
-        → new_handle n old ≡ (Ok (length es), state_of zone' rest'.slots (with_handle es slot))
-    new_handle-done slot p =
-        with_slot (Some p.ready) p.slotted
-        ∙ cond-true (is_some (phys n)) (new_block nothing (replicate n 0) ready) (refused MEM_FULL ready) p.fits
-        ∙ ap (new_block nothing (replicate n 0)) (sym (state-more p.ready rest p.more es agrees p.has_more))
-        ∙ block-given p.ready p.more rest' es slot (agrees-more zone rest p.more es agrees (λ k. refl) p.has_more) p.was
-        p.slots.slots p.one p.slots.all p.none nothing nothing (λ b. refl) (replicate n 0) zone' p.put
-      where
-        ready : State
-        ready = state_of p.ready rest.slots es
-
-    -- no block can be made in a heap with a slot
-    no_block : (slot : ℕ) → HasNoRoom sparing.Nothing slot n zone' → (slots : ℕ → Slot)
-        → then_block (state_of zone' slots es) ≡ (Err MEM_FULL, state_of zone' slots es)
-    no_block slot (inl large) slots = cond-false (is_some (phys n))
-        (new_block nothing (replicate n 0) (state_of zone' slots es)) (refused MEM_FULL (state_of zone' slots es))
-        (ap is_some large)
-    no_block slot (inr full) slots =
-        ap (λ o. cond (is_some (phys n)) (given (names.Handle Plain) o (state_of zone' slots es))
-        (refused MEM_FULL (state_of zone' slots es)))
-        (no_room-rename (handle_number es) (pointer_number es) nothing nothing (λ b. refl) slot
-        (length (map (name_of slots) es)) (replicate n 0) zone' full)
-        ∙ either (is_some (phys n))
-      where
-        either : (t : Bool) → cond t (refused {T = ℕ} MEM_FULL (state_of zone' slots es))
-            (refused {T = ℕ} MEM_FULL (state_of zone' slots es)) ≡ refused {T = ℕ} MEM_FULL (state_of zone' slots es)
-        either true = refl
-        either false = refl
-
-    abbrev Refused : Type 0
-    Refused = (new_handle n old ≡ (Err MEM_FULL, state_of zone' rest'.slots es)) × (Agrees zone' rest' es)
-        × (rest'.window ≡ rest.window)
-
-    pub new_handle-refused : IsNewBlock sparing.Nothing n zone rest None zone' rest' → Refused
-    new_handle-refused (inl none) = (
-      with_slot None none.0 ∙ ap (λ (t : State). refused {T = ℕ} MEM_FULL t)
-          (sym (ap (λ z. state_of z rest'.slots es) none.1 ∙ state-kept zone rest rest' es none.2)),
-      agrees-kept zone zone' rest rest' es agrees nonrelocatable none.2,
-      none.2.window,
-    )
-    new_handle-refused (inr only) = (
-      with_slot (Some zone') only.0 ∙ no_block only.2.0 only.2.1 rest.slots
-          ∙ ap (λ (t : State). refused {T = ℕ} MEM_FULL t) (sym (state-more zone' rest rest' es agrees only.1)),
-      agrees-more zone' rest rest' es agrees nonrelocatable only.1,
-      only.1.window,
-    )
 
 -- all but the zone is what it was, where the host had no memory, and how many blocks were moved
 pub kept-memory : (value : Memory) (zone zone' : List Block) (rest rest' : Rest) (es es' : List Anchor) (log : Log)

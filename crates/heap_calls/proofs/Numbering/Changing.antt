@@ -243,12 +243,6 @@ module _ {before : List Block} (zone : List Block) (rest rest' : Rest) (es : Lis
         ∙ ap (λ l. (Ok (length es), record { zone = rename (handle_number es') (pointer_number es') zone'; names = l }))
         (sym names-now)
 
-    -- a new handle with no block
-    pub handle-empty : given (names.Handle Plain) (Some (rename (handle_number es) (pointer_number es) zone))
-        (state_of zone rest.slots es) ≡ (Ok (length es), state_of zone rest'.slots es')
-    handle-empty = ap (λ z. given (names.Handle Plain) (Some z) (state_of zone rest.slots es)) (sym zone-kept)
-        ∙ handle-given zone
-
     -- a new handle whose block was put in its place
     pub block-given : (sp t : Block → Bool) → ((b : Block) → sp
         (rename_block (handle_number es') (pointer_number es') b) ≡ t b) → (bytes : List ℕ) (zone' : List Block)

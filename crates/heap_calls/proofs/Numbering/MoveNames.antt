@@ -1,40 +1,33 @@
-use Rattle.std.proofs.Common.{◌≡◌, ℕ, ◌+◌, ◌-◌, ◌*◌, zero, suc, Bool, ◌&&◌, List, [], ◌∷◌, length, refl, sym, ◌∙◌, ap}
-use Rattle.std.proofs.Common.{cond, map, replicate, Option, Some, None, is_some, nat_le}
-use Rattle.std.proofs.lemmas.List.{length-map, length-replicate}
+use Rattle.std.proofs.Common.{◌≡◌, ℕ, ◌+◌, ◌-◌, zero, suc, Bool, ◌&&◌, List, [], ◌∷◌, length, refl, sym, ◌∙◌, ap}
+use Rattle.std.proofs.Common.{cond, map, Option, Some, None, is_some, nat_le}
+use Rattle.std.proofs.lemmas.List.{length-map}
 use Rattle.std.specs.Option.{option_map}
 use Rattle.mac_words.specs.Size.{phys, padded}
-use Rattle.block_store.specs.Block.{Block, Free, Nonrelocatable, Masters, Relocatable, size, count, rename, rename_block}
-use Rattle.block_store.specs.Block.{is_mover, is_masters, is_room, no_flags, resized}
+use Rattle.block_store.specs.Block.{Block, Free, Nonrelocatable, Masters, Relocatable, size, rename, rename_block}
+use Rattle.block_store.specs.Block.{is_mover, is_room, no_flags, resized}
 use Rattle.block_store.specs.Run.{RunSpot, run_spot, runs, has, has_free, high}
 use Rattle.block_store.specs.Room.{Spot, rename_spot, spot, place, purge, put_in_place}
 use Rattle.block_store.specs.Grow.{growth, grow_up, grow_mover}
 use Rattle.block_store.specs.Compact.{lowered_in_runs, runs_settled}
 use Rattle.block_store.specs.Sparing.{spared, opened}
-use Rattle.block_store.specs.Rest.{Rest, lowered_in_run}
+use Rattle.block_store.specs.Rest.{lowered_in_run}
 use Rattle.block_store.specs.declared.sparing.Sparing.{Sparing}
-use Rattle.block_store.specs.declared.sparing.Sparing.TheVariants as sparing
 use Rattle.block_store.proofs.Renamed.Renaming.{size-rename, total-rename, is_mover-rename, is_room-rename, spot-rename}
 use Rattle.block_store.proofs.Renamed.Renaming.{run_spot-rename, rename_run_spot, has-rename, has_free-rename}
 use Rattle.block_store.proofs.Renamed.Renaming.{place-rename, purge-rename, put_in_place-rename, grow_up-rename}
 use Rattle.block_store.proofs.Renamed.Renaming.{grow_mover-rename}
 use Rattle.block_store.proofs.Renamed.GrowRenaming.{resized-rename}
 use Rattle.mac_words.proofs.Plain.{is_some-map}
-use Rattle.heap_calls.specs.declared.anchor.Anchor.{Anchor}
-use Rattle.heap_calls.specs.State.{State}
-use Rattle.heap_calls.specs.Answer.{nothing}
 use Rattle.heap_calls.specs.Moves.{run_moves, as_it_is, place_moves, mover_moves, grow_moves, room_moves, put_moves}
-use Rattle.heap_calls.specs.Moves.{block_moves, new_handle_moves, growth_moves, size_moves, all_moves}
-use Rattle.heap_calls.specs.Inner.NewBlock.{ready_count}
-use Rattle.heap_calls.specs.Inner.NewSlot.{zone_slotted}
-use Rattle.heap_calls.specs.Inner.Numbered.{state_of, name_of, handle_number, pointer_number, Agrees}
-use Rattle.heap_calls.specs.Inner.Packed.{placement_moves, content_moves, new_moves}
+use Rattle.heap_calls.specs.Moves.{growth_moves, size_moves, all_moves}
+use Rattle.heap_calls.specs.Inner.Packed.{placement_moves}
 use Rattle.heap_calls.specs.Purging.{purged_all}
 use Rattle.heap_calls.specs.Inner.Search.{placement_searches}
-use Rattle.heap_calls.specs.Searches.{room_searches, ready_searches, resized_at}
+use Rattle.heap_calls.specs.Searches.{room_searches, resized_at}
 use Rattle.heap_calls.proofs.Numbering.Hoisting.{high-rename}
 use Rattle.heap_calls.proofs.Numbering.Largest.{runs-rename, runs_settled-rename}
 use Rattle.heap_calls.proofs.Numbering.Looking.{room_searches-rename}
-use Rattle.heap_calls.proofs.NewBlocks.NewHandles.{block_searches-placement, slotted-is}
+use Rattle.heap_calls.proofs.NewBlocks.NewHandles.{block_searches-placement}
 use Rattle.heap_calls.proofs.Numbering.PurgeTrials.{purged_all-rename}
 
 -- How many blocks packing moves down sees no names.
@@ -185,23 +178,3 @@ block_moves-placement f g p nd same number bytes bs closed =
   where
     wide : ℕ
     wide = padded (length bytes)
-
--- of NewHandle
-pub new_handle_moves-is : (zone : List Block) (rest : Rest) (es : List Anchor) (n : ℕ)
-    → rest.all ≡ 64 * count is_masters zone → Agrees zone rest es
-    → new_handle_moves n (state_of zone rest.slots es) ≡ new_moves sparing.Nothing n rest.unused zone
-new_handle_moves-is zone rest es n masters agrees =
-    ap (λ o. ready_searches o moves) (slotted-is zone rest es masters agrees nothing sparing.Nothing (λ b. refl) refl)
-    ∙ ready (zone_slotted sparing.Nothing rest.unused zone)
-  where
-    moves : State → ℕ
-    moves ready = cond (is_some (phys n)) (block_moves nothing (replicate n 0) ready) 0
-
-    ready : (o : Option (List Block)) → ready_searches (option_map (λ z. state_of z rest.slots es) o) moves
-        ≡ ready_count o (content_moves sparing.Nothing n)
-    ready None = refl
-    ready (Some z) =
-        ap (λ a. cond {A = ℕ} (is_some (phys n)) a 0)
-        (block_moves-placement (handle_number es) (pointer_number es) nothing sparing.Nothing (λ b. refl)
-        (length (map (name_of rest.slots) es)) (replicate n 0) z refl
-        ∙ ap (λ k. placement_moves (padded k) sparing.Nothing z) (length-replicate n 0))

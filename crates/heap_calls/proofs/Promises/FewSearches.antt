@@ -286,7 +286,7 @@ pub row_few : (a : Asked) (m : Memory) → 0 < count is_masters m.heap.zone
 row_few (asked.NewHandle x) m masters =
     let bytes = asked.new_bytes x in
     let fits = is_some (phys (asked.new_size x)) in
-    subst (λ (k : ℕ). k ≤ length m.heap.zone + 1) (made-same nothing bytes fits m.heap).looks
+    subst (λ (k : ℕ). k ≤ length m.heap.zone + 1) (made-same nothing no_flags bytes fits m.heap).looks
     (slot-blocks nothing m.heap (λ ready. if fits then block_searches nothing bytes ready else 0) masters
     (λ r. only-if fits (block_searches nothing bytes r) (count_of nothing r.zone + 1)
     (room-few (put_in_place (Relocatable (length r.names) no_flags bytes)) nothing r.zone)))

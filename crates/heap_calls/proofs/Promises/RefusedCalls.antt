@@ -39,7 +39,7 @@ use Rattle.moves.proofs.Refused.{Refuses, seek-refused, fits-refused, slot-refus
 use Rattle.heap_calls.proofs.Rows.Found.{room_for-refused}
 use Rattle.heap_calls.specs.Rows as rows
 use Rattle.heap_calls.specs.Rows.{heap_after, answer_made, is_unused, next_block, reply_of}
-use Rattle.heap_calls.proofs.Same.NewBlocks.{slotted-is, slot-agrees, slot_after, ready_with}
+use Rattle.heap_calls.proofs.Same.NewBlocks.{slotted-is, slot-agrees, with_slot, ready_with}
 use Rattle.heap_calls.specs.Asked as asked
 use Rattle.heap_calls.specs.Refused.{code_left}
 use Rattle.heap_calls.specs.Slots.{slotted_zone}
@@ -280,7 +280,7 @@ made-leaves sp block s only =
     slot-left : slotted_zone sp s ≡ slot_zone
     slot-left = ap (λ (o : Option State). unwrap_or (option_map (λ (ready : State). ready.zone) o) s.zone) (slotted-is
         sp s)
-        ∙ zone-left (slot_after sp s) ∙ (slot-agrees sp s).leaves
+        ∙ zone-left (with_slot sp s) ∙ (slot-agrees (length s.names) sp (is_unused s) s.zone).leaves
       where
         zone-left : (o : Option (List Block)) → unwrap_or (option_map (λ (ready : State). ready.zone)
             (option_map (ready_with s) o)) s.zone ≡ unwrap_or o s.zone

@@ -9,7 +9,8 @@ use Rattle.mac_words.specs.declared.code.TheConstants.OsErr.{MEM_FULL}
 use Rattle.mac_words.proofs.Plain.{is_some-map}
 use Rattle.mac_words.specs.Size.{padded}
 use Rattle.block_store.specs.Block.{Block, Nonrelocatable, Masters, size, is_relocatable, is_room, content_of}
-use Rattle.block_store.specs.Block.{no_flags}
+use Rattle.block_store.specs.Block.{Relocatable, no_flags}
+use Rattle.block_store.specs.declared.flags.Flags.{Flags}
 use Rattle.block_store.specs.Run.{RunSpot, run_spot, has_free}
 use Rattle.block_store.specs.Room.{spot, filled, place, put_in_place, put_at_base, room, purge, count_of}
 use Rattle.block_store.proofs.Plain.Options.{map-none}
@@ -24,14 +25,14 @@ use Rattle.heap_calls.specs.Slots.{slotted, more_masters}
 use Rattle.heap_calls.proofs.Tables.Searches.{new_pointer_searches}
 use Rattle.heap_calls.proofs.Tables.Searches.{hand_to_hand_searches, found_searches}
 use Rattle.heap_calls.proofs.Tables.Moves.{hand_to_hand_moves}
-use Rattle.heap_calls.proofs.Tables.Gone.{copied_gone, new_handle_gone, new_empty_handle_gone}
+use Rattle.heap_calls.proofs.Tables.Gone.{copied_gone}
 use Rattle.heap_calls.proofs.Tables.Gone.{new_pointer_gone, hand_to_hand_gone}
 use Rattle.heap_calls.specs.Searches.{room_searches, slot_searches, ready_searches, block_searches}
 use Rattle.heap_calls.specs.Searches.{new_handle_searches, new_empty_handle_searches}
 use Rattle.heap_calls.specs.Moves.{run_moves, as_it_is, place_moves, put_moves, block_moves, new_handle_moves}
 use Rattle.heap_calls.specs.Gone.{Gone, room_gone, slot_gone, ready_gone}
-use Rattle.heap_calls.specs.Gone.{found_gone, made_gone}
-use Rattle.heap_calls.specs.Inside.{new_filled}
+use Rattle.heap_calls.specs.Gone.{found_gone}
+use Rattle.heap_calls.specs.Inside.{new_filled, new_empty}
 use Rattle.heap_calls.specs.Rows as rows
 use Rattle.heap_calls.specs.Rows.{Done, work, heap_after, purged_by, is_unused, next_block}
 use Rattle.heap_calls.proofs.Same.Agreeing.{Agrees, BothAgree, seek-agrees, agrees-if, fits-agrees, then-agrees}
@@ -72,51 +73,84 @@ put-agrees n spared new pos zone =
     seek-agrees n spared (Put new) refl (λ z. refl) (place_moves (size new)) (place-same (size new))
     (λ z e. no-place (size new) z pos (map-none (filled new) (place (size new) z) e)) zone
 
--- a master pointer
-abbrev pub slot_after : (Block → Bool) → State → Option (List Block)
-slot_after spared s = cond (is_unused s) (Some s.zone) (room (put_at_base Masters) spared s.zone)
+-- a master pointer, where one is unused or not
+abbrev pub slot_after : (Block → Bool) → Bool → List Block → Option (List Block)
+slot_after spared unused zone = cond unused (Some zone) (room (put_at_base Masters) spared zone)
 
-pub slot-agrees : (spared : Block → Bool) (s : State) → Agrees (length s.names) spared s.zone (slot_after spared s)
-    (slot_searches spared s) 0 (slot_gone spared s) (seek_slot (is_unused s) spared s.zone)
-slot-agrees spared s = cases (is_unused s)
+abbrev pub slot_looks : (Block → Bool) → Bool → List Block → ℕ
+slot_looks spared unused zone = cond unused 0 (room_searches (put_at_base Masters) spared zone)
+
+abbrev pub slot_goes : ℕ → (Block → Bool) → Bool → List Block → List Gone
+slot_goes n spared unused zone = cond unused [] (room_gone n (put_at_base Masters) spared zone)
+
+pub slot-agrees : (n : ℕ) (spared : Block → Bool) (unused : Bool) (zone : List Block)
+    → Agrees n spared zone (slot_after spared unused zone) (slot_looks spared unused zone) 0
+    (slot_goes n spared unused zone) (seek_slot unused spared zone)
+slot-agrees n spared true zone = record { finds = refl; leaves = refl; looks = refl; lowers = refl; tells = refl }
+slot-agrees n spared false zone = base-agrees n spared Masters zone
+
+-- and then a relocatable block, if it fits
+module _ (n : ℕ) (spared : Block → Bool) (unused : Bool) (new : Block) (pos : 0 < size new) (fits : Bool)
+    (zone : List Block)
   where
-    cases : (t : Bool) → Agrees (length s.names) spared s.zone (cond t (Some s.zone) (room (put_at_base Masters) spared
-        s.zone)) (cond t 0 (room_searches (put_at_base Masters) spared s.zone)) 0
-        (cond t [] (room_gone (length s.names) (put_at_base Masters) spared s.zone)) (seek_slot t spared s.zone)
-    cases true = record { finds = refl; leaves = refl; looks = refl; lowers = refl; tells = refl }
-    cases false = base-agrees (length s.names) spared Masters s.zone
+    abbrev pub next : List Block → Option (List Block)
+    next z = cond fits (room (put_in_place new) spared z) None
+
+    abbrev pub block : List Block → Sought
+    block z = cond fits (seek (Put new) spared z) no_room
+
+    abbrev pub NewAgrees : Type 0
+    NewAgrees = BothAgree n spared zone (slot_after spared unused zone) next
+        (slot_looks spared unused zone + on_some 0 (λ z. cond fits (room_searches (put_in_place new) spared z) 0)
+        (slot_after spared unused zone))
+        (0 + on_some 0 (λ z. cond fits (put_moves new spared z) 0) (slot_after spared unused zone))
+        (slot_goes n spared unused zone ++ on_some [] (λ z. cond fits (room_gone n (put_in_place new) spared z) [])
+        (slot_after spared unused zone)) (then_seek spared zone (seek_slot unused spared zone) block)
+
+    pub new-agrees : NewAgrees
+    new-agrees = then-agrees n spared zone (slot_after spared unused zone) (slot_looks spared unused zone) 0
+        (slot_goes n spared unused zone) (seek_slot unused spared zone) (slot-agrees n spared unused zone) next
+        (λ z. cond fits (room_searches (put_in_place new) spared z) 0) (λ z. cond fits (put_moves new spared z) 0)
+        (λ z. cond fits (room_gone n (put_in_place new) spared z) []) block
+        (λ z. agrees-if fits (room (put_in_place new) spared z) (room_searches (put_in_place new) spared z)
+        (put_moves new spared z) (room_gone n (put_in_place new) spared z) (seek (Put new) spared z)
+        (put-agrees n spared new pos z))
 
 -- the heap with a master pointer
 abbrev pub ready_with : State → List Block → State
 ready_with s zone = record s { zone = zone }
 
-pub slotted-is : (spared : Block → Bool) (s : State)
-    → slotted spared s ≡ option_map (ready_with s) (slot_after spared s)
-slotted-is spared s = cases (is_unused s)
+-- what is said of a heap with a master pointer is said of its zone
+module _ (spared : Block → Bool) (s : State)
   where
-    cases : (t : Bool) → cond t (Some s) (more_masters spared s)
-        ≡ option_map (ready_with s) (cond t (Some s.zone) (room (put_at_base Masters) spared s.zone))
-    cases true = refl
-    cases false = refl
+    abbrev pub with_slot : Option (List Block)
+    with_slot = slot_after spared (is_unused s) s.zone
 
--- what is counted and told of where there is a master pointer
-ready-searches : (spared : Block → Bool) (s : State) (count : State → ℕ)
-    → ready_searches (slotted spared s) count ≡ on_some 0 (λ z. count (ready_with s z)) (slot_after spared s)
-ready-searches spared s count = ap (λ o. ready_searches o count) (slotted-is spared s) ∙ cases (slot_after spared s)
-  where
-    cases : (o : Option (List Block)) → ready_searches (option_map (ready_with s) o) count
-        ≡ on_some 0 (λ z. count (ready_with s z)) o
-    cases None = refl
-    cases (Some z) = refl
+    pub slotted-is : slotted spared s ≡ option_map (ready_with s) with_slot
+    slotted-is = cases (is_unused s)
+      where
+        cases : (t : Bool) → cond t (Some s) (more_masters spared s)
+            ≡ option_map (ready_with s) (cond t (Some s.zone) (room (put_at_base Masters) spared s.zone))
+        cases true = refl
+        cases false = refl
 
-ready-gone : (spared : Block → Bool) (s : State) (gone : State → List Gone)
-    → ready_gone (slotted spared s) gone ≡ on_some [] (λ z. gone (ready_with s z)) (slot_after spared s)
-ready-gone spared s gone = ap (λ o. ready_gone o gone) (slotted-is spared s) ∙ cases (slot_after spared s)
-  where
-    cases : (o : Option (List Block)) → ready_gone (option_map (ready_with s) o) gone
-        ≡ on_some [] (λ z. gone (ready_with s z)) o
-    cases None = refl
-    cases (Some z) = refl
+    ready-searches : (count : State → ℕ)
+        → ready_searches (slotted spared s) count ≡ on_some 0 (λ z. count (ready_with s z)) with_slot
+    ready-searches count = ap (λ o. ready_searches o count) slotted-is ∙ cases with_slot
+      where
+        cases : (o : Option (List Block)) → ready_searches (option_map (ready_with s) o) count
+            ≡ on_some 0 (λ z. count (ready_with s z)) o
+        cases None = refl
+        cases (Some z) = refl
+
+    ready-gone : (gone : State → List Gone)
+        → ready_gone (slotted spared s) gone ≡ on_some [] (λ z. gone (ready_with s z)) with_slot
+    ready-gone gone = ap (λ o. ready_gone o gone) slotted-is ∙ cases with_slot
+      where
+        cases : (o : Option (List Block)) → ready_gone (option_map (ready_with s) o) gone
+            ≡ on_some [] (λ z. gone (ready_with s z)) o
+        cases None = refl
+        cases (Some z) = refl
 
 -- a new number where there is room
 abbrev given_as : Meaning → State → Bool → List Block → Answer ℕ
@@ -130,54 +164,37 @@ given-as : (name : Meaning) (s : State) (o : Option (List Block))
 given-as name s None = refl
 given-as name s (Some zone) = refl
 
--- a new handle's block, with these bytes, where blocks can have their number
-module _ (spared : Block → Bool) (bytes : List ℕ) (fits : Bool) (s : State)
+-- a new handle's block, with these flags and bytes, where blocks can have their number
+module _ (spared : Block → Bool) (flags : Flags) (bytes : List ℕ) (fits : Bool) (s : State)
   where
     abbrev new : Block
-    new = next_block bytes s
+    new = Relocatable (length s.names) flags bytes
 
-    abbrev next : List Block → Option (List Block)
-    next z = cond fits (room (put_in_place new) spared z) None
+    abbrev after : List Block → Option (List Block)
+    after = next (length s.names) spared (is_unused s) new (omega arith) fits s.zone
 
-    abbrev block : List Block → Sought
-    block z = cond fits (seek (Put new) spared z) no_room
+    abbrev row : Done ℕ
+    row = rows.made spared (block (length s.names) spared (is_unused s) new (omega arith) fits s.zone) s
 
-    block-agrees : (z : List Block) → Agrees (length s.names) spared z (next z)
-        (cond fits (room_searches (put_in_place new) spared z) 0) (cond fits (put_moves new spared z) 0)
-        (cond fits (room_gone (length s.names) (put_in_place new) spared z) []) (block z)
-    block-agrees z = agrees-if fits (room (put_in_place new) spared z)
-        (room_searches (put_in_place new) spared z) (put_moves new spared z)
-        (room_gone (length s.names) (put_in_place new) spared z) (seek (Put new) spared z)
-        (put-agrees (length s.names) spared new (omega arith) z)
-
-    abbrev sought_new : Sought
-    sought_new = then_seek spared s.zone (seek_slot (is_unused s) spared s.zone) block
-
-    both : BothAgree (length s.names) spared s.zone (slot_after spared s) next
-        (slot_searches spared s + on_some 0 (λ z. cond fits (room_searches (put_in_place new) spared z) 0)
-        (slot_after spared s)) (0 + on_some 0 (λ z. cond fits (put_moves new spared z) 0) (slot_after spared s))
-        (slot_gone spared s ++ on_some [] (λ z. cond fits (room_gone (length s.names) (put_in_place new) spared z) [])
-        (slot_after spared s)) sought_new
-    both = then-agrees (length s.names) spared s.zone (slot_after spared s) (slot_searches spared s) 0
-        (slot_gone spared s) (seek_slot (is_unused s) spared s.zone) (slot-agrees spared s) next
-        (λ z. cond fits (room_searches (put_in_place new) spared z) 0) (λ z. cond fits (put_moves new spared z) 0)
-        (λ z. cond fits (room_gone (length s.names) (put_in_place new) spared z) []) block block-agrees
+    both : NewAgrees (length s.names) spared (is_unused s) new (omega arith) fits s.zone
+    both = new-agrees (length s.names) spared (is_unused s) new (omega arith) fits s.zone
 
     -- the answer where it is tested whether a block can have the size
     abbrev answer : Answer ℕ
     answer = slots.if_ready (slotted spared s) s
-        (λ ready. cond fits (tables.new_block spared bytes ready) (today.refused MEM_FULL ready))
+        (λ ready. cond fits (slots.made Plain flags spared bytes ready) (today.refused MEM_FULL ready))
 
-    answer-is : answer ≡ ((rows.made spared block s).reply, heap_after (rows.made spared block s) s)
+    answer-is : answer ≡ (row.reply, heap_after row s)
     answer-is =
-        ap (λ o. slots.if_ready o s (λ ready. cond fits (tables.new_block spared bytes ready)
+        ap (λ o. slots.if_ready o s (λ ready. cond fits (slots.made Plain flags spared bytes ready)
         (today.refused MEM_FULL ready))) (slotted-is spared s)
-        ∙ cases (slot_after spared s)
-        ∙ ap (λ t. given_as (Handle Plain) s t (on_some s.zone (λ z. unwrap_or (next z) z) (slot_after spared s)))
+        ∙ cases (with_slot spared s)
+        ∙ ap (λ t. given_as (Handle Plain) s t (on_some s.zone (λ z. unwrap_or (after z) z) (with_slot spared s)))
         both.finds
-        ∙ ap (given_as (Handle Plain) s sought_new.found) both.leaves
+        ∙ ap (given_as (Handle Plain) s (then_seek spared s.zone (seek_slot (is_unused s) spared s.zone)
+        (block (length s.names) spared (is_unused s) new (omega arith) fits s.zone)).found) both.leaves
       where
-        by_fit : (t : Bool) (z : List Block) → cond t (tables.new_block spared bytes (ready_with s z))
+        by_fit : (t : Bool) (z : List Block) → cond t (slots.made Plain flags spared bytes (ready_with s z))
             (today.refused MEM_FULL (ready_with s z))
             ≡ given_as (Handle Plain) s (is_some (cond t (room (put_in_place new) spared z) None))
             (unwrap_or (cond t (room (put_in_place new) spared z) None) z)
@@ -185,41 +202,30 @@ module _ (spared : Block → Bool) (bytes : List ℕ) (fits : Bool) (s : State)
         by_fit false z = refl
 
         cases : (o : Option (List Block)) → slots.if_ready (option_map (ready_with s) o) s
-            (λ ready. cond fits (tables.new_block spared bytes ready) (today.refused MEM_FULL ready))
-            ≡ given_as (Handle Plain) s (on_some false (λ z. is_some (next z)) o)
-            (on_some s.zone (λ z. unwrap_or (next z) z) o)
+            (λ ready. cond fits (slots.made Plain flags spared bytes ready) (today.refused MEM_FULL ready))
+            ≡ given_as (Handle Plain) s (on_some false (λ z. is_some (after z)) o)
+            (on_some s.zone (λ z. unwrap_or (after z) z) o)
         cases None = refl
         cases (Some z) = by_fit fits z
 
     pub made-same : Same answer
         (slot_searches spared s + ready_searches (slotted spared s)
-        (λ ready. cond fits (block_searches spared bytes ready) 0))
-        (ready_searches (slotted spared s) (λ ready. cond fits (block_moves spared bytes ready) 0))
+        (λ ready. cond fits (room_searches (put_in_place (Relocatable (length ready.names) flags bytes)) spared
+        ready.zone) 0))
+        (ready_searches (slotted spared s) (λ ready. cond fits
+        (put_moves (Relocatable (length ready.names) flags bytes) spared ready.zone) 0))
         (slot_gone spared s ++ ready_gone (slotted spared s) (λ ready. cond fits (room_gone (length ready.names)
-        (put_in_place (next_block bytes ready)) spared ready.zone) [])) (rows.made spared block s) s
+        (put_in_place (Relocatable (length ready.names) flags bytes)) spared ready.zone) [])) row s
     made-same = record {
       answers = answer-is;
-      looks = ap (λ (m : ℕ). slot_searches spared s + m) (ready-searches spared s
-          (λ ready. cond fits (block_searches spared bytes ready) 0)) ∙ both.looks;
+      looks = ap (λ (m : ℕ). slot_searches spared s + m) (ready-searches spared s (λ ready. cond fits
+          (room_searches (put_in_place (Relocatable (length ready.names) flags bytes)) spared ready.zone) 0)) ∙ both.looks;
       lowers = (let l = both.lowers in
-          let r = ready-searches spared s (λ ready. cond fits (block_moves spared bytes ready) 0) in omega arith);
+          let r = ready-searches spared s (λ ready. cond fits (put_moves (Relocatable (length ready.names) flags bytes)
+          spared ready.zone) 0) in omega arith);
       tells = ap (λ l. slot_gone spared s ++ l) (ready-gone spared s (λ ready. cond fits (room_gone
-          (length ready.names) (put_in_place (next_block bytes ready)) spared ready.zone) [])) ∙ both.tells;
-    }
-
--- NewHandle
-pub new_handle-same : (n : ℕ) (s : State) → Same (tables.new_handle n s) (new_handle_searches n s) (new_handle_moves n
-    s)
-    (new_handle_gone n s) (rows.new_handle n s) s
-new_handle-same n s =
-    let same = made-same nothing (replicate n 0) (is_some (phys n)) s in
-    record {
-      answers = same.answers;
-      looks = same.looks;
-      lowers = same.lowers;
-      tells = ap (λ (m : ℕ). slot_gone nothing s ++ ready_gone (slotted nothing s) (λ ready. cond (is_some (phys m))
-          (room_gone (length ready.names) (put_in_place (next_block (replicate n 0) ready)) nothing ready.zone) []))
-          (length-replicate n 0) ∙ same.tells;
+          (length ready.names) (put_in_place (Relocatable (length ready.names) flags bytes)) spared ready.zone) []))
+          ∙ both.tells;
     }
 
 -- searches for a block's place, and the moves that make it, see only the block's size
@@ -237,46 +243,55 @@ module _ (a b : Block) (sized : size a ≡ size b) (spared : Block → Bool) (zo
     sized-moves = ap (λ (k : ℕ). place_moves (size a) (purge (k - 1) spared zone)) sized-searches
         ∙ ap (λ (n : ℕ). place_moves n (purge (room_searches (put_in_place b) spared zone - 1) spared zone)) sized
 
--- and so what is counted for bytes is what is counted for as many bytes 0
-zeros-size : (x : List ℕ) (r : State) → size (next_block (replicate (length x) 0) r) ≡ size (next_block x r)
-zeros-size x r = ap padded (length-replicate (length x) 0)
-
 ready-same : (o : Option State) (f g : State → ℕ) → ((r : State) → f r ≡ g r)
     → ready_searches o f ≡ ready_searches o g
 ready-same None f g same = refl
 ready-same (Some r) f g same = same r
 
--- PtrToHand
-pub pointer_to_hand-same : (x : List ℕ) (s : State) → Same (new_filled Plain no_flags x s)
-    (new_handle_searches (length x) s) (new_handle_moves (length x) s) (made_gone nothing x s)
-    (rows.pointer_to_hand x s) s
-pointer_to_hand-same x s =
+-- a new handle whose block has these flags and bytes
+abbrev pub filling : Flags → List ℕ → State → Done ℕ
+filling flags x s = rows.made nothing (λ z. if_fits (length x)
+    (seek (Put (Relocatable (length s.names) flags x)) nothing z)) s
+
+-- what is counted for it is what is counted for as many bytes 0
+pub filled-same : (flags : Flags) (x : List ℕ) (s : State) → Same (new_filled Plain flags x s)
+    (new_handle_searches (length x) s) (new_handle_moves (length x) s)
+    (slot_gone nothing s ++ ready_gone (slotted nothing s) (λ ready. cond (is_some (phys (length x))) (room_gone
+    (length ready.names) (put_in_place (Relocatable (length ready.names) flags x)) nothing ready.zone) []))
+    (filling flags x s) s
+filled-same flags x s =
     let fits = is_some (phys (length x)) in
-    let same = made-same nothing x fits s in
+    let same = made-same nothing flags x fits s in
     record {
       answers = same.answers;
       looks = ap (λ (k : ℕ). slot_searches nothing s + k) (ready-same (slotted nothing s)
           (λ r. cond fits (block_searches nothing (replicate (length x) 0) r) 0)
-          (λ r. cond fits (block_searches nothing x r) 0)
-          (λ r. ap (λ (k : ℕ). cond fits k 0) (sized-searches (next_block (replicate (length x) 0) r) (next_block x r)
-          (zeros-size x r) nothing r.zone))) ∙ same.looks;
-      lowers = ready-same (slotted nothing s)
-          (λ r. cond fits (block_moves nothing (replicate (length x) 0) r) 0)
-          (λ r. cond fits (block_moves nothing x r) 0)
-          (λ r. ap (λ (k : ℕ). cond fits k 0) (sized-moves (next_block (replicate (length x) 0) r) (next_block x r)
-          (zeros-size x r) nothing r.zone)) ∙ same.lowers;
+          (λ r. cond fits (room_searches (put_in_place (new r)) nothing r.zone) 0)
+          (λ r. ap (λ (k : ℕ). cond fits k 0) (sized-searches (zeros r) (new r) sized nothing r.zone))) ∙ same.looks;
+      lowers = ready-same (slotted nothing s) (λ r. cond fits (put_moves (zeros r) nothing r.zone) 0)
+          (λ r. cond fits (put_moves (new r) nothing r.zone) 0)
+          (λ r. ap (λ (k : ℕ). cond fits k 0) (sized-moves (zeros r) (new r) sized nothing r.zone)) ∙ same.lowers;
       tells = same.tells;
     }
+  where
+    zeros : State → Block
+    zeros r = Relocatable (length r.names) no_flags (replicate (length x) 0)
+
+    new : State → Block
+    new r = Relocatable (length r.names) flags x
+
+    sized : padded (length (replicate {A = ℕ} (length x) 0)) ≡ padded (length x)
+    sized = ap padded (length-replicate (length x) 0)
 
 -- NewEmptyHandle
-pub new_empty_handle-same : (s : State) → Same (tables.new_empty_handle s) (new_empty_handle_searches s) 0
-    (new_empty_handle_gone s) (rows.new_empty_handle s) s
+pub new_empty_handle-same : (s : State) → Same (new_empty Plain s) (new_empty_handle_searches s) 0 (slot_gone nothing s)
+    (rows.new_empty_handle s) s
 new_empty_handle-same s =
-    let a = slot-agrees nothing s in
+    let a = slot-agrees (length s.names) nothing (is_unused s) s.zone in
     record {
       answers = ap (λ o. slots.if_ready o s (λ ready. today.given (Handle Plain) (Some ready.zone) ready))
-          (slotted-is nothing s) ∙ cases (slot_after nothing s)
-          ∙ ap (λ t. given_as (Handle Plain) s t (unwrap_or (slot_after nothing s) s.zone)) a.finds
+          (slotted-is nothing s) ∙ cases (with_slot nothing s)
+          ∙ ap (λ t. given_as (Handle Plain) s t (unwrap_or (with_slot nothing s) s.zone)) a.finds
           ∙ ap (given_as (Handle Plain) s (seek_slot (is_unused s) nothing s.zone).found) a.leaves;
       looks = a.looks;
       lowers = a.lowers;
@@ -363,4 +378,4 @@ hand_to_hand-same handle s = cases (look_up handle s)
         (rows.for_found r s (λ held. rows.made (is_relocatable held.number)
         (seek (Put (next_block (content_of held.at.here) s)) (is_relocatable held.number)) s)) s
     cases (Err code) = refused-same code s
-    cases (Ok held) = made-same (is_relocatable held.number) (content_of held.at.here) true s
+    cases (Ok held) = made-same (is_relocatable held.number) no_flags (content_of held.at.here) true s

@@ -1,8 +1,8 @@
 use Rattle.std.proofs.Common.{◌≡◌, ℕ, Option, List, length}
-use Rattle.block_store.specs.Block.{no_flags}
+use Rattle.block_store.specs.declared.flags.Flags.{Flags}
 use Rattle.heap_calls.specs.State.{Plain, Memory}
-use Rattle.heap_calls.specs.Gone.{made_gone}
-use Rattle.heap_calls.specs.Inside.{new_filled, new_inside}
+use Rattle.heap_calls.specs.Gone.{slot_gone}
+use Rattle.heap_calls.specs.Inside.{new_filled, new_empty, new_inside, new_empty_inside}
 use Rattle.heap_calls.proofs.Tables.Replies as tables
 use Rattle.heap_calls.specs.Answer.{silent, searching, moving, nothing}
 use Rattle.heap_calls.specs.Searches.{new_handle_searches, new_empty_handle_searches}
@@ -12,14 +12,13 @@ use Rattle.heap_calls.proofs.Tables.Searches.{reallocate_handle_searches, hand_t
 use Rattle.heap_calls.proofs.Tables.Searches.{pointer_and_hand_searches}
 use Rattle.heap_calls.proofs.Tables.Moves.{set_handle_size_moves, reallocate_handle_moves, hand_to_hand_moves}
 use Rattle.heap_calls.proofs.Tables.Moves.{hand_and_hand_moves, pointer_and_hand_moves}
-use Rattle.heap_calls.proofs.Tables.Gone.{new_handle_gone, new_empty_handle_gone, set_handle_size_gone}
+use Rattle.heap_calls.proofs.Tables.Gone.{set_handle_size_gone}
 use Rattle.heap_calls.proofs.Tables.Gone.{reallocate_handle_gone, hand_to_hand_gone, hand_and_hand_gone}
 use Rattle.heap_calls.proofs.Tables.Gone.{pointer_and_hand_gone, new_pointer_gone, set_pointer_size_gone}
 use Rattle.heap_calls.specs.Moves.{new_handle_moves}
 use Rattle.heap_calls.specs.Rows as rows
 use Rattle.heap_calls.specs.Rows.{doing_silently}
-use Rattle.heap_calls.proofs.Same.NewBlocks.{new_handle-same, new_empty_handle-same}
-use Rattle.heap_calls.proofs.Same.NewBlocks.{pointer_to_hand-same}
+use Rattle.heap_calls.proofs.Same.NewBlocks.{filling, filled-same, new_empty_handle-same}
 use Rattle.heap_calls.proofs.Same.NewBlocks.{new_pointer-same, hand_to_hand-same}
 use Rattle.heap_calls.proofs.Same.Resizing.{set_handle_size-same, set_pointer_size-same, hand_and_hand-same}
 use Rattle.heap_calls.proofs.Same.Resizing.{pointer_and_hand-same, reallocate_handle-same}
@@ -27,20 +26,14 @@ use Rattle.heap_calls.proofs.Same.Methods.{packs-silently, seeks-silently}
 
 -- What each method answers, by the tables as by the path.
 
-pub new_handle-silent : (n : ℕ) (m : Memory) → doing_silently (rows.new_handle n) m ≡ moving (new_handle_moves n m.heap)
-    (searching (new_handle_searches n m.heap) (silent (tables.new_handle n) m))
-new_handle-silent n m = packs-silently (tables.new_handle n) (new_handle_searches n) (rows.new_handle n) m
-    (new_handle_gone n m.heap) (new_handle_moves n) (new_handle-same n m.heap)
+pub filled-silent : (flags : Flags) (x : List ℕ) (m : Memory)
+    → doing_silently (filling flags x) m ≡ new_inside Plain flags x m
+filled-silent flags x m = packs-silently (new_filled Plain flags x) (new_handle_searches (length x)) (filling flags x) m _
+    (new_handle_moves (length x)) (filled-same flags x m.heap)
 
-pub pointer_to_hand-silent : (x : List ℕ) (m : Memory) → doing_silently (rows.pointer_to_hand x) m ≡ new_inside Plain
-    no_flags x m
-pointer_to_hand-silent x m = packs-silently (new_filled Plain no_flags x) (new_handle_searches (length x))
-    (rows.pointer_to_hand x) m (made_gone nothing x m.heap) (new_handle_moves (length x)) (pointer_to_hand-same x m.heap)
-
-pub new_empty_handle-silent : (m : Memory) → doing_silently rows.new_empty_handle m ≡ searching
-    (new_empty_handle_searches m.heap) (silent tables.new_empty_handle m)
-new_empty_handle-silent m = seeks-silently tables.new_empty_handle new_empty_handle_searches rows.new_empty_handle m
-    (new_empty_handle_gone m.heap) (new_empty_handle-same m.heap)
+pub new_empty_handle-silent : (m : Memory) → doing_silently rows.new_empty_handle m ≡ new_empty_inside Plain m
+new_empty_handle-silent m = seeks-silently (new_empty Plain) new_empty_handle_searches rows.new_empty_handle m
+    (slot_gone nothing m.heap) (new_empty_handle-same m.heap)
 
 pub new_pointer-silent : (n : ℕ) (m : Memory) → doing_silently (rows.new_pointer n) m ≡ searching (new_pointer_searches
     n m.heap) (silent (tables.new_pointer n) m)

@@ -16,7 +16,7 @@ use Rattle.heap_calls.specs.Inside.{has_block, refill_inside, refill_searches, f
 use Rattle.heap_calls.specs.Path.{Step, NewFilled, NewEmpty, Refill, Release, Cast, stepped, walk}
 use Rattle.heap_calls.proofs.Steps.Survival.{step-masters}
 use Rattle.heap_calls.proofs.Promises.FewSearches.{room-blocks, only-if, unsearched, row_few}
-use Rattle.heap_calls.proofs.Same.NewBlocks.{new_handle-same, new_empty_handle-same}
+use Rattle.heap_calls.proofs.Same.NewBlocks.{filled-same, new_empty_handle-same}
 
 -- How often a step searches for room.
 
@@ -28,8 +28,8 @@ known-few (Ok k) n most le = le
 pub step-searches : (step : Step) (m : Memory) → 0 < count is_masters m.heap.zone → m.log.searches < 2 ^ 64
     → (n : ℕ) × (n ≤ length m.heap.zone + 1) × ((stepped step m).log.searches ≡ counted m.log.searches n)
 step-searches (NewFilled role flags bytes) m masters fits =
-    let same = (new_handle-same (length bytes) m.heap).looks in
-    let few = row_few (asked.NewHandle (asked.Zeros (length bytes))) m masters in
+    let same = (filled-same no_flags bytes m.heap).looks in
+    let few = row_few (asked.NewHandle (asked.CopyOf bytes)) m masters in
     (new_handle_searches (length bytes) m.heap, omega (arith, same, few), refl)
 step-searches (NewEmpty role) m masters fits =
     let same = (new_empty_handle-same m.heap).looks in

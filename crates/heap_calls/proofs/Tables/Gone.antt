@@ -5,7 +5,7 @@ use Rattle.block_store.specs.Block.{is_relocatable, content_of, is_nonrelocatabl
 use Rattle.block_store.specs.Room.{put_in_place, put_at_base, Spot, spot}
 use Rattle.heap_calls.specs.State.{State}
 use Rattle.heap_calls.specs.Slots.{slotted}
-use Rattle.heap_calls.specs.Gone.{Gone, room_gone, slot_gone, ready_gone, made_gone, found_gone}
+use Rattle.heap_calls.specs.Gone.{Gone, room_gone, slot_gone, ready_gone, found_gone}
 use Rattle.heap_calls.specs.Answer.{nothing, look_up, handle_at}
 use Rattle.mac_words.specs.Size.{phys}
 use Rattle.heap_calls.specs.Pointers.{pointed_at}
@@ -20,14 +20,6 @@ use Rattle.heap_calls.specs.Purging.{is_loose}
 abbrev pub copied_gone : (Block → Bool) → List ℕ → State → List Gone
 copied_gone spared bytes s = slot_gone spared s ++ ready_gone (slotted spared s) (λ ready. room_gone
     (length ready.names) (put_in_place (Relocatable (length ready.names) no_flags bytes)) spared ready.zone)
-
--- The blocks that NewHandle purges.
-abbrev pub new_handle_gone : ℕ → State → List Gone
-new_handle_gone size s = made_gone nothing (replicate size 0) s
-
--- The blocks that NewEmptyHandle purges.
-abbrev pub new_empty_handle_gone : State → List Gone
-new_empty_handle_gone s = slot_gone nothing s
 
 -- The blocks that NewPtr purges.
 abbrev pub new_pointer_gone : ℕ → State → List Gone

@@ -5,7 +5,7 @@ use Rattle.mac_words.specs.declared.code.TheConstants.OsErr.{MEM_FULL, PURGED}
 use Rattle.block_store.specs.Block.{is_relocatable, Block, no_flags, Nonrelocatable, is_nonrelocatable}
 use Rattle.block_store.specs.Block.{content_of}
 use Rattle.block_store.specs.Grow.{grow}
-use Rattle.heap_calls.specs.State.{State, Plain, Handle, Pointer}
+use Rattle.heap_calls.specs.State.{State, Plain, Pointer}
 use Rattle.heap_calls.specs.Answer.{Answer, refused, on_block, rebuilt, nothing, given, for_found, handle_at}
 use Rattle.heap_calls.specs.Slots.{made, slotted, if_ready}
 use Rattle.block_store.specs.Room.{put_at_base, room, spot}
@@ -26,16 +26,6 @@ set_handle_size handle n s =
 -- A new handle, an application's own, with a block of these bytes.
 abbrev pub new_block : (Block → Bool) → List ℕ → State → Answer ℕ
 new_block spared bytes s = made Plain no_flags spared bytes s
-
--- NewHandle: a new handle with a block of n bytes, all 0; -108 (memFullErr) where there is no room or no block can
--- have that size.
-abbrev pub new_handle : ℕ → State → Answer ℕ
-new_handle n s = if_ready (slotted nothing s) s (λ ready. if is_some (phys n)
-    then new_block nothing (replicate n 0) ready else refused MEM_FULL ready)
-
--- NewEmptyHandle: a new handle with no block.
-abbrev pub new_empty_handle : State → Answer ℕ
-new_empty_handle s = if_ready (slotted nothing s) s (λ ready. given (Handle Plain) (Some ready.zone) ready)
 
 -- NewPtr: a new pointer to a nonrelocatable block of n bytes, all 0, at the base of a run; -108 (memFullErr) where
 -- there is no room or no block can have that size.

@@ -1,20 +1,21 @@
 use Rattle.std.proofs.Common.{◌≢◌, ℕ, List, Result, Err, sym, subst}
 use Rattle.mac_words.specs.declared.code.OsErr.{OsErr}
+use Rattle.block_store.specs.Block.{no_flags}
 use Rattle.heap_calls.specs.declared.refusal.Refusal.TheVariants.{HostMemory}
 use Rattle.heap_calls.specs.State.{Memory}
 use Rattle.heap_calls.specs.Gone.{Gone, Hears}
 use Rattle.heap_calls.specs.Inner.Given.{IsAnswer}
-use Rattle.heap_calls.proofs.Same.NewBlocks.{pointer_to_hand-same}
-use Rattle.heap_calls.proofs.Same.Silent.{pointer_to_hand-silent}
+use Rattle.heap_calls.proofs.Same.NewBlocks.{filled-same}
+use Rattle.heap_calls.proofs.Same.Silent.{filled-silent}
 use Rattle.heap_calls.proofs.heap.Heap.copy_bytes.Goals as goal
 
 pub returns-clause-hears : goal.returns-clause-hears
 returns-clause-hears g c =
     subst (λ (l : List Gone). Hears g.K.PurgeSink.told g.K.PurgeSink.waits g.K.PurgeSink.listens
     (c.fill_handle.result ≢ Err HostMemory) l c.args.sink.now c.fill_handle.new.sink)
-    (pointer_to_hand-same c.args.bytes.now c.args.self.now.memory.heap).tells c.fill_handle.ensures.hears
+    (filled-same no_flags c.args.bytes.now c.args.self.now.memory.heap).tells c.fill_handle.ensures.hears
 
 pub returns-clause-answer : goal.returns-clause-answer
 returns-clause-answer g c =
     subst (λ (a : Result ℕ OsErr × Memory). IsAnswer a c.fill_handle.result c.fill_handle.new.self.memory)
-    (sym (pointer_to_hand-silent c.args.bytes.now c.args.self.now.memory)) c.fill_handle.ensures.answer
+    (sym (filled-silent no_flags c.args.bytes.now c.args.self.now.memory)) c.fill_handle.ensures.answer

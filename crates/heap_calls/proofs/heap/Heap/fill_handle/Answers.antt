@@ -1,22 +1,17 @@
-use Rattle.std.proofs.lemmas.Result.{err_from_is_err_and}
-use Rattle.heap_calls.specs.Inner.Given.{KeepsNames}
+use Rattle.std.proofs.Common.{◌≡◌, inl, inr, refl, ◌∙◌, arith}
 use Rattle.std.proofs.lemmas.List.{length-map}
-use Rattle.heap_calls.specs.Inner.Numbered.{name_of, memory_of}
-use Rattle.std.proofs.Common.{arith, ◌≡◌}
-use Rattle.std.proofs.Common.{refl}
-use Rattle.std.proofs.Common.{inl, inr, sym, ◌∙◌, length}
+use Rattle.std.proofs.lemmas.Result.{err_from_is_err_and}
 use Rattle.heap_calls.specs.State.{Plain}
-use Rattle.heap_calls.specs.Inside.{new_filled, new_inside}
-use Rattle.heap_calls.specs.Searches.{new_handle_searches}
-use Rattle.heap_calls.specs.Moves.{new_handle_moves}
-use Rattle.heap_calls.proofs.Hearing.{stops-at-once, stops-on-the-way}
-use Rattle.heap_calls.proofs.Filled.Named.{filled-names}
-use Rattle.heap_calls.proofs.Filled.Unmade.{made-told, heap-unmade}
-use Rattle.heap_calls.proofs.NewBlocks.Naming.{Names, named-packing}
-use Rattle.heap_calls.proofs.NewBlocks.NewHandles.{new_handle_searches-is, agrees-more, kept-memory}
-use Rattle.heap_calls.proofs.Numbering.MoveNames.{new_handle_moves-is}
-use Rattle.heap_calls.specs.Gone.{Hears, made_gone}
 use Rattle.heap_calls.specs.Answer.{nothing}
+use Rattle.heap_calls.specs.Gone.{Hears, made_gone}
+use Rattle.heap_calls.specs.Inside.{new_inside}
+use Rattle.heap_calls.specs.Inner.Given.{KeepsNames}
+use Rattle.heap_calls.specs.Inner.Naming.{entered}
+use Rattle.heap_calls.specs.Inner.Numbered.{name_of, memory_of, Agrees}
+use Rattle.heap_calls.proofs.Hearing.{stops-at-once, stops-on-the-way}
+use Rattle.heap_calls.proofs.Filled.Unmade.{made-told, heap-unmade}
+use Rattle.heap_calls.proofs.Made.{made-agrees, filled-slotted, filled-answer}
+use Rattle.heap_calls.proofs.NewBlocks.NewHandles.{agrees-more, kept-memory}
 use Rattle.heap_calls.proofs.Numbering.Memories.{memory_as, reply-as}
 use Rattle.heap_calls.proofs.heap.Heap.fill_handle.Given.{Over}
 use Rattle.heap_calls.proofs.heap.Heap.fill_handle.Goals.{After-name_handle}
@@ -33,19 +28,23 @@ pub invariant_of-self-in_err-made : goal.invariant_of-self-in_err-made
 invariant_of-self-in_err-made g c = rw c.in_ok-reserve.ensures.items
     (agrees-more _ _ _ _ c.self.invariant c.fill_block.ensures.nonrelocatable c.in_err-made.ensures.kept)
 
-made : (g : Over) (c : After-name_handle g) → Names (new_filled Plain c.args.flags c.args.bytes.now)
-    (g.S.BlockStore.zone c.self.inside.store) (g.S.BlockStore.rest c.self.inside.store) c.self.inside.names.items
-    c.in_ok-made.made.slot (g.S.BlockStore.zone c.fill_block.new.store) (g.S.BlockStore.rest c.fill_block.new.store)
-made g c = filled-names _ _ _ (g.met.S.BlockStore.masters c.self.inside.store) c.self.invariant _ _
-    c.fill_block.ensures.nonrelocatable c.args.flags c.args.bytes.now c.in_ok-made.made.slot c.in_ok-made.ensures.answer
+-- the entries and the store agree where the host has memory
+agrees : (g : Over) (c : After-name_handle g) → Agrees (g.S.BlockStore.zone c.fill_block.new.store)
+    (g.S.BlockStore.rest c.fill_block.new.store) (entered c.in_ok-made.made.slot c.self.inside.names.items)
+agrees g c =
+    let store = c.self.inside.store in
+    made-agrees (g.S.BlockStore.zone store) (g.S.BlockStore.rest store) _ (g.met.S.BlockStore.masters store)
+    c.self.invariant (g.met.S.BlockStore.no_block store) (g.S.BlockStore.rest c.fill_block.new.store) _
+    c.fill_block.ensures.nonrelocatable c.in_ok-made.made.slot
+    (filled-slotted c.args.flags c.args.bytes.now _ _ _ _ _ c.in_ok-made.ensures.answer)
 
 pub invariant_of-self-2 : goal.invariant_of-self-2
 invariant_of-self-2 g c = rw (c.name_handle.ensures.entered, c.in_ok-reserve.ensures.items)
-    (made g (goal.at.invariant_of-self-2 g c).After-name_handle).agrees
+    (agrees g (goal.at.invariant_of-self-2 g c).After-name_handle)
 
 pub invariant_of-self-in_err-name_handle : goal.invariant_of-self-in_err-name_handle
 invariant_of-self-in_err-name_handle g c = rw (c.name_handle.ensures.entered, c.in_ok-reserve.ensures.items)
-    (made g (goal.at.invariant_of-self-in_err-name_handle g c).After-name_handle).agrees
+    (agrees g (goal.at.invariant_of-self-in_err-name_handle g c).After-name_handle)
 
 -- what the call answers where the host has memory
 told : (g : Over) (c : After-name_handle g) → new_inside Plain c.args.flags c.args.bytes.now c.args.self.now.memory
@@ -56,16 +55,12 @@ told : (g : Over) (c : After-name_handle g) → new_inside Plain c.args.flags c.
     )
 told g c =
     let a = c.self.inside in
-    let n = length c.args.bytes.now in
-    let masters = g.met.S.BlockStore.masters a.store in
-    rw (c.name_handle.ensures.number, c.name_handle.ensures.entered, c.in_ok-reserve.ensures.items)
-    (named-packing (new_filled Plain c.args.flags c.args.bytes.now) (new_handle_searches n) (new_handle_moves n)
-    c.args.self.now.memory (g.S.BlockStore.zone a.store) (g.S.BlockStore.zone c.fill_block.new.store)
-    (g.S.BlockStore.rest a.store) (g.S.BlockStore.rest c.fill_block.new.store) a.names.items a.log c.count.new.self
-    c.in_ok-made.made.slot (memory_as c.self.view_is)
-    (made g c) c.in_ok-made.made.searches
-    (c.in_ok-made.ensures.searches ∙ sym (new_handle_searches-is _ _ _ n masters c.self.invariant)) c.count.ensures
-    _ (new_handle_moves-is _ _ _ n masters c.self.invariant) c.in_ok-made.ensures.moves)
+    rw (c.name_handle.ensures.number, c.name_handle.ensures.entered, c.in_ok-reserve.ensures.items, c.count.ensures)
+    (filled-answer (g.S.BlockStore.zone a.store) (g.S.BlockStore.rest a.store) a.names.items
+    (g.met.S.BlockStore.masters a.store) c.self.invariant (g.met.S.BlockStore.no_block a.store) a.log
+    c.args.self.now.memory (memory_as c.self.view_is) (g.S.BlockStore.zone c.fill_block.new.store)
+    (g.S.BlockStore.rest c.fill_block.new.store) c.in_ok-made.made.slot c.in_ok-made.made.searches c.args.flags
+    c.args.bytes.now c.in_ok-made.ensures.answer c.in_ok-made.ensures.searches c.in_ok-made.ensures.moves)
 
 pub returns-in_err-name_handle-clause-answer : goal.returns-in_err-name_handle-clause-answer
 returns-in_err-name_handle-clause-answer g c =

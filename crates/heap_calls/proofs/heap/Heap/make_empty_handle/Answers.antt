@@ -1,39 +1,32 @@
-use Rattle.heap_calls.specs.Rows as rows
-use Rattle.heap_calls.specs.Rows.{doing_silently, purges_made}
-use Rattle.heap_calls.proofs.Same.Silent.{new_empty_handle-silent}
-use Rattle.heap_calls.proofs.Same.NewBlocks.{new_empty_handle-same}
-use Rattle.std.proofs.lemmas.Result.{err_from_is_err_and}
-use Rattle.heap_calls.specs.Inner.Given.{KeepsMoves}
+use Rattle.std.proofs.Common.{◌≡◌, List, refl, ◌∙◌, ap, arith}
 use Rattle.std.proofs.lemmas.List.{length-map}
-use Rattle.heap_calls.specs.Inner.Numbered.{name_of}
-use Rattle.std.proofs.Common.{arith, ◌≡◌}
-use Rattle.std.proofs.Common.{List, refl, sym, ◌∙◌, ap}
+use Rattle.std.proofs.lemmas.Result.{err_from_is_err_and}
 use Rattle.block_store.specs.declared.sparing.Sparing.TheVariants.{Nothing}
 use Rattle.heap_calls.specs.declared.anchor.Anchor.{Anchor}
-use Rattle.heap_calls.specs.State.{Memory}
-use Rattle.heap_calls.specs.Answer.{nothing, silent, searching}
-use Rattle.heap_calls.specs.Gone.{slot_gone, Hears}
-use Rattle.heap_calls.specs.Inner.Numbered.{memory_of}
+use Rattle.heap_calls.specs.Rows.{new_empty_handle, doing_silently, purges_made}
+use Rattle.heap_calls.specs.Gone.{Hears}
+use Rattle.heap_calls.specs.Inner.Given.{KeepsMoves}
+use Rattle.heap_calls.specs.Inner.Naming.{entered}
+use Rattle.heap_calls.specs.Inner.Numbered.{name_of, memory_of, Agrees}
 use Rattle.heap_calls.specs.Inner.Telling.{zone_slot_gone}
 use Rattle.heap_calls.proofs.Hearing.{hears-as, stops-at-once, stops-halted}
-use Rattle.heap_calls.proofs.GoneBlocks.{slot_gone-is}
+use Rattle.heap_calls.proofs.Made.{made-agrees, taken-slotted, empty-answer, empty-gone}
+use Rattle.heap_calls.proofs.NewBlocks.NewHandles.{agrees-more, kept-still}
 use Rattle.heap_calls.proofs.Numbering.Changing.{heap-same}
-use Rattle.heap_calls.proofs.Tables.Replies.{new_empty_handle}
-use Rattle.heap_calls.specs.Searches.{new_empty_handle_searches}
-use Rattle.heap_calls.proofs.NewBlocks.Naming.{Names, empty-names, named-looking}
-use Rattle.heap_calls.proofs.NewBlocks.NewHandles.{agrees-more}
-use Rattle.heap_calls.proofs.NewBlocks.Reserving.{empty_searches-is}
-use Rattle.heap_calls.proofs.NewBlocks.NewHandles.{kept-still}
 use Rattle.heap_calls.proofs.Numbering.Memories.{memory_as, reply-as}
 use Rattle.heap_calls.proofs.heap.Heap.make_empty_handle.Given.{Over}
 use Rattle.heap_calls.proofs.heap.Heap.make_empty_handle.Goals.{After-name_handle}
 use Rattle.heap_calls.proofs.heap.Heap.make_empty_handle.Goals as goal
 
-named : (g : Over) (c : After-name_handle g) → Names new_empty_handle (g.S.BlockStore.zone c.self.inside.store)
-    (g.S.BlockStore.rest c.self.inside.store) c.self.inside.names.items c.in_ok-taken.taken.slot
-    (g.S.BlockStore.zone c.make_slot.new.store) (g.S.BlockStore.rest c.make_slot.new.store)
-named g c = empty-names _ _ _ (g.met.S.BlockStore.masters c.self.inside.store) c.self.invariant _ _
-    c.make_slot.ensures.nonrelocatable c.in_ok-taken.taken.slot c.in_ok-taken.ensures.slot
+-- the entries and the store agree where the host has memory
+agrees : (g : Over) (c : After-name_handle g) → Agrees (g.S.BlockStore.zone c.make_slot.new.store)
+    (g.S.BlockStore.rest c.make_slot.new.store) (entered c.in_ok-taken.taken.slot c.self.inside.names.items)
+agrees g c =
+    let store = c.self.inside.store in
+    made-agrees (g.S.BlockStore.zone store) (g.S.BlockStore.rest store) _ (g.met.S.BlockStore.masters store)
+    c.self.invariant (g.met.S.BlockStore.no_block store) (g.S.BlockStore.rest c.make_slot.new.store) _
+    c.make_slot.ensures.nonrelocatable c.in_ok-taken.taken.slot
+    (taken-slotted Nothing _ _ _ _ _ c.in_ok-taken.ensures.slot)
 
 pub returns-in_err-reserve-clause-stops : goal.returns-in_err-reserve-clause-stops
 returns-in_err-reserve-clause-stops g c host =
@@ -43,32 +36,20 @@ returns-in_err-reserve-clause-stops g c host =
     omega (arith, length-map c.self.inside.names.items (name_of (g.S.BlockStore.rest c.self.inside.store).slots))))
 
 -- what the call answers where the host has memory
-tabled : (g : Over) (c : After-name_handle g) → searching (new_empty_handle_searches c.args.self.now.memory.heap)
-    (silent new_empty_handle c.args.self.now.memory)
+told : (g : Over) (c : After-name_handle g) → doing_silently new_empty_handle c.args.self.now.memory
     ≡ (
       c.name_handle.result,
       memory_of (g.S.BlockStore.zone c.make_slot.new.store)
           (g.S.BlockStore.rest c.make_slot.new.store) c.name_handle.new.names.items c.count.new.self,
     )
-tabled g c =
+told g c =
     let a = c.self.inside in
-    rw (c.name_handle.ensures.number, c.name_handle.ensures.entered, c.in_ok-reserve.ensures.items)
-    (named-looking new_empty_handle new_empty_handle_searches (λ _. 0) c.args.self.now.memory (g.S.BlockStore.zone
-    a.store)
-    (g.S.BlockStore.zone c.make_slot.new.store) (g.S.BlockStore.rest a.store)
-    (g.S.BlockStore.rest c.make_slot.new.store) a.names.items a.log c.count.new.self c.in_ok-taken.taken.slot
-    (memory_as c.self.view_is) (named g c) c.in_ok-taken.taken.searches
-    (c.in_ok-taken.ensures.searches ∙ sym (empty_searches-is _ _ _ (g.met.S.BlockStore.masters a.store)
-    c.self.invariant)) c.count.ensures c.make_slot.ensures.moves)
-
--- and by its path
-told : (g : Over) (c : After-name_handle g) → doing_silently rows.new_empty_handle c.args.self.now.memory
-    ≡ (
-      c.name_handle.result,
-      memory_of (g.S.BlockStore.zone c.make_slot.new.store)
-          (g.S.BlockStore.rest c.make_slot.new.store) c.name_handle.new.names.items c.count.new.self,
-    )
-told g c = new_empty_handle-silent c.args.self.now.memory ∙ tabled g c
+    rw (c.name_handle.ensures.number, c.name_handle.ensures.entered, c.in_ok-reserve.ensures.items, c.count.ensures)
+    (empty-answer (g.S.BlockStore.zone a.store) (g.S.BlockStore.rest a.store) a.names.items
+    (g.met.S.BlockStore.masters a.store) c.self.invariant (g.met.S.BlockStore.no_block a.store) a.log
+    c.args.self.now.memory (memory_as c.self.view_is) (g.S.BlockStore.zone c.make_slot.new.store)
+    (g.S.BlockStore.rest c.make_slot.new.store) c.in_ok-taken.taken.slot c.in_ok-taken.taken.searches
+    c.in_ok-taken.ensures.slot c.in_ok-taken.ensures.searches c.make_slot.ensures.moves)
 
 pub returns-in_err-name_handle-clause-answer : goal.returns-in_err-name_handle-clause-answer
 returns-in_err-name_handle-clause-answer g c =
@@ -82,7 +63,7 @@ returns-clause-answer g c =
 
 pub invariant_of-self-2 : goal.invariant_of-self-2
 invariant_of-self-2 g c = rw (c.name_handle.ensures.entered, c.in_ok-reserve.ensures.items)
-    (named g (goal.at.invariant_of-self-2 g c).After-name_handle).agrees
+    (agrees g (goal.at.invariant_of-self-2 g c).After-name_handle)
 
 pub invariant_of-self-in_err-taken : goal.invariant_of-self-in_err-taken
 invariant_of-self-in_err-taken g c = rw c.in_ok-reserve.ensures.items
@@ -91,19 +72,17 @@ invariant_of-self-in_err-taken g c = rw c.in_ok-reserve.ensures.items
 -- what the sink hears
 heard : (g : Over) (c : After-name_handle g) → (done : Type 0)
     → Hears g.K.PurgeSink.told g.K.PurgeSink.waits g.K.PurgeSink.listens done
-    (purges_made rows.new_empty_handle c.args.self.now.memory.heap) c.args.sink.now c.make_slot.new.sink
+    (purges_made new_empty_handle c.args.self.now.memory.heap) c.args.sink.now c.make_slot.new.sink
 heard g c done =
     let a = c.self.inside in
     let zone = g.S.BlockStore.zone a.store in
     let rest = g.S.BlockStore.rest a.store in
-    let es = a.names.items in
     let same = ap (λ (e : List Anchor). zone_slot_gone e Nothing rest.unused zone)
     (c.deref.ensures.value ∙ c.in_ok-reserve.ensures.items)
-    ∙ slot_gone-is zone rest es (g.met.S.BlockStore.masters a.store) c.self.invariant nothing Nothing (λ b. refl) refl
-    (λ b. refl)
-    ∙ ap (λ (m : Memory). slot_gone nothing m.heap) (memory_as c.self.view_is) in
-    hears-as g.K.PurgeSink.told g.K.PurgeSink.waits g.K.PurgeSink.listens _ _ _ _ _ _
-    (λ some. refl) (same ∙ (new_empty_handle-same c.args.self.now.memory.heap).tells) c.in_ok-taken.ensures.hears
+    ∙ empty-gone zone rest a.names.items (g.met.S.BlockStore.masters a.store) c.self.invariant
+    (g.met.S.BlockStore.no_block a.store) a.log c.args.self.now.memory (memory_as c.self.view_is) in
+    hears-as g.K.PurgeSink.told g.K.PurgeSink.waits g.K.PurgeSink.listens _ _ _ _ _ _ (λ some. refl) same
+    c.in_ok-taken.ensures.hears
 
 pub returns-in_err-name_handle-clause-hears : goal.returns-in_err-name_handle-clause-hears
 returns-in_err-name_handle-clause-hears g c = heard g (goal.at.returns-in_err-name_handle-clause-hears g c).After-name_handle _

@@ -1,30 +1,18 @@
-use Rattle.heap_calls.specs.Rows as rows
-use Rattle.heap_calls.specs.Rows.{doing_silently, purges_made}
-use Rattle.heap_calls.proofs.Same.Silent.{new_handle-silent}
-use Rattle.heap_calls.proofs.Same.NewBlocks.{new_handle-same}
-use Rattle.std.proofs.lemmas.Result.{err_from_is_err_and}
-use Rattle.heap_calls.specs.Inner.Given.{KeepsNames}
+use Rattle.std.proofs.Common.{◌≡◌, List, inl, inr, refl, ◌∙◌, ap, arith}
 use Rattle.std.proofs.lemmas.List.{length-map}
-use Rattle.heap_calls.specs.Inner.Numbered.{name_of, memory_of}
-use Rattle.std.proofs.Common.{arith, ◌≡◌}
-use Rattle.std.proofs.Common.{ℕ, List, inl, inr, refl, replicate, sym, ◌∙◌, ap}
-use Rattle.std.proofs.lemmas.List.{length-replicate}
+use Rattle.std.proofs.lemmas.Result.{err_from_is_err_and}
 use Rattle.block_store.specs.declared.sparing.Sparing.TheVariants.{Nothing}
 use Rattle.heap_calls.specs.declared.anchor.Anchor.{Anchor}
-use Rattle.heap_calls.specs.State.{Memory}
-use Rattle.heap_calls.specs.Answer.{nothing, silent, searching, moving}
+use Rattle.heap_calls.specs.Rows.{new_handle, doing_silently, purges_made}
 use Rattle.heap_calls.specs.Gone.{Hears}
+use Rattle.heap_calls.specs.Inner.Given.{KeepsNames}
+use Rattle.heap_calls.specs.Inner.Naming.{entered}
+use Rattle.heap_calls.specs.Inner.Numbered.{name_of, memory_of, Agrees}
 use Rattle.heap_calls.specs.Inner.Telling.{new_gone}
 use Rattle.heap_calls.proofs.Hearing.{hears-as, stops-at-once, stops-on-the-way}
 use Rattle.heap_calls.proofs.Filled.Unmade.{heap-unmade}
-use Rattle.heap_calls.proofs.GonePlaces.{new_gone-is}
-use Rattle.heap_calls.proofs.Tables.Gone.{new_handle_gone}
-use Rattle.heap_calls.proofs.Tables.Replies.{new_handle}
-use Rattle.heap_calls.specs.Searches.{new_handle_searches}
-use Rattle.heap_calls.specs.Moves.{new_handle_moves}
-use Rattle.heap_calls.proofs.NewBlocks.Naming.{Names, new-names, named-packing}
-use Rattle.heap_calls.proofs.NewBlocks.NewHandles.{new_handle_searches-is, agrees-more, kept-memory}
-use Rattle.heap_calls.proofs.Numbering.MoveNames.{new_handle_moves-is}
+use Rattle.heap_calls.proofs.Made.{made-agrees, new-slotted, new_handle-answer, new_handle-gone}
+use Rattle.heap_calls.proofs.NewBlocks.NewHandles.{agrees-more, kept-memory}
 use Rattle.heap_calls.proofs.Numbering.Memories.{memory_as, reply-as}
 use Rattle.heap_calls.proofs.heap.Heap.make_handle.Given.{Over}
 use Rattle.heap_calls.proofs.heap.Heap.make_handle.Goals.{After-name_handle}
@@ -41,48 +29,39 @@ pub invariant_of-self-in_err-made : goal.invariant_of-self-in_err-made
 invariant_of-self-in_err-made g c = rw c.in_ok-reserve.ensures.items
     (agrees-more _ _ _ _ c.self.invariant c.new_block.ensures.nonrelocatable c.in_err-made.ensures.kept)
 
-made : (g : Over) (c : After-name_handle g) → Names (new_handle c.args.size) (g.S.BlockStore.zone c.self.inside.store)
-    (g.S.BlockStore.rest c.self.inside.store) c.self.inside.names.items c.in_ok-made.made.slot
-    (g.S.BlockStore.zone c.new_block.new.store) (g.S.BlockStore.rest c.new_block.new.store)
-made g c = new-names _ _ _ (g.met.S.BlockStore.masters c.self.inside.store) c.self.invariant _ _
-    c.new_block.ensures.nonrelocatable c.args.size c.in_ok-made.made.slot c.in_ok-made.ensures.answer
+-- the entries and the store agree where the host has memory
+agrees : (g : Over) (c : After-name_handle g) → Agrees (g.S.BlockStore.zone c.new_block.new.store)
+    (g.S.BlockStore.rest c.new_block.new.store) (entered c.in_ok-made.made.slot c.self.inside.names.items)
+agrees g c =
+    let store = c.self.inside.store in
+    made-agrees (g.S.BlockStore.zone store) (g.S.BlockStore.rest store) _ (g.met.S.BlockStore.masters store)
+    c.self.invariant (g.met.S.BlockStore.no_block store) (g.S.BlockStore.rest c.new_block.new.store) _
+    c.new_block.ensures.nonrelocatable c.in_ok-made.made.slot
+    (new-slotted Nothing c.args.size _ _ _ _ _ c.in_ok-made.ensures.answer)
 
 pub invariant_of-self-2 : goal.invariant_of-self-2
 invariant_of-self-2 g c = rw (c.name_handle.ensures.entered, c.in_ok-reserve.ensures.items)
-    (made g (goal.at.invariant_of-self-2 g c).After-name_handle).agrees
+    (agrees g (goal.at.invariant_of-self-2 g c).After-name_handle)
 
 pub invariant_of-self-in_err-name_handle : goal.invariant_of-self-in_err-name_handle
 invariant_of-self-in_err-name_handle g c = rw (c.name_handle.ensures.entered, c.in_ok-reserve.ensures.items)
-    (made g (goal.at.invariant_of-self-in_err-name_handle g c).After-name_handle).agrees
+    (agrees g (goal.at.invariant_of-self-in_err-name_handle g c).After-name_handle)
 
 -- what the call answers where the host has memory
-tabled : (g : Over) (c : After-name_handle g) → moving (new_handle_moves c.args.size c.args.self.now.memory.heap)
-    (searching (new_handle_searches c.args.size c.args.self.now.memory.heap) (silent (new_handle c.args.size) c.args.self.now.memory))
+told : (g : Over) (c : After-name_handle g) → doing_silently (new_handle c.args.size) c.args.self.now.memory
     ≡ (
       c.name_handle.result,
       memory_of (g.S.BlockStore.zone c.new_block.new.store)
           (g.S.BlockStore.rest c.new_block.new.store) c.name_handle.new.names.items c.count.new.self,
     )
-tabled g c =
+told g c =
     let a = c.self.inside in
-    let masters = g.met.S.BlockStore.masters a.store in
-    rw (c.name_handle.ensures.number, c.name_handle.ensures.entered, c.in_ok-reserve.ensures.items)
-    (named-packing (new_handle c.args.size) (new_handle_searches c.args.size) (new_handle_moves c.args.size)
-    c.args.self.now.memory (g.S.BlockStore.zone a.store) (g.S.BlockStore.zone c.new_block.new.store)
-    (g.S.BlockStore.rest a.store) (g.S.BlockStore.rest c.new_block.new.store) a.names.items a.log c.count.new.self
-    c.in_ok-made.made.slot (memory_as c.self.view_is)
-    (made g c) c.in_ok-made.made.searches
-    (c.in_ok-made.ensures.searches ∙ sym (new_handle_searches-is _ _ _ c.args.size masters c.self.invariant))
-    c.count.ensures _ (new_handle_moves-is _ _ _ c.args.size masters c.self.invariant) c.in_ok-made.ensures.moves)
-
--- and by its path
-told : (g : Over) (c : After-name_handle g) → doing_silently (rows.new_handle c.args.size) c.args.self.now.memory
-    ≡ (
-      c.name_handle.result,
-      memory_of (g.S.BlockStore.zone c.new_block.new.store)
-          (g.S.BlockStore.rest c.new_block.new.store) c.name_handle.new.names.items c.count.new.self,
-    )
-told g c = new_handle-silent c.args.size c.args.self.now.memory ∙ tabled g c
+    rw (c.name_handle.ensures.number, c.name_handle.ensures.entered, c.in_ok-reserve.ensures.items, c.count.ensures)
+    (new_handle-answer (g.S.BlockStore.zone a.store) (g.S.BlockStore.rest a.store) a.names.items
+    (g.met.S.BlockStore.masters a.store) c.self.invariant (g.met.S.BlockStore.no_block a.store) a.log
+    c.args.self.now.memory (memory_as c.self.view_is) (g.S.BlockStore.zone c.new_block.new.store)
+    (g.S.BlockStore.rest c.new_block.new.store) c.in_ok-made.made.slot c.in_ok-made.made.searches c.args.size
+    c.in_ok-made.ensures.answer c.in_ok-made.ensures.searches c.in_ok-made.ensures.moves)
 
 pub returns-in_err-name_handle-clause-answer : goal.returns-in_err-name_handle-clause-answer
 returns-in_err-name_handle-clause-answer g c =
@@ -114,20 +93,17 @@ returns-in_err-made-clause-stops g c host =
 -- what the sink hears
 heard : (g : Over) (c : After-name_handle g) → (done : Type 0)
     → Hears g.K.PurgeSink.told g.K.PurgeSink.waits g.K.PurgeSink.listens done
-    (purges_made (rows.new_handle c.args.size) c.args.self.now.memory.heap) c.args.sink.now c.new_block.new.sink
+    (purges_made (new_handle c.args.size) c.args.self.now.memory.heap) c.args.sink.now c.new_block.new.sink
 heard g c done =
     let a = c.self.inside in
     let zone = g.S.BlockStore.zone a.store in
     let rest = g.S.BlockStore.rest a.store in
-    let es = a.names.items in
     let same = ap (λ (e : List Anchor). new_gone e Nothing c.args.size rest.unused zone)
     (c.deref.ensures.value ∙ c.in_ok-reserve.ensures.items)
-    ∙ ap (λ (n : ℕ). new_gone es Nothing n rest.unused zone) (sym (length-replicate c.args.size 0))
-    ∙ new_gone-is zone rest es (g.met.S.BlockStore.masters a.store) c.self.invariant nothing Nothing (λ b. refl)
-    (λ z. refl) (λ b. refl) (replicate c.args.size 0)
-    ∙ ap (λ (m : Memory). new_handle_gone c.args.size m.heap) (memory_as c.self.view_is) in
-    hears-as g.K.PurgeSink.told g.K.PurgeSink.waits g.K.PurgeSink.listens _ _ _ _ _ _
-    (λ some. refl) (same ∙ (new_handle-same c.args.size c.args.self.now.memory.heap).tells) c.in_ok-made.ensures.hears
+    ∙ new_handle-gone zone rest a.names.items (g.met.S.BlockStore.masters a.store) c.self.invariant
+    (g.met.S.BlockStore.no_block a.store) a.log c.args.self.now.memory (memory_as c.self.view_is) c.args.size in
+    hears-as g.K.PurgeSink.told g.K.PurgeSink.waits g.K.PurgeSink.listens _ _ _ _ _ _ (λ some. refl) same
+    c.in_ok-made.ensures.hears
 
 pub returns-in_err-name_handle-clause-hears : goal.returns-in_err-name_handle-clause-hears
 returns-in_err-name_handle-clause-hears g c = heard g (goal.at.returns-in_err-name_handle-clause-hears g c).After-name_handle _
