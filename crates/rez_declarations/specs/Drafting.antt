@@ -96,6 +96,14 @@ array_ending (Some n) (Some place) w d = Err fault.CountWithoutArray
 array_ending None (Some place) w d = Ok (ending (Counted place) w d)
 array_ending None None w d = Ok (record d { waiting = Some w })
 
+-- No array before it has the name of an array; one without a name has no bytes as its name.
+abbrev pub once_named : List ℕ → Draft → Result Draft Unsound
+once_named name d = unless (not (length name == 0) && is_among name d.names) fault.TwoNames d
+
+-- One more name of an array.
+abbrev pub with_name : List ℕ → Draft → Draft
+with_name name d = record d { names = d.names ++ name ∷ [] }
+
 -- An array has a name at most once in its block. An array without a name has no bytes as its name.
 abbrev pub with_array : Option ℕ → Waiting → Draft → Result Draft Unsound
 with_array size w d =

@@ -1,6 +1,6 @@
 //! The fields of a declaration, read from its tokens.
 
-ghost use Rattle.std.specs.Prelude.{◌≡◌, ◌≤◌, [], IfSome, option_map};
+ghost use Rattle.std.specs.Prelude.{◌≡◌, ◌≤◌, [], IfSome, Ok, length, option_map};
 ghost use Rattle.rez_types.specs.Leads.{same, flag, bytes_in};
 ghost use Rattle.rez_types.specs.View.{number_of, text_of, part_of, field_of};
 ghost use Rattle.rez_declarations.specs.Drafts.{draft_of};
@@ -119,15 +119,12 @@ impl<'a> Parser<'a> {
     }
 
     /// Passes over the strings that follow one another, and returns them as one.
-    #[tactic(auto, using(crate::proofs::Readings::strings_on), unfolding(crate::specs::Declaring::string_in))]
-    fn take_string(&mut self) -> Result<Vec<u8>, ReadFault>
+    #[tactic(auto, using(crate::proofs::Readings::strings_on))]
+    fn take_strings(&mut self) -> Result<Vec<u8>, ReadFault>
         ensures { ParsesTo bytes_in result (parsing_of self.new)
-            (spec.string_in (parsing_of self.old)) }
+            (Ok (spec.string_on (length (parsing_of self.old).tokens) [] (parsing_of self.old))) }
     {
         let mut text = Vec::new(self.alloc);
-        if self.string().is_none() {
-            return Err(self.refuse(FaultKind::StringNeeded));
-        }
         let most = self.tokens.len();
         for i in 0..most {
             let Some(more) = self.string() else {
@@ -137,6 +134,18 @@ impl<'a> Parser<'a> {
             self.pass();
         }
         Ok(text)
+    }
+
+    /// Passes over the strings that follow one another, one at least, and returns them as one.
+    #[tactic(auto, unfolding(crate::specs::Declaring::string_in))]
+    fn take_string(&mut self) -> Result<Vec<u8>, ReadFault>
+        ensures { ParsesTo bytes_in result (parsing_of self.new)
+            (spec.string_in (parsing_of self.old)) }
+    {
+        match self.string() {
+            Some(_) => self.take_strings(),
+            None => Err(self.refuse(FaultKind::StringNeeded)),
+        }
     }
 
     /// Passes over a named string.

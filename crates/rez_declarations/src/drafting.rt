@@ -255,6 +255,27 @@ impl BlockDraft {
         }
     }
 
+    /// Judges whether an array of a name may stand after those so far.
+    fn check_name(&self, name: &[u8]) -> Result<(), DraftFault>
+        ensures { Drafts result (draft_of self.now) (spec.once_named name.now (draft_of self.now)) }
+    {
+        if !name.is_empty() && is_among(name, self.names.as_slice()) {
+            return Err(DraftFault::Unsound(Unsound::TwoNames));
+        }
+        Ok(())
+    }
+
+    /// Adds the name of an array.
+    fn add_name(&mut self, name: &[u8]) -> Result<(), DraftFault>
+        ensures draft { Drafts result (draft_of self.new)
+            (Ok (spec.with_name name.now (draft_of self.old))) }
+        ensures waiting { self.new.waiting ≡ self.old.waiting }
+    {
+        let copy = Vec::from_slice(self.alloc, name)?;
+        self.names.push(copy)?;
+        Ok(())
+    }
+
     /// Adds an array with a name, or with no bytes as its name, whose elements have the fields of a
     /// block.
     pub fn add_array(&mut self, length: Option<u16>, array: WaitingArray) -> Result<(), DraftFault>
@@ -262,12 +283,9 @@ impl BlockDraft {
             (spec.with_array length (waiting_of array) (draft_of self.old)) }
     {
         self.check_whole()?;
-        let name = array.name.as_slice();
-        if !name.is_empty() && is_among(name, self.names.as_slice()) {
-            return Err(DraftFault::Unsound(Unsound::TwoNames));
-        }
-        let place = place_of(name, self.counts.as_slice());
-        self.names.push(Vec::from_slice(self.alloc, name)?)?;
+        self.check_name(array.name.as_slice())?;
+        let place = place_of(array.name.as_slice(), self.counts.as_slice());
+        self.add_name(array.name.as_slice())?;
         self.add_ending(length, place, array)
     }
 

@@ -5,86 +5,95 @@ ghost use Rattle.rez_declarations.specs.declared.type_fault.ReadFault.TheVariant
 
 use crate::unsound::Unsound;
 use std::alloc::{AllocError, AllocFailed};
+use std::fmt;
 use thiserror::Error;
 
 /// What is wrong at a place of a declaration.
 #[derive(Clone, Copy, Debug, PartialEq, Eq, Error)]
 pub enum FaultKind {
     /// Between declarations stands something other than `type`.
-    #[error("a declaration is needed")]
     DeclarationNeeded,
     /// After `type` or `as` no type of four characters stands.
-    #[error("a type of four characters is needed")]
     TypeNeeded,
     /// After `as` stands a type that is not declared.
-    #[error("a type that is declared is needed")]
     DeclaredTypeNeeded,
     /// No `{` stands where fields begin.
-    #[error("an opening brace is needed")]
     BraceNeeded,
     /// In braces no field stands, and no `}`.
-    #[error("a field or a closing brace is needed")]
     FieldNeeded,
     /// After a field or a declaration no `;` stands.
-    #[error("a semicolon is needed")]
     SemicolonNeeded,
     /// No `[` or `]` stands around a length.
-    #[error("a bracket is needed")]
     BracketNeeded,
     /// No number stands where one is needed.
-    #[error("a number is needed")]
     NumberNeeded,
     /// A length is 0, or above 65,535.
-    #[error("a length from 1 to 65535 is needed")]
     LengthOutOfRange,
     /// A bit string has no bits, or more than 32.
-    #[error("a bit string of 1 to 32 bits is needed")]
     BitsOutOfRange,
     /// No name stands where one is needed.
-    #[error("a name is needed")]
     NameNeeded,
     /// A name has more than 63 letters.
-    #[error("a name of more than 63 letters")]
     LongName,
     /// A field has more than 256 named constants.
-    #[error("more than 256 constants")]
     ManyConstants,
     /// After `=` neither a number nor up to four characters stand.
-    #[error("a number or up to four characters are needed")]
     ConstantNeeded,
     /// A constant has more bits than its field.
-    #[error("a constant out of range")]
     ConstantOutOfRange,
     /// After `=` no string stands.
-    #[error("a string is needed")]
     StringNeeded,
     /// After `key` an integer has no constant.
-    #[error("the constant of a key is needed")]
     KeyNeeded,
     /// A function other than `$$CountOf` stands after `=`.
-    #[error("$$CountOf is needed")]
     CountOfNeeded,
     /// No parenthesis stands around the name of an array.
-    #[error("a parenthesis is needed")]
     ParenthesisNeeded,
     /// After `$$CountOf(..) -` stands something other than 1.
-    #[error("1 is needed")]
     OneNeeded,
     /// After `fill` no unit stands.
-    #[error("bit, nibble, byte, word or long is needed")]
     UnitNeeded,
     /// After `align` no boundary stands.
-    #[error("word or long is needed")]
     BoundaryNeeded,
     /// In the braces of a switch stands neither `case` nor `}`.
-    #[error("a case or a closing brace is needed")]
     CaseNeeded,
     /// After the name of a case no `:` stands.
-    #[error("a colon is needed")]
     ColonNeeded,
     /// The declaration does not say where each value begins and ends.
-    #[error("{0}")]
     Unsound(Unsound),
+}
+
+impl fmt::Display for FaultKind {
+    fn fmt<W: fmt::Write>(&self, f: &mut fmt::Formatter<W>) -> fmt::Result {
+        let words = match self {
+            FaultKind::DeclarationNeeded => "a declaration is needed",
+            FaultKind::TypeNeeded => "a type of four characters is needed",
+            FaultKind::DeclaredTypeNeeded => "a type that is declared is needed",
+            FaultKind::BraceNeeded => "an opening brace is needed",
+            FaultKind::FieldNeeded => "a field or a closing brace is needed",
+            FaultKind::SemicolonNeeded => "a semicolon is needed",
+            FaultKind::BracketNeeded => "a bracket is needed",
+            FaultKind::NumberNeeded => "a number is needed",
+            FaultKind::LengthOutOfRange => "a length from 1 to 65535 is needed",
+            FaultKind::BitsOutOfRange => "a bit string of 1 to 32 bits is needed",
+            FaultKind::NameNeeded => "a name is needed",
+            FaultKind::LongName => "a name of more than 63 letters",
+            FaultKind::ManyConstants => "more than 256 constants",
+            FaultKind::ConstantNeeded => "a number or up to four characters are needed",
+            FaultKind::ConstantOutOfRange => "a constant out of range",
+            FaultKind::StringNeeded => "a string is needed",
+            FaultKind::KeyNeeded => "the constant of a key is needed",
+            FaultKind::CountOfNeeded => "$$CountOf is needed",
+            FaultKind::ParenthesisNeeded => "a parenthesis is needed",
+            FaultKind::OneNeeded => "1 is needed",
+            FaultKind::UnitNeeded => "bit, nibble, byte, word or long is needed",
+            FaultKind::BoundaryNeeded => "word or long is needed",
+            FaultKind::CaseNeeded => "a case or a closing brace is needed",
+            FaultKind::ColonNeeded => "a colon is needed",
+            FaultKind::Unsound(fault) => return fmt::Display::fmt(fault, f),
+        };
+        f.write_str(words)
+    }
 }
 
 /// The first place where a declaration can't go on.

@@ -16,12 +16,18 @@ use mac_words::upper_digit;
 use rez_types::{Form, Integer, NamedText, Text, Width, power};
 use std::alloc::{AllocError, Global};
 
+/// Appends a word.
+pub(crate) fn push_word(out: &mut Vec<u8>, word: &[u8]) -> Result<(), AllocError>
+    ensures { OnOk result (out.new.items ≡ out.old.items ++ word.now) }
+{
+    out.extend_from_slice(word)
+}
+
 /// Appends a byte in hexadecimal.
 fn push_hex(out: &mut Vec<u8>, byte: u8) -> Result<(), AllocError>
     ensures { OnOk result (out.new.items ≡ out.old.items ++ spec.byte_hex byte) }
 {
-    out.extend_from_slice(&[upper_digit(byte / 16), upper_digit(byte % 16)])?;
-    Ok(())
+    push_word(out, &[upper_digit(byte / 16), upper_digit(byte % 16)])
 }
 
 fn is_printable(byte: u8) -> bool
@@ -44,14 +50,16 @@ fn is_letter(letters: Letters, byte: u8) -> bool
 fn push_code(out: &mut Vec<u8>, byte: u8) -> Result<(), AllocError>
     ensures { OnOk result (out.new.items ≡ out.old.items ++ 92 ∷ 48 ∷ 120 ∷ spec.byte_hex byte) }
 {
-    out.extend_from_slice(&[
-        b'\\',
-        b'0',
-        b'x',
-        upper_digit(byte / 16),
-        upper_digit(byte % 16),
-    ])?;
-    Ok(())
+    push_word(
+        out,
+        &[
+            b'\\',
+            b'0',
+            b'x',
+            upper_digit(byte / 16),
+            upper_digit(byte % 16),
+        ],
+    )
 }
 
 /// Appends a byte that stands between quotes.
@@ -59,19 +67,18 @@ fn push_escaped(out: &mut Vec<u8>, letters: Letters, quote: u8, byte: u8) -> Res
     ensures { OnOk result (out.new.items ≡ out.old.items ++ spec.escaped letters quote byte) }
 {
     if byte == quote {
-        out.extend_from_slice(&[b'\\', byte])?;
+        push_word(out, &[b'\\', byte])
     } else if byte == b'\\' {
-        out.extend_from_slice(b"\\\\")?;
+        push_word(out, b"\\\\")
     } else if byte == b'\r' {
-        out.extend_from_slice(b"\\n")?;
+        push_word(out, b"\\n")
     } else if byte == b'\t' {
-        out.extend_from_slice(b"\\t")?;
+        push_word(out, b"\\t")
     } else if is_printable(byte) || is_letter(letters, byte) {
-        out.push(byte)?;
+        push_word(out, &[byte])
     } else {
-        push_code(out, byte)?;
+        push_code(out, byte)
     }
-    Ok(())
 }
 
 /// Appends bytes that stand between quotes, in ASCII.
@@ -90,10 +97,9 @@ fn push_all_escaped(out: &mut Vec<u8>, quote: u8, bytes: &[u8]) -> Result<(), Al
 pub(crate) fn push_quoted(out: &mut Vec<u8>, quote: u8, bytes: &[u8]) -> Result<(), AllocError>
     ensures { OnOk result (out.new.items ≡ out.old.items ++ spec.in_quotes quote bytes.now) }
 {
-    out.push(quote)?;
+    push_word(out, &[quote])?;
     push_all_escaped(out, quote, bytes)?;
-    out.push(quote)?;
-    Ok(())
+    push_word(out, &[quote])
 }
 
 /// Goes on with another string on the next line after a CR, where bytes follow.
@@ -101,9 +107,10 @@ fn push_line_break(out: &mut Vec<u8>, byte: u8, rest: &[u8]) -> Result<(), Alloc
     ensures { OnOk result (out.new.items ≡ out.old.items ++ spec.line_break byte rest.now) }
 {
     if byte == b'\r' && !rest.is_empty() {
-        out.extend_from_slice(b"\"\n\t\t\"")?;
+        push_word(out, b"\"\n\t\t\"")
+    } else {
+        Ok(())
     }
-    Ok(())
 }
 
 /// Appends the bytes of a string.
@@ -124,10 +131,9 @@ fn push_lines(out: &mut Vec<u8>, letters: Letters, bytes: &[u8]) -> Result<(), A
 fn push_string(out: &mut Vec<u8>, letters: Letters, bytes: &[u8]) -> Result<(), AllocError>
     ensures { OnOk result (out.new.items ≡ out.old.items ++ spec.string_text letters bytes.now) }
 {
-    out.push(b'"')?;
+    push_word(out, b"\"")?;
     push_lines(out, letters, bytes)?;
-    out.push(b'"')?;
-    Ok(())
+    push_word(out, b"\"")
 }
 
 /// Appends what stands before the byte at a place of a hexadecimal string.
@@ -135,14 +141,14 @@ fn push_hex_break(out: &mut Vec<u8>, place: usize) -> Result<(), AllocError>
     ensures { OnOk result (out.new.items ≡ out.old.items ++ spec.hex_break place) }
 {
     if place == 0 {
-        return Ok(());
-    }
-    if place % 16 == 0 {
-        out.extend_from_slice(b"\"\n\t\t$\"")?;
+        Ok(())
+    } else if place % 16 == 0 {
+        push_word(out, b"\"\n\t\t$\"")
     } else if place % 2 == 0 {
-        out.push(b' ')?;
+        push_word(out, b" ")
+    } else {
+        Ok(())
     }
-    Ok(())
 }
 
 /// Appends the bytes of a hexadecimal string.
@@ -161,10 +167,9 @@ fn push_hex_bytes(out: &mut Vec<u8>, bytes: &[u8]) -> Result<(), AllocError>
 fn push_hex_string(out: &mut Vec<u8>, bytes: &[u8]) -> Result<(), AllocError>
     ensures { OnOk result (out.new.items ≡ out.old.items ++ spec.hex_text bytes.now) }
 {
-    out.extend_from_slice(b"$\"")?;
+    push_word(out, b"$\"")?;
     push_hex_bytes(out, bytes)?;
-    out.push(b'"')?;
-    Ok(())
+    push_word(out, b"\"")
 }
 
 /// Returns what a bit of a picture is shown as.
@@ -179,17 +184,19 @@ fn point(bits: u8) -> u8
 fn push_points(out: &mut Vec<u8>, byte: u8) -> Result<(), AllocError>
     ensures { OnOk result (out.new.items ≡ out.old.items ++ spec.points byte) }
 {
-    out.extend_from_slice(&[
-        point(byte / 128),
-        point(byte / 64),
-        point(byte / 32),
-        point(byte / 16),
-        point(byte / 8),
-        point(byte / 4),
-        point(byte / 2),
-        point(byte),
-    ])?;
-    Ok(())
+    push_word(
+        out,
+        &[
+            point(byte / 128),
+            point(byte / 64),
+            point(byte / 32),
+            point(byte / 16),
+            point(byte / 8),
+            point(byte / 4),
+            point(byte / 2),
+            point(byte),
+        ],
+    )
 }
 
 /// Appends the points of bytes.
@@ -208,10 +215,9 @@ fn push_row(out: &mut Vec<u8>, bytes: &[u8]) -> Result<(), AllocError>
     ensures { OnOk result (out.new.items ≡ out.old.items ++ spec.row_text bytes.now) }
 {
     push_hex_string(out, bytes)?;
-    out.extend_from_slice(b" /* ")?;
+    push_word(out, b" /* ")?;
     push_all_points(out, bytes)?;
-    out.extend_from_slice(b" */")?;
-    Ok(())
+    push_word(out, b" */")
 }
 
 /// Returns the bytes of a row, or all that there are, and those after them.
@@ -337,8 +343,7 @@ pub(crate) fn push_text(
 {
     for constant in &text.constants {
         if is_text(constant, bytes) {
-            out.extend_from_slice(constant.name.as_slice())?;
-            return Ok(());
+            return push_word(out, constant.name.as_slice());
         }
     }
     push_bytes(out, style, layout, text.is_hex, bytes)
@@ -372,29 +377,27 @@ fn push_digits(out: &mut Vec<u8>, bytes: &[u8]) -> Result<(), AllocError>
 pub(crate) fn push_fill_comment(out: &mut Vec<u8>, bytes: &[u8]) -> Result<(), AllocError>
     ensures { OnOk result (out.new.items ≡ out.old.items ++ spec.fill_comment bytes.now) }
 {
-    out.extend_from_slice(b"/* fill $")?;
+    push_word(out, b"/* fill $")?;
     push_digits(out, bytes)?;
-    out.extend_from_slice(b" */")?;
-    Ok(())
+    push_word(out, b" */")
 }
 
 /// Appends a number in decimal.
 pub(crate) fn push_decimal(out: &mut Vec<u8>, number: u64) -> Result<(), AllocError>
     ensures { OnOk result (out.new.items ≡ out.old.items ++ decimal number) }
 {
-    out.extend_from_slice(Buffer::new().format(number).as_bytes())?;
-    Ok(())
+    push_word(out, Buffer::new().format(number).as_bytes())
 }
 
 /// Appends the name of an array after a blank, where it has one.
 fn push_after_blank(out: &mut Vec<u8>, name: &[u8]) -> Result<(), AllocError>
     ensures { OnOk result (out.new.items ≡ out.old.items ++ spec.after_blank name.now) }
 {
-    if !name.is_empty() {
-        out.push(b' ')?;
-        out.extend_from_slice(name)?;
+    if name.is_empty() {
+        return Ok(());
     }
-    Ok(())
+    push_word(out, b" ")?;
+    push_word(out, name)
 }
 
 /// Appends how many elements an array has.
@@ -406,12 +409,11 @@ pub(crate) fn push_array_comment(
 ) -> Result<(), AllocError>
     ensures { OnOk result (out.new.items ≡ out.old.items ++ spec.array_comment name.now count) }
 {
-    out.extend_from_slice(b"/* array")?;
+    push_word(out, b"/* array")?;
     push_after_blank(out, name)?;
-    out.extend_from_slice(b": ")?;
+    push_word(out, b": ")?;
     push_decimal(out, count as u64)?;
-    out.extend_from_slice(b" elements */")?;
-    Ok(())
+    push_word(out, b" elements */")
 }
 
 /// Appends the number of an element that so many others precede.
@@ -420,10 +422,9 @@ pub(crate) fn push_element_comment(out: &mut Vec<u8>, count: usize) -> Result<()
     requires { count < 2 ^ 63 }
     ensures { OnOk result (out.new.items ≡ out.old.items ++ spec.element_comment count) }
 {
-    out.extend_from_slice(b"/* [")?;
+    push_word(out, b"/* [")?;
     push_decimal(out, count as u64 + 1)?;
-    out.extend_from_slice(b"] */")?;
-    Ok(())
+    push_word(out, b"] */")
 }
 
 /// Appends a number in hexadecimal.
@@ -432,9 +433,8 @@ pub(crate) fn push_hex_number(out: &mut Vec<u8>, number: u32) -> Result<(), Allo
     ensures { OnOk result (out.new.items ≡ out.old.items ++ spec.hex_number number) }
 {
     let digits = format!(in *out.allocator(); "{number:X}")?;
-    out.extend_from_slice(b"0x")?;
-    out.extend_from_slice(digits.as_bytes())?;
-    Ok(())
+    push_word(out, b"0x")?;
+    push_word(out, digits.as_bytes())
 }
 
 /// Appends a number in binary.
@@ -443,9 +443,8 @@ fn push_binary_number(out: &mut Vec<u8>, number: u32) -> Result<(), AllocError>
     ensures { OnOk result (out.new.items ≡ out.old.items ++ spec.binary_number number) }
 {
     let digits = format!(in *out.allocator(); "{number:b}")?;
-    out.extend_from_slice(b"0b")?;
-    out.extend_from_slice(digits.as_bytes())?;
-    Ok(())
+    push_word(out, b"0b")?;
+    push_word(out, digits.as_bytes())
 }
 
 /// Appends a number of so many bits, the highest of which is its sign.
@@ -455,7 +454,7 @@ pub(crate) fn push_signed(out: &mut Vec<u8>, width: Width, number: u32) -> Resul
     if (number as u64) < power(width.bits - 1) {
         return push_decimal(out, number as u64);
     }
-    out.push(b'-')?;
+    push_word(out, b"-")?;
     push_decimal(out, power(width.bits).saturating_sub(number as u64))
 }
 
@@ -485,11 +484,10 @@ fn push_truth(out: &mut Vec<u8>, number: u32) -> Result<(), AllocError>
     ensures { OnOk result (out.new.items ≡ out.old.items ++ spec.truth number) }
 {
     if number == 0 {
-        out.extend_from_slice(b"false")?;
+        push_word(out, b"false")
     } else {
-        out.extend_from_slice(b"true")?;
+        push_word(out, b"true")
     }
-    Ok(())
 }
 
 /// Appends a number in a form.
@@ -519,8 +517,7 @@ pub(crate) fn push_integer(
 {
     for constant in &integer.constants {
         if constant.pattern == number {
-            out.extend_from_slice(constant.name.as_slice())?;
-            return Ok(());
+            return push_word(out, constant.name.as_slice());
         }
     }
     push_number(out, integer.form, integer.width, number)

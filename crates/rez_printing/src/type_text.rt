@@ -7,7 +7,7 @@ ghost use Rattle.rez_types.specs.View.{text_of, end_of, declaration_of};
 ghost use Rattle.rez_printing.specs.Pieces.{in_quotes};
 ghost use Rattle.rez_printing.specs.TypeText as spec;
 
-use crate::pieces::{push_decimal, push_hex_number, push_quoted, push_signed};
+use crate::pieces::{push_decimal, push_hex_number, push_quoted, push_signed, push_word};
 use byteorder::{BigEndian, ByteOrder};
 use rez_types::{
     Array, ArrayEnd, Block, Boundary, Case, Constant, Count, Declaration, Field, Form, Integer,
@@ -26,10 +26,9 @@ const MOST_COUNTS: usize = 512;
 fn push_brackets(out: &mut Vec<u8>, number: u64) -> Result<(), AllocError>
     ensures { OnOk result (out.new.items ≡ out.old.items ++ spec.in_brackets number) }
 {
-    out.push(b'[')?;
+    push_word(out, b"[")?;
     push_decimal(out, number)?;
-    out.push(b']')?;
-    Ok(())
+    push_word(out, b"]")
 }
 
 /// Appends the word for an integer of so many bits.
@@ -37,15 +36,14 @@ fn push_width(out: &mut Vec<u8>, width: Width) -> Result<(), AllocError>
     ensures { OnOk result (out.new.items ≡ out.old.items ++ spec.width_word width.bits) }
 {
     match width.bits {
-        8 => out.extend_from_slice(b"byte")?,
-        16 => out.extend_from_slice(b"integer")?,
-        32 => out.extend_from_slice(b"longint")?,
+        8 => push_word(out, b"byte"),
+        16 => push_word(out, b"integer"),
+        32 => push_word(out, b"longint"),
         bits => {
-            out.extend_from_slice(b"bitstring")?;
-            push_brackets(out, bits as u64)?;
+            push_word(out, b"bitstring")?;
+            push_brackets(out, bits as u64)
         }
     }
-    Ok(())
 }
 
 /// Appends the word for an integer of so many bits after another word.
@@ -53,7 +51,7 @@ fn push_modified(out: &mut Vec<u8>, word: &[u8], width: Width) -> Result<(), All
     ensures { OnOk result (out.new.items
         ≡ out.old.items ++ (word.now ++ spec.width_word width.bits)) }
 {
-    out.extend_from_slice(word)?;
+    push_word(out, word)?;
     push_width(out, width)
 }
 
@@ -62,14 +60,13 @@ fn push_integer_word(out: &mut Vec<u8>, form: Form, width: Width) -> Result<(), 
     ensures { OnOk result (out.new.items ≡ out.old.items ++ spec.integer_word form width.bits) }
 {
     match form {
-        Form::Signed => push_width(out, width)?,
-        Form::Unsigned => push_modified(out, b"unsigned ", width)?,
-        Form::Hex => push_modified(out, b"hex ", width)?,
-        Form::Binary => push_modified(out, b"binary ", width)?,
-        Form::Literal => push_modified(out, b"literal ", width)?,
-        Form::Boolean => out.extend_from_slice(b"boolean")?,
+        Form::Signed => push_width(out, width),
+        Form::Unsigned => push_modified(out, b"unsigned ", width),
+        Form::Hex => push_modified(out, b"hex ", width),
+        Form::Binary => push_modified(out, b"binary ", width),
+        Form::Literal => push_modified(out, b"literal ", width),
+        Form::Boolean => push_word(out, b"boolean"),
     }
-    Ok(())
 }
 
 /// Appends the number of a named constant.
@@ -89,11 +86,10 @@ fn push_before(out: &mut Vec<u8>, place: usize) -> Result<(), AllocError>
     ensures { OnOk result (out.new.items ≡ out.old.items ++ spec.before_constant place) }
 {
     if place == 0 {
-        out.push(b' ')?;
+        push_word(out, b" ")
     } else {
-        out.extend_from_slice(b", ")?;
+        push_word(out, b", ")
     }
-    Ok(())
 }
 
 /// Appends the named constant at a place.
@@ -109,8 +105,8 @@ fn push_named_number(
         integer.now.form integer.now.width.bits (number_of constant.now).pattern)) }
 {
     push_before(out, place)?;
-    out.extend_from_slice(constant.name.as_slice())?;
-    out.extend_from_slice(b" = ")?;
+    push_word(out, constant.name.as_slice())?;
+    push_word(out, b" = ")?;
     push_constant(out, integer.form, integer.width, constant.pattern)
 }
 
@@ -143,8 +139,8 @@ fn push_named_text(out: &mut Vec<u8>, place: usize, constant: &NamedText) -> Res
         (text_of constant.now).name (in_quotes 34 (text_of constant.now).text)) }
 {
     push_before(out, place)?;
-    out.extend_from_slice(constant.name.as_slice())?;
-    out.extend_from_slice(b" = ")?;
+    push_word(out, constant.name.as_slice())?;
+    push_word(out, b" = ")?;
     push_quoted(out, b'"', constant.text.as_slice())
 }
 
@@ -179,8 +175,7 @@ fn push_counted_name(out: &mut Vec<u8>, place: usize, fields: &[Field]) -> Resul
 {
     for field in fields {
         if let Some(name) = name_counted(place, field) {
-            out.extend_from_slice(name)?;
-            return Ok(());
+            return push_word(out, name);
         }
     }
     Ok(())
@@ -191,9 +186,10 @@ fn push_minus_one(out: &mut Vec<u8>, is_less_one: bool) -> Result<(), AllocError
     ensures { OnOk result (out.new.items ≡ out.old.items ++ spec.minus_one is_less_one) }
 {
     if is_less_one {
-        out.extend_from_slice(b" - 1")?;
+        push_word(out, b" - 1")
+    } else {
+        Ok(())
     }
-    Ok(())
 }
 
 /// Appends what stands before the name of a count's array.
@@ -202,8 +198,7 @@ fn push_count_head(out: &mut Vec<u8>, width: Width) -> Result<(), AllocError>
     ensures { OnOk result (out.new.items ≡ out.old.items ++ spec.count_head width.bits) }
 {
     push_width(out, width)?;
-    out.extend_from_slice(b" = $$CountOf(")?;
-    Ok(())
+    push_word(out, b" = $$CountOf(")
 }
 
 /// Appends a count, where so many counts of its block stand before it, and the block has these
@@ -221,7 +216,7 @@ fn push_count(
 {
     push_count_head(out, count.width)?;
     push_counted_name(out, counts, all)?;
-    out.push(b')')?;
+    push_word(out, b")")?;
     push_minus_one(out, count.is_less_one)
 }
 
@@ -230,9 +225,10 @@ fn push_key(out: &mut Vec<u8>, is_key: bool) -> Result<(), AllocError>
     ensures { OnOk result (out.new.items ≡ out.old.items ++ spec.key_word is_key) }
 {
     if is_key {
-        out.extend_from_slice(b"key ")?;
+        push_word(out, b"key ")
+    } else {
+        Ok(())
     }
-    Ok(())
 }
 
 /// Appends a constant.
@@ -243,7 +239,7 @@ fn push_fixed(out: &mut Vec<u8>, constant: Constant) -> Result<(), AllocError>
 {
     push_key(out, constant.is_key)?;
     push_width(out, constant.width)?;
-    out.extend_from_slice(b" = ")?;
+    push_word(out, b" = ")?;
     push_hex_number(out, constant.pattern)
 }
 
@@ -252,7 +248,7 @@ fn push_bits(out: &mut Vec<u8>, width: Width) -> Result<(), AllocError>
     ensures { OnOk result (out.new.items
         ≡ out.old.items ++ (codes "fill bit" ++ spec.in_brackets width.bits)) }
 {
-    out.extend_from_slice(b"fill bit")?;
+    push_word(out, b"fill bit")?;
     push_brackets(out, width.bits as u64)
 }
 
@@ -293,7 +289,7 @@ fn push_parts(
     let mut counts = before;
     for part in parts {
         push_part(out, all, counts, part)?;
-        out.extend_from_slice(b"; ")?;
+        push_word(out, b"; ")?;
         counts = counts_after(part, counts);
     }
     Ok(counts)
@@ -303,11 +299,12 @@ fn push_parts(
 fn push_fill(out: &mut Vec<u8>, count: u16) -> Result<(), AllocError>
     ensures { OnOk result (out.new.items ≡ out.old.items ++ spec.fill_word count) }
 {
-    out.extend_from_slice(b"fill byte")?;
-    if count != 1 {
-        push_brackets(out, count as u64)?;
+    push_word(out, b"fill byte")?;
+    if count == 1 {
+        Ok(())
+    } else {
+        push_brackets(out, count as u64)
     }
-    Ok(())
 }
 
 /// Appends an alignment.
@@ -315,10 +312,9 @@ fn push_align(out: &mut Vec<u8>, boundary: Boundary) -> Result<(), AllocError>
     ensures { OnOk result (out.new.items ≡ out.old.items ++ spec.align_word boundary) }
 {
     match boundary {
-        Boundary::Word => out.extend_from_slice(b"align word")?,
-        Boundary::Long => out.extend_from_slice(b"align long")?,
+        Boundary::Word => push_word(out, b"align word"),
+        Boundary::Long => push_word(out, b"align long"),
     }
-    Ok(())
 }
 
 /// Appends the word for how a string is written.
@@ -326,9 +322,10 @@ fn push_hex_word(out: &mut Vec<u8>, is_hex: bool) -> Result<(), AllocError>
     ensures { OnOk result (out.new.items ≡ out.old.items ++ spec.hex_word is_hex) }
 {
     if is_hex {
-        out.extend_from_slice(b"hex ")?;
+        push_word(out, b"hex ")
+    } else {
+        Ok(())
     }
-    Ok(())
 }
 
 /// Appends a string of so many bytes.
@@ -336,7 +333,7 @@ fn push_fixed_text(out: &mut Vec<u8>, count: u16) -> Result<(), AllocError>
     ensures { OnOk result (out.new.items
         ≡ out.old.items ++ (codes "string" ++ spec.in_brackets count)) }
 {
-    out.extend_from_slice(b"string")?;
+    push_word(out, b"string")?;
     push_brackets(out, count as u64)
 }
 
@@ -345,13 +342,12 @@ fn push_text_word(out: &mut Vec<u8>, end: TextEnd) -> Result<(), AllocError>
     ensures { OnOk result (out.new.items ≡ out.old.items ++ spec.text_word end) }
 {
     match end {
-        TextEnd::Pascal => out.extend_from_slice(b"pstring")?,
-        TextEnd::C => out.extend_from_slice(b"cstring")?,
-        TextEnd::Char => out.extend_from_slice(b"char")?,
-        TextEnd::Fixed(count) => push_fixed_text(out, count)?,
-        TextEnd::Resource => out.extend_from_slice(b"string")?,
+        TextEnd::Pascal => push_word(out, b"pstring"),
+        TextEnd::C => push_word(out, b"cstring"),
+        TextEnd::Char => push_word(out, b"char"),
+        TextEnd::Fixed(count) => push_fixed_text(out, count),
+        TextEnd::Resource => push_word(out, b"string"),
     }
-    Ok(())
 }
 
 /// Appends a string.
@@ -369,11 +365,11 @@ fn push_text(out: &mut Vec<u8>, text: &Text) -> Result<(), AllocError>
 fn push_name(out: &mut Vec<u8>, name: &[u8]) -> Result<(), AllocError>
     ensures { OnOk result (out.new.items ≡ out.old.items ++ spec.name_word name.now) }
 {
-    if !name.is_empty() {
-        out.extend_from_slice(name)?;
-        out.push(b' ')?;
+    if name.is_empty() {
+        return Ok(());
     }
-    Ok(())
+    push_word(out, name)?;
+    push_word(out, b" ")
 }
 
 /// Appends the length of an array, where it is stated.
@@ -383,13 +379,12 @@ fn push_length(out: &mut Vec<u8>, end: ArrayEnd) -> Result<(), AllocError>
     match end {
         ArrayEnd::Fixed(count) => {
             push_brackets(out, count as u64)?;
-            out.push(b' ')?;
+            push_word(out, b" ")
         }
-        ArrayEnd::Counted(_) => {}
-        ArrayEnd::Constant(_) => {}
-        ArrayEnd::Resource => {}
+        ArrayEnd::Counted(_) => Ok(()),
+        ArrayEnd::Constant(_) => Ok(()),
+        ArrayEnd::Resource => Ok(()),
     }
-    Ok(())
 }
 
 /// Appends what stands before the fields of an array.
@@ -398,11 +393,10 @@ fn push_array_word(out: &mut Vec<u8>, array: &Array) -> Result<(), AllocError>
     ensures { OnOk result (out.new.items ≡ out.old.items
         ++ spec.array_word array.now.name.items (end_of array.now.end)) }
 {
-    out.extend_from_slice(b"array ")?;
+    push_word(out, b"array ")?;
     push_name(out, array.name.as_slice())?;
     push_length(out, array.end)?;
-    out.extend_from_slice(b"{ ")?;
-    Ok(())
+    push_word(out, b"{ ")
 }
 
 /// Appends what stands before the fields of a case.
@@ -410,10 +404,9 @@ fn push_array_word(out: &mut Vec<u8>, array: &Array) -> Result<(), AllocError>
 fn push_case_word(out: &mut Vec<u8>, name: &[u8]) -> Result<(), AllocError>
     ensures { OnOk result (out.new.items ≡ out.old.items ++ spec.case_word name.now) }
 {
-    out.extend_from_slice(b"case ")?;
-    out.extend_from_slice(name)?;
-    out.extend_from_slice(b": ")?;
-    Ok(())
+    push_word(out, b"case ")?;
+    push_word(out, name)?;
+    push_word(out, b": ")
 }
 
 /// Appends the cases of a switch.
@@ -449,8 +442,7 @@ fn push_array(
 {
     push_array_word(out, array)?;
     push_block(out, depth, blocks, array.block)?;
-    out.push(b'}')?;
-    Ok(())
+    push_word(out, b"}")
 }
 
 /// Appends a switch.
@@ -466,18 +458,9 @@ fn push_switch(
         ++ spec.switch_text (spec.block_text depth (blocks_of blocks.now))
         (map case_of switch.now.cases.items)) }
 {
-    out.extend_from_slice(b"switch { ")?;
+    push_word(out, b"switch { ")?;
     push_cases(out, depth, blocks, switch.cases.as_slice())?;
-    out.push(b'}')?;
-    Ok(())
-}
-
-/// Appends a word.
-fn push_word(out: &mut Vec<u8>, word: &[u8]) -> Result<(), AllocError>
-    ensures { OnOk result (out.new.items ≡ out.old.items ++ word.now) }
-{
-    out.extend_from_slice(word)?;
-    Ok(())
+    push_word(out, b"}")
 }
 
 /// Appends a field that is no run.
@@ -516,8 +499,7 @@ fn push_ended(
         ++ codes "; ")) }
 {
     push_whole(out, depth, blocks, field)?;
-    out.extend_from_slice(b"; ")?;
-    Ok(())
+    push_word(out, b"; ")
 }
 
 /// Appends a field, and returns how many counts stand before what follows it.
@@ -590,10 +572,9 @@ fn push_type(out: &mut Vec<u8>, ty: u32) -> Result<(), AllocError>
 {
     let mut bytes = [0; 4];
     BigEndian::write_u32(&mut bytes, ty);
-    out.extend_from_slice(b"type ")?;
+    push_word(out, b"type ")?;
     push_quoted(out, b'\'', &bytes)?;
-    out.extend_from_slice(b" { ")?;
-    Ok(())
+    push_word(out, b" { ")
 }
 
 /// Returns the declaration of a type up to its closing brace.
@@ -626,7 +607,7 @@ pub fn declaration_text(
         ≡ spec.declared_text (big_number 4 ty) (declaration_of declaration.now)) }
 {
     let mut out = open_text(alloc, ty, declaration)?;
-    out.extend_from_slice(b"};")?;
+    push_word(&mut out, b"};")?;
     Ok(out)
 }
 
@@ -642,6 +623,6 @@ pub fn tailed_declaration_text(
         ≡ spec.tailed_text (big_number 4 ty) (declaration_of declaration.now)) }
 {
     let mut out = open_text(alloc, ty, declaration)?;
-    out.extend_from_slice(b"hex string; };")?;
+    push_word(&mut out, b"hex string; };")?;
     Ok(out)
 }
