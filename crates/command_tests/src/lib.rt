@@ -12,8 +12,12 @@ mod hosts;
 #[cfg(test)]
 mod jobs;
 #[cfg(test)]
+mod offers;
+#[cfg(test)]
 mod readers;
 #[cfg(test)]
 mod regions;
+#[cfg(test)]
+mod stopped;
 #[cfg(test)]
 mod zones;
