@@ -2,6 +2,7 @@
 use Rattle.std.proofs.Common.{◌≡◌, ℕ, ◌+◌, ◌-◌, ◌%◌, ◌<◌, ◌≤◌, ◌^◌, List, ◌++◌, length, take, drop, sym, refl, ap, ◌∙◌}
 use Rattle.std.proofs.Common.{arith, zero, suc, append_assoc, length-append}
 use Rattle.std.proofs.lemmas.List.{drop-take, take-take, drop-drop}
+use Rattle.byteorder.specs.Endian.{big_number}
 use Rattle.memory_windows.specs.Writes.{written, piece}
 use Rattle.memory_windows.proofs.Pieces.{piece-written, written-written}
 use Rattle.block_headers.specs.Words.{word, word_at, header}
@@ -44,6 +45,12 @@ within at k xs h =
     ap (take 4) (sym (drop-drop k at xs)) ∙ sym (take-take 4 m (drop k (drop at xs)) (omega (arith, h)))
     ∙ ap (take 4) (sym (drop-take k m (drop at xs)))
     ∙ ap (λ n. take 4 (drop k (take n (drop at xs)))) (sym e)
+
+-- and so its number, read of them
+pub word_within : (at k n : ℕ) (words xs : List ℕ) → words ≡ piece at 16 xs → n ≡ word_at k words → k + 4 ≤ 16
+    → n ≡ word_at (at + k) xs
+unfolding word_at
+word_within at k n words xs is e h = e ∙ ap (word_at k) is ∙ ap (big_number 4) (sym (within at k xs h))
 
 -- the words of a header
 words_of : (a b c d : ℕ) → (take 4 (drop 0 (header a b c d)) ≡ word a) × (take 4 (drop 4 (header a b c d)) ≡ word b)

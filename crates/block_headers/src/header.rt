@@ -1,11 +1,11 @@
 //! The header of a block.
 ghost use Rattle.std.specs.Prelude.{◌≡◌, ◌+◌, ◌-◌, ◌%◌, ◌≤◌, ◌<◌, ◌^◌, length};
-ghost use Rattle.memory_windows.specs.Writes.{written};
+ghost use Rattle.memory_windows.specs.Writes.{written, piece};
 ghost use Rattle.block_headers.specs.Headers.{header_bytes, tag_number};
 ghost use Rattle.block_headers.specs.Words.{word_at};
 ghost use Rattle.block_headers.specs.declared.word.TheConstants.{UNIT};
 
-use crate::word::{UNIT, read_word, write_word};
+use crate::word::{UNIT, word_in, write_word};
 use raw_region::Part;
 
 /// The number of bytes of a header.
@@ -72,6 +72,15 @@ fn tag_of(code: u32) -> Tag
     }
 }
 
+/// Returns the bytes of the header at `at`.
+fn bytes_at(part: &Part, at: usize) -> &[u8]
+    requires { at + HEADER ≤ length part.now.bytes }
+    ensures bytes { result.now ≡ piece at HEADER part.now.bytes }
+    ensures count { length result.now ≡ HEADER }
+{
+    &part.bytes()[at..at + HEADER as usize]
+}
+
 /// Reads the header of the block at `at`. Of the header of a free block, only the first word has a
 /// meaning.
 pub fn read_header(part: &Part, at: u32) -> Header
@@ -84,14 +93,17 @@ pub fn read_header(part: &Part, at: u32) -> Header
     ensures slot { result.slot ≡ word_at (at + 8) part.now.bytes }
     ensures flags { result.flags ≡ word_at (at + 12) part.now.bytes }
 {
-    let at = at as usize;
-    let first = read_word(part, at);
+    let words = bytes_at(part, at as usize);
+    let first = word_in(words, 0);
+    let logical = word_in(words, 4);
+    let slot = word_in(words, 8);
+    let flags = word_in(words, 12);
     Header {
         size: first - first % UNIT,
         tag: tag_of(first % UNIT),
-        logical: read_word(part, at + 4),
-        slot: read_word(part, at + 8),
-        flags: read_word(part, at + 12),
+        logical,
+        slot,
+        flags,
     }
 }
 

@@ -1,6 +1,6 @@
 //! A word of a zone.
 ghost use Rattle.std.specs.Prelude.{◌≡◌, ◌+◌, ◌%◌, ◌≤◌, length};
-ghost use Rattle.memory_windows.specs.Writes.{written};
+ghost use Rattle.memory_windows.specs.Writes.{written, piece};
 ghost use Rattle.block_headers.specs.Words.{word, word_at};
 
 use byteorder::{BigEndian, ByteOrder};
@@ -16,6 +16,25 @@ pub fn read_word(part: &Part, at: usize) -> u32
     ensures { result ≡ word_at at part.now.bytes }
 {
     u32::from_be_bytes(part.word(at))
+}
+
+/// Returns the four bytes at `at` of some bytes.
+fn four_at(bytes: &[u8], at: usize) -> [u8; 4]
+    requires { at + 4 ≤ length bytes.now }
+    ensures { result ≡ piece at 4 bytes.now }
+{
+    match bytes[at..at + 4].split_first_chunk::<4>() {
+        Some((word, _)) => *word,
+        None => [0; 4],
+    }
+}
+
+/// Reads the word at `at` of some bytes.
+pub(crate) fn word_in(bytes: &[u8], at: usize) -> u32
+    requires { at + 4 ≤ length bytes.now }
+    ensures { result ≡ word_at at bytes.now }
+{
+    u32::from_be_bytes(four_at(bytes, at))
 }
 
 /// Writes the word at `at`, which is a multiple of 4.

@@ -1,0 +1,7 @@
+use Rattle.std.proofs.Common.{rules}
+use Rattle.block_headers.specs.Words.{word_at}
+use Rattle.block_headers.proofs.word.word_in.Goals as goal
+
+pub returns : goal.returns
+unfolding word_at
+returns c = search rules
