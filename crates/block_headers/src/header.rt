@@ -64,7 +64,7 @@ fn tag_of(code: u32) -> Tag
     requires { code < 4 }
     ensures { tag_number result ≡ code }
 {
-    match code {
+    match code % 4 {
         0 => Tag::Free,
         1 => Tag::Nonrelocatable,
         2 => Tag::Masters,

@@ -10,7 +10,9 @@ ghost use Rattle.block_store.specs.Compact.{packed_stretches};
 ghost use Rattle.block_store.specs.Seen.{seen};
 
 use crate::sparing::{Seen, Sparing};
-use crate::walk::{Walk, free_of_seen, is_counted_free, is_in_run, may_purge_now, size_of_seen};
+use crate::walk::{
+    Walk, free_of_seen, is_counted_free, is_in_run, is_mover, may_purge_now, size_of_seen,
+};
 
 /// Returns the size in bytes of the largest free block; 0 where there is no free block.
 pub fn largest_free_in<W: Walk>(walk: &mut W) -> u32
@@ -66,22 +68,23 @@ pub fn packed_runs_in<W: Walk>(walk: &mut W) -> Option<u32>
     ensures { result ≡ packed_stretches (runs (W.rest walk.old)) }
 {
     let mut count = 0;
-    let mut within = false;
+    // 1 until the run has a block, then 0.
+    let mut first = 1;
     let mut free = false;
     while let Some(block) = walk.next_block() {
-        if !is_in_run(block) {
-            within = false;
-            free = false;
-        } else {
-            if !within {
-                count += 1;
-            }
-            within = true;
-            if is_counted_free(block, Sparing::Nothing) {
-                free = true;
-            } else if free {
+        if is_mover(block) {
+            if free {
                 return None;
             }
+            count += first;
+            first = 0;
+        } else if is_counted_free(block, Sparing::Nothing) {
+            count += first;
+            first = 0;
+            free = true;
+        } else {
+            first = 1;
+            free = false;
         }
     }
     Some(count)

@@ -2,7 +2,8 @@
 //! a walk reads.
 
 ghost use Rattle.std.specs.Prelude.{◌≡◌, ◌<◌, ◌^◌, List, []};
-ghost use Rattle.block_store.specs.Block.{Block, Relocatable, free_of, is_relocatable, no_flags};
+ghost use Rattle.block_store.specs.Block.{Block, Relocatable, free_of, is_mover, is_relocatable};
+ghost use Rattle.block_store.specs.Block.{no_flags};
 ghost use Rattle.block_store.specs.Run.{in_run};
 ghost use Rattle.block_store.specs.Room.{may_be_purged};
 ghost use Rattle.block_store.specs.Sparing.{spared};
@@ -62,6 +63,16 @@ pub fn is_in_run(block: Seen) -> bool
 {
     match block {
         Seen::Free(_) => true,
+        Seen::Relocatable(_, flags, _) => !flags.locked,
+        _ => false,
+    }
+}
+
+/// Reports whether a block is an unlocked relocatable block, which may be moved.
+pub(crate) fn is_mover(block: Seen) -> bool
+    ensures { (b : Block) → seen b ≡ block → result ≡ is_mover b }
+{
+    match block {
         Seen::Relocatable(_, flags, _) => !flags.locked,
         _ => false,
     }

@@ -15,10 +15,10 @@ abbrev pub to_move : Bool → Segments → ℕ
 to_move free s = cond free (count is_mover s.first) (lowered_in_run s.first)
     + lowered_in_runs (length (higher s)) (higher s)
 
--- how many runs have a block that isn't counted yet, where the lowest run is counted or not
-abbrev pub uncounted : Bool → Segments → ℕ
-uncounted within s = cond within 0 (cond (has_block s.first) 1 0) + stretches (length (higher s)) (higher s)
+-- how many runs have a block that isn't counted yet, where the lowest run counts as `first` if it has one
+abbrev pub uncounted : ℕ → Segments → ℕ
+uncounted first s = cond (has_block s.first) first 0 + stretches (length (higher s)) (higher s)
 
 -- what the walk comes to, from where it has counted n
-abbrev pub packed_from : ℕ → Bool → Bool → Segments → Option ℕ
-packed_from n within free s = cond (to_move free s == 0) (Some (n + uncounted within s)) None
+abbrev pub packed_from : ℕ → ℕ → Bool → Segments → Option ℕ
+packed_from n first free s = cond (to_move free s == 0) (Some (n + uncounted first s)) None

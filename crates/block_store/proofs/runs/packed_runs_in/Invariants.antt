@@ -1,4 +1,4 @@
-use Rattle.std.proofs.Common.{◌≡◌, ◌+◌, ◌≤◌, false, cond, length}
+use Rattle.std.proofs.Common.{◌≡◌, ◌+◌, ◌*◌, ◌≤◌, false, length}
 use Rattle.block_store.specs.Block.{sizes}
 use Rattle.block_store.specs.Run.{segments}
 use Rattle.block_store.proofs.Regroup.PackedRuns.{packed_from}
@@ -7,9 +7,10 @@ use Rattle.block_store.proofs.runs.packed_runs_in.Given as goal
 -- what is still to come is counted with those so far, as all are
 abbrev pub invariant-loop-block : goal.invariant-loop-block
 invariant-loop-block g l = record {
-  few : l.count + l.count + sizes (g.W.Walk.rest l.walk) ≤ sizes (g.W.Walk.rest l.initial.walk) + cond l.within 2 0;
-  rest : packed_from l.count l.within l.free (segments (g.W.Walk.rest l.walk))
-      ≡ packed_from 0 false false (segments (g.W.Walk.rest l.initial.walk));
+  one : l.first ≤ 1;
+  few : 2 * (l.count + l.first) + sizes (g.W.Walk.rest l.walk) ≤ sizes (g.W.Walk.rest l.initial.walk) + 2;
+  rest : packed_from l.count l.first l.free (segments (g.W.Walk.rest l.walk))
+      ≡ packed_from 0 1 false (segments (g.W.Walk.rest l.initial.walk));
 }
 
 abbrev pub decreases-loop-block : goal.decreases-loop-block
