@@ -5,7 +5,7 @@ ghost use Rattle.block_headers.specs.Headers.{tag_number};
 ghost use Rattle.zone_bytes.specs.Stepping.{header_seen, left_in, IsOnWay, Steps};
 
 use crate::words::read_header;
-use block_headers::{Header, LOCKED, PURGEABLE, Tag};
+use block_headers::{HEADER, Header, LOCKED, PURGEABLE, Tag};
 use block_store::{Flags, Seen, Walk};
 use raw_region::Part;
 use std::marker::Model;
@@ -78,7 +78,8 @@ impl Walk for RawWalk<'_> {
     ghost rest = { λ w. w };
 
     fn next_block(&mut self) -> Option<Seen> {
-        if self.at >= self.part.len() as u32 {
+        // Where a header does not fit, no block is left; reading a header makes the same test.
+        if self.at as usize + HEADER as usize > self.part.len() {
             return None;
         }
         let header = read_header(self.part, self.at);

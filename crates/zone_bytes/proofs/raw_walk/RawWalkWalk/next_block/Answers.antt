@@ -1,11 +1,21 @@
-use Rattle.std.proofs.Common.{◌+◌, Some, subst, arith}
+use Rattle.std.proofs.Common.{◌≡◌, ℕ, ◌+◌, ◌<◌, ◌≤◌, Bool, true, false, List, length, Some, None, nat_lt, refl, subst, arith}
+use Rattle.std.proofs.lemmas.Bool.Decides.{nat_tests}
 use Rattle.block_store.specs.Walk.{Tells}
-use Rattle.zone_bytes.specs.Stepping.{left_in}
+use Rattle.zone_bytes.specs.Stepping.{IsOnWay, left_in}
 use Rattle.zone_bytes.proofs.Places.Stepped.{stepped-read, tells-step, tells-none, may-read}
 use Rattle.zone_bytes.proofs.raw_walk.RawWalkWalk.next_block.Goals as goal
 
+-- where no header is left, no block begins
+ended : (at : ℕ) (xs : List ℕ) → IsOnWay at xs → length xs < at + 16 → length xs ≤ at
+ended at xs w short = cases (nat_lt at (length xs)) refl
+  where
+    cases : (t : Bool) → nat_lt at (length xs) ≡ t → length xs ≤ at
+    cases true e = absurd (let m = may-read at xs w (grind (arith, nat_tests, e)) in omega (arith, m, short))
+    cases false e = grind (arith, nat_tests, e)
+
 pub returns-then-self-len : goal.returns-then-self-len
-returns-then-self-len c = grind (arith, tells-none)
+returns-then-self-len c = subst (λ v. Tells v None v) c.self.view_is
+    (tells-none _ _ c.self.invariant (ended _ _ c.self.invariant (omega arith)))
 
 pub read_header-header-requires : goal.read_header-header-requires
 read_header-header-requires c = may-read _ _ c.self.invariant (omega arith)
