@@ -1,5 +1,5 @@
-use Rattle.std.specs.Prelude.{ℕ, ◌+◌, zero, suc, Bool, true, false, Option, Some, None, List, []}
-use Rattle.std.specs.Prelude.{◌∷◌, length, replicate, is_some, nat_lt, nat_le, if◌then◌else◌}
+use Rattle.std.specs.Prelude.{ℕ, ◌+◌, Bool, Option, Some, None, List, length, replicate, is_some, nat_lt, nat_le}
+use Rattle.std.specs.Prelude.{if◌then◌else◌}
 use Rattle.mac_words.specs.Size.{phys}
 use Rattle.block_store.specs.Block.{Block, Masters, Relocatable, size, is_mover}
 use Rattle.block_store.specs.Block.{no_flags, resized}
