@@ -1,9 +1,9 @@
 use Rattle.std.proofs.Common.{◌≡◌, ℕ, ◌+◌, ◌-◌, ◌≤◌, ◌<◌, zero, suc, Bool, true, false, not, ◌&&◌, List, [], ◌∷◌}
 use Rattle.std.proofs.Common.{◌++◌, length, drop, slice_index_or, inl, inr, append_assoc, append-nil, refl, sym, ◌∙◌, ap, cond, arith}
-use Rattle.std.proofs.Common.{Option, Some, None, subst, is_some, map, replicate, ◌*◌}
+use Rattle.std.proofs.Common.{Option, Some, None, subst, is_some, map, ◌*◌}
 use Rattle.std.proofs.lemmas.Bool.{cond-true, cond-false}
 use Rattle.std.proofs.lemmas.Bool.Decides.{nat_tests}
-use Rattle.std.proofs.lemmas.List.{at_drop_more, length-map, length-replicate}
+use Rattle.std.proofs.lemmas.List.{at_drop_more, length-map}
 use Rattle.std.proofs.lemmas.Option.{none-some}
 use Rattle.std.specs.Option.{option_map}
 use Rattle.std.specs.Prelude.{nat_lt}
@@ -32,7 +32,6 @@ use Rattle.heap_calls.specs.Answer.{nothing}
 use Rattle.heap_calls.specs.Gone.{Gone, gone, room_gone, slot_gone}
 use Rattle.heap_calls.specs.Searches.{room_searches}
 use Rattle.heap_calls.specs.Inner.Base.{base, base_searches}
-use Rattle.mac_words.specs.Size.{phys, padded}
 use Rattle.mac_words.proofs.Plain.{is_some-map}
 use Rattle.block_store.specs.Slot.{Slot}
 use Rattle.block_store.proofs.Renamed.Renaming.{rename_run_spot}
@@ -41,9 +40,8 @@ use Rattle.heap_calls.proofs.NewBlocks.NewSlots.{at_base, room-base, searches-ba
 use Rattle.heap_calls.proofs.NewBlocks.NewHandles.{base-is, base_searches-is, none-left, some-left}
 use Rattle.block_store.specs.Block.{count, is_masters}
 use Rattle.heap_calls.specs.Inner.Numbered.{number_from, handle_number, pointer_number, leads_to, name_of, memory_of, state_of, Agrees}
-use Rattle.heap_calls.specs.Inner.Telling.{IsNumberOf, gone_named, gone_from, from_spot, blocks_from, base_gone, pointer_gone}
+use Rattle.heap_calls.specs.Inner.Telling.{IsNumberOf, gone_named, gone_from, from_spot, blocks_from, base_gone}
 use Rattle.heap_calls.specs.Inner.Telling.{zone_slot_gone}
-use Rattle.heap_calls.proofs.Tables.Gone.{new_pointer_gone}
 
 -- What a sink is told of blocks that are purged.
 
@@ -256,11 +254,3 @@ base_gone-any zone slots es new =
     ∙ ap (λ n. gone (length es) (n - 1) nothing (rename f g zone)) (sym many)
     ∙ ap (λ n. gone n (room_searches (put_at_base new) nothing (rename f g zone) - 1) nothing (rename f g zone))
     (sym (length-map es (name_of slots))))
-
--- the blocks that NewPtr purges
-pub pointer_gone-is : (n : ℕ) (zone : List Block) (slots : ℕ → Slot) (es : List Anchor)
-    → pointer_gone es n zone ≡ new_pointer_gone n (state_of zone slots es)
-pointer_gone-is n zone slots es =
-    ap (λ l. cond (is_some (phys n)) l [])
-    (ap (λ p. base_gone es p Nothing zone) (sym (ap padded (length-replicate n 0)))
-    ∙ base_gone-any zone slots es (Nonrelocatable (length (map (name_of slots) es)) (replicate n 0)))

@@ -11,7 +11,6 @@ pub mod Steps
 pub mod GoneBlocks
 pub mod GoneForSizes
 pub mod GonePlaces
-pub mod GoneCopies
 pub mod Hearing
 pub mod Tables
 mod Exchanging

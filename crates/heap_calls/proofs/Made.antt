@@ -19,8 +19,8 @@ use Rattle.block_store.specs.declared.sparing.Sparing.{Sparing}
 use Rattle.block_store.specs.declared.sparing.Sparing.TheVariants.{Nothing}
 use Rattle.block_store.proofs.Plain.Options.{map-none}
 use Rattle.block_store.proofs.Plain.Trials.{least-map}
-use Rattle.moves.specs.Moves.{Put, Purge, did}
-use Rattle.moves.specs.Seeking.{Sought, no_room, sought, purges_for, seek, seek_slot, then_seek, if_fits, rename_sought}
+use Rattle.moves.specs.Moves.{Put, did}
+use Rattle.moves.specs.Seeking.{Sought, no_room, seek, seek_slot, then_seek, if_fits, rename_sought}
 use Rattle.moves.proofs.Paths.{Along, along-if, along-then, along-seek, along-slot}
 use Rattle.moves.proofs.Renamed.{Names, PathNames}
 use Rattle.moves.proofs.Searches.{seek-rename, slot-rename, then-rename}
@@ -51,7 +51,7 @@ use Rattle.heap_calls.proofs.Same.Agreeing.{on_some}
 use Rattle.heap_calls.proofs.Same.NewBlocks.{slot_after, slot_looks, slot-agrees, next, new-agrees, filling}
 use Rattle.heap_calls.proofs.Same.NewBlocks.{filled-same, new_empty_handle-same}
 use Rattle.heap_calls.proofs.Same.Silent.{filled-silent}
-use Rattle.heap_calls.proofs.Went.{Follows, follows-none, given-is, path-names}
+use Rattle.heap_calls.proofs.Went.{Follows, follows-none, given-is, path-names, seek-any, fits-rename}
 
 -- A call that makes a handle: what its path does is what the store did.
 
@@ -89,7 +89,7 @@ kept-more rest rest' now = record {
   window = now.window;
 }
 
-takes-kept : (slot : ℕ) (rest mid rest' : Rest) → Takes slot rest mid → IsRest mid rest' → Takes slot rest rest'
+pub takes-kept : (slot : ℕ) (rest mid rest' : Rest) → Takes slot rest mid → IsRest mid rest' → Takes slot rest rest'
 takes-kept slot rest mid rest' t now = record {
   more = t.more;
   has_more = t.has_more;
@@ -287,33 +287,15 @@ module _ (f g : ℕ → ℕ) (p q : Block → Bool) (spares : (b : Block) → p 
         (slot-rename f g p q spares unused zone)
         ∙ then-rename f g p q spares (seek_slot unused q zone) (slot-names zone)
         (λ z. cond fits (seek (Put (rename_block f g new)) p z) no_room) (λ z. cond fits (seek (Put new) q z) no_room)
-        (λ z. ap (λ r. cond fits r no_room) (seek-rename f g p q spares (Put new) tt z) ∙ either fits (seek (Put new) q z))
-        zone
-      where
-        either : (t : Bool) (r : Sought) → cond t (rename_sought f g r) no_room ≡ rename_sought f g (cond t r no_room)
-        either true r = refl
-        either false r = refl
+        (λ z. ap (λ r. cond fits r no_room) (seek-rename f g p q spares (Put new) tt z) ∙ fits-rename f g fits
+        (seek (Put new) q z)) zone
 
 -- a block that finds no room has any name
 module _ (p : Block → Bool) (a b : Block) (same : size a ≡ size b)
   where
     place-any : (z : List Block) → (seek (Put a) p z).found ≡ false → seek (Put a) p z ≡ seek (Put b) p z
-    place-any z none =
-        let k = purges_for there p z in
-        cases k (there (purge k p z)) none
-        ∙ sym (ap (λ t. sought (purges_for t p z) (t (purge (purges_for t p z) p z)) (Purge (purges_for t p z) ∷ Put b ∷ []))
-        (λ i z. sees z i))
-      where
-        there : List Block → Bool
-        there z = is_some (put_in_place a z)
-
-        sees : (z : List Block) → is_some (put_in_place b z) ≡ there z
-        sees z = is_some-map (filled b) (place (size b) z) ∙ ap (λ n. is_some (place n z)) (sym same)
-            ∙ sym (is_some-map (filled a) (place (size a) z))
-
-        cases : (k : ℕ) (t : Bool) → t ≡ false → sought k t (Purge k ∷ Put a ∷ []) ≡ sought k t (Purge k ∷ Put b ∷ [])
-        cases k true e = let never : true ≡ false = e in cc
-        cases k false e = refl
+    place-any = seek-any p (Put a) (Put b) (λ z. is_some-map (filled b) (place (size b) z)
+        ∙ ap (λ n. is_some (place n z)) (sym same) ∙ sym (is_some-map (filled a) (place (size a) z)))
 
     pub new-any : (unused fits : Bool) (zone : List Block) → (seek_new p unused a fits zone).found ≡ false
         → seek_new p unused a fits zone ≡ seek_new p unused b fits zone

@@ -5,4 +5,3 @@ pub mod Renewing
 pub mod NewSlots
 pub mod Copies
 pub mod CopiedHandles
-pub mod Naming

@@ -1,4 +1,4 @@
-use Rattle.std.proofs.Common.{◌≡◌, ℕ, Bool, List, [], ◌∷◌, ◌++◌, length, map, Option, Some, None, Result, Err}
+use Rattle.std.proofs.Common.{◌≡◌, ℕ, Bool, true, false, List, [], ◌∷◌, ◌++◌, length, map, Option, Some, None, Result, Err}
 use Rattle.std.proofs.Common.{refl, sym, ◌∙◌, ap, subst, cond, is_some}
 use Rattle.std.proofs.lemmas.List.{length-map}
 use Rattle.std.specs.Option.{option_map}
@@ -7,19 +7,20 @@ use Rattle.mac_words.specs.Size.{phys}
 use Rattle.mac_words.specs.declared.code.OsErr.{OsErr}
 use Rattle.mac_words.specs.declared.code.TheConstants.OsErr.{MEM_FULL}
 use Rattle.block_store.specs.Block.{Block, Free, Masters, size, rename, rename_block}
-use Rattle.block_store.specs.Room.{room, put_at_base}
+use Rattle.block_store.specs.Room.{room, purge, put_at_base}
 use Rattle.block_store.specs.Rest.{Rest, counted}
 use Rattle.block_store.specs.declared.sparing.Sparing.TheVariants as sparing
 use Rattle.block_store.proofs.Plain.Counters.{counted-none}
 use Rattle.moves.specs.Moves as moves
-use Rattle.moves.specs.Moves.{Move, Base, Did, did, one, rename_move, rename_did}
-use Rattle.moves.specs.Seeking.{Sought, seek, rename_sought}
+use Rattle.moves.specs.Moves.{Move, Purge, Base, Did, did, moved, one, rename_move, rename_did}
+use Rattle.moves.specs.Seeking.{Sought, no_room, sought, purges_for, seek, rename_sought}
 use Rattle.moves.proofs.Paths.{Along, along-seek}
 use Rattle.moves.proofs.Renamed.{Names, PathNames, did-rename}
 use Rattle.moves.proofs.Searches.{seek-rename}
 use Rattle.heap_calls.specs.State.{State, Memory, Meaning}
 use Rattle.heap_calls.specs.Answer.{nothing}
-use Rattle.heap_calls.specs.Rows.{Done, work, doing_silently, purges_made, reply_of, given, changed, room_for}
+use Rattle.heap_calls.specs.Rows.{Done, work, doing_silently, purges_made, reply_of, given, changed, refused}
+use Rattle.heap_calls.specs.Rows.{room_for, heap_after, purged_by}
 use Rattle.heap_calls.specs.Rows.{more_masters, reserve_mem}
 use Rattle.heap_calls.specs.declared.anchor.Anchor.{Anchor}
 use Rattle.heap_calls.specs.declared.log.Log.{Log}
@@ -94,6 +95,57 @@ follows-none {rest = rest} finds leaves looks none still = record {
   lowers = still ∙ sym (counted-none rest.moves) ∙ ap (counted rest.moves) none;
 }
 
+-- a call that is refused changes nothing, and purges nothing
+pub refused-is : {T : Type 0} (call : State → Done T) (code : OsErr) (value : Memory)
+    → call value.heap ≡ refused code value.heap → doing_silently call value ≡ (Err code, value)
+refused-is {T = T} call code value row =
+    let Answer : Type 0 = Result T OsErr × Memory in
+    let of : Done T → Answer = λ d. (
+      d.reply,
+      record value {
+        heap = heap_after d value.heap;
+        log = record value.log { searches = counted value.log.searches (work d value.heap).searches };
+        moves = counted value.moves (work d value.heap).lowered;
+      },
+    ) in
+    ap of row
+    ∙ ap (λ (k : ℕ). let a : Answer = (
+      Err code,
+      record value {
+        log = record value.log { searches = k };
+        moves = counted value.moves 0;
+      },
+    ) in a) (counted-none value.log.searches)
+    ∙ ap (λ (k : ℕ). let a : Answer = (Err code, record value { moves = k }) in a) (counted-none value.moves)
+
+pub refused-gone : {T : Type 0} (call : State → Done T) (code : OsErr) (s : State) → call s ≡ refused code s
+    → purges_made call s ≡ []
+refused-gone {T = T} call code s row = ap (λ (d : Done T). purged_by d s) row
+
+-- a search that finds no room takes the path of any other that finds none
+pub seek-any : (p : Block → Bool) (m n : Move) → ((z : List Block) → is_some (moved p n z) ≡ is_some (moved p m z))
+    → (zone : List Block) → (seek m p zone).found ≡ false → seek m p zone ≡ seek n p zone
+seek-any p m n sees zone none =
+    cases k (there (purge k p zone)) none
+    ∙ sym (ap (λ t. sought (purges_for t p zone) (t (purge (purges_for t p zone) p zone)) (Purge (purges_for t p zone)
+    ∷ n ∷ [])) (λ i z. sees z i))
+  where
+    there : List Block → Bool
+    there z = is_some (moved p m z)
+
+    k : ℕ
+    k = purges_for there p zone
+
+    cases : (k : ℕ) (t : Bool) → t ≡ false → sought k t (Purge k ∷ m ∷ []) ≡ sought k t (Purge k ∷ n ∷ [])
+    cases k true e = let never : true ≡ false = e in cc
+    cases k false e = refl
+
+-- a search that is made in one case, by names
+pub fits-rename : (f g : ℕ → ℕ) (t : Bool) (r : Sought)
+    → cond t (rename_sought f g r) no_room ≡ rename_sought f g (cond t r no_room)
+fits-rename f g true r = refl
+fits-rename f g false r = refl
+
 -- a path names each block of its moves
 pub path-names : (f g : ℕ → ℕ) (spared : Block → Bool) (path : List Move) (zone : List Block)
     → Along (λ m z. Names f g m) spared path zone → PathNames f g path
@@ -104,6 +156,20 @@ pub seek-names : (f g : ℕ → ℕ) (p : Block → Bool) (m : Move) → Names f
     → PathNames f g (seek m p zone).path
 seek-names f g p m names zone = path-names f g p (seek m p zone).path zone
     (along-seek (λ m z. Names f g m) p (λ n z. tt) (λ k z. tt) m (λ z. names) zone)
+
+-- a call for what isn't found
+module _ {T : Type 0} (zone : List Block) (rest : Rest) (es : List Anchor) (log : Log) (value : Memory)
+    (is : memory_of zone rest es log ≡ value) (call : State → Done T) (code : OsErr)
+    (row : call (state_of zone rest.slots es) ≡ refused code (state_of zone rest.slots es))
+  where
+    row_as : call value.heap ≡ refused code value.heap
+    row_as = subst (λ (m : Memory). call m.heap ≡ refused code m.heap) is row
+
+    pub unfound-is : doing_silently call value ≡ (Err code, value)
+    unfound-is = refused-is call code value row_as
+
+    pub unfound-gone : purges_made call value.heap ≡ []
+    unfound-gone = refused-gone call code value.heap row_as
 
 module _ (zone : List Block) (rest : Rest) (es : List Anchor) (log : Log) (value : Memory)
     (is : memory_of zone rest es log ≡ value) (zone' : List Block) (rest' : Rest)
@@ -222,15 +288,5 @@ module _ (zone : List Block) (rest : Rest) (es : List Anchor) (log : Log) (value
             ∙ ap (λ (m : Memory). purges_made (reserve_mem bytes) m.heap) is
 
 -- and where no block can
-pub reserve-too_large : (bytes : ℕ) (value : Memory) → phys bytes ≡ None
-    → doing_silently (reserve_mem bytes) value ≡ (Err MEM_FULL, value)
-reserve-too_large bytes value large =
-    let answer : Memory → Result (Unit {0}) OsErr × Memory = λ m. (Err MEM_FULL, m) in
-    ap (λ (o : Option ℕ). doing_silently (λ (t : State). changed nothing (room_for o t.zone) t) value) large
-    ∙ ap (λ (k : ℕ). answer (record value { log = record value.log { searches = k }; moves = counted value.moves 0 }))
-    (counted-none value.log.searches)
-    ∙ ap (λ (k : ℕ). answer (record value { moves = k })) (counted-none value.moves)
-
-pub reserve_gone-none : (bytes : ℕ) (s : State) → phys bytes ≡ None → purges_made (reserve_mem bytes) s ≡ []
-reserve_gone-none bytes s large =
-    ap (λ (o : Option ℕ). purges_made (λ (t : State). changed nothing (room_for o t.zone) t) s) large
+pub reserve-row : (bytes : ℕ) (s : State) → phys bytes ≡ None → reserve_mem bytes s ≡ refused MEM_FULL s
+reserve-row bytes s large = ap (λ (o : Option ℕ). changed nothing (room_for o s.zone) s) large

@@ -16,48 +16,48 @@ use Rattle.heap_calls.specs.Inside.{cast, inside, new_inside, number_if}
 use Rattle.heap_calls.specs.Inner.Filling.{IsNext}
 use Rattle.heap_calls.specs.Inner.Numbered.{state_of, memory_of, Agrees}
 use Rattle.heap_calls.proofs.Filled.Owned.{get-last, set-last, owned-answer}
-use Rattle.heap_calls.proofs.NewBlocks.NewHandles.{with_handle}
+use Rattle.heap_calls.specs.Inner.Naming.{entered}
 use Rattle.heap_calls.proofs.Numbering.Roles.{agrees-cast, cast-done, inside-done}
 
 -- New resources one after another.
 
 -- its resource flag is set
 module _ (zone zone' : List Block) (rest rest' : Rest) (es : List Anchor) (slot : ℕ)
-    (agrees : Agrees zone rest (with_handle es slot))
+    (agrees : Agrees zone rest (entered (Some slot) es))
     (now : IsRest (with_slot slot (Used true) rest.unused rest) rest') (same : zone' ≡ zone)
   where
-    at : slice_get (with_handle es slot) (length es) ≡ Some (Handle slot false)
+    at : slice_get (entered (Some slot) es) (length es) ≡ Some (Handle slot false)
     at = get-last es (Handle slot false)
 
-    still : slice_set (with_handle es slot) (length es) (Handle slot false) ≡ with_handle es slot
+    still : slice_set (entered (Some slot) es) (length es) (Handle slot false) ≡ entered (Some slot) es
     still = set-last es (Handle slot false) (Handle slot false)
 
-    pub added-agrees : Agrees zone' rest' (with_handle es slot)
+    pub added-agrees : Agrees zone' rest' (entered (Some slot) es)
     added-agrees =
-        let P : List Block → Type 0 = λ z. Agrees z rest' (with_handle es slot) in
+        let P : List Block → Type 0 = λ z. Agrees z rest' (entered (Some slot) es) in
         let Q : List Anchor → Type 0 = λ l. Agrees zone rest' l in
-        subst P (sym same) (subst Q still (agrees-cast zone rest rest' (with_handle es slot) (length es) slot
+        subst P (sym same) (subst Q still (agrees-cast zone rest rest' (entered (Some slot) es) (length es) slot
         (Used true)
         false agrees at refl now.slots now.unused now.all))
 
-    added-done : (log : Log) → memory_of zone' rest' (with_handle es slot) log
-        ≡ inside (cast (λ _. Resource) (length es)) (memory_of zone rest (with_handle es slot) log)
+    added-done : (log : Log) → memory_of zone' rest' (entered (Some slot) es) log
+        ≡ inside (cast (λ _. Resource) (length es)) (memory_of zone rest (entered (Some slot) es) log)
     added-done log =
-        inside-done (cast (λ _. Resource) (length es)) (memory_of zone rest (with_handle es slot) log) zone zone' rest
-        rest' (with_handle es slot) (with_handle es slot) log refl
-        (cast-done zone rest rest' (with_handle es slot) (length es) slot (Used true) false agrees at refl now.slots
+        inside-done (cast (λ _. Resource) (length es)) (memory_of zone rest (entered (Some slot) es) log) zone zone' rest
+        rest' (entered (Some slot) es) (entered (Some slot) es) log refl
+        (cast-done zone rest rest' (entered (Some slot) es) (length es) slot (Used true) false agrees at refl now.slots
         now.unused now.all (λ _. Resource) refl
         ∙ ap (λ l. state_of zone rest'.slots l) still
-        ∙ ap (λ z. state_of z rest'.slots (with_handle es slot)) (sym same))
+        ∙ ap (λ z. state_of z rest'.slots (entered (Some slot) es)) (sym same))
         now.window now.moves
 
     pub added-next : (flags : Flags) (x : List ℕ) (old : Memory) (log : Log)
-        → new_inside Plain flags x old ≡ (Ok (length es), memory_of zone rest (with_handle es slot) log)
-        → IsNext flags x old (Some (length es)) (memory_of zone' rest' (with_handle es slot) log)
+        → new_inside Plain flags x old ≡ (Ok (length es), memory_of zone rest (entered (Some slot) es) log)
+        → IsNext flags x old (Some (length es)) (memory_of zone' rest' (entered (Some slot) es) log)
     added-next flags x old log is =
-        let new = memory_of zone' rest' (with_handle es slot) log in
+        let new = memory_of zone' rest' (entered (Some slot) es) log in
         let done : new_inside Resource flags x old ≡ (Ok (length es), new) =
-        owned-answer false flags x old (memory_of zone rest (with_handle es slot) log) new (Ok (length es)) is
+        owned-answer false flags x old (memory_of zone rest (entered (Some slot) es) log) new (Ok (length es)) is
         (added-done log) in
         (ap (λ (a : Result ℕ OsErr × Memory). number_if a.0) done, ap (λ (a : Result ℕ OsErr × Memory). a.1) done)
 

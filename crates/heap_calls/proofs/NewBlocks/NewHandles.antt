@@ -1,40 +1,34 @@
 use Rattle.block_store.specs.Slot.{is_used}
-use Rattle.std.proofs.Common.{◌≡◌, ℕ, ◌-◌, ◌*◌, ◌<◌, zero, suc, Bool, true, false, List, [], ◌∷◌, ◌++◌, length}
-use Rattle.std.proofs.Common.{refl, sym, ◌∙◌, ap, subst, map, arith, Option, Some, None, Result}
+use Rattle.std.proofs.Common.{◌≡◌, ℕ, ◌-◌, ◌*◌, ◌<◌, zero, suc, Bool, true, false, List, ◌∷◌, ◌++◌}
+use Rattle.std.proofs.Common.{refl, sym, ◌∙◌, ap, subst, map, arith, Option, Some, None}
 use Rattle.std.proofs.Common.{nat_lt, count_by}
 use Rattle.std.proofs.lemmas.List.{map-append}
 use Rattle.std.proofs.lemmas.Bool.{cond-true, cond-false, false_from_ne_true}
 use Rattle.std.proofs.lemmas.Bool.Decides.{Decides-ltb}
 use Rattle.std.specs.Option.{option_map}
-use Rattle.mac_words.specs.Size.{padded}
-use Rattle.mac_words.specs.declared.code.OsErr.{OsErr}
-use Rattle.block_store.specs.Block.{Block, Masters, Relocatable, size, count, free_of, free_sum, free, rename}
-use Rattle.block_store.specs.Block.{rename_block, is_mover, is_masters, no_flags, tidy}
+use Rattle.block_store.specs.Block.{Block, Masters, size, count, free_of, free_sum, free, rename}
+use Rattle.block_store.specs.Block.{rename_block, is_mover, is_masters, tidy}
 use Rattle.block_store.specs.Run.{low, movers, has_free, change_run}
-use Rattle.block_store.specs.Room.{rename_spot, filled, place, room, purge, count_of, put_at_base, put_in_place}
-use Rattle.block_store.specs.Rest.{Rest, KeepsSlots, counted}
+use Rattle.block_store.specs.Room.{room, put_at_base}
+use Rattle.block_store.specs.Rest.{Rest}
 use Rattle.block_store.specs.Sparing.{spared, opened}
 use Rattle.block_store.specs.declared.sparing.Sparing.{Sparing}
 use Rattle.block_store.proofs.Renamed.Renaming.{size-rename, free_of-rename, free-rename, total-rename, filter-rename}
 use Rattle.block_store.proofs.Renamed.Renaming.{is_mover-rename, tidy-rename, change_run-rename, has_free-rename}
-use Rattle.block_store.proofs.Renamed.Renaming.{place-rename, purge-rename, room-rename, put_in_place-rename}
-use Rattle.block_store.proofs.Plain.Options.{map-none}
-use Rattle.block_store.proofs.Plain.Trials.{least-map}
+use Rattle.block_store.proofs.Renamed.Renaming.{room-rename}
 use Rattle.heap_calls.specs.declared.log.Log.{Log}
 use Rattle.heap_calls.specs.declared.anchor.Anchor.{Anchor}
-use Rattle.heap_calls.specs.declared.anchor.Anchor.TheVariants.{Handle}
 use Rattle.heap_calls.specs.State.{State, Memory, used_slots, all_slots, uses_slot}
-use Rattle.heap_calls.specs.Answer.{Answer, silent, searching}
 use Rattle.heap_calls.specs.Slots.{more_masters, slotted}
-use Rattle.heap_calls.specs.Inner.Search.{tries, placement_searches}
-use Rattle.heap_calls.specs.Searches.{room_searches, slot_searches}
+use Rattle.heap_calls.specs.Inner.Search.{tries}
+use Rattle.heap_calls.specs.Searches.{room_searches}
 use Rattle.heap_calls.specs.Inner.Base.{base_searches}
-use Rattle.heap_calls.specs.Inner.NewSlot.{zone_with_masters, zone_slotted, zone_searches, HasMore}
+use Rattle.heap_calls.specs.Inner.NewSlot.{zone_with_masters, zone_slotted, HasMore}
 use Rattle.heap_calls.specs.Inner.Numbered.{state_of, memory_of, name_of, handle_number, pointer_number, KeepsNonrelocatable}
 use Rattle.heap_calls.specs.Inner.Numbered.{Agrees}
 use Rattle.heap_calls.proofs.NewBlocks.NewSlots.{tries-map, searches-base}
-use Rattle.heap_calls.proofs.Numbering.Changing.{names-same, masters-rename, silent-done, es'}
-use Rattle.heap_calls.proofs.Numbering.Looking.{count_of-rename, room_searches-rename}
+use Rattle.heap_calls.proofs.Numbering.Changing.{names-same, masters-rename, es'}
+use Rattle.heap_calls.proofs.Numbering.Looking.{room_searches-rename}
 
 -- A store's new slots and blocks, seen as the heap's.
 
@@ -76,45 +70,6 @@ pub tries-same : {A B : Type 0} (h : A → B) (a : ℕ → Option B) (b : ℕ �
     → (n : ℕ) → tries a n ≡ tries b n
 tries-same h a b same n = ap (λ f. tries f n) (λ i k. same k i) ∙ tries-map h b n
 
--- the searches for a place of a new block are those for a placement
-pub block_searches-placement : (f g : ℕ → ℕ) (p : Block → Bool) (sparing : Sparing)
-    → ((b : Block) → p (rename_block f g b) ≡ spared sparing b) → (number : ℕ) (bytes : List ℕ) (bs : List Block)
-    → opened sparing bs ≡ bs
-    → room_searches (put_in_place (Relocatable number no_flags bytes)) p (rename f g bs)
-    ≡ placement_searches (padded (length bytes)) sparing bs
-block_searches-placement f g p sparing same number bytes bs closed =
-    tries-map (filled new) (λ k. place (size new) (purge k p (rename f g bs))) (count_of p (rename f g bs))
-    ∙ ap (tries (λ k. place (size new) (purge k p (rename f g bs)))) (count_of-rename f g p (spared sparing) same bs)
-    ∙ tries-same (rename_spot f g) (λ k. place (size new) (purge k p (rename f g bs)))
-    (λ k. place (size new) (purge k (spared sparing) bs))
-    (λ k. ap (place (size new)) (purge-rename f g p (spared sparing) same k bs)
-    ∙ place-rename f g (size new) (purge k (spared sparing) bs)) (count_of (spared sparing) bs)
-    ∙ ap (λ z. tries (λ k. place (size new) (purge k (spared sparing) z)) (count_of (spared sparing) z)) (sym closed)
-  where
-    new : Block
-    new = Relocatable number no_flags bytes
-
--- where one block finds no room, no other of its size does
-pub no_room-any : (sp : Block → Bool) (a b : ℕ) (bytes : List ℕ) (zone : List Block)
-    → room (put_in_place (Relocatable a no_flags bytes)) sp zone ≡ None
-    → room (put_in_place (Relocatable b no_flags bytes)) sp zone ≡ None
-no_room-any sp a b bytes zone none =
-    least-map (filled (Relocatable b no_flags bytes)) (λ k. place (padded (length bytes)) (purge k sp zone))
-    (count_of sp zone)
-    ∙ ap (option_map (filled (Relocatable b no_flags bytes)))
-    (map-none (filled (Relocatable a no_flags bytes)) _ (sym (least-map (filled (Relocatable a no_flags bytes))
-    (λ k. place (padded (length bytes)) (purge k sp zone)) (count_of sp zone)) ∙ none))
-
-pub no_room-rename : (f g : ℕ → ℕ) (p q : Block → Bool) → ((b : Block) → p (rename_block f g b) ≡ q b)
-    → (slot number : ℕ) (bytes : List ℕ) (zone : List Block) → room (put_in_place (Relocatable slot no_flags bytes)) q
-    zone ≡ None
-    → room (put_in_place (Relocatable number no_flags bytes)) p (rename f g zone) ≡ None
-no_room-rename f g p q same slot number bytes zone none =
-    no_room-any p (f slot) number bytes (rename f g zone)
-    (room-rename f g p q (put_in_place (Relocatable (f slot) no_flags bytes))
-    (put_in_place (Relocatable slot no_flags bytes)) same (put_in_place-rename f g
-    (Relocatable slot no_flags bytes)) zone ∙ ap (option_map (rename f g)) none)
-
 -- the names of a store that has more slots
 pub names-more : {zone : List Block} (rest more : Rest) (es : List Anchor) → Agrees zone rest es → HasMore rest more
     → map (name_of more.slots) es ≡ map (name_of rest.slots) es
@@ -135,18 +90,6 @@ agrees-more zone' rest more es agrees nonrelocatable has = record {
       omega (arith, has.counts);
   masters = let a = agrees.masters in omega (arith, has.grows);
 }
-
-pub state-more : {before : List Block} (zone : List Block) (rest more : Rest) (es : List Anchor) → Agrees before rest es
-    → HasMore rest more → state_of zone more.slots es ≡ state_of zone rest.slots es
-state-more zone rest more es agrees has =
-    ap (λ l. let s : State = record { zone = rename (handle_number es) (pointer_number es) zone; names = l } in
-    s) (names-more rest more es agrees has)
-
-pub state-kept : (zone : List Block) (rest rest' : Rest) (es : List Anchor) → KeepsSlots rest rest'
-    → state_of zone rest'.slots es ≡ state_of zone rest.slots es
-state-kept zone rest rest' es now =
-    ap (λ l. let s : State = record { zone = rename (handle_number es) (pointer_number es) zone; names = l } in
-    s) (names-same rest.slots rest'.slots es (λ h s g at. now.slots s))
 
 -- a slot of the heap is one of its store
 module _ (zone : List Block) (rest : Rest) (es : List Anchor) (masters : rest.all ≡ 64 * count is_masters zone)
@@ -208,34 +151,6 @@ module _ (zone : List Block) (rest : Rest) (es : List Anchor) (masters : rest.al
         room_searches-rename f g sp (spared sparing) same (put_at_base (rename_block f g new)) (put_at_base new)
         (put_at_base-rename f g new) zone
         ∙ ap (room_searches (put_at_base new) (spared sparing)) (sym closed) ∙ searches-base new sparing zone
-
-    pub slot_searches-is : slot_searches sp s ≡ zone_searches sparing rest.unused zone
-    slot_searches-is = cases rest.unused refl
-      where
-        cases : (n : ℕ) → rest.unused ≡ n → slot_searches sp s ≡ zone_searches sparing n zone
-        cases zero e = cond-false {A = ℕ} (nat_lt (used_slots s) (all_slots s)) 0 _ (none-left e)
-            ∙ base_searches-is Masters
-        cases (suc n) e = cond-true {A = ℕ} (nat_lt (used_slots s) (all_slots s)) 0 _ (some-left n e)
-
--- what a call that searches for room gives, told of the whole heap
-pub searched-done : {T : Type 0} (row : State → Answer T) (looks : State → ℕ) (value : Memory) (zone zone' : List Block)
-    (rest rest' : Rest) (es es' : List Anchor) (log log' : Log) (r : Result T OsErr) (n : ℕ)
-    → memory_of zone rest es log ≡ value → row (state_of zone rest.slots es) ≡ (r, state_of zone' rest'.slots es')
-    → rest'.window ≡ rest.window → rest'.moves ≡ rest.moves
-    → n ≡ looks (state_of zone rest.slots es) → log' ≡ record log { searches = counted log.searches n }
-    → searching (looks value.heap) (silent row value) ≡ (r, memory_of zone' rest' es' log')
-searched-done {T = T} row looks value zone zone' rest rest' es es' log log' r n is done window moves some now =
-    let P : Memory → Type 0 = λ m. searching (looks m.heap) (silent {T = T} row m)
-    ≡ (r, memory_of zone' rest' es' log') in
-    subst P is
-    (ap (searching (looks (state_of zone rest.slots es))) (silent-done row (memory_of zone rest es log) zone zone' rest
-    rest' es es' log r refl done window moves)
-    ∙ ap (λ (k : ℕ). (r, memory_of zone' rest' es' (record log { searches = counted log.searches k }))) (sym some)
-    ∙ ap (λ (l : Log). (r, memory_of zone' rest' es' l)) (sym now))
-
--- the entries with a new handle
-abbrev pub with_handle : List Anchor → ℕ → List Anchor
-with_handle es slot = es ++ Handle slot false ∷ []
 
 -- all but the zone is what it was, where the host had no memory, and how many blocks were moved
 pub kept-memory : (value : Memory) (zone zone' : List Block) (rest rest' : Rest) (es es' : List Anchor) (log : Log)

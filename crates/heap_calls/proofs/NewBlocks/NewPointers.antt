@@ -1,6 +1,6 @@
 use Rattle.block_store.specs.Slot.{is_used}
 use Rattle.std.proofs.Common.{◌≡◌, ℕ, ◌+◌, ◌-◌, Bool, true, false, ◌||◌, List, [], ◌∷◌, ◌++◌, length, refl, sym}
-use Rattle.std.proofs.Common.{◌∙◌, ap, cond, map, arith, Option, Some, None, Ok, Err, slice_get, count_by}
+use Rattle.std.proofs.Common.{◌∙◌, ap, cond, map, arith, Option, Some, None, slice_get, count_by}
 use Rattle.std.proofs.Common.{subst, ◌⊎◌, inl, inr, is_some}
 use Rattle.std.proofs.lemmas.List.{map_push, length-map, length-replicate}
 use Rattle.std.proofs.lemmas.List.Sums.{sum_by_push}
@@ -9,7 +9,6 @@ use Rattle.std.proofs.lemmas.Bool.{false_from_ne_true}
 use Rattle.std.specs.Option.{option_map, IfSome, IsSomeAnd}
 use Rattle.std.specs.Bool.{IsTrue}
 use Rattle.mac_words.specs.Size.{phys, padded}
-use Rattle.mac_words.specs.declared.code.TheConstants.OsErr.{MEM_FULL}
 use Rattle.block_store.specs.Block.{Block, Free, size, rename, is_nonrelocatable, is_room, tidy}
 use Rattle.block_store.specs.Run.{has}
 use Rattle.block_store.specs.Compact.{Placed}
@@ -17,16 +16,36 @@ use Rattle.block_store.specs.Rest.{Rest, KeepsSlots}
 use Rattle.block_store.specs.Room.{Spot, spot_at, filled, room, put_at_base}
 use Rattle.block_store.specs.declared.sparing.Sparing.TheVariants as sparing
 use Rattle.block_store.proofs.Zone.Apart.{apart-tidied}
-use Rattle.block_store.proofs.Renamed.Renaming.{room-rename, rename_run_spot}
 use Rattle.block_store.proofs.Zone.Tidy.{spot-passes}
 use Rattle.block_store.proofs.Nonrelocatable.Counts.{not_nonrelocatable-room}
 use Rattle.heap_calls.specs.State.{State, Memory, Meaning, uses_slot}
 use Rattle.heap_calls.specs.State as names
-use Rattle.heap_calls.specs.Answer.{nothing, given, refused}
+use Rattle.heap_calls.specs.Answer.{nothing}
 use Rattle.heap_calls.specs.Inner.Base.{IsBaseAt, base, base_searches}
 use Rattle.heap_calls.specs.Inner.NewPointer.{fresh_nonrelocatable, nonrelocatable_searches, IsNonrelocatablePut}
-use Rattle.heap_calls.proofs.Tables.Replies.{new_pointer}
-use Rattle.heap_calls.proofs.Tables.Searches.{new_pointer_searches}
+use Rattle.mac_words.proofs.Plain.{is_some-map}
+use Rattle.std.specs.Prelude.{unwrap_or}
+use Rattle.block_store.specs.Run.{run_spot, has_free}
+use Rattle.block_store.specs.Rest.{counted}
+use Rattle.moves.specs.Moves.{Base}
+use Rattle.moves.specs.Seeking.{Sought, no_room, seek, if_fits, rename_sought}
+use Rattle.moves.proofs.Paths.{along-if, along-seek}
+use Rattle.moves.proofs.Renamed.{Names, PathNames}
+use Rattle.moves.proofs.Searches.{seek-rename}
+use Rattle.heap_calls.specs.declared.log.Log.{Log}
+use Rattle.heap_calls.specs.Gone.{room_gone}
+use Rattle.heap_calls.specs.Rows.{doing_silently, purges_made, reply_of, given, new_pointer}
+use Rattle.heap_calls.specs.Searches.{room_searches}
+use Rattle.heap_calls.specs.Inner.NewPointer.{IsNewNonrelocatable}
+use Rattle.heap_calls.specs.Inner.Numbered.{memory_of}
+use Rattle.heap_calls.specs.Inner.Packed.{KeepsAllButPlaced}
+use Rattle.heap_calls.specs.Inner.Telling.{base_gone, pointer_gone}
+use Rattle.heap_calls.proofs.GoneBlocks.{base_gone-any}
+use Rattle.heap_calls.proofs.Numbering.Changing.{slots_kept}
+use Rattle.heap_calls.proofs.NewBlocks.NewSlots.{put_at_base-is}
+use Rattle.heap_calls.proofs.Same.Agreeing.{fits-agrees}
+use Rattle.heap_calls.proofs.Same.NewBlocks.{base-agrees}
+use Rattle.heap_calls.proofs.Went.{Follows, follows-none, given-is, path-names, seek-any, fits-rename}
 use Rattle.heap_calls.specs.declared.anchor.Anchor.{Anchor}
 use Rattle.heap_calls.specs.declared.anchor.Anchor.TheVariants.{Handle, Pointer}
 use Rattle.heap_calls.specs.Inner.Numbered.{state_of, name_of, handle_number, pointer_number, leads_to, points_to}
@@ -36,9 +55,7 @@ use Rattle.heap_calls.proofs.Numbering.Changing.{number_from-push, number_from-n
 use Rattle.heap_calls.proofs.Numbering.Changing.{spot_at-is}
 use Rattle.heap_calls.proofs.Room.Staying.{nonrelocatable-tidy}
 use Rattle.heap_calls.proofs.Numbering.Pointing.{nonrelocatable-there, points_to-is, rename_pointer-unless, rename_slots-same}
-use Rattle.heap_calls.proofs.NewBlocks.Basing.{base-rename, base_searches-rename}
 use Rattle.heap_calls.proofs.NewBlocks.NewSlots.{at_base, room-base, searches-base}
-use Rattle.heap_calls.proofs.NewBlocks.NewHandles.{put_at_base-rename}
 
 -- New pointers.
 
@@ -127,48 +144,6 @@ nonrelocatable-put n bytes fits even zone zone' after o place is at placed tidie
     either true = refl
     either false = refl
 
--- the searches for room see no names
-pub new_pointer_searches-is : (n : ℕ) (zone : List Block) (rest : Rest) (es : List Anchor)
-    → new_pointer_searches n (state_of zone rest.slots es) ≡ nonrelocatable_searches n zone
-new_pointer_searches-is n zone rest es =
-    ap (λ k. cond (is_some (phys n)) k 0)
-    (searches-base (fresh_nonrelocatable number n) sparing.Nothing (rename (handle_number es) (pointer_number es) zone)
-    ∙ base_searches-rename (handle_number es) (pointer_number es) (size (fresh_nonrelocatable number n)) zone
-    ∙ ap (λ p. base_searches p sparing.Nothing zone) (ap padded (length-replicate n 0)))
-  where
-    number : ℕ
-    number = length (map (name_of rest.slots) es)
-
--- no block can be made
-pub new_pointer-refused : (n : ℕ) (zone : List Block) (rest : Rest) (es : List Anchor)
-    → (phys n ≡ None) ⊎ (base (padded n) sparing.Nothing zone ≡ None)
-    → new_pointer n (state_of zone rest.slots es) ≡ (Err MEM_FULL, state_of zone rest.slots es)
-new_pointer-refused n zone rest es why = refuse why
-  where
-    s : State
-    s = state_of zone rest.slots es
-
-    new : Block
-    new = fresh_nonrelocatable (length s.names) n
-
-    either : (t : Bool) → cond t (refused {T = ℕ} MEM_FULL s) (refused {T = ℕ} MEM_FULL s) ≡ refused {T = ℕ} MEM_FULL s
-    either true = refl
-    either false = refl
-
-    full : base (padded n) sparing.Nothing zone ≡ None → room (put_at_base new) nothing s.zone ≡ None
-    full none =
-        room-base new sparing.Nothing s.zone
-        ∙ ap (λ p. option_map (at_base new) (base p sparing.Nothing s.zone))
-        (fresh-size n (padded n) refl (length s.names))
-        ∙ ap (option_map (at_base new)) (base-rename (handle_number es) (pointer_number es) (padded n) zone
-        ∙ ap (option_map (rename_run_spot (handle_number es) (pointer_number es))) none)
-
-    refuse : (phys n ≡ None) ⊎ (base (padded n) sparing.Nothing zone ≡ None) → new_pointer n s ≡ refused MEM_FULL s
-    refuse (inl large) = ap (λ o. cond (is_some o) (given names.Pointer (room (put_at_base new) nothing s.zone) s)
-        (refused MEM_FULL s)) large
-    refuse (inr none) = ap (λ o. cond (is_some (phys n)) (given names.Pointer o s) (refused MEM_FULL s)) (full none)
-        ∙ either (is_some (phys n))
-
 -- the names of a heap with a pointer more
 module _ (zone zone' : List Block) (rest rest' : Rest) (es : List Anchor) (n place : ℕ) (agrees : Agrees zone rest es)
     (now : KeepsSlots rest rest') (put : IsNonrelocatablePut n place zone zone')
@@ -242,39 +217,118 @@ module _ (zone zone' : List Block) (rest rest' : Rest) (es : List Anchor) (n pla
         old h s g at = elim (slice_get-push es (Pointer place) h (Handle s g) at)
             [ inl found ↦ found | inr new ↦ absurd (not_pointer s place g new.1) ]
 
-    -- the answer of NewPtr, where its block was put at the base of a run
-    pub new_pointer-done : new_pointer n (state_of zone rest.slots es)
-        ≡ (Ok (length es), state_of zone' rest'.slots with_pointer)
-    new_pointer-done =
-        ap (λ t. cond t (given names.Pointer (room (put_at_base (fresh_nonrelocatable (length (map (name_of rest.slots) es)) n))
-        nothing (rename (handle_number es) (pointer_number es) zone)) (state_of zone rest.slots es))
-        (refused MEM_FULL (state_of zone rest.slots es))) put.fits
-        ∙ ap (λ o. given names.Pointer o (state_of zone rest.slots es)) made
-        ∙ ap (λ k. (
-          Ok k,
-          record {
-            zone = rename (handle_number with_pointer) (pointer_number with_pointer) zone';
-            names = map (name_of rest.slots) es ++ names.Pointer ∷ [];
-          },
-        )) (length-map es (name_of rest.slots))
-        ∙ ap (λ l. (
-          Ok (length es),
-          record {
-            zone = rename (handle_number with_pointer) (pointer_number with_pointer)
-                zone';
-            names = l;
-          },
-        )) (sym names-more)
+-- the entries with the new pointer, if one was had
+abbrev pub pointed : Option ℕ → List Anchor → List Anchor
+pointed None es = es
+pointed (Some place) es = es ++ Pointer place ∷ []
+
+-- What NewPtr answers and purges.
+module _ (zone : List Block) (rest : Rest) (es : List Anchor) (log : Log) (value : Memory)
+    (is : memory_of zone rest es log ≡ value) (n : ℕ)
+  where
+    abbrev s : State
+    s = state_of zone rest.slots es
+
+    abbrev new : ℕ → Block
+    new k = fresh_nonrelocatable k n
+
+    abbrev seek_it : ℕ → List Block → Sought
+    seek_it k z = if_fits n (seek (Base (new k)) nothing z)
+
+    abbrev after : ℕ → Option (List Block)
+    after k = cond (is_some (phys n)) (room (put_at_base (new k)) nothing zone) None
+
+    named : (f g : ℕ → ℕ) (k : ℕ) → seek_it (g k) (rename f g zone) ≡ rename_sought f g (seek_it k zone)
+    named f g k = ap (if_fits n) (seek-rename f g nothing nothing (λ b. refl) (Base (new k)) tt zone)
+        ∙ fits-rename f g (is_some (phys n)) (seek (Base (new k)) nothing zone)
+
+    path-named : (f g : ℕ → ℕ) (k : ℕ) → PathNames f g (seek_it k zone).path
+    path-named f g k = path-names f g nothing (seek_it k zone).path zone
+        (along-if (λ m z. Names f g m) nothing (is_some (phys n)) (seek (Base (new k)) nothing zone) zone
+        (along-seek (λ m z. Names f g m) nothing (λ n z. tt) (λ k z. tt) (Base (new k)) (λ z. tt) zone))
+
+    -- a block that finds no room has any name
+    any : (a b : ℕ) (z : List Block) → (seek_it a z).found ≡ false → seek_it a z ≡ seek_it b z
+    any a b z = cases (is_some (phys n))
       where
-        made : room (put_at_base (fresh_nonrelocatable (length (map (name_of rest.slots) es)) n)) nothing
-            (rename (handle_number es) (pointer_number es) zone) ≡ Some
-            (rename (handle_number with_pointer) (pointer_number with_pointer) zone')
-        made =
-            ap (λ k. room (put_at_base (fresh_nonrelocatable k n)) nothing (rename (handle_number es) (pointer_number es) zone))
-            (length-map es (name_of rest.slots) ∙ sym place-now)
-            ∙ ap (room (put_at_base (fresh_nonrelocatable (pointer_number with_pointer place) n)) nothing) (sym pointers-kept)
-            ∙ room-rename (handle_number with_pointer) (pointer_number with_pointer) nothing nothing
-            (put_at_base (fresh_nonrelocatable (pointer_number with_pointer place) n)) (put_at_base (fresh_nonrelocatable place n))
-            (λ b. refl)
-            (put_at_base-rename (handle_number with_pointer) (pointer_number with_pointer) (fresh_nonrelocatable place n)) zone
-            ∙ ap (option_map (rename (handle_number with_pointer) (pointer_number with_pointer))) put.put
+        sees : (y : List Block) → is_some (put_at_base (new b) y) ≡ is_some (put_at_base (new a) y)
+        sees y = ap is_some (put_at_base-is (new b) y) ∙ is_some-map (at_base (new b)) (run_spot (has_free (size (new b))) y)
+            ∙ sym (ap is_some (put_at_base-is (new a) y)
+            ∙ is_some-map (at_base (new a)) (run_spot (has_free (size (new a))) y))
+
+        cases : (t : Bool) → (cond t (seek (Base (new a)) nothing z) no_room).found ≡ false
+            → cond t (seek (Base (new a)) nothing z) no_room ≡ cond t (seek (Base (new b)) nothing z) no_room
+        cases true none = seek-any nothing (Base (new a)) (Base (new b)) sees z none
+        cases false none = refl
+
+    module _ (zone' : List Block) (rest' : Rest) (m : ℕ) (kept : KeepsAllButPlaced rest rest')
+        (looks : m ≡ nonrelocatable_searches n zone)
+      where
+        follows : (k : ℕ) (o : Option ℕ) → is_some (after k) ≡ is_some o → zone' ≡ unwrap_or (after k) zone
+            → Follows nothing zone (seek_it k zone) (is_some o) m zone' rest rest'
+        follows k o finds leaves =
+            let a = fits-agrees n (room (put_at_base (new k)) nothing zone) (room_searches (put_at_base (new k)) nothing zone)
+            0 (room_gone 0 (put_at_base (new k)) nothing zone) (seek (Base (new k)) nothing zone)
+            (base-agrees 0 nothing (new k) zone) in
+            follows-none (sym finds ∙ a.finds) (leaves ∙ a.leaves)
+            (looks ∙ ap (λ j. cond (is_some (phys n)) j 0) (ap (λ p. base_searches p sparing.Nothing zone)
+            (sym (fresh-size n (padded n) refl k)) ∙ sym (searches-base (new k) sparing.Nothing zone)) ∙ a.looks)
+            (none (is_some (phys n)) ∙ a.lowers) kept.moves
+          where
+            none : (t : Bool) → 0 ≡ cond {A = ℕ} t 0 0
+            none true = refl
+            none false = refl
+
+        abbrev after_it : Option ℕ → Memory
+        after_it o = memory_of zone' rest' (pointed o es) (record log { searches = counted log.searches m })
+
+        same-names : map (name_of rest'.slots) es ≡ map (name_of rest.slots) es
+        same-names = names-same rest.slots rest'.slots es (λ h s g at. kept.slots s)
+
+        pub pointer-answer : Agrees zone rest es → (o : Option ℕ) → IsNewNonrelocatable n zone o zone'
+            → doing_silently (new_pointer n) value ≡ (reply_of (is_some o) (length es), after_it o)
+        pointer-answer agrees None put =
+            let f = handle_number es in
+            let g = pointer_number es in
+            let none = no_place put.1 in
+            let did = follows 0 None (ap is_some none) (put.0 ∙ sym (ap (λ o. unwrap_or o zone) none)) in
+            given-is zone rest es log value is zone' rest' (new_pointer n) names.Pointer nothing nothing es (λ b. refl)
+            (seek_it 0 zone) (path-named f g 0) refl
+            (ap (λ r. given names.Pointer nothing r s) (sym (any (g 0) (length s.names) s.zone
+            (ap (λ (r : Sought). r.found) (named f g 0) ∙ sym did.finds)) ∙ named f g 0)) false m did same-names kept.window
+          where
+            no_place : (phys n ≡ None) ⊎ (base (padded n) sparing.Nothing zone ≡ None) → after 0 ≡ None
+            no_place (inl large) = ap (λ o. cond (is_some o) (room (put_at_base (new 0)) nothing zone) None) large
+            no_place (inr none) = ap (λ o. cond (is_some (phys n)) o None) (room-base (new 0) sparing.Nothing zone
+                ∙ ap (λ p. option_map (at_base (new 0)) (base p sparing.Nothing zone)) (fresh-size n (padded n) refl 0)
+                ∙ ap (option_map (at_base (new 0))) none) ∙ either (is_some (phys n))
+              where
+                either : (t : Bool) → cond {A = Option (List Block)} t None None ≡ None
+                either true = refl
+                either false = refl
+        pointer-answer agrees (Some place) put =
+            let now = slots_kept rest rest' kept in
+            let es' = es ++ Pointer place ∷ [] in
+            let f = handle_number es' in
+            let g = pointer_number es' in
+            let there : after place ≡ Some zone' =
+            ap (λ t. cond t (room (put_at_base (new place)) nothing zone) None) put.fits ∙ put.put in
+            let same = pointers-kept zone zone' rest rest' es n place agrees now put in
+            given-is zone rest es log value is zone' rest' (new_pointer n) names.Pointer nothing nothing es' (λ b. refl)
+            (seek_it place zone) (path-named f g place) same
+            (ap (λ r. given names.Pointer nothing r s) (ap (λ k. seek_it k s.zone) (length-map es (name_of rest.slots)
+            ∙ sym (place-now zone zone' rest rest' es n place agrees now put)) ∙ ap (seek_it (g place)) (sym same)
+            ∙ named f g place)) true m
+            (follows place (Some place) (ap is_some there) (sym (ap (λ o. unwrap_or o zone) there)))
+            (names-more zone zone' rest rest' es n place agrees now put) kept.window
+
+    pub pointer-gone : pointer_gone es n zone ≡ purges_made (new_pointer n) value.heap
+    pointer-gone =
+        let k = length s.names in
+        ap (λ l. cond (is_some (phys n)) l [])
+        (ap (λ p. base_gone es p sparing.Nothing zone) (sym (fresh-size n (padded n) refl k))
+        ∙ base_gone-any zone rest.slots es (new k))
+        ∙ (fits-agrees n (room (put_at_base (new k)) nothing s.zone) (room_searches (put_at_base (new k)) nothing s.zone) 0
+        (room_gone k (put_at_base (new k)) nothing s.zone) (seek (Base (new k)) nothing s.zone)
+        (base-agrees k nothing (new k) s.zone)).tells
+        ∙ ap (λ (m : Memory). purges_made (new_pointer n) m.heap) is

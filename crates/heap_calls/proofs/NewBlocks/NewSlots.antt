@@ -36,7 +36,7 @@ tries-map f answer (suc n) = ap (λ m. cond (is_some (option_map f (answer 0))) 
 abbrev pub at_base : Block → RunSpot → List Block
 at_base new r = tidy (with_run (low new) r)
 
-put_at_base-is : (new : Block) (zone : List Block) → put_at_base new zone
+pub put_at_base-is : (new : Block) (zone : List Block) → put_at_base new zone
     ≡ option_map (at_base new) (run_spot (has_free (size new)) zone)
 put_at_base-is new zone = cases (run_spot (has_free (size new)) zone)
   where

@@ -15,21 +15,20 @@ use Rattle.heap_calls.specs.declared.log.Log.{Log}
 use Rattle.mac_words.specs.declared.code.TheConstants.OsErr.{PROFILE}
 use Rattle.block_store.specs.Block.{Block, Free, Nonrelocatable, Masters, Relocatable, size, count, free_sum, free_of, rename}
 use Rattle.block_store.specs.Block.{rename_block, is_nonrelocatable, is_relocatable, is_room, content_of, with_content}
-use Rattle.block_store.specs.Block.{is_masters, tidy, no_flags}
+use Rattle.block_store.specs.Block.{is_masters, tidy}
 use Rattle.memory_windows.specs.Writes.{written}
 use Rattle.block_store.specs.Run.{has}
 use Rattle.block_store.specs.Slot.{Slot, Unused, Used, set_slot, AreSlots, is_used}
 use Rattle.block_store.specs.Rest.{Rest, IsRest, KeepsSlots, with_placed}
 use Rattle.heap_calls.specs.Inner.Packed.{KeepsAllButPlaced}
-use Rattle.block_store.specs.Room.{Spot, spot_at, raised, rename_spot, filled, room, put_in_place}
+use Rattle.block_store.specs.Room.{Spot, spot_at, raised, rename_spot, filled}
 use Rattle.block_store.specs.Grow.{freed}
-use Rattle.block_store.proofs.Renamed.Renaming.{total-rename, free_of-rename, freed-rename, tidy-rename, room-rename}
-use Rattle.block_store.proofs.Renamed.Renaming.{put_in_place-rename}
+use Rattle.block_store.proofs.Renamed.Renaming.{total-rename, free_of-rename, freed-rename, tidy-rename}
 use Rattle.block_store.proofs.Zone.Tidy.{rename-unless, rename_nonrelocatable-unless, has-released}
 use Rattle.block_store.proofs.Nonrelocatable.Counts.{not_nonrelocatable-room}
 use Rattle.heap_calls.specs.State.{State, Memory, CountedMemory, Meaning, Role, Plain, Resource, used_slots, all_slots, uses_slot}
 use Rattle.heap_calls.specs.State as names
-use Rattle.heap_calls.specs.Answer.{Answer, Held, given, refused, without, written_at, for_found}
+use Rattle.heap_calls.specs.Answer.{Answer, Held, refused, without, written_at, for_found}
 use Rattle.heap_calls.specs.Answer.{silent}
 use Rattle.heap_calls.specs.declared.anchor.Anchor.{Anchor}
 use Rattle.heap_calls.specs.declared.anchor.Anchor.TheVariants.{Handle, Pointer, Disposed}
@@ -38,7 +37,6 @@ use Rattle.heap_calls.proofs.Numbering.Memories.{counted_as}
 use Rattle.heap_calls.specs.Inner.Numbered.{leads_to, points_to, no_number, role_of, KeepsNonrelocatable, Agrees}
 use Rattle.heap_calls.proofs.Numbering.Answering.{content_of-rename, with_content-rename, held}
 use Rattle.heap_calls.proofs.Room.Staying.{nonrelocatable-released, nonrelocatable-filled}
-use Rattle.heap_calls.proofs.Tables.Replies.{new_block}
 use Rattle.heap_calls.proofs.Numbering.Numbers.{is_relocatable-number, leads_to-same, leads_to-is, flipped}
 
 -- an entry that doesn't pass changes no number
@@ -226,44 +224,6 @@ module _ {before : List Block} (zone : List Block) (rest rest' : Rest) (es : Lis
 
         clash : (h s : ℕ) (g : Bool) → slice_get es h ≡ Some (Handle s g) → s ≡ slot → ⊥
         clash h s g found is = unused-not_used (rest.slots s) (ap rest.slots is ∙ was) (agrees.used h s g found)
-
-    -- a new handle over another zone
-    pub handle-given : (zone' : List Block) → given (names.Handle Plain)
-        (Some (rename (handle_number es') (pointer_number es') zone')) (state_of zone rest.slots es)
-        ≡ (Ok (length es), state_of zone' rest'.slots es')
-    handle-given zone' =
-        ap (λ k. (
-          Ok k,
-          record {
-            zone = rename (handle_number es') (pointer_number es') zone';
-            names = map
-                (name_of rest.slots) es ++ names.Handle Plain ∷ [];
-          },
-        )) (length-map es (name_of rest.slots))
-        ∙ ap (λ l. (Ok (length es), record { zone = rename (handle_number es') (pointer_number es') zone'; names = l }))
-        (sym names-now)
-
-    -- a new handle whose block was put in its place
-    pub block-given : (sp t : Block → Bool) → ((b : Block) → sp
-        (rename_block (handle_number es') (pointer_number es') b) ≡ t b) → (bytes : List ℕ) (zone' : List Block)
-        → room (put_in_place (Relocatable slot no_flags bytes)) t zone ≡ Some zone'
-        → new_block sp bytes (state_of zone rest.slots es) ≡ (Ok (length es), state_of zone' rest'.slots es')
-    block-given sp t same bytes zone' done = ap (λ o. given (names.Handle Plain) o (state_of zone rest.slots es)) put
-        ∙ handle-given zone'
-      where
-        put : room (put_in_place (Relocatable (length (map (name_of rest.slots) es)) no_flags bytes)) sp
-            (rename (handle_number es) (pointer_number es) zone) ≡ Some
-            (rename (handle_number es') (pointer_number es') zone')
-        put =
-            ap (λ k. room (put_in_place (Relocatable k no_flags bytes)) sp
-            (rename (handle_number es) (pointer_number es) zone))
-            (length-map es (name_of rest.slots) ∙ sym number-now)
-            ∙ ap (room (put_in_place (Relocatable (handle_number es' slot) no_flags bytes)) sp) (sym zone-kept)
-            ∙ room-rename (handle_number es') (pointer_number es') sp t
-            (put_in_place (Relocatable (handle_number es' slot) no_flags bytes))
-            (put_in_place (Relocatable slot no_flags bytes)) same
-            (put_in_place-rename (handle_number es') (pointer_number es') (Relocatable slot no_flags bytes)) zone
-            ∙ ap (option_map (rename (handle_number es') (pointer_number es'))) done
 
 -- a name that stays where one is disposed of is another
 pub without-other : (es : List Anchor) (h : ℕ) (old : Anchor) → slice_get es h ≡ Some old → (k : ℕ) (x : Anchor)

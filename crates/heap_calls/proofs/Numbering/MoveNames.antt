@@ -1,17 +1,15 @@
-use Rattle.std.proofs.Common.{◌≡◌, ℕ, ◌+◌, ◌-◌, zero, suc, Bool, ◌&&◌, List, [], ◌∷◌, length, refl, sym, ◌∙◌, ap}
+use Rattle.std.proofs.Common.{◌≡◌, ℕ, ◌+◌, ◌-◌, zero, suc, Bool, ◌&&◌, List, [], ◌∷◌, length, refl, ◌∙◌, ap}
 use Rattle.std.proofs.Common.{cond, map, Option, Some, None, is_some, nat_le}
 use Rattle.std.proofs.lemmas.List.{length-map}
 use Rattle.std.specs.Option.{option_map}
-use Rattle.mac_words.specs.Size.{phys, padded}
+use Rattle.mac_words.specs.Size.{phys}
 use Rattle.block_store.specs.Block.{Block, Free, Nonrelocatable, Masters, Relocatable, size, rename, rename_block}
-use Rattle.block_store.specs.Block.{is_mover, is_room, no_flags, resized}
+use Rattle.block_store.specs.Block.{is_mover, is_room, resized}
 use Rattle.block_store.specs.Run.{RunSpot, run_spot, runs, has, has_free, high}
 use Rattle.block_store.specs.Room.{Spot, rename_spot, spot, place, purge, put_in_place}
 use Rattle.block_store.specs.Grow.{growth, grow_up, grow_mover}
 use Rattle.block_store.specs.Compact.{lowered_in_runs, runs_settled}
-use Rattle.block_store.specs.Sparing.{spared, opened}
 use Rattle.block_store.specs.Rest.{lowered_in_run}
-use Rattle.block_store.specs.declared.sparing.Sparing.{Sparing}
 use Rattle.block_store.proofs.Renamed.Renaming.{size-rename, total-rename, is_mover-rename, is_room-rename, spot-rename}
 use Rattle.block_store.proofs.Renamed.Renaming.{run_spot-rename, rename_run_spot, has-rename, has_free-rename}
 use Rattle.block_store.proofs.Renamed.Renaming.{place-rename, purge-rename, put_in_place-rename, grow_up-rename}
@@ -20,14 +18,11 @@ use Rattle.block_store.proofs.Renamed.GrowRenaming.{resized-rename}
 use Rattle.mac_words.proofs.Plain.{is_some-map}
 use Rattle.heap_calls.specs.Moves.{run_moves, as_it_is, place_moves, mover_moves, grow_moves, room_moves, put_moves}
 use Rattle.heap_calls.specs.Moves.{growth_moves, size_moves, all_moves}
-use Rattle.heap_calls.specs.Inner.Packed.{placement_moves}
 use Rattle.heap_calls.specs.Purging.{purged_all}
-use Rattle.heap_calls.specs.Inner.Search.{placement_searches}
 use Rattle.heap_calls.specs.Searches.{room_searches, resized_at}
 use Rattle.heap_calls.proofs.Numbering.Hoisting.{high-rename}
 use Rattle.heap_calls.proofs.Numbering.Largest.{runs-rename, runs_settled-rename}
 use Rattle.heap_calls.proofs.Numbering.Looking.{room_searches-rename}
-use Rattle.heap_calls.proofs.NewBlocks.NewHandles.{block_searches-placement}
 use Rattle.heap_calls.proofs.Numbering.PurgeTrials.{purged_all-rename}
 
 -- How many blocks packing moves down sees no names.
@@ -163,18 +158,3 @@ module _ (f g : ℕ → ℕ)
                 ap {B = ℕ} (λ (m : ℕ). cond (is_some (phys n)) m 0)
                 (ap (λ o. growth_moves t p (resized_at n o) (rename f g zone) o) (spot-rename f g t u same zone)
                 ∙ growth_moves-rename n zone (spot u zone))
-
--- for a place of a new block
-pub block_moves-placement : (f g : ℕ → ℕ) (p : Block → Bool) (nd : Sparing)
-    → ((b : Block) → p (rename_block f g b) ≡ spared nd b) → (number : ℕ) (bytes : List ℕ) (bs : List Block)
-    → opened nd bs ≡ bs
-    → put_moves (Relocatable number no_flags bytes) p (rename f g bs) ≡ placement_moves (padded (length bytes)) nd bs
-block_moves-placement f g p nd same number bytes bs closed =
-    ap (λ k. place_moves wide (purge (k - 1) p (rename f g bs)))
-    (block_searches-placement f g p nd same number bytes bs closed)
-    ∙ ap (place_moves wide) (purge-rename f g p (spared nd) same (placement_searches wide nd bs - 1) bs)
-    ∙ place_moves-rename f g wide (purge (placement_searches wide nd bs - 1) (spared nd) bs)
-    ∙ ap (λ z. place_moves wide (purge (placement_searches wide nd bs - 1) (spared nd) z)) (sym closed)
-  where
-    wide : ℕ
-    wide = padded (length bytes)

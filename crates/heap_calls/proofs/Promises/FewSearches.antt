@@ -23,7 +23,6 @@ use Rattle.heap_calls.specs.Pointers.{pointed_at}
 use Rattle.heap_calls.specs.Purging.{is_loose, purgeable}
 use Rattle.heap_calls.specs.Inner.Search.{tries}
 use Rattle.heap_calls.specs.Searches.{room_searches, slot_searches, ready_searches, block_searches}
-use Rattle.heap_calls.proofs.Tables.Searches.{found_searches}
 use Rattle.block_store.specs.Compact.{stretches}
 use Rattle.heap_calls.specs.Searches.{compact_mem_searches}
 use Rattle.heap_calls.specs.Asked.{Asked}
@@ -46,7 +45,7 @@ use Rattle.moves.proofs.Refused.{Refuses, seek-refused, fits-refused}
 use Rattle.moves.proofs.Rows.{seek-few, resized-few}
 use Rattle.heap_calls.specs.Rows as rows
 use Rattle.heap_calls.specs.Rows.{work, is_unused}
-use Rattle.heap_calls.proofs.Same.NewBlocks.{made-same, hand_to_hand-same}
+use Rattle.heap_calls.proofs.Same.NewBlocks.{made-same}
 use Rattle.heap_calls.proofs.Same.Resizing.{held-spot, pointer-spot}
 use Rattle.block_store.proofs.Zone.Keeping.{tidied, freed-is, unless-le, based-le}
 use Rattle.heap_calls.specs.Munging.{found_in, behind}
@@ -280,16 +279,21 @@ compact-few n s =
 pub unsearched : (zone : List Block) (n : ℕ) → n < 2 ^ 64 → (k : ℕ) × (k ≤ length zone + 1) × (n ≡ counted n k)
 unsearched zone n fits = (0, omega arith, sym (counted-none n))
 
+-- a new handle with a block of these bytes
+made-few : (sp : Block → Bool) (bytes : List ℕ) (fits : Bool) (s : State) → 0 < count is_masters s.zone
+    → (work (rows.made sp (λ z. cond fits (seek (Put (rows.next_block bytes s)) sp z) no_room) s) s).searches
+    ≤ length s.zone + 1
+made-few sp bytes fits s masters =
+    subst (λ (k : ℕ). k ≤ length s.zone + 1) (made-same sp no_flags bytes fits s).looks
+    (slot-blocks sp s (λ r. cond fits (block_searches sp bytes r) 0) masters
+    (λ r. only-if fits (block_searches sp bytes r) (count_of sp r.zone + 1)
+    (room-few (put_in_place (Relocatable (length r.names) no_flags bytes)) sp r.zone)))
+
 -- the row of a call searches at most once more than there are blocks, where one is a Masters block
 pub row_few : (a : Asked) (m : Memory) → 0 < count is_masters m.heap.zone
     → row_searches a m.heap ≤ length m.heap.zone + 1
 row_few (asked.NewHandle x) m masters =
-    let bytes = asked.new_bytes x in
-    let fits = is_some (phys (asked.new_size x)) in
-    subst (λ (k : ℕ). k ≤ length m.heap.zone + 1) (made-same nothing no_flags bytes fits m.heap).looks
-    (slot-blocks nothing m.heap (λ ready. if fits then block_searches nothing bytes ready else 0) masters
-    (λ r. only-if fits (block_searches nothing bytes r) (count_of nothing r.zone + 1)
-    (room-few (put_in_place (Relocatable (length r.names) no_flags bytes)) nothing r.zone)))
+    made-few nothing (asked.new_bytes x) (is_some (phys (asked.new_size x))) m.heap masters
 row_few asked.NewEmptyHandle m masters = cases (is_unused m.heap)
   where
     cases : (t : Bool) → (did nothing (seek_slot t nothing m.heap.zone).path m.heap.zone).searches
@@ -328,17 +332,8 @@ row_few (asked.ReallocateHandle handle n) m masters =
         (looks j (is_some (phys n)))
     cases j false = omega arith
 row_few (asked.HandToHand handle) m masters =
-    subst (λ (k : ℕ). k ≤ length m.heap.zone + 1) (hand_to_hand-same handle m.heap).looks (copied (look_up handle
-    m.heap))
-  where
-    copied : (r : Result Held OsErr) → found_searches r (λ held. slot_searches (is_relocatable held.number) m.heap
-        + ready_searches (slotted (is_relocatable held.number) m.heap) (block_searches (is_relocatable held.number)
-        (content_of held.at.here))) ≤ length m.heap.zone + 1
-    copied (Err code) = omega arith
-    copied (Ok held) = slot-blocks (is_relocatable held.number) m.heap
-        (block_searches (is_relocatable held.number) (content_of held.at.here)) masters
-        (λ r. room-few (put_in_place (Relocatable (length r.names) no_flags (content_of held.at.here)))
-        (is_relocatable held.number) r.zone)
+    found-few (look_up handle m.heap) m.heap _ (length m.heap.zone + 1)
+    (λ held e. made-few (is_relocatable held.number) (content_of held.at.here) true m.heap masters)
 row_few (asked.HandAndHand from to) m masters =
     found-few (look_up from m.heap) m.heap _ (length m.heap.zone + 1)
     (λ a is. found-few (look_up to m.heap) m.heap _ (length m.heap.zone + 1)

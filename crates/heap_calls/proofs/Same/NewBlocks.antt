@@ -1,5 +1,5 @@
 use Rattle.std.proofs.Common.{◌≡◌, ℕ, ◌+◌, ◌-◌, ◌<◌, Bool, true, false, List, [], ◌∷◌, ◌++◌, length, replicate}
-use Rattle.std.proofs.Common.{Option, Some, None, Result, Ok, Err, refl, sym, ◌∙◌, ap, cond, arith, is_some}
+use Rattle.std.proofs.Common.{Option, Some, None, Ok, Err, refl, sym, ◌∙◌, ap, cond, arith, is_some}
 use Rattle.std.specs.Option.{option_map}
 use Rattle.std.specs.Prelude.{unwrap_or}
 use Rattle.std.proofs.lemmas.List.{length-replicate}
@@ -8,7 +8,7 @@ use Rattle.mac_words.specs.declared.code.OsErr.{OsErr}
 use Rattle.mac_words.specs.declared.code.TheConstants.OsErr.{MEM_FULL}
 use Rattle.mac_words.proofs.Plain.{is_some-map}
 use Rattle.mac_words.specs.Size.{padded}
-use Rattle.block_store.specs.Block.{Block, Nonrelocatable, Masters, size, is_relocatable, is_room, content_of}
+use Rattle.block_store.specs.Block.{Block, Masters, size, is_room}
 use Rattle.block_store.specs.Block.{Relocatable, no_flags}
 use Rattle.block_store.specs.declared.flags.Flags.{Flags}
 use Rattle.block_store.specs.Run.{RunSpot, run_spot, has_free}
@@ -16,26 +16,19 @@ use Rattle.block_store.specs.Room.{spot, filled, place, put_in_place, put_at_bas
 use Rattle.block_store.proofs.Plain.Options.{map-none}
 use Rattle.moves.specs.Moves.{Put, Base, place_lowers, lowered_in}
 use Rattle.moves.specs.Seeking.{Sought, no_room, seek, if_fits, seek_slot, then_seek}
-use Rattle.heap_calls.specs.State.{State, Plain, Meaning, Handle, Pointer}
+use Rattle.heap_calls.specs.State.{State, Plain, Meaning, Handle}
 use Rattle.heap_calls.specs.Answer as today
 use Rattle.heap_calls.specs.Answer.{Answer, Held, look_up, nothing}
 use Rattle.heap_calls.specs.Slots as slots
-use Rattle.heap_calls.proofs.Tables.Replies as tables
 use Rattle.heap_calls.specs.Slots.{slotted, more_masters}
-use Rattle.heap_calls.proofs.Tables.Searches.{new_pointer_searches}
-use Rattle.heap_calls.proofs.Tables.Searches.{hand_to_hand_searches, found_searches}
-use Rattle.heap_calls.proofs.Tables.Moves.{hand_to_hand_moves}
-use Rattle.heap_calls.proofs.Tables.Gone.{copied_gone}
-use Rattle.heap_calls.proofs.Tables.Gone.{new_pointer_gone, hand_to_hand_gone}
 use Rattle.heap_calls.specs.Searches.{room_searches, slot_searches, ready_searches, block_searches}
 use Rattle.heap_calls.specs.Searches.{new_handle_searches, new_empty_handle_searches}
-use Rattle.heap_calls.specs.Moves.{run_moves, as_it_is, place_moves, put_moves, block_moves, new_handle_moves}
+use Rattle.heap_calls.specs.Moves.{run_moves, as_it_is, place_moves, put_moves, new_handle_moves}
 use Rattle.heap_calls.specs.Gone.{Gone, room_gone, slot_gone, ready_gone}
-use Rattle.heap_calls.specs.Gone.{found_gone}
 use Rattle.heap_calls.specs.Inside.{new_filled, new_empty}
 use Rattle.heap_calls.specs.Rows as rows
 use Rattle.heap_calls.specs.Rows.{Done, work, heap_after, purged_by, is_unused, next_block}
-use Rattle.heap_calls.proofs.Same.Agreeing.{Agrees, BothAgree, seek-agrees, agrees-if, fits-agrees, then-agrees}
+use Rattle.heap_calls.proofs.Same.Agreeing.{Agrees, BothAgree, seek-agrees, agrees-if, then-agrees}
 use Rattle.heap_calls.proofs.Same.Agreeing.{on_some}
 use Rattle.heap_calls.proofs.Numbering.Looking.{tries-same}
 use Rattle.heap_calls.proofs.Room.MoveCounts.{no-place}
@@ -322,60 +315,7 @@ changed-same spared s after searches moves gone r a = record {
   tells = a.tells;
 }
 
--- NewPtr
-pub new_pointer-same : (n : ℕ) (s : State) → Same (tables.new_pointer n s) (new_pointer_searches n s) 0
-    (new_pointer_gone n s) (rows.new_pointer n s) s
-new_pointer-same n s =
-    let a = fits-agrees n (room try nothing s.zone) (room_searches try nothing s.zone) 0
-    (room_gone (length s.names) try nothing s.zone) (seek (Base new) nothing s.zone)
-    (base-agrees (length s.names) nothing new s.zone) in
-    record {
-      answers = cases (is_some (phys n))
-          ∙ ap (λ t. given_as Pointer s t (unwrap_or (cond (is_some (phys n)) (room try nothing s.zone) None) s.zone))
-          a.finds
-          ∙ ap (given_as Pointer s (if_fits n (seek (Base new) nothing s.zone)).found) a.leaves;
-      looks = a.looks;
-      lowers = none (is_some (phys n)) ∙ a.lowers;
-      tells = a.tells;
-    }
-  where
-    new : Block
-    new = Nonrelocatable (length s.names) (replicate n 0)
-
-    try : List Block → Option (List Block)
-    try = put_at_base new
-
-    none : (t : Bool) → 0 ≡ cond {A = ℕ} t 0 0
-    none true = refl
-    none false = refl
-
-    cases : (t : Bool) → cond t (today.given Pointer (room try nothing s.zone) s) (today.refused MEM_FULL s)
-        ≡ given_as Pointer s (is_some (cond t (room try nothing s.zone) None))
-        (unwrap_or (cond t (room try nothing s.zone) None) s.zone)
-    cases true = given-as Pointer s (room try nothing s.zone)
-    cases false = refl
-
 -- a refusal
 pub refused-same : {T : Type 0} (code : OsErr) (s : State)
     → Same {T = T} (today.refused code s) 0 0 [] (rows.refused code s) s
 refused-same code s = record { answers = refl; looks = refl; lowers = refl; tells = refl }
-
--- HandToHand
-pub hand_to_hand-same : (handle : Option ℕ) (s : State) → Same (tables.hand_to_hand handle s)
-    (hand_to_hand_searches handle s) (hand_to_hand_moves handle s) (hand_to_hand_gone handle s)
-    (rows.hand_to_hand handle s) s
-hand_to_hand-same handle s = cases (look_up handle s)
-  where
-    cases : (r : Result Held OsErr)
-        → Same (today.for_found r s (λ held. slots.if_ready (slotted (is_relocatable held.number) s) s
-        (tables.new_block (is_relocatable held.number) (content_of held.at.here))))
-        (found_searches r (λ held. slot_searches (is_relocatable held.number) s + ready_searches
-        (slotted (is_relocatable held.number) s) (block_searches (is_relocatable held.number)
-        (content_of held.at.here))))
-        (found_searches r (λ held. ready_searches (slotted (is_relocatable held.number) s)
-        (block_moves (is_relocatable held.number) (content_of held.at.here))))
-        (found_gone r (λ held. copied_gone (is_relocatable held.number) (content_of held.at.here) s))
-        (rows.for_found r s (λ held. rows.made (is_relocatable held.number)
-        (seek (Put (next_block (content_of held.at.here) s)) (is_relocatable held.number)) s)) s
-    cases (Err code) = refused-same code s
-    cases (Ok held) = made-same (is_relocatable held.number) no_flags (content_of held.at.here) true s

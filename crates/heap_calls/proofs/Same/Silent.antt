@@ -6,20 +6,18 @@ use Rattle.heap_calls.specs.Inside.{new_filled, new_empty, new_inside, new_empty
 use Rattle.heap_calls.proofs.Tables.Replies as tables
 use Rattle.heap_calls.specs.Answer.{silent, searching, moving, nothing}
 use Rattle.heap_calls.specs.Searches.{new_handle_searches, new_empty_handle_searches}
-use Rattle.heap_calls.proofs.Tables.Searches.{new_pointer_searches}
 use Rattle.heap_calls.proofs.Tables.Searches.{set_handle_size_searches, set_pointer_size_searches}
-use Rattle.heap_calls.proofs.Tables.Searches.{reallocate_handle_searches, hand_to_hand_searches, hand_and_hand_searches}
+use Rattle.heap_calls.proofs.Tables.Searches.{reallocate_handle_searches, hand_and_hand_searches}
 use Rattle.heap_calls.proofs.Tables.Searches.{pointer_and_hand_searches}
-use Rattle.heap_calls.proofs.Tables.Moves.{set_handle_size_moves, reallocate_handle_moves, hand_to_hand_moves}
+use Rattle.heap_calls.proofs.Tables.Moves.{set_handle_size_moves, reallocate_handle_moves}
 use Rattle.heap_calls.proofs.Tables.Moves.{hand_and_hand_moves, pointer_and_hand_moves}
 use Rattle.heap_calls.proofs.Tables.Gone.{set_handle_size_gone}
-use Rattle.heap_calls.proofs.Tables.Gone.{reallocate_handle_gone, hand_to_hand_gone, hand_and_hand_gone}
-use Rattle.heap_calls.proofs.Tables.Gone.{pointer_and_hand_gone, new_pointer_gone, set_pointer_size_gone}
+use Rattle.heap_calls.proofs.Tables.Gone.{reallocate_handle_gone, hand_and_hand_gone}
+use Rattle.heap_calls.proofs.Tables.Gone.{pointer_and_hand_gone, set_pointer_size_gone}
 use Rattle.heap_calls.specs.Moves.{new_handle_moves}
 use Rattle.heap_calls.specs.Rows as rows
 use Rattle.heap_calls.specs.Rows.{doing_silently}
 use Rattle.heap_calls.proofs.Same.NewBlocks.{filling, filled-same, new_empty_handle-same}
-use Rattle.heap_calls.proofs.Same.NewBlocks.{new_pointer-same, hand_to_hand-same}
 use Rattle.heap_calls.proofs.Same.Resizing.{set_handle_size-same, set_pointer_size-same, hand_and_hand-same}
 use Rattle.heap_calls.proofs.Same.Resizing.{pointer_and_hand-same, reallocate_handle-same}
 use Rattle.heap_calls.proofs.Same.Methods.{packs-silently, seeks-silently}
@@ -34,18 +32,6 @@ filled-silent flags x m = packs-silently (new_filled Plain flags x) (new_handle_
 pub new_empty_handle-silent : (m : Memory) → doing_silently rows.new_empty_handle m ≡ new_empty_inside Plain m
 new_empty_handle-silent m = seeks-silently (new_empty Plain) new_empty_handle_searches rows.new_empty_handle m
     (slot_gone nothing m.heap) (new_empty_handle-same m.heap)
-
-pub new_pointer-silent : (n : ℕ) (m : Memory) → doing_silently (rows.new_pointer n) m ≡ searching (new_pointer_searches
-    n m.heap) (silent (tables.new_pointer n) m)
-new_pointer-silent n m = seeks-silently (tables.new_pointer n) (new_pointer_searches n) (rows.new_pointer n) m
-    (new_pointer_gone n m.heap) (new_pointer-same n m.heap)
-
-pub hand_to_hand-silent : (handle : Option ℕ) (m : Memory) → doing_silently (rows.hand_to_hand handle) m ≡ moving
-    (hand_to_hand_moves handle m.heap) (searching (hand_to_hand_searches handle m.heap) (silent (tables.hand_to_hand
-    handle) m))
-hand_to_hand-silent handle m = packs-silently (tables.hand_to_hand handle) (hand_to_hand_searches handle)
-    (rows.hand_to_hand handle) m (hand_to_hand_gone handle m.heap) (hand_to_hand_moves handle) (hand_to_hand-same handle
-    m.heap)
 
 pub set_handle_size-silent : (handle : Option ℕ) (n : ℕ) (m : Memory) → doing_silently (rows.set_handle_size handle n) m
     ≡ moving (set_handle_size_moves handle n m.heap) (searching (set_handle_size_searches handle n m.heap) (silent

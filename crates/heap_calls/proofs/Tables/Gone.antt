@@ -1,11 +1,10 @@
-use Rattle.std.specs.Prelude.{ℕ, ◌+◌, Bool, List, [], ◌++◌, length, replicate, is_some, if◌then◌else◌, Option, Some}
+use Rattle.std.specs.Prelude.{ℕ, ◌+◌, Bool, List, [], length, replicate, is_some, if◌then◌else◌, Option, Some}
 use Rattle.std.specs.Prelude.{None, nat_le, ◌||◌}
-use Rattle.block_store.specs.Block.{Block, Relocatable, no_flags, size, Nonrelocatable, is_mover}
+use Rattle.block_store.specs.Block.{Block, Relocatable, no_flags, size, is_mover}
 use Rattle.block_store.specs.Block.{is_relocatable, content_of, is_nonrelocatable}
-use Rattle.block_store.specs.Room.{put_in_place, put_at_base, Spot, spot}
+use Rattle.block_store.specs.Room.{put_in_place, Spot, spot}
 use Rattle.heap_calls.specs.State.{State}
-use Rattle.heap_calls.specs.Slots.{slotted}
-use Rattle.heap_calls.specs.Gone.{Gone, room_gone, slot_gone, ready_gone, found_gone}
+use Rattle.heap_calls.specs.Gone.{Gone, room_gone, found_gone}
 use Rattle.heap_calls.specs.Answer.{nothing, look_up, handle_at}
 use Rattle.mac_words.specs.Size.{phys}
 use Rattle.heap_calls.specs.Pointers.{pointed_at}
@@ -15,17 +14,6 @@ use Rattle.heap_calls.specs.Searches.{resized_at}
 use Rattle.heap_calls.specs.Purging.{is_loose}
 
 -- The blocks that the same calls purge.
-
--- The same of a block that is a copy of another, and so has a size that blocks can have.
-abbrev pub copied_gone : (Block → Bool) → List ℕ → State → List Gone
-copied_gone spared bytes s = slot_gone spared s ++ ready_gone (slotted spared s) (λ ready. room_gone
-    (length ready.names) (put_in_place (Relocatable (length ready.names) no_flags bytes)) spared ready.zone)
-
--- The blocks that NewPtr purges.
-abbrev pub new_pointer_gone : ℕ → State → List Gone
-new_pointer_gone size s = if is_some (phys size)
-    then room_gone (length s.names) (put_at_base (Nonrelocatable (length s.names) (replicate size 0))) nothing s.zone
-    else []
 
 -- The blocks that are purged for the growth of a nonrelocatable or locked block: none where the free block above it is
 -- large enough, else some of the run above it.
@@ -45,10 +33,6 @@ growth_gone n test spared new zone (Some s) =
 abbrev pub size_gone : ℕ → (Block → Bool) → (Block → Bool) → ℕ → List Block → List Gone
 size_gone n test spared bytes zone = if is_some (phys bytes) then growth_gone n test spared
     (resized_at bytes (spot test zone)) zone (spot test zone) else []
-
-abbrev pub hand_to_hand_gone : Option ℕ → State → List Gone
-hand_to_hand_gone handle s =
-    found_gone (look_up handle s) (λ held. copied_gone (is_relocatable held.number) (content_of held.at.here) s)
 
 -- The blocks that SetHandleSize purges.
 abbrev pub set_handle_size_gone : Option ℕ → ℕ → State → List Gone

@@ -2,14 +2,12 @@ use Rattle.std.specs.Prelude.{ℕ, Option, replicate, is_some, if◌then◌else�
 use Rattle.block_store.specs.Block.{is_relocatable, Relocatable, no_flags, content_of}
 use Rattle.heap_calls.specs.State.{State}
 use Rattle.heap_calls.specs.Answer.{look_up, handle_at, nothing}
-use Rattle.heap_calls.specs.Searches.{ready_searches}
 use Rattle.heap_calls.proofs.Tables.Searches.{found_searches}
-use Rattle.heap_calls.specs.Moves.{size_moves, put_moves, block_moves}
+use Rattle.heap_calls.specs.Moves.{size_moves, put_moves}
 use Rattle.mac_words.specs.Size.{phys}
 use Rattle.block_store.specs.Room.{spot}
 use Rattle.block_store.specs.Grow.{freed}
 use Rattle.heap_calls.specs.Purging.{is_loose}
-use Rattle.heap_calls.specs.Slots.{slotted}
 
 -- The blocks that the same calls move down.
 
@@ -27,12 +25,6 @@ reallocate_handle_moves handle n s =
     then put_moves (Relocatable k.number no_flags (replicate n 0)) nothing (freed (is_relocatable k.number) s.zone)
     else 0)
     else 0)
-
--- The moves of HandToHand.
-abbrev pub hand_to_hand_moves : Option ℕ → State → ℕ
-hand_to_hand_moves handle s =
-    found_searches (look_up handle s) (λ held. ready_searches (slotted (is_relocatable held.number) s)
-    (block_moves (is_relocatable held.number) (content_of held.at.here)))
 
 -- The moves of HandAndHand.
 abbrev pub hand_and_hand_moves : Option ℕ → Option ℕ → State → ℕ

@@ -1,14 +1,13 @@
-use Rattle.std.specs.Prelude.{ℕ, Option, is_some, if◌then◌else◌, Bool, List, replicate, Some, length, None, Ok, ◌+◌}
+use Rattle.std.specs.Prelude.{ℕ, Option, is_some, if◌then◌else◌, Bool, List, Some, length, None, Ok, ◌+◌}
 use Rattle.std.specs.Prelude.{◌||◌}
 use Rattle.mac_words.specs.Size.{phys}
 use Rattle.mac_words.specs.declared.code.TheConstants.OsErr.{MEM_FULL, PURGED}
-use Rattle.block_store.specs.Block.{is_relocatable, Block, no_flags, Nonrelocatable, is_nonrelocatable}
+use Rattle.block_store.specs.Block.{is_relocatable, Block, is_nonrelocatable}
 use Rattle.block_store.specs.Block.{content_of}
 use Rattle.block_store.specs.Grow.{grow}
-use Rattle.heap_calls.specs.State.{State, Plain, Pointer}
-use Rattle.heap_calls.specs.Answer.{Answer, refused, on_block, rebuilt, nothing, given, for_found, handle_at}
-use Rattle.heap_calls.specs.Slots.{made, slotted, if_ready}
-use Rattle.block_store.specs.Room.{put_at_base, room, spot}
+use Rattle.heap_calls.specs.State.{State}
+use Rattle.heap_calls.specs.Answer.{Answer, refused, on_block, rebuilt, nothing, for_found, handle_at}
+use Rattle.block_store.specs.Room.{spot}
 use Rattle.heap_calls.specs.Pointers.{on_pointer}
 use Rattle.heap_calls.specs.Copying.{written_in}
 use Rattle.heap_calls.specs.Purging.{is_loose, reallocated}
@@ -23,28 +22,11 @@ set_handle_size handle n s =
     on_block handle s (λ held. if is_some (phys n) then rebuilt
     (grow (is_relocatable held.number) (is_relocatable held.number) n s.zone) s else refused MEM_FULL s)
 
--- A new handle, an application's own, with a block of these bytes.
-abbrev pub new_block : (Block → Bool) → List ℕ → State → Answer ℕ
-new_block spared bytes s = made Plain no_flags spared bytes s
-
--- NewPtr: a new pointer to a nonrelocatable block of n bytes, all 0, at the base of a run; -108 (memFullErr) where
--- there is no room or no block can have that size.
-abbrev pub new_pointer : ℕ → State → Answer ℕ
-new_pointer n s = if is_some (phys n) then given Pointer (room (put_at_base (Nonrelocatable (length s.names) (replicate
-    n 0)))
-    nothing s.zone) s else refused MEM_FULL s
-
 -- SetPtrSize: the pointer's block grows or is cut to n bytes where it stands; -108 (memFullErr) where there is no
 -- room or no block can have that size.
 abbrev pub set_pointer_size : Option ℕ → ℕ → State → Answer (Unit {0})
 set_pointer_size pointer n s = on_pointer pointer s (λ held. if is_some (phys n)
     then rebuilt (grow (is_nonrelocatable held.number) nothing n s.zone) s else refused MEM_FULL s)
-
--- HandToHand: a new handle with a copy of the bytes of another handle's block, which is not purged for the copy.
-abbrev pub hand_to_hand : Option ℕ → State → Answer ℕ
-hand_to_hand handle s =
-    on_block handle s (λ held. if_ready (slotted (is_relocatable held.number) s) s
-    (new_block (is_relocatable held.number) (content_of held.at.here)))
 
 -- The heap with x written after the len bytes of a handle's block, in the zone where the block has grown; -108
 -- (memFullErr) where it could not.

@@ -1,25 +1,18 @@
 use Rattle.std.specs.Prelude.{ℕ, length, replicate, is_some, if◌then◌else◌, Option, Result, Ok, Err, ◌+◌}
 use Rattle.std.specs.Prelude.{◌||◌, List}
-use Rattle.block_store.specs.Block.{Nonrelocatable, is_relocatable, is_nonrelocatable, Relocatable, no_flags}
+use Rattle.block_store.specs.Block.{is_relocatable, is_nonrelocatable, Relocatable, no_flags}
 use Rattle.block_store.specs.Block.{content_of}
-use Rattle.block_store.specs.Room.{put_at_base, spot, put_in_place}
+use Rattle.block_store.specs.Room.{spot, put_in_place}
 use Rattle.heap_calls.specs.State.{State}
 use Rattle.heap_calls.specs.Answer.{nothing, look_up, handle_at}
-use Rattle.heap_calls.specs.Searches.{room_searches, size_searches, slot_searches, ready_searches, block_searches}
+use Rattle.heap_calls.specs.Searches.{room_searches, size_searches}
 use Rattle.mac_words.specs.Size.{phys}
 use Rattle.heap_calls.specs.Pointers.{pointed_at}
 use Rattle.mac_words.specs.declared.code.OsErr.{OsErr}
 use Rattle.block_store.specs.Grow.{freed}
 use Rattle.heap_calls.specs.Purging.{is_loose}
-use Rattle.heap_calls.specs.Slots.{slotted}
 
 -- The searches of the same calls.
-
--- The searches of NewPtr.
-abbrev pub new_pointer_searches : ℕ → State → ℕ
-new_pointer_searches n s = if is_some (phys n) then room_searches (put_at_base (Nonrelocatable (length s.names)
-    (replicate n 0)))
-    nothing s.zone else 0
 
 -- The number of searches of a call for what was found; none where nothing was found.
 abbrev pub found_searches : {A : Type 0} → Result A OsErr → (A → ℕ) → ℕ
@@ -43,13 +36,6 @@ reallocate_handle_searches handle n s =
     then (if is_some (phys n) then room_searches (put_in_place (Relocatable k.number no_flags (replicate n 0))) nothing
     (freed (is_relocatable k.number) s.zone) else 0)
     else 0)
-
--- The searches of HandToHand.
-abbrev pub hand_to_hand_searches : Option ℕ → State → ℕ
-hand_to_hand_searches handle s =
-    found_searches (look_up handle s) (λ held. slot_searches (is_relocatable held.number) s
-    + ready_searches (slotted (is_relocatable held.number) s) (block_searches (is_relocatable held.number)
-    (content_of held.at.here)))
 
 -- The searches of HandAndHand.
 abbrev pub hand_and_hand_searches : Option ℕ → Option ℕ → State → ℕ

@@ -1,43 +1,32 @@
-use Rattle.heap_calls.specs.Rows as rows
-use Rattle.heap_calls.specs.Rows.{doing_silently, purges_made}
-use Rattle.heap_calls.proofs.Same.Silent.{hand_to_hand-silent}
-use Rattle.heap_calls.proofs.Same.NewBlocks.{hand_to_hand-same}
-use Rattle.heap_calls.specs.Inner.Given.{KeepsNames}
+use Rattle.std.proofs.Common.{◌≡◌, List, length, refl, sym, ◌∙◌, ap, arith, inl, inr, Some, Err, slice_get, subst}
 use Rattle.std.proofs.lemmas.List.{length-map}
-use Rattle.heap_calls.specs.Inner.Numbered.{name_of}
-use Rattle.std.proofs.Common.{refl}
-use Rattle.std.proofs.Common.{◌≡◌, List, length, sym, ◌∙◌, ap, arith, inl, inr, Some, slice_get, subst}
-use Rattle.heap_calls.proofs.Hearing.{hears-as, hears-none, stops-at-once, stops-on-the-way}
-use Rattle.heap_calls.proofs.Numbering.Reserved.{fits-same}
-use Rattle.block_store.specs.Block.{rename}
+use Rattle.std.proofs.lemmas.Result.{err_from_is_err_and}
+use Rattle.mac_words.specs.declared.code.TheConstants.OsErr.{NIL_HANDLE}
+use Rattle.block_store.specs.Block.{rename, content_of}
 use Rattle.block_store.specs.declared.sparing.Sparing.TheVariants.{One}
 use Rattle.heap_calls.specs.declared.anchor.Anchor.{Anchor}
-use Rattle.heap_calls.specs.State.{Memory}
-use Rattle.heap_calls.specs.Answer.{look_up, silent, searching, moving}
-use Rattle.heap_calls.specs.Gone.{Gone, Tells, copy_slot_gone, Hears}
-use Rattle.heap_calls.specs.Copying.{copying_zone}
-use Rattle.heap_calls.specs.Inner.Numbered.{memory_of, handle_number, pointer_number}
-use Rattle.heap_calls.specs.Inner.Telling.{zone_slot_gone, new_gone}
-use Rattle.heap_calls.proofs.GoneCopies.{copy_gone-is, copy_gone-none, copy_gone-nil, copy_slot_gone-is, copying_zone-is}
-use Rattle.heap_calls.proofs.Numbering.Changing.{memory-same}
-use Rattle.heap_calls.proofs.NewBlocks.NewHandles.{kept-still}
 use Rattle.heap_calls.specs.declared.anchor.Anchor.TheVariants.{Handle}
-use Rattle.std.proofs.lemmas.Result.{err_from_is_err_and}
-use Rattle.block_store.specs.Block.{content_of}
-use Rattle.heap_calls.proofs.Tables.Gone.{hand_to_hand_gone}
-use Rattle.heap_calls.proofs.Tables.Replies.{hand_to_hand}
-use Rattle.heap_calls.proofs.Tables.Searches.{hand_to_hand_searches}
-use Rattle.heap_calls.proofs.Tables.Moves.{hand_to_hand_moves}
-use Rattle.heap_calls.proofs.Numbering.Answering.{at_place}
-use Rattle.heap_calls.proofs.NewBlocks.NewHandles.{agrees-more, kept-memory}
-use Rattle.heap_calls.proofs.NewBlocks.CopiedHandles.{copy-emptied, copy-not_found, slot-in, source-few}
-use Rattle.heap_calls.proofs.NewBlocks.CopiedHandles.{not_found-still}
-use Rattle.heap_calls.proofs.NewBlocks.Naming.{Names, Copied, copy-names, copied_searches-is, copied_moves-is}
-use Rattle.heap_calls.proofs.NewBlocks.Naming.{named-packing}
-use Rattle.heap_calls.proofs.Room.MoveCounts.{not-moved}
+use Rattle.heap_calls.specs.State.{Memory}
+use Rattle.heap_calls.specs.Answer.{look_up}
+use Rattle.heap_calls.specs.Copying.{copying_zone}
+use Rattle.heap_calls.specs.Gone.{Gone, Tells, copy_slot_gone, Hears}
+use Rattle.heap_calls.specs.Rows.{hand_to_hand, doing_silently, purges_made, refused}
+use Rattle.heap_calls.specs.Inner.Given.{KeepsNames, slot_of}
+use Rattle.heap_calls.specs.Inner.Naming.{entered}
+use Rattle.heap_calls.specs.Inner.Numbered.{name_of, state_of, memory_of, handle_number, pointer_number, Agrees}
+use Rattle.heap_calls.specs.Inner.Telling.{zone_slot_gone, new_gone}
+use Rattle.heap_calls.proofs.Hearing.{hears-as, hears-none, stops-at-once, stops-on-the-way}
+use Rattle.heap_calls.proofs.Made.{made-agrees}
+use Rattle.heap_calls.proofs.NewBlocks.CopiedHandles.{Copied, copy-nil, copy-none, slot-in, source-few, copied-slotted, copied-answer}
+use Rattle.heap_calls.proofs.NewBlocks.CopiedHandles.{copied-gone, copy_slot_gone-is, copying_zone-is}
+use Rattle.heap_calls.proofs.NewBlocks.NewHandles.{agrees-more, kept-memory, kept-still}
+use Rattle.heap_calls.proofs.Numbering.Answering.{at_place, look_up-refused}
+use Rattle.heap_calls.proofs.Numbering.Changing.{memory-same}
 use Rattle.heap_calls.proofs.Numbering.Memories.{memory_as, reply-as, placings_as, counted_as}
+use Rattle.heap_calls.proofs.Numbering.Reserved.{fits-same}
+use Rattle.heap_calls.proofs.Went.{unfound-is, unfound-gone}
 use Rattle.heap_calls.proofs.heap.Heap.copy_handle.Given.{Over}
-use Rattle.heap_calls.proofs.heap.Heap.copy_handle.Goals.{After-bytes, In_ok-found, After-name_handle}
+use Rattle.heap_calls.proofs.heap.Heap.copy_handle.Goals.{After-bytes, In_err-found, In_ok-found, In_default, After-name_handle}
 use Rattle.heap_calls.proofs.heap.Heap.copy_handle.Goals as goal
 
 pub returns-in_err-reserve-clause-stops : goal.returns-in_err-reserve-clause-stops
@@ -47,21 +36,25 @@ returns-in_err-reserve-clause-stops g c host =
     (rw (← c.self.view_is) (let full = c.in_err-reserve.ensures.full in let fits = c.self.inside.fits in
     omega (arith, length-map c.self.inside.names.items (name_of (g.S.BlockStore.rest c.self.inside.store).slots))))
 
+-- a name that is no handle's
+absent : (g : Over) (c : In_err-found g) → hand_to_hand c.args.handle (state_of (g.S.BlockStore.zone c.self.inside.store)
+    (g.S.BlockStore.rest c.self.inside.store).slots c.self.inside.names.items)
+    ≡ refused c.in_err-found.field-0.0 (state_of (g.S.BlockStore.zone c.self.inside.store)
+    (g.S.BlockStore.rest c.self.inside.store).slots c.self.inside.names.items)
+absent g c =
+    let a = c.self.inside in
+    let none : slot_of c.args.handle a.names.items ≡ Err c.in_err-found.field-0.0 =
+    ap (slot_of c.args.handle) (sym c.deref.ensures.value) ∙ sym c.slot_of.ensures ∙ c.in_err-found.was in
+    copy-none c.args.handle _ c.in_err-found.field-0.0 (look_up-refused (g.S.BlockStore.zone a.store)
+    (g.S.BlockStore.rest a.store).slots a.names.items c.args.handle c.in_err-found.field-0.0 none)
+
 pub returns-in_err-found-clause-answer : goal.returns-in_err-found-clause-answer
 returns-in_err-found-clause-answer g c =
     let p = err_from_is_err_and c.from_residual.result c.from_residual.ensures.1 in
     let a = c.self.inside in
-    rw (p.1, p.2)
-    (hand_to_hand-silent c.args.handle c.args.self.now.memory ∙ not-moved _ _ c.in_err-found.field-0.0
-    c.args.self.now.memory (g.S.BlockStore.zone a.store) (g.S.BlockStore.rest
-    a.store)
-    a.names.items a.log (memory_as c.self.view_is)
-    (copy-not_found c.args.self.now.memory (g.S.BlockStore.zone a.store) (g.S.BlockStore.rest a.store) a.names.items
-    c.deref.result.now a.log c.args.handle c.in_err-found.field-0.0 (memory_as c.self.view_is) c.deref.ensures.value
-    (sym c.slot_of.ensures ∙ c.in_err-found.was))
-    (not_found-still c.args.self.now.memory (g.S.BlockStore.zone a.store) (g.S.BlockStore.rest a.store) a.names.items
-    c.deref.result.now a.log c.args.handle c.in_err-found.field-0.0 (memory_as c.self.view_is) c.deref.ensures.value
-    (sym c.slot_of.ensures ∙ c.in_err-found.was)))
+    rw (p.1, p.2) (unfound-is (g.S.BlockStore.zone a.store) (g.S.BlockStore.rest a.store) a.names.items a.log
+    c.args.self.now.memory (memory_as c.self.view_is) (hand_to_hand c.args.handle) c.in_err-found.field-0.0
+    (absent g (goal.at.returns-in_err-found-clause-answer g c).In_err-found))
 
 -- the handle's entry
 entry : (g : Over) (c : In_ok-found g) → (c.args.handle ≡ Some c.in_ok-found.found.number)
@@ -70,15 +63,26 @@ entry : (g : Over) (c : In_ok-found g) → (c.args.handle ≡ Some c.in_ok-found
 entry g c = slot-in c.self.inside.names.items c.deref.result.now c.args.handle c.in_ok-found.found c.deref.ensures.value
     (sym c.slot_of.ensures ∙ c.in_ok-found.was)
 
+-- a handle whose block was emptied
+emptied : (g : Over) (c : In_default g) → (c.args.handle ≡ Some c.in_ok-found.found.number)
+    × (slice_get c.self.inside.names.items c.in_ok-found.found.number
+    ≡ Some (Handle c.in_ok-found.found.slot c.in_ok-found.found.guarded))
+    → hand_to_hand c.args.handle (state_of (g.S.BlockStore.zone c.self.inside.store)
+    (g.S.BlockStore.rest c.self.inside.store).slots c.self.inside.names.items)
+    ≡ refused NIL_HANDLE (state_of (g.S.BlockStore.zone c.self.inside.store)
+    (g.S.BlockStore.rest c.self.inside.store).slots c.self.inside.names.items)
+emptied g c is =
+    copy-none c.args.handle _ NIL_HANDLE (copy-nil (g.S.BlockStore.zone c.self.inside.store)
+    (g.S.BlockStore.rest c.self.inside.store) c.self.inside.names.items c.args.handle c.in_ok-found.found.number
+    c.in_ok-found.found.slot is.0 is.1 c.self.invariant (omega arith) c.in_default.ensures)
+
 pub returns-in_default-clause-answer : goal.returns-in_default-clause-answer
 returns-in_default-clause-answer g c =
     let a = c.self.inside in
-    let f = c.in_ok-found.found in
-    let is = entry g (goal.at.returns-in_default-clause-answer g c).In_ok-found in
-    hand_to_hand-silent c.args.handle c.args.self.now.memory ∙ copy-emptied c.args.self.now.memory (g.S.BlockStore.zone
-    a.store) (g.S.BlockStore.rest a.store) a.names.items a.log
-    c.args.handle f.number f.slot (memory_as c.self.view_is) is.0 is.1 c.self.invariant
-    (omega arith) c.in_default.ensures
+    unfound-is (g.S.BlockStore.zone a.store) (g.S.BlockStore.rest a.store) a.names.items a.log c.args.self.now.memory
+    (memory_as c.self.view_is) (hand_to_hand c.args.handle) NIL_HANDLE
+    (emptied g (goal.at.returns-in_default-clause-answer g c).In_default
+    (entry g (goal.at.returns-in_default-clause-answer g c).In_ok-found))
 
 -- what is copied
 source : (g : Over) (c : After-bytes g) → Copied (g.S.BlockStore.zone c.self.inside.store) c.self.inside.names.items
@@ -101,14 +105,15 @@ source g c =
       few = omega (arith, few, long);
     }
 
-made : (g : Over) (c : After-name_handle g) → Copied (g.S.BlockStore.zone c.self.inside.store) c.self.inside.names.items
-    c.args.handle c.in_ok-found.found (length c.bytes.result.now)
-    → Names (hand_to_hand c.args.handle) (g.S.BlockStore.zone c.self.inside.store)
-    (g.S.BlockStore.rest c.self.inside.store) c.self.inside.names.items c.in_ok-made.made.slot
-    (g.S.BlockStore.zone c.copy_block.new.store) (g.S.BlockStore.rest c.copy_block.new.store)
-made g c from =
-    copy-names _ _ _ (g.met.S.BlockStore.masters c.self.inside.store) c.self.invariant c.args.handle c.in_ok-found.found
-    _ from _ _ c.copy_block.ensures.nonrelocatable c.in_ok-made.made.slot c.in_ok-made.ensures.answer
+-- the entries and the store agree where the host has memory
+agrees : (g : Over) (c : After-name_handle g) → Agrees (g.S.BlockStore.zone c.copy_block.new.store)
+    (g.S.BlockStore.rest c.copy_block.new.store) (entered c.in_ok-made.made.slot c.self.inside.names.items)
+agrees g c =
+    let store = c.self.inside.store in
+    made-agrees (g.S.BlockStore.zone store) (g.S.BlockStore.rest store) _ (g.met.S.BlockStore.masters store)
+    c.self.invariant (g.met.S.BlockStore.no_block store) (g.S.BlockStore.rest c.copy_block.new.store) _
+    c.copy_block.ensures.nonrelocatable c.in_ok-made.made.slot
+    (copied-slotted c.in_ok-found.found.slot _ _ _ _ _ _ c.in_ok-made.ensures.answer)
 
 pub overflow_cast-size : goal.overflow_cast-size
 overflow_cast-size g c = let few = (source g c).few in omega arith
@@ -118,41 +123,22 @@ invariant_of-self-in_err-made g c = rw c.in_ok-reserve.ensures.items
     (agrees-more _ _ _ _ c.self.invariant c.copy_block.ensures.nonrelocatable c.in_err-made.ensures.kept)
 
 -- what the call answers where the host has memory
-tabled : (g : Over) (c : After-name_handle g) → Copied (g.S.BlockStore.zone c.self.inside.store)
-    c.self.inside.names.items
-    c.args.handle c.in_ok-found.found (length c.bytes.result.now)
-    → moving (hand_to_hand_moves c.args.handle c.args.self.now.memory.heap)
-    (searching (hand_to_hand_searches c.args.handle c.args.self.now.memory.heap)
-    (silent (hand_to_hand c.args.handle) c.args.self.now.memory))
-    ≡ (
-      c.name_handle.result,
-      memory_of (g.S.BlockStore.zone c.copy_block.new.store)
-          (g.S.BlockStore.rest c.copy_block.new.store) c.name_handle.new.names.items c.count.new.self,
-    )
-tabled g c from =
-    let a = c.self.inside in
-    let masters = g.met.S.BlockStore.masters a.store in
-    rw (c.name_handle.ensures.number, c.name_handle.ensures.entered, c.in_ok-reserve.ensures.items)
-    (named-packing (hand_to_hand c.args.handle) (hand_to_hand_searches c.args.handle) (hand_to_hand_moves c.args.handle)
-    c.args.self.now.memory (g.S.BlockStore.zone a.store) (g.S.BlockStore.zone c.copy_block.new.store)
-    (g.S.BlockStore.rest a.store) (g.S.BlockStore.rest c.copy_block.new.store) a.names.items a.log c.count.new.self
-    c.in_ok-made.made.slot (memory_as c.self.view_is)
-    (made g c from) c.in_ok-made.made.searches
-    (c.in_ok-made.ensures.searches ∙ sym (copied_searches-is _ _ _ masters c.self.invariant c.args.handle
-    c.in_ok-found.found _ from)) c.count.ensures
-    _ (copied_moves-is _ _ _ masters c.self.invariant c.args.handle c.in_ok-found.found _ from)
-    c.in_ok-made.ensures.moves)
-
--- and by its path
 told : (g : Over) (c : After-name_handle g) → Copied (g.S.BlockStore.zone c.self.inside.store) c.self.inside.names.items
     c.args.handle c.in_ok-found.found (length c.bytes.result.now)
-    → doing_silently (rows.hand_to_hand c.args.handle) c.args.self.now.memory
+    → doing_silently (hand_to_hand c.args.handle) c.args.self.now.memory
     ≡ (
       c.name_handle.result,
       memory_of (g.S.BlockStore.zone c.copy_block.new.store)
           (g.S.BlockStore.rest c.copy_block.new.store) c.name_handle.new.names.items c.count.new.self,
     )
-told g c from = hand_to_hand-silent c.args.handle c.args.self.now.memory ∙ tabled g c from
+told g c from =
+    let a = c.self.inside in
+    rw (c.name_handle.ensures.number, c.name_handle.ensures.entered, c.in_ok-reserve.ensures.items, c.count.ensures)
+    (copied-answer (g.S.BlockStore.zone a.store) (g.S.BlockStore.rest a.store) a.names.items
+    (g.met.S.BlockStore.masters a.store) c.self.invariant c.args.handle c.in_ok-found.found _ from
+    (g.met.S.BlockStore.no_block a.store) a.log c.args.self.now.memory (memory_as c.self.view_is)
+    (g.S.BlockStore.zone c.copy_block.new.store) (g.S.BlockStore.rest c.copy_block.new.store) c.in_ok-made.made.slot
+    c.in_ok-made.made.searches c.in_ok-made.ensures.answer c.in_ok-made.ensures.searches c.in_ok-made.ensures.moves)
 
 pub returns-in_err-name_handle-clause-answer : goal.returns-in_err-name_handle-clause-answer
 returns-in_err-name_handle-clause-answer g c =
@@ -168,13 +154,11 @@ returns-clause-answer g c =
 
 pub invariant_of-self-2 : goal.invariant_of-self-2
 invariant_of-self-2 g c = rw (c.name_handle.ensures.entered, c.in_ok-reserve.ensures.items)
-    (made g (goal.at.invariant_of-self-2 g c).After-name_handle
-    (source g (goal.at.invariant_of-self-2 g c).After-bytes)).agrees
+    (agrees g (goal.at.invariant_of-self-2 g c).After-name_handle)
 
 pub invariant_of-self-in_err-name_handle : goal.invariant_of-self-in_err-name_handle
 invariant_of-self-in_err-name_handle g c = rw (c.name_handle.ensures.entered, c.in_ok-reserve.ensures.items)
-    (made g (goal.at.invariant_of-self-in_err-name_handle g c).After-name_handle
-    (source g (goal.at.invariant_of-self-in_err-name_handle g c).After-bytes)).agrees
+    (agrees g (goal.at.invariant_of-self-in_err-name_handle g c).After-name_handle)
 
 pub returns-in_err-made-clause-stops : goal.returns-in_err-made-clause-stops
 returns-in_err-made-clause-stops g c host =
@@ -224,19 +208,17 @@ heard : (g : Over) (c : After-name_handle g) → Copied (g.S.BlockStore.zone c.s
     c.args.handle c.in_ok-found.found (length c.bytes.result.now)
     → (done : Type 0)
     → Hears g.K.PurgeSink.told g.K.PurgeSink.waits g.K.PurgeSink.listens done
-    (purges_made (rows.hand_to_hand c.args.handle) c.args.self.now.memory.heap) c.args.sink.now c.copy_block.new.sink
+    (purges_made (hand_to_hand c.args.handle) c.args.self.now.memory.heap) c.args.sink.now c.copy_block.new.sink
 heard g c from done =
     let a = c.self.inside in
     let zone = g.S.BlockStore.zone a.store in
     let rest = g.S.BlockStore.rest a.store in
-    let es = a.names.items in
     let f = c.in_ok-found.found in
     let same = ap (λ (e : List Anchor). new_gone e (One f.slot) (length c.bytes.result.now) rest.unused zone)
     (c.deref-2.ensures.value ∙ c.in_ok-reserve.ensures.items)
-    ∙ copy_gone-is zone rest es (g.met.S.BlockStore.masters a.store) c.self.invariant c.args.handle f _ from
-    ∙ ap (λ (m : Memory). hand_to_hand_gone c.args.handle m.heap) (memory_as c.self.view_is) in
-    hears-as g.K.PurgeSink.told g.K.PurgeSink.waits g.K.PurgeSink.listens _ _ _ _ _ _
-    (λ some. refl) (same ∙ (hand_to_hand-same c.args.handle c.args.self.now.memory.heap).tells)
+    ∙ copied-gone zone rest a.names.items (g.met.S.BlockStore.masters a.store) c.self.invariant c.args.handle f _ from
+    ∙ ap (λ (m : Memory). purges_made (hand_to_hand c.args.handle) m.heap) (memory_as c.self.view_is) in
+    hears-as g.K.PurgeSink.told g.K.PurgeSink.waits g.K.PurgeSink.listens _ _ _ _ _ _ (λ some. refl) same
     c.in_ok-made.ensures.hears
 
 pub returns-in_err-name_handle-clause-hears : goal.returns-in_err-name_handle-clause-hears
@@ -257,19 +239,15 @@ pub returns-in_err-found-clause-hears : goal.returns-in_err-found-clause-hears
 returns-in_err-found-clause-hears g c =
     let a = c.self.inside in
     hears-none g.K.PurgeSink.told g.K.PurgeSink.waits g.K.PurgeSink.listens _ _ c.args.sink.now c.requires.idle
-    (sym (hand_to_hand-same c.args.handle c.args.self.now.memory.heap).tells ∙ copy_gone-none c.args.self.now.memory
-    (g.S.BlockStore.zone a.store) (g.S.BlockStore.rest a.store) a.names.items
-    c.deref.result.now a.log c.args.handle c.in_err-found.field-0.0 (memory_as c.self.view_is) c.deref.ensures.value
-    (sym c.slot_of.ensures ∙ c.in_err-found.was))
+    (unfound-gone (g.S.BlockStore.zone a.store) (g.S.BlockStore.rest a.store) a.names.items a.log
+    c.args.self.now.memory (memory_as c.self.view_is) (hand_to_hand c.args.handle) c.in_err-found.field-0.0
+    (absent g (goal.at.returns-in_err-found-clause-hears g c).In_err-found))
 
 pub returns-in_default-clause-hears : goal.returns-in_default-clause-hears
 returns-in_default-clause-hears g c =
     let a = c.self.inside in
-    let f = c.in_ok-found.found in
-    let is = entry g (goal.at.returns-in_default-clause-hears g c).In_ok-found in
     hears-none g.K.PurgeSink.told g.K.PurgeSink.waits g.K.PurgeSink.listens _ _ c.args.sink.now c.requires.idle
-    (sym (hand_to_hand-same c.args.handle c.args.self.now.memory.heap).tells ∙ copy_gone-nil c.args.self.now.memory
-    (g.S.BlockStore.zone a.store) (g.S.BlockStore.rest a.store) a.names.items
-    a.log
-    c.args.handle f.number f.slot (memory_as c.self.view_is) is.0 is.1 c.self.invariant (omega arith)
-    c.in_default.ensures)
+    (unfound-gone (g.S.BlockStore.zone a.store) (g.S.BlockStore.rest a.store) a.names.items a.log
+    c.args.self.now.memory (memory_as c.self.view_is) (hand_to_hand c.args.handle) NIL_HANDLE
+    (emptied g (goal.at.returns-in_default-clause-hears g c).In_default
+    (entry g (goal.at.returns-in_default-clause-hears g c).In_ok-found)))

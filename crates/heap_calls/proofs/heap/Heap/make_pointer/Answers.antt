@@ -1,28 +1,15 @@
-use Rattle.heap_calls.specs.Rows as rows
-use Rattle.heap_calls.specs.Rows.{doing_silently, purges_made}
-use Rattle.heap_calls.proofs.Same.Silent.{new_pointer-silent}
-use Rattle.heap_calls.proofs.Same.NewBlocks.{new_pointer-same}
-use Rattle.heap_calls.specs.Inner.Given.{KeepsMoves}
+use Rattle.std.proofs.Common.{◌≡◌, ◌++◌, ◌∷◌, [], length, List, refl, ◌∙◌, ap, arith, rules, is_some}
 use Rattle.std.proofs.lemmas.List.{length-map}
-use Rattle.heap_calls.specs.Inner.Numbered.{name_of}
-use Rattle.std.proofs.Common.{◌≡◌, refl, ℕ, ◌++◌, ◌∷◌, [], length, Some, None, sym, ◌∙◌, ap, subst, arith, Ok, Err, rules}
-use Rattle.std.proofs.Common.{Option, List}
-use Rattle.mac_words.specs.declared.code.TheConstants.OsErr.{MEM_FULL}
-use Rattle.heap_calls.specs.State.{Memory}
+use Rattle.block_store.specs.Rest.{counted}
 use Rattle.heap_calls.specs.declared.anchor.Anchor.{Anchor}
 use Rattle.heap_calls.specs.declared.anchor.Anchor.TheVariants.{Pointer}
-use Rattle.heap_calls.proofs.Tables.Replies.{new_pointer}
-use Rattle.heap_calls.proofs.Tables.Gone.{new_pointer_gone}
-use Rattle.heap_calls.proofs.Tables.Searches.{new_pointer_searches}
+use Rattle.heap_calls.specs.Rows.{new_pointer, doing_silently, purges_made, reply_of}
+use Rattle.heap_calls.specs.Inner.Given.{KeepsMoves}
+use Rattle.heap_calls.specs.Inner.Numbered.{name_of, memory_of}
 use Rattle.heap_calls.specs.Inner.Telling.{pointer_gone}
-use Rattle.heap_calls.specs.Inner.NewPointer.{IsNewNonrelocatable}
-use Rattle.heap_calls.specs.Inner.Numbered.{state_of, memory_of}
 use Rattle.heap_calls.proofs.Hearing.{hears-as, stops-at-once, stops-halted}
-use Rattle.heap_calls.proofs.GoneBlocks.{pointer_gone-is}
-use Rattle.heap_calls.proofs.NewBlocks.NewHandles.{searched-done}
-use Rattle.heap_calls.proofs.Numbering.Changing.{agrees-placed, slots_kept, memory-same, unplaced, unplaced-is, heap-same}
-use Rattle.heap_calls.proofs.NewBlocks.NewPointers.{new_pointer-refused, new_pointer-done, new_pointer_searches-is}
-use Rattle.heap_calls.proofs.NewBlocks.NewPointers.{agrees-more}
+use Rattle.heap_calls.proofs.NewBlocks.NewPointers.{agrees-more, pointed, pointer-answer, pointer-gone}
+use Rattle.heap_calls.proofs.Numbering.Changing.{agrees-placed, slots_kept, heap-same}
 use Rattle.heap_calls.proofs.Numbering.Memories.{memory_as}
 use Rattle.heap_calls.proofs.heap.Heap.make_pointer.Given.{Over}
 use Rattle.heap_calls.proofs.heap.Heap.make_pointer.Goals.{After-push_reserved, In_ok-room}
@@ -35,28 +22,25 @@ returns-in_err-reserve-clause-stops g c host =
     (rw (← c.self.view_is) (let full = c.in_err-reserve.ensures.full in let fits = c.self.inside.fits in
     omega (arith, length-map c.self.inside.names.items (name_of (g.S.BlockStore.rest c.self.inside.store).slots))))
 
-pub returns-in_default-clause-answer : goal.returns-in_default-clause-answer
-returns-in_default-clause-answer g c =
+-- what the call answers where the host has memory
+answered : (g : Over) (c : In_ok-room g) → doing_silently (new_pointer c.args.size) c.args.self.now.memory
+    ≡ (
+      reply_of (is_some c.in_ok-room.room.place) (length c.self.inside.names.items),
+      memory_of (g.S.BlockStore.zone c.add_nonrelocatable.new.store) (g.S.BlockStore.rest c.add_nonrelocatable.new.store)
+          (pointed c.in_ok-room.room.place c.self.inside.names.items) (record c.self.inside.log {
+            searches = counted c.self.inside.log.searches c.in_ok-room.room.searches;
+          }),
+    )
+answered g c =
     let a = c.self.inside in
-    let zone = g.S.BlockStore.zone a.store in
-    let rest = g.S.BlockStore.rest a.store in
-    let zone' = g.S.BlockStore.zone c.add_nonrelocatable.new.store in
-    let rest' = g.S.BlockStore.rest c.add_nonrelocatable.new.store in
-    let es = a.names.items in
-    let P : Option ℕ → Type 0 = λ o. IsNewNonrelocatable c.args.size zone o zone' in
-    let none : P None = subst P c.in_default.is c.in_ok-room.ensures.put in
-    new_pointer-silent c.args.size c.args.self.now.memory ∙ searched-done (new_pointer c.args.size)
-    (new_pointer_searches c.args.size) c.args.self.now.memory zone zone rest
-    rest es es
-    a.log c.count.new.self (Err MEM_FULL) c.in_ok-room.room.searches (memory_as c.self.view_is)
-    (new_pointer-refused c.args.size zone rest es none.1) refl refl
-    (c.in_ok-room.ensures.searches ∙ sym (new_pointer_searches-is c.args.size zone rest es)) c.count.ensures
-    ∙ ap (λ (m : Memory). (Err MEM_FULL, m))
-    (sym (memory-same zone rest (unplaced rest rest') es c.count.new.self
-    (unplaced-is rest rest' c.add_nonrelocatable.ensures.rest))
-    ∙ ap (λ z. memory_of z rest' es c.count.new.self) (sym none.0)
-    ∙ ap (λ (l : List Anchor). memory_of zone' rest' l c.count.new.self)
-    (sym {A = List Anchor} c.in_ok-reserve.ensures.items))
+    pointer-answer (g.S.BlockStore.zone a.store) (g.S.BlockStore.rest a.store) a.names.items a.log
+    c.args.self.now.memory (memory_as c.self.view_is) c.args.size (g.S.BlockStore.zone c.add_nonrelocatable.new.store)
+    (g.S.BlockStore.rest c.add_nonrelocatable.new.store) c.in_ok-room.room.searches c.add_nonrelocatable.ensures.rest
+    c.in_ok-room.ensures.searches c.self.invariant c.in_ok-room.room.place c.in_ok-room.ensures.put
+
+pub returns-in_default-clause-answer : goal.returns-in_default-clause-answer
+returns-in_default-clause-answer g c = rw (c.count.ensures, c.in_ok-reserve.ensures.items)
+    (rw c.in_default.is at (answered g (goal.at.returns-in_default-clause-answer g c).In_ok-room))
 
 pub invariant_of-self-in_err-room : goal.invariant_of-self-in_err-room
 invariant_of-self-in_err-room g c = rw c.in_ok-reserve.ensures.items
@@ -76,37 +60,20 @@ invariant_of-self-2 g c = rw (entered g (goal.at.invariant_of-self-2 g c).After-
 
 pub returns-clause-answer : goal.returns-clause-answer
 returns-clause-answer g c =
-    let zone' = g.S.BlockStore.zone c.add_nonrelocatable.new.store in
-    let rest' = g.S.BlockStore.rest c.add_nonrelocatable.new.store in
-    let a = c.self.inside in
-    let P : Option ℕ → Type 0 = λ o. IsNewNonrelocatable c.args.size (g.S.BlockStore.zone a.store) o zone' in
-    let put : P (Some c.in-Some.place) = subst P c.in-Some.is c.in_ok-room.ensures.put in
-    let es' = a.names.items ++ Pointer c.in-Some.place ∷ [] in
-    let n : length a.names.items ≡ c.len-number.result = omega arith in
-    new_pointer-silent c.args.size c.args.self.now.memory ∙ searched-done (new_pointer c.args.size)
-    (new_pointer_searches c.args.size) c.args.self.now.memory
-    (g.S.BlockStore.zone a.store) zone' (g.S.BlockStore.rest a.store) rest' a.names.items es' a.log c.count.new.self
-    (Ok c.len-number.result) c.in_ok-room.room.searches (memory_as c.self.view_is)
-    (new_pointer-done (g.S.BlockStore.zone a.store) zone' (g.S.BlockStore.rest a.store) rest' a.names.items c.args.size
-    c.in-Some.place c.self.invariant (slots_kept (g.S.BlockStore.rest a.store) rest' c.add_nonrelocatable.ensures.rest) put
-    ∙ ap (λ (k : ℕ). (Ok k, state_of zone' rest'.slots es')) n)
-    c.add_nonrelocatable.ensures.rest.window c.add_nonrelocatable.ensures.rest.moves
-    (c.in_ok-room.ensures.searches ∙ sym (new_pointer_searches-is c.args.size (g.S.BlockStore.zone a.store)
-    (g.S.BlockStore.rest a.store) a.names.items)) c.count.ensures
-    ∙ ap (λ (l : List Anchor). (Ok c.len-number.result, memory_of zone' rest' l c.count.new.self))
-    (sym (entered g (goal.at.returns-clause-answer g c).After-push_reserved))
+    let n : c.len-number.result ≡ length c.self.inside.names.items = omega arith in
+    rw (n, entered g (goal.at.returns-clause-answer g c).After-push_reserved, c.count.ensures)
+    (rw c.in-Some.is at (answered g (goal.at.returns-clause-answer g c).In_ok-room))
 
 -- the sink is told of the blocks of the call's row
 told : (g : Over) (c : In_ok-room g)
     → pointer_gone c.deref.result.now c.args.size (g.S.BlockStore.zone c.self.inside.store)
-    ≡ purges_made (rows.new_pointer c.args.size) c.args.self.now.memory.heap
+    ≡ purges_made (new_pointer c.args.size) c.args.self.now.memory.heap
 told g c =
     let a = c.self.inside in
     let zone = g.S.BlockStore.zone a.store in
     ap (λ (e : List Anchor). pointer_gone e c.args.size zone) (c.deref.ensures.value ∙ c.in_ok-reserve.ensures.items)
-    ∙ pointer_gone-is c.args.size zone (g.S.BlockStore.rest a.store).slots a.names.items
-    ∙ ap (λ (m : Memory). new_pointer_gone c.args.size m.heap) (memory_as c.self.view_is)
-    ∙ (new_pointer-same c.args.size c.args.self.now.memory.heap).tells
+    ∙ pointer-gone zone (g.S.BlockStore.rest a.store) a.names.items a.log c.args.self.now.memory
+    (memory_as c.self.view_is) c.args.size
 
 pub returns-in_default-clause-hears : goal.returns-in_default-clause-hears
 returns-in_default-clause-hears g c =

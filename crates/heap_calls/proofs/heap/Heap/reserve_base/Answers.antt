@@ -1,5 +1,6 @@
 use Rattle.std.proofs.Common.{◌≡◌, sym, ◌∙◌, List, ap, refl, rules}
 use Rattle.std.proofs.lemmas.Result.{err_from_is_err_and}
+use Rattle.mac_words.specs.declared.code.TheConstants.OsErr.{MEM_FULL}
 use Rattle.block_store.specs.declared.sparing.Sparing.TheVariants.{Nothing}
 use Rattle.heap_calls.specs.declared.anchor.Anchor.{Anchor}
 use Rattle.heap_calls.specs.Rows.{reserve_mem, doing_silently, purges_made}
@@ -10,14 +11,15 @@ use Rattle.heap_calls.proofs.Hearing.{stops-halted, hears-as, hears-none}
 use Rattle.heap_calls.proofs.Numbering.Changing.{agrees-placed, heap-same}
 use Rattle.heap_calls.proofs.Numbering.Memories.{memory_as, reply-as}
 use Rattle.heap_calls.proofs.Room.Placements.{at_none}
-use Rattle.heap_calls.proofs.Went.{reserve-is, reserve_gone-is, reserve-too_large, reserve_gone-none}
+use Rattle.heap_calls.proofs.Went.{reserve-is, reserve_gone-is, reserve-row, refused-is, refused-gone}
 use Rattle.heap_calls.proofs.heap.Heap.reserve_base.Given.{Over}
 use Rattle.heap_calls.proofs.heap.Heap.reserve_base.Goals.{In_ok-room, After-account}
 use Rattle.heap_calls.proofs.heap.Heap.reserve_base.Goals as goal
 
 pub returns-in_default-clause-answer : goal.returns-in_default-clause-answer
 returns-in_default-clause-answer g c =
-    reserve-too_large c.args.size c.args.self.now.memory (sym c.phys.ensures ∙ c.in_default.is)
+    refused-is (reserve_mem c.args.size) MEM_FULL c.args.self.now.memory
+    (reserve-row c.args.size c.args.self.now.memory.heap (sym c.phys.ensures ∙ c.in_default.is))
 
 -- what the call answers where a block can have that size
 told : (g : Over) (c : After-account g) → doing_silently (reserve_mem c.args.size) c.args.self.now.memory
@@ -80,4 +82,5 @@ returns-clause-hears g c = heard g (goal.at.returns-clause-hears g c).In_ok-room
 pub returns-in_default-clause-hears : goal.returns-in_default-clause-hears
 returns-in_default-clause-hears g c =
     hears-none g.K.PurgeSink.told g.K.PurgeSink.waits g.K.PurgeSink.listens _ _ c.args.sink.now c.requires.idle
-    (reserve_gone-none c.args.size c.args.self.now.memory.heap (sym c.phys.ensures ∙ c.in_default.is))
+    (refused-gone (reserve_mem c.args.size) MEM_FULL c.args.self.now.memory.heap
+    (reserve-row c.args.size c.args.self.now.memory.heap (sym c.phys.ensures ∙ c.in_default.is)))
