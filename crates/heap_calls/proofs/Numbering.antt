@@ -7,7 +7,6 @@ pub mod Largest
 pub mod Loosening
 pub mod PurgeTrials
 pub mod Looking
-pub mod Rebuilding
 pub mod MoveNames
 pub mod Roles
 pub mod Reserved

@@ -20,7 +20,7 @@ use Rattle.moves.proofs.Searches.{seek-rename}
 use Rattle.heap_calls.specs.State.{State, Memory, Meaning}
 use Rattle.heap_calls.specs.Answer.{nothing}
 use Rattle.heap_calls.specs.Rows.{Done, work, doing_silently, purges_made, reply_of, given, changed, refused}
-use Rattle.heap_calls.specs.Rows.{room_for, heap_after, purged_by}
+use Rattle.heap_calls.specs.Rows.{room_for, heap_after, purged_by, told_blocks}
 use Rattle.heap_calls.specs.Rows.{more_masters, reserve_mem}
 use Rattle.heap_calls.specs.declared.anchor.Anchor.{Anchor}
 use Rattle.heap_calls.specs.declared.log.Log.{Log}
@@ -200,6 +200,17 @@ module _ (zone : List Block) (rest : Rest) (es : List Anchor) (log : Log) (value
         (ap (λ (d : Done (Unit {0})). d.reply) row ∙ ap sized_reply (sym did.finds))
         (ap (λ (d : Done (Unit {0})). d.names) row ∙ sym stays.0) did.leaves did.lowers
         (ap (λ (k : ℕ). let l : Log = record log { searches = counted log.searches k } in l) did.looks) stays.1
+
+    -- what it purges
+    pub changed-gone : (call : State → Done (Unit {0})) (spared spared' : Block → Bool)
+        → ((b : Block) → spared (rename_block f g b) ≡ spared' b) → (p : Sought) → PathNames f g p.path
+        → call s ≡ changed spared (rename_sought f g p) s
+        → told_blocks (length es) (rename f g (did spared' p.path zone).gone) ≡ purges_made call value.heap
+    changed-gone call spared spared' spares p names row =
+        ap (λ (k : ℕ). told_blocks k (rename f g (did spared' p.path zone).gone)) (sym (length-map es (name_of rest.slots)))
+        ∙ sym (ap (λ (d : Done (Unit {0})). purged_by d s) row
+        ∙ ap (λ (d : Did). told_blocks (length s.names) d.gone) (did-rename f g spared spared' spares p.path names zone))
+        ∙ ap (λ (m : Memory). purges_made call m.heap) is
 
     -- a call that gives a new number where there is room, by the entries with the new one
     pub given-is : (call : State → Done ℕ) (name : Meaning) (spared spared' : Block → Bool) (es' : List Anchor)

@@ -43,7 +43,7 @@ use Rattle.heap_calls.specs.Inner.Telling.{base_gone, pointer_gone}
 use Rattle.heap_calls.proofs.GoneBlocks.{base_gone-any}
 use Rattle.heap_calls.proofs.Numbering.Changing.{slots_kept}
 use Rattle.heap_calls.proofs.NewBlocks.NewSlots.{put_at_base-is}
-use Rattle.heap_calls.proofs.Same.Agreeing.{fits-agrees}
+use Rattle.heap_calls.proofs.Same.Agreeing.{agrees-if}
 use Rattle.heap_calls.proofs.Same.NewBlocks.{base-agrees}
 use Rattle.heap_calls.proofs.Went.{Follows, follows-none, given-is, path-names, seek-any, fits-rename}
 use Rattle.heap_calls.specs.declared.anchor.Anchor.{Anchor}
@@ -267,7 +267,8 @@ module _ (zone : List Block) (rest : Rest) (es : List Anchor) (log : Log) (value
         follows : (k : ℕ) (o : Option ℕ) → is_some (after k) ≡ is_some o → zone' ≡ unwrap_or (after k) zone
             → Follows nothing zone (seek_it k zone) (is_some o) m zone' rest rest'
         follows k o finds leaves =
-            let a = fits-agrees n (room (put_at_base (new k)) nothing zone) (room_searches (put_at_base (new k)) nothing zone)
+            let a = agrees-if refl (is_some (phys n)) (room (put_at_base (new k)) nothing zone)
+            (room_searches (put_at_base (new k)) nothing zone)
             0 (room_gone 0 (put_at_base (new k)) nothing zone) (seek (Base (new k)) nothing zone)
             (base-agrees 0 nothing (new k) zone) in
             follows-none (sym finds ∙ a.finds) (leaves ∙ a.leaves)
@@ -328,7 +329,8 @@ module _ (zone : List Block) (rest : Rest) (es : List Anchor) (log : Log) (value
         ap (λ l. cond (is_some (phys n)) l [])
         (ap (λ p. base_gone es p sparing.Nothing zone) (sym (fresh-size n (padded n) refl k))
         ∙ base_gone-any zone rest.slots es (new k))
-        ∙ (fits-agrees n (room (put_at_base (new k)) nothing s.zone) (room_searches (put_at_base (new k)) nothing s.zone) 0
+        ∙ (agrees-if refl (is_some (phys n)) (room (put_at_base (new k)) nothing s.zone)
+        (room_searches (put_at_base (new k)) nothing s.zone) 0
         (room_gone k (put_at_base (new k)) nothing s.zone) (seek (Base (new k)) nothing s.zone)
         (base-agrees k nothing (new k) s.zone)).tells
         ∙ ap (λ (m : Memory). purges_made (new_pointer n) m.heap) is

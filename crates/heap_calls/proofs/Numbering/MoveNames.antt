@@ -1,26 +1,21 @@
-use Rattle.std.proofs.Common.{◌≡◌, ℕ, ◌+◌, ◌-◌, zero, suc, Bool, ◌&&◌, List, [], ◌∷◌, length, refl, ◌∙◌, ap}
-use Rattle.std.proofs.Common.{cond, map, Option, Some, None, is_some, nat_le}
+use Rattle.std.proofs.Common.{◌≡◌, ℕ, ◌+◌, ◌-◌, zero, suc, Bool, List, [], ◌∷◌, length, refl, ◌∙◌, ap}
+use Rattle.std.proofs.Common.{cond, map, Option, Some, None, is_some}
 use Rattle.std.proofs.lemmas.List.{length-map}
 use Rattle.std.specs.Option.{option_map}
-use Rattle.mac_words.specs.Size.{phys}
 use Rattle.block_store.specs.Block.{Block, Free, Nonrelocatable, Masters, Relocatable, size, rename, rename_block}
-use Rattle.block_store.specs.Block.{is_mover, is_room, resized}
-use Rattle.block_store.specs.Run.{RunSpot, run_spot, runs, has, has_free, high}
-use Rattle.block_store.specs.Room.{Spot, rename_spot, spot, place, purge, put_in_place}
-use Rattle.block_store.specs.Grow.{growth, grow_up, grow_mover}
+use Rattle.block_store.specs.Block.{is_mover, is_room}
+use Rattle.block_store.specs.Run.{RunSpot, run_spot, runs, has_free}
+use Rattle.block_store.specs.Room.{rename_spot, spot, purge, put_in_place}
 use Rattle.block_store.specs.Compact.{lowered_in_runs, runs_settled}
 use Rattle.block_store.specs.Rest.{lowered_in_run}
 use Rattle.block_store.proofs.Renamed.Renaming.{size-rename, total-rename, is_mover-rename, is_room-rename, spot-rename}
-use Rattle.block_store.proofs.Renamed.Renaming.{run_spot-rename, rename_run_spot, has-rename, has_free-rename}
-use Rattle.block_store.proofs.Renamed.Renaming.{place-rename, purge-rename, put_in_place-rename, grow_up-rename}
-use Rattle.block_store.proofs.Renamed.Renaming.{grow_mover-rename}
-use Rattle.block_store.proofs.Renamed.GrowRenaming.{resized-rename}
+use Rattle.block_store.proofs.Renamed.Renaming.{run_spot-rename, rename_run_spot, has_free-rename}
+use Rattle.block_store.proofs.Renamed.Renaming.{purge-rename, put_in_place-rename}
 use Rattle.mac_words.proofs.Plain.{is_some-map}
-use Rattle.heap_calls.specs.Moves.{run_moves, as_it_is, place_moves, mover_moves, grow_moves, room_moves, put_moves}
-use Rattle.heap_calls.specs.Moves.{growth_moves, size_moves, all_moves}
+use Rattle.heap_calls.specs.Moves.{run_moves, as_it_is, place_moves, room_moves, put_moves}
+use Rattle.heap_calls.specs.Moves.{all_moves}
 use Rattle.heap_calls.specs.Purging.{purged_all}
-use Rattle.heap_calls.specs.Searches.{room_searches, resized_at}
-use Rattle.heap_calls.proofs.Numbering.Hoisting.{high-rename}
+use Rattle.heap_calls.specs.Searches.{room_searches}
 use Rattle.heap_calls.proofs.Numbering.Largest.{runs-rename, runs_settled-rename}
 use Rattle.heap_calls.proofs.Numbering.Looking.{room_searches-rename}
 use Rattle.heap_calls.proofs.Numbering.PurgeTrials.{purged_all-rename}
@@ -99,62 +94,3 @@ module _ (f g : ℕ → ℕ)
             (place_moves (size (rename_block f g new))) (place_moves (size new))
             (λ bs. ap (λ k. place_moves k (rename f g bs)) (size-rename f g new) ∙ place_moves-rename (size new) bs)
             zone
-
-        module _ (t u : Block → Bool) (same : (b : Block) → t (rename_block f g b) ≡ u b)
-          where
-            mover_moves-rename : (new : Block) (zone : List Block) (o : Option Spot)
-                → mover_moves t (rename_block f g new) (rename f g zone) (option_map (rename_spot f g) o)
-                ≡ mover_moves u new zone o
-            mover_moves-rename new zone None = refl
-            mover_moves-rename new zone (Some s) =
-                let wide : growth (rename_block f g new) (rename_spot f g s) ≡ growth new s =
-                rw (size-rename f g new, size-rename f g s.here) refl in
-                let up : is_some (grow_up (rename_block f g new) (rename_spot f g s)) ≡ is_some (grow_up new s) =
-                ap is_some (grow_up-rename f g new s) ∙ is_some-map (rename f g) (grow_up new s) in
-                let there : is_some (place (size (rename_block f g new)) (rename f g zone))
-                ≡ is_some (place (size new) zone) =
-                ap (λ k. is_some (place k (rename f g zone))) (size-rename f g new)
-                ∙ ap is_some (place-rename f g (size new) zone) ∙ is_some-map (rename_spot f g)
-                (place (size new) zone) in
-                let away : place_moves (size (rename_block f g new)) (rename f g zone) ≡ place_moves (size new) zone =
-                ap (λ k. place_moves k (rename f g zone)) (size-rename f g new)
-                ∙ place_moves-rename (size new) zone in
-                let last : run_moves (high t) (run_spot (λ run. has t run
-                && has_free (growth (rename_block f g new) (rename_spot f g s)) run) (rename f g zone))
-                ≡ run_moves (high u) (run_spot (λ run. has u run && has_free (growth new s) run) zone) =
-                ap (run_moves (high t)) (run_spot-rename f g (λ run. has t run
-                && has_free (growth (rename_block f g new) (rename_spot f g s)) run)
-                (λ run. has u run && has_free (growth new s) run)
-                (λ run. rw (wide, has-rename f g t u same run, has_free-rename f g (growth new s) run) refl) zone)
-                ∙ run_moves-rename (high t) (high u) (high-rename f g t u same)
-                (run_spot (λ run. has u run && has_free (growth new s) run) zone) in
-                (λ i. cond {A = ℕ} (up i) 0 (cond {A = ℕ} (there i) (away i) (last i)))
-
-            grow_moves-rename : (new : Block) (zone : List Block) → grow_moves t (rename_block f g new)
-                (rename f g zone) ≡ grow_moves u new zone
-            grow_moves-rename new zone = ap (mover_moves t (rename_block f g new) (rename f g zone))
-                (spot-rename f g t u same zone) ∙ mover_moves-rename new zone (spot u zone)
-
-            growth_moves-rename : (n : ℕ) (zone : List Block) (o : Option Spot)
-                → growth_moves t p (resized_at n (option_map (rename_spot f g) o)) (rename f g zone)
-                (option_map (rename_spot f g) o) ≡ growth_moves u q (resized_at n o) zone o
-            growth_moves-rename n zone None = refl
-            growth_moves-rename n zone (Some s) =
-                let new : Block = resized n s.here in
-                let fits : nat_le (size (rename_block f g new)) (size (rename_block f g s.here))
-                ≡ nat_le (size new) (size s.here) = rw (size-rename f g new, size-rename f g s.here) refl in
-                let mover : is_mover (rename_block f g s.here) ≡ is_mover s.here = is_mover-rename f g s.here in
-                let many : room_moves (grow_mover t (rename_block f g new)) (grow_moves t (rename_block f g new)) p
-                (rename f g zone) ≡ room_moves (grow_mover u new) (grow_moves u new) q zone =
-                room_moves-rename (grow_mover t (rename_block f g new)) (grow_mover u new)
-                (grow_mover-rename f g t u same new) (grow_moves t (rename_block f g new)) (grow_moves u new)
-                (grow_moves-rename new) zone in
-                ap (λ b. growth_moves t p b (rename f g zone) (Some (rename_spot f g s))) (resized-rename f g n s.here)
-                ∙ (λ i. cond {A = ℕ} (fits i) 0 (cond {A = ℕ} (mover i) (many i) 0))
-
-            pub size_moves-rename : (n : ℕ) (zone : List Block) → size_moves t p n (rename f g zone)
-                ≡ size_moves u q n zone
-            size_moves-rename n zone =
-                ap {B = ℕ} (λ (m : ℕ). cond (is_some (phys n)) m 0)
-                (ap (λ o. growth_moves t p (resized_at n o) (rename f g zone) o) (spot-rename f g t u same zone)
-                ∙ growth_moves-rename n zone (spot u zone))

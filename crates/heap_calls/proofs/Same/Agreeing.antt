@@ -1,11 +1,10 @@
 use Rattle.std.proofs.Common.{◌≡◌, ℕ, ◌+◌, ◌-◌, zero, suc, Bool, true, false, List, [], ◌∷◌, ◌++◌, Option, Some, None}
 use Rattle.std.proofs.Common.{refl, sym, ◌∙◌, ap, cond, arith, is_some, append-nil, append_assoc}
 use Rattle.std.specs.Prelude.{unwrap_or}
-use Rattle.mac_words.specs.Size.{phys}
 use Rattle.block_store.specs.Block.{Block}
 use Rattle.block_store.specs.Room.{room, purge, count_of, may_be_purged}
 use Rattle.moves.specs.Moves.{Move, Purge, Did, did, moved, gone_by, lowered_by, searches_by, lowest_gone}
-use Rattle.moves.specs.Seeking.{Sought, no_room, sought, purges_for, seek, if_fits, then_seek}
+use Rattle.moves.specs.Seeking.{Sought, no_room, sought, purges_for, seek, then_seek}
 use Rattle.moves.proofs.Paths.{did-append}
 use Rattle.heap_calls.specs.Searches.{room_searches}
 use Rattle.heap_calls.specs.Moves.{room_moves}
@@ -16,19 +15,19 @@ use Rattle.heap_calls.proofs.Room.LeastSearches.{least-of, tries-of}
 -- What the tables say of a search, and what its path does.
 
 -- the zone after a search, its searches, its moves and what it purges are those of the path
-pub record Agrees (n : ℕ) (spared : Block → Bool) (zone : List Block) (after : Option (List Block)) (searches moves : ℕ)
+pub record Agrees (tell : List Block → List Gone) (spared : Block → Bool) (zone : List Block) (after : Option (List Block)) (searches moves : ℕ)
     (purged : List Gone) (r : Sought) : Type 0 where
   pub finds : is_some after ≡ r.found
   pub leaves : unwrap_or after zone ≡ (did spared r.path zone).zone
   pub looks : searches ≡ (did spared r.path zone).searches
   pub lowers : moves ≡ (did spared r.path zone).lowered
-  pub tells : purged ≡ told_blocks n (did spared r.path zone).gone
+  pub tells : purged ≡ tell (did spared r.path zone).gone
 
 -- the same of what is equal
-pub agrees-as : {n : ℕ} {spared : Block → Bool} {zone : List Block} {r : Sought} (after after' : Option (List Block))
+pub agrees-as : {tell : List Block → List Gone} {spared : Block → Bool} {zone : List Block} {r : Sought} (after after' : Option (List Block))
     (searches searches' moves moves' : ℕ) (purged purged' : List Gone) → after' ≡ after → searches' ≡ searches
-    → moves' ≡ moves → purged' ≡ purged → Agrees n spared zone after searches moves purged r
-    → Agrees n spared zone after' searches' moves' purged' r
+    → moves' ≡ moves → purged' ≡ purged → Agrees tell spared zone after searches moves purged r
+    → Agrees tell spared zone after' searches' moves' purged' r
 agrees-as {zone = zone} after after' searches searches' moves moves' purged purged' same s m p a = record {
   finds = ap is_some same ∙ a.finds;
   leaves = ap (λ o. unwrap_or o zone) same ∙ a.leaves;
@@ -62,7 +61,7 @@ module _ (try : List Block → Option (List Block)) (spared : Block → Bool) (b
     abbrev pub fewest : ℕ
     fewest = purges_for (λ z. is_some (try z)) spared blocks
 
-    abbrev ready : List Block
+    abbrev pub ready : List Block
     ready = purge fewest spared blocks
 
     pub room-is : room try spared blocks ≡ try ready
@@ -84,63 +83,53 @@ module _ (try : List Block → Option (List Block)) (spared : Block → Bool) (b
         ∙ ap (λ l. cond (is_some (try ready)) l []) (gone-told n fewest spared blocks)
 
 -- a search for the place of a move that itself neither searches nor purges
-pub seek-agrees : (n : ℕ) (spared : Block → Bool) (m : Move) → searches_by m ≡ 0
-    → ((z : List Block) → gone_by spared m z ≡ []) → (moves : List Block → ℕ)
-    → ((z : List Block) → moves z ≡ lowered_by m z) → ((z : List Block) → moved spared m z ≡ None → moves z ≡ 0)
-    → (zone : List Block) → Agrees n spared zone (room (moved spared m) spared zone)
-    (room_searches (moved spared m) spared zone) (room_moves (moved spared m) moves spared zone)
-    (room_gone n (moved spared m) spared zone) (seek m spared zone)
-seek-agrees n spared m quiet still moves lowers none zone =
-    agrees-as (try ready) (room try spared zone) (k + 1) (room_searches try spared zone) (moves ready)
-    (room_moves try moves spared zone) (cond (is_some (try ready)) told []) (room_gone n try spared zone)
-    (room-is try spared zone) (searches-is try spared zone) (moves-is try spared zone moves) (gone-is try spared zone n)
-    (cases (try ready) refl)
+module _ (tell : List Block → List Gone) (none : tell [] ≡ []) (spared : Block → Bool) (m : Move) (quiet : searches_by m ≡ 0)
+    (still : (z : List Block) → gone_by spared m z ≡ []) (moves : List Block → ℕ)
+    (lowers : (z : List Block) → moves z ≡ lowered_by m z)
+    (unmoved : (z : List Block) → moved spared m z ≡ None → moves z ≡ 0) (zone : List Block)
   where
-    try : List Block → Option (List Block)
+    abbrev try : List Block → Option (List Block)
     try = moved spared m
 
-    k : ℕ
+    abbrev k : ℕ
     k = fewest try spared zone
 
-    ready : List Block
-    ready = purge k spared zone
+    abbrev there : List Block
+    there = purge k spared zone
 
-    told : List Gone
-    told = told_blocks n (lowest_gone k spared zone)
+    abbrev told : List Gone
+    told = tell (lowest_gone k spared zone)
 
-    cases : (o : Option (List Block)) → try ready ≡ o → Agrees n spared zone o (k + 1) (moves ready)
-        (cond (is_some o) told []) (sought k (is_some o) (Purge k ∷ m ∷ []))
-    cases None e = record {
-      finds = refl;
-      leaves = refl;
-      looks = omega arith;
-      lowers = none ready e;
-      tells = refl;
-    }
-    cases (Some z) e = record {
-      finds = refl;
-      leaves = sym (ap (λ o. unwrap_or o ready) e);
-      looks = omega (arith, quiet);
-      lowers = (let l = lowers ready in omega arith);
-      tells = ap (told_blocks n) (sym (ap (λ l. lowest_gone k spared zone ++ (l ++ [])) (still ready)
-          ∙ append-nil (lowest_gone k spared zone)));
-    }
+    pub seek-agrees : (purged : List Gone) → purged ≡ cond (is_some (try there)) told []
+        → Agrees tell spared zone (room try spared zone) (room_searches try spared zone)
+        (room_moves try moves spared zone) purged (seek m spared zone)
+    seek-agrees purged goes =
+        agrees-as (try there) (room try spared zone) (k + 1) (room_searches try spared zone) (moves there)
+        (room_moves try moves spared zone) (cond (is_some (try there)) told []) purged (room-is try spared zone)
+        (searches-is try spared zone) (moves-is try spared zone moves) goes (cases (try there) refl)
+      where
+        cases : (o : Option (List Block)) → try there ≡ o → Agrees tell spared zone o (k + 1) (moves there)
+            (cond (is_some o) told []) (sought k (is_some o) (Purge k ∷ m ∷ []))
+        cases None e =
+            record { finds = refl; leaves = refl; looks = omega arith; lowers = unmoved there e; tells = sym none }
+        cases (Some z) e = record {
+          finds = refl;
+          leaves = sym (ap (λ o. unwrap_or o there) e);
+          looks = omega (arith, quiet);
+          lowers = (let l = lowers there in omega arith);
+          tells = ap tell (sym (ap (λ l. lowest_gone k spared zone ++ (l ++ [])) (still there)
+              ∙ append-nil (lowest_gone k spared zone)));
+        }
 
 -- a search that is made in one case
-pub agrees-if : {n : ℕ} {spared : Block → Bool} {zone : List Block} (t : Bool) (after : Option (List Block))
-    (searches moves : ℕ) (purged : List Gone) (r : Sought) → Agrees n spared zone after searches moves purged r
-    → Agrees n spared zone (cond t after None) (cond t searches 0) (cond t moves 0) (cond t purged []) (cond t r
-    no_room)
-agrees-if true after searches moves purged r a = a
-agrees-if false after searches moves purged r a =
-    record { finds = refl; leaves = refl; looks = refl; lowers = refl; tells = refl }
-
--- a search where a block can have the size
-pub fits-agrees : {n : ℕ} {spared : Block → Bool} {zone : List Block} (size : ℕ) (after : Option (List Block))
-    (searches moves : ℕ) (purged : List Gone) (r : Sought) → Agrees n spared zone after searches moves purged r
-    → Agrees n spared zone (cond (is_some (phys size)) after None) (cond (is_some (phys size)) searches 0)
-    (cond (is_some (phys size)) moves 0) (cond (is_some (phys size)) purged []) (if_fits size r)
-fits-agrees size after searches moves purged r a = agrees-if (is_some (phys size)) after searches moves purged r a
+pub agrees-if : {tell : List Block → List Gone} {spared : Block → Bool} {zone : List Block} → tell [] ≡ [] → (t : Bool)
+    (after : Option (List Block)) (searches moves : ℕ) (purged : List Gone) (r : Sought)
+    → Agrees tell spared zone after searches moves purged r
+    → Agrees tell spared zone (cond t after None) (cond t searches 0) (cond t moves 0) (cond t purged [])
+    (cond t r no_room)
+agrees-if none true after searches moves purged r a = a
+agrees-if none false after searches moves purged r a =
+    record { finds = refl; leaves = refl; looks = refl; lowers = refl; tells = sym none }
 
 -- what is said of what there is
 abbrev pub on_some : {A : Type 0} → A → (List Block → A) → Option (List Block) → A
@@ -157,10 +146,10 @@ pub record BothAgree (n : ℕ) (spared : Block → Bool) (zone : List Block) (fi
   pub tells : purged ≡ told_blocks n (did spared r.path zone).gone
 
 module _ (n : ℕ) (spared : Block → Bool) (zone : List Block) (first : Option (List Block)) (searches moves : ℕ)
-    (purged : List Gone) (r : Sought) (a : Agrees n spared zone first searches moves purged r)
+    (purged : List Gone) (r : Sought) (a : Agrees (told_blocks n) spared zone first searches moves purged r)
     (next : List Block → Option (List Block)) (searches' moves' : List Block → ℕ) (purged' : List Block → List Gone)
     (r' : List Block → Sought)
-    (b : (z : List Block) → Agrees n spared z (next z) (searches' z) (moves' z) (purged' z) (r' z))
+    (b : (z : List Block) → Agrees (told_blocks n) spared z (next z) (searches' z) (moves' z) (purged' z) (r' z))
   where
     abbrev done : Did
     done = did spared r.path zone

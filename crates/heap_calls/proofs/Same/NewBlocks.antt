@@ -27,8 +27,8 @@ use Rattle.heap_calls.specs.Moves.{run_moves, as_it_is, place_moves, put_moves, 
 use Rattle.heap_calls.specs.Gone.{Gone, room_gone, slot_gone, ready_gone}
 use Rattle.heap_calls.specs.Inside.{new_filled, new_empty}
 use Rattle.heap_calls.specs.Rows as rows
-use Rattle.heap_calls.specs.Rows.{Done, work, heap_after, purged_by, is_unused, next_block}
-use Rattle.heap_calls.proofs.Same.Agreeing.{Agrees, BothAgree, seek-agrees, agrees-if, then-agrees}
+use Rattle.heap_calls.specs.Rows.{told_blocks, Done, work, heap_after, purged_by, is_unused, next_block}
+use Rattle.heap_calls.proofs.Same.Agreeing.{Agrees, BothAgree, seek-agrees, gone-is, agrees-if, then-agrees}
 use Rattle.heap_calls.proofs.Same.Agreeing.{on_some}
 use Rattle.heap_calls.proofs.Numbering.Looking.{tries-same}
 use Rattle.heap_calls.proofs.Room.MoveCounts.{no-place}
@@ -45,10 +45,11 @@ pub record Same {T : Type 0} (answer : Answer T) (searches moves : ℕ) (gone : 
 
 -- a block at the base of a run
 pub base-agrees : (n : ℕ) (spared : Block → Bool) (new : Block) (zone : List Block)
-    → Agrees n spared zone (room (put_at_base new) spared zone) (room_searches (put_at_base new) spared zone) 0
+    → Agrees (told_blocks n) spared zone (room (put_at_base new) spared zone) (room_searches (put_at_base new) spared zone) 0
     (room_gone n (put_at_base new) spared zone) (seek (Base new) spared zone)
 base-agrees n spared new zone =
-    seek-agrees n spared (Base new) refl (λ z. refl) (λ z. 0) (λ z. refl) (λ z e. refl) zone
+    seek-agrees (told_blocks n) refl spared (Base new) refl (λ z. refl) (λ z. 0) (λ z. refl) (λ z e. refl) zone
+    (room_gone n (put_at_base new) spared zone) (gone-is (put_at_base new) spared zone n)
 
 -- a relocatable block
 packs-same : (o : Option RunSpot) → run_moves as_it_is o ≡ lowered_in o
@@ -60,11 +61,12 @@ place-same p zone =
     ap (λ (m : ℕ). cond (is_some (spot (is_room p) zone)) 0 m) (packs-same (run_spot (has_free p) zone))
 
 pub put-agrees : (n : ℕ) (spared : Block → Bool) (new : Block) → 0 < size new → (zone : List Block)
-    → Agrees n spared zone (room (put_in_place new) spared zone) (room_searches (put_in_place new) spared zone)
+    → Agrees (told_blocks n) spared zone (room (put_in_place new) spared zone) (room_searches (put_in_place new) spared zone)
     (put_moves new spared zone) (room_gone n (put_in_place new) spared zone) (seek (Put new) spared zone)
 put-agrees n spared new pos zone =
-    seek-agrees n spared (Put new) refl (λ z. refl) (place_moves (size new)) (place-same (size new))
+    seek-agrees (told_blocks n) refl spared (Put new) refl (λ z. refl) (place_moves (size new)) (place-same (size new))
     (λ z e. no-place (size new) z pos (map-none (filled new) (place (size new) z) e)) zone
+    (room_gone n (put_in_place new) spared zone) (gone-is (put_in_place new) spared zone n)
 
 -- a master pointer, where one is unused or not
 abbrev pub slot_after : (Block → Bool) → Bool → List Block → Option (List Block)
@@ -77,7 +79,7 @@ abbrev pub slot_goes : ℕ → (Block → Bool) → Bool → List Block → List
 slot_goes n spared unused zone = cond unused [] (room_gone n (put_at_base Masters) spared zone)
 
 pub slot-agrees : (n : ℕ) (spared : Block → Bool) (unused : Bool) (zone : List Block)
-    → Agrees n spared zone (slot_after spared unused zone) (slot_looks spared unused zone) 0
+    → Agrees (told_blocks n) spared zone (slot_after spared unused zone) (slot_looks spared unused zone) 0
     (slot_goes n spared unused zone) (seek_slot unused spared zone)
 slot-agrees n spared true zone = record { finds = refl; leaves = refl; looks = refl; lowers = refl; tells = refl }
 slot-agrees n spared false zone = base-agrees n spared Masters zone
@@ -105,7 +107,7 @@ module _ (n : ℕ) (spared : Block → Bool) (unused : Bool) (new : Block) (pos 
         (slot_goes n spared unused zone) (seek_slot unused spared zone) (slot-agrees n spared unused zone) next
         (λ z. cond fits (room_searches (put_in_place new) spared z) 0) (λ z. cond fits (put_moves new spared z) 0)
         (λ z. cond fits (room_gone n (put_in_place new) spared z) []) block
-        (λ z. agrees-if fits (room (put_in_place new) spared z) (room_searches (put_in_place new) spared z)
+        (λ z. agrees-if refl fits (room (put_in_place new) spared z) (room_searches (put_in_place new) spared z)
         (put_moves new spared z) (room_gone n (put_in_place new) spared z) (seek (Put new) spared z)
         (put-agrees n spared new pos z))
 
@@ -304,7 +306,7 @@ rebuilt-is s None = refl
 rebuilt-is s (Some zone) = refl
 
 pub changed-same : (spared : Block → Bool) (s : State) (after : Option (List Block)) (searches moves : ℕ)
-    (gone : List Gone) (r : Sought) → Agrees (length s.names) spared s.zone after searches moves gone r
+    (gone : List Gone) (r : Sought) → Agrees (told_blocks (length s.names)) spared s.zone after searches moves gone r
     → Same (today.rebuilt after s) searches moves gone (rows.changed spared r s) s
 changed-same spared s after searches moves gone r a = record {
   answers = rebuilt-is s after

@@ -1,39 +1,24 @@
-use Rattle.std.proofs.Common.{◌≡◌, ℕ, ◌+◌, ◌-◌, ◌≤◌, zero, suc, Bool, true, false, ◌||◌, ◌==◌, List, [], ◌∷◌, ◌++◌}
-use Rattle.std.proofs.Common.{length, take, replicate, refl, sym, ◌∙◌, ap, subst, cond, arith, Option, Some, None, Ok}
-use Rattle.std.proofs.Common.{Err, is_some}
+use Rattle.std.proofs.Common.{◌≡◌, ℕ, ◌+◌, ◌-◌, ◌≤◌, zero, suc, Bool, true, false, ◌==◌, List, [], ◌∷◌, ◌++◌}
+use Rattle.std.proofs.Common.{length, take, replicate, refl, sym, ◌∙◌, ap, subst, cond, arith, Option, Some, None}
+use Rattle.std.proofs.Common.{is_some}
 use Rattle.std.proofs.Math.Seq.{take-append_seam}
-use Rattle.std.proofs.lemmas.List.{map-append}
 use Rattle.std.proofs.lemmas.Bool.Decides.{Decides-eqb}
 use Rattle.std.proofs.lemmas.Option.{none-some, same_Some}
 use Rattle.std.specs.Option.{option_map, IsSome, IfSome, IsSomeAnd}
 use Rattle.mac_words.specs.Size.{phys}
-use Rattle.mac_words.specs.declared.code.OsErr.{OsErr}
-use Rattle.mac_words.specs.declared.code.TheConstants.OsErr.{MEM_FULL}
-use Rattle.block_store.specs.Block.{Block, Free, Nonrelocatable, Masters, Relocatable, size, sizes, count, rename, rename_block}
-use Rattle.block_store.specs.Block.{is_relocatable, resized, resized_content, content_of, with_content}
-use Rattle.memory_windows.specs.Writes.{written}
-use Rattle.block_store.specs.Room.{Spot, rename_spot, spot, spot_at}
+use Rattle.block_store.specs.Block.{Block, Free, Nonrelocatable, Masters, Relocatable, size, sizes, count}
+use Rattle.block_store.specs.Block.{is_relocatable, resized, resized_content, content_of}
+use Rattle.block_store.specs.Room.{Spot, spot, spot_at}
 use Rattle.block_store.specs.Grow.{grow}
 use Rattle.block_store.proofs.Zone.Tidy.{spot-passes}
-use Rattle.block_store.proofs.Renamed.Renaming.{spot-rename}
 use Rattle.block_store.proofs.Content.Resizing.{length-resized}
-use Rattle.heap_calls.specs.State.{State}
-use Rattle.heap_calls.specs.Answer.{Answer, Held, look_up, for_found, refused, rebuilt}
-use Rattle.heap_calls.specs.Copying.{written_in}
-use Rattle.heap_calls.specs.Moves.{size_moves}
-use Rattle.heap_calls.specs.Searches.{size_searches}
 use Rattle.heap_calls.specs.Inner.Growing.{fitted}
 use Rattle.heap_calls.specs.Inner.GrowingInPlace.{made_zone}
 use Rattle.heap_calls.specs.Inner.Appending.{size_for, behind, lengthened, bytes_of, length_of}
 use Rattle.block_store.specs.Find.{FindsLowest}
-use Rattle.heap_calls.proofs.Numbering.Answering.{at_place, content_of-rename, with_content-rename}
+use Rattle.heap_calls.proofs.Numbering.Answering.{at_place}
 use Rattle.heap_calls.proofs.Sizes.GrowingInPlace.{spot-small, some_spot, spot_and}
 use Rattle.heap_calls.proofs.Sizes.Fronts.{own-grown, other-grown}
-use Rattle.heap_calls.proofs.Numbering.Rebuilding.{TellsNone}
-use Rattle.heap_calls.proofs.Numbering.Looking.{fitted-rename}
-use Rattle.heap_calls.proofs.Tables.Replies.{appended, append, hand_and_hand, pointer_and_hand}
-use Rattle.heap_calls.proofs.Tables.Moves.{hand_and_hand_moves, pointer_and_hand_moves}
-use Rattle.heap_calls.proofs.Tables.Searches.{found_searches, hand_and_hand_searches, pointer_and_hand_searches}
 
 -- Bytes behind those of a block.
 
@@ -190,135 +175,3 @@ module _ (slot : ℕ) (sp : Block → Bool) (zone : List Block) (n : ℕ) (done 
             take-le zero l = omega arith
             take-le (suc n) [] = omega arith
             take-le (suc n) (y ∷ l) = let r = take-le n l in omega arith
-
--- Names aren't seen.
-module _ (f g : ℕ → ℕ) (p q : Block → Bool) (spares : (b : Block) → p (rename_block f g b) ≡ q b) (h slot : ℕ)
-    (same : (b : Block) → is_relocatable h (rename_block f g b) ≡ is_relocatable slot b)
-  where
-    behind-rename : (len : ℕ) (x : List ℕ) (zone : List Block)
-        → behind h len x (rename f g zone) ≡ rename f g (behind slot len x zone)
-    behind-rename len x zone = ap (written_in h len x (rename f g zone))
-        (spot-rename f g (is_relocatable h) (is_relocatable slot) same zone) ∙ cases (spot (is_relocatable slot) zone)
-      where
-        cases : (o : Option Spot) → written_in h len x (rename f g zone) (option_map (rename_spot f g) o)
-            ≡ rename f g (written_in slot len x zone o)
-        cases None = refl
-        cases (Some at) =
-            ap (λ b. rename f g at.below ++ b ∷ rename f g at.above)
-            (with_content-rename f g _ at.here ∙ ap (λ c. rename_block f g (with_content (written len x c) at.here))
-            (content_of-rename f g at.here))
-            ∙ sym (map-append (rename_block f g) at.below (with_content (written len x (content_of at.here)) at.here
-            ∷ at.above))
-
-    pub lengthened-rename : (len : ℕ) (x : List ℕ) (zone : List Block)
-        → lengthened p h len x (rename f g zone) ≡ option_map (rename f g) (lengthened q slot len x zone)
-    lengthened-rename len x zone =
-        ap (option_map (behind h len x)) (fitted-rename f g p q spares (is_relocatable h) (is_relocatable slot) same
-        (len + length x) zone) ∙ cases (fitted (is_relocatable slot) q (len + length x) zone)
-      where
-        cases : (o : Option (List Block)) → option_map (behind h len x) (option_map (rename f g) o)
-            ≡ option_map (rename f g) (option_map (behind slot len x) o)
-        cases None = refl
-        cases (Some z) = ap Some (behind-rename len x z)
-
--- What the calls answer.
-
-append-row : (sp : Block → Bool) (h len : ℕ) (x : List ℕ) (s : State)
-    → append sp h len x s ≡ rebuilt (lengthened sp h len x s.zone) s
-append-row sp h len x s = cases (is_some (phys (len + length x))) (grow (is_relocatable h) sp (len + length x) s.zone)
-  where
-    cases : (t : Bool) (o : Option (List Block)) → cond t (appended sp h len x o s) (refused MEM_FULL s)
-        ≡ rebuilt (option_map (behind h len x) (cond t o None)) s
-    cases true None = refl
-    cases true (Some z) = refl
-    cases false o = refl
-
-pub slice-row : (handle : Option ℕ) (x : List ℕ) (s : State) (k : Held) → look_up handle s ≡ Ok k
-    → pointer_and_hand handle x s ≡ rebuilt (lengthened (is_relocatable k.number) k.number
-    (length (content_of k.at.here)) x s.zone) s
-slice-row handle x s k found =
-    ap (λ r. for_found r s (λ (held : Held). append (is_relocatable held.number) held.number
-    (length (content_of held.at.here)) x s)) found
-    ∙ append-row (is_relocatable k.number) k.number (length (content_of k.at.here)) x s
-
-pub slice-searches : (handle : Option ℕ) (x : List ℕ) (s : State) (k : Held) → look_up handle s ≡ Ok k
-    → pointer_and_hand_searches handle x s ≡ size_searches (is_relocatable k.number) (is_relocatable k.number)
-    (length (content_of k.at.here) + length x) s.zone
-slice-searches handle x s k found = ap (λ r. found_searches r
-    (λ (held : Held). size_searches (is_relocatable held.number)
-    (is_relocatable held.number) (length (content_of held.at.here) + length x) s.zone)) found
-
-pub slice-none : (handle : Option ℕ) (x : List ℕ) (s : State) (code : OsErr) → look_up handle s ≡ Err code
-    → TellsNone s (pointer_and_hand handle x) (pointer_and_hand_searches handle x) (pointer_and_hand_moves handle x)
-    code
-slice-none handle x s code none = record {
-  row_is = ap (λ r. for_found r s (λ (held : Held). append (is_relocatable held.number) held.number
-      (length (content_of held.at.here)) x s)) none;
-  searches_is = ap (λ r. found_searches r (λ (held : Held). size_searches (is_relocatable held.number)
-      (is_relocatable held.number) (length (content_of held.at.here) + length x) s.zone)) none;
-  moves_is = ap (λ r. found_searches r (λ (held : Held). size_moves (is_relocatable held.number)
-      (is_relocatable held.number) (length (content_of held.at.here) + length x) s.zone)) none;
-}
-
-pub slice-moves : (handle : Option ℕ) (x : List ℕ) (s : State) (k : Held) → look_up handle s ≡ Ok k
-    → pointer_and_hand_moves handle x s ≡ size_moves (is_relocatable k.number) (is_relocatable k.number)
-    (length (content_of k.at.here) + length x) s.zone
-slice-moves handle x s k found = ap (λ r. found_searches r (λ (held : Held). size_moves (is_relocatable held.number)
-    (is_relocatable held.number) (length (content_of held.at.here) + length x) s.zone)) found
-
--- the two blocks that HandAndHand names
-abbrev pub either : ℕ → ℕ → Block → Bool
-either a b block = is_relocatable a block || is_relocatable b block
-
-module _ (from to : Option ℕ) (s : State)
-  where
-    -- what is appended to one block from another
-    abbrev joined : Held → Held → Answer (Unit {0})
-    joined a b = append (either a.number b.number) b.number (length (content_of b.at.here)) (content_of a.at.here) s
-
-    abbrev looked : Held → Held → ℕ
-    looked a b = size_searches (is_relocatable b.number) (either a.number b.number)
-        (length (content_of b.at.here) + length (content_of a.at.here)) s.zone
-
-    pub hand-row : (a b : Held) → look_up from s ≡ Ok a → look_up to s ≡ Ok b
-        → hand_and_hand from to s ≡ rebuilt (lengthened (either a.number b.number) b.number
-        (length (content_of b.at.here)) (content_of a.at.here) s.zone) s
-    hand-row a b found found' =
-        ap (λ r. for_found r s (λ a. for_found (look_up to s) s (joined a))) found
-        ∙ ap (λ r. for_found r s (joined a)) found'
-        ∙ append-row (either a.number b.number) b.number (length (content_of b.at.here)) (content_of a.at.here) s
-
-    pub hand-searches : (a b : Held) → look_up from s ≡ Ok a → look_up to s ≡ Ok b
-        → hand_and_hand_searches from to s ≡ size_searches (is_relocatable b.number) (either a.number b.number)
-        (length (content_of b.at.here) + length (content_of a.at.here)) s.zone
-    hand-searches a b found found' = ap (λ r. found_searches r (λ a. found_searches (look_up to s) (looked a))) found
-        ∙ ap (λ r. found_searches r (looked a)) found'
-
-    abbrev packed : Held → Held → ℕ
-    packed a b = size_moves (is_relocatable b.number) (either a.number b.number)
-        (length (content_of b.at.here) + length (content_of a.at.here)) s.zone
-
-    pub hand-moves : (a b : Held) → look_up from s ≡ Ok a → look_up to s ≡ Ok b
-        → hand_and_hand_moves from to s ≡ size_moves (is_relocatable b.number) (either a.number b.number)
-        (length (content_of b.at.here) + length (content_of a.at.here)) s.zone
-    hand-moves a b found found' = ap (λ r. found_searches r (λ a. found_searches (look_up to s) (packed a))) found
-        ∙ ap (λ r. found_searches r (packed a)) found'
-
-    pub hand-none : (code : OsErr) → look_up from s ≡ Err code
-        → TellsNone s (hand_and_hand from to) (hand_and_hand_searches from to) (hand_and_hand_moves from to) code
-    hand-none code none = record {
-      row_is = ap (λ r. for_found r s (λ a. for_found (look_up to s) s (joined a))) none;
-      searches_is = ap (λ r. found_searches r (λ a. found_searches (look_up to s) (looked a))) none;
-      moves_is = ap (λ r. found_searches r (λ a. found_searches (look_up to s) (packed a))) none;
-    }
-
-    pub hand-nowhere : (a : Held) (code : OsErr) → look_up from s ≡ Ok a → look_up to s ≡ Err code
-        → TellsNone s (hand_and_hand from to) (hand_and_hand_searches from to) (hand_and_hand_moves from to) code
-    hand-nowhere a code found none = record {
-      row_is = ap (λ r. for_found r s (λ a. for_found (look_up to s) s (joined a))) found
-          ∙ ap (λ r. for_found r s (joined a)) none;
-      searches_is = ap (λ r. found_searches r (λ a. found_searches (look_up to s) (looked a))) found
-          ∙ ap (λ r. found_searches r (looked a)) none;
-      moves_is = ap (λ r. found_searches r (λ a. found_searches (look_up to s) (packed a))) found
-          ∙ ap (λ r. found_searches r (packed a)) none;
-    }

@@ -1,192 +1,334 @@
-use Rattle.std.proofs.Common.{◌≡◌, ℕ, ◌+◌, Bool, false, List, length, Option, Ok, Err, refl, sym, ◌∙◌, ap}
-use Rattle.std.proofs.Common.{subst}
-use Rattle.std.specs.Option.{option_map}
+use Rattle.std.proofs.Common.{◌≡◌, ℕ, ◌+◌, ◌<◌, Bool, true, false, ◌||◌, List, [], ◌∷◌, ◌++◌, length, map, Option, Ok, Err, Result, nat_le}
+use Rattle.std.proofs.Common.{refl, sym, ◌∙◌, ap, subst, cond, is_some}
+use Rattle.std.specs.Prelude.{unwrap_or}
+use Rattle.std.proofs.lemmas.List.{map-append}
+use Rattle.mac_words.specs.Size.{phys}
 use Rattle.mac_words.specs.declared.code.OsErr.{OsErr}
-use Rattle.block_store.specs.Block.{Block, rename, rename_block, is_relocatable, content_of}
+use Rattle.block_store.specs.Block.{Block, rename_block, is_relocatable, is_nonrelocatable, content_of, resized, size}
+use Rattle.block_store.specs.Grow.{grow_mover}
+use Rattle.block_store.proofs.Plain.Counters.{counted-none}
 use Rattle.block_store.specs.Rest.{Rest, KeepsSlots, counted}
-use Rattle.block_store.specs.Room.{Spot, spot}
+use Rattle.block_store.specs.Room.{Spot, spot, rename_spot}
+use Rattle.block_store.specs.Slot.{Slot}
 use Rattle.block_store.specs.Sparing.{spared}
-use Rattle.block_store.specs.declared.sparing.Sparing.TheVariants as sparing
+use Rattle.block_store.specs.declared.sparing.Sparing.{Sparing}
+use Rattle.block_store.specs.declared.sparing.Sparing.TheVariants.{Nothing, One, Two}
+use Rattle.block_store.proofs.Renamed.GrowRenaming.{resized-rename}
+use Rattle.block_store.proofs.Zone.Tidy.{spot-passes}
+use Rattle.moves.specs.Moves.{Move, Write, is_same, rename_move}
+use Rattle.moves.specs.Seeking.{Sought, no_room, seek_size, seek_resized, around, rename_sought}
+use Rattle.moves.proofs.Renamed.{Apart, PathNames}
+use Rattle.moves.proofs.Rows.{resized-names}
+use Rattle.moves.proofs.Searches.{size_at-rename}
 use Rattle.heap_calls.specs.declared.anchor.Anchor.{Anchor}
+use Rattle.heap_calls.specs.declared.anchor.Target.{Target}
 use Rattle.heap_calls.specs.declared.log.Log.{Log}
 use Rattle.heap_calls.specs.declared.reaching.Reached.{Reached}
 use Rattle.heap_calls.specs.State.{State, Memory}
-use Rattle.heap_calls.specs.Answer.{Answer, Held, look_up, rebuilt, silent, searching, moving}
-use Rattle.heap_calls.proofs.Tables.Replies.{set_handle_size, hand_and_hand, pointer_and_hand}
-use Rattle.heap_calls.proofs.Tables.Moves.{set_handle_size_moves, hand_and_hand_moves, pointer_and_hand_moves}
-use Rattle.heap_calls.proofs.Tables.Searches.{found_searches, set_handle_size_searches, hand_and_hand_searches}
-use Rattle.heap_calls.proofs.Tables.Searches.{pointer_and_hand_searches}
-use Rattle.heap_calls.specs.Moves.{size_moves}
-use Rattle.heap_calls.specs.Searches.{size_searches}
+use Rattle.heap_calls.specs.Answer.{Held, look_up, nothing}
+use Rattle.heap_calls.specs.Gone.{Gone}
+use Rattle.heap_calls.specs.Pointers.{pointed_at}
+use Rattle.heap_calls.specs.Rows.{Done, doing_silently, purges_made, refused, for_found, changed, append, set_handle_size}
+use Rattle.heap_calls.specs.Rows.{set_pointer_size, pointer_and_hand, hand_and_hand}
+use Rattle.heap_calls.specs.Searches.{size_searches, resized_at}
+use Rattle.heap_calls.specs.Moves.{grow_moves, room_moves, growth_moves, size_moves}
 use Rattle.heap_calls.specs.Inner.Appending.{lengthened, bytes_of, length_of}
 use Rattle.heap_calls.specs.Inner.Growing.{fitted}
 use Rattle.heap_calls.specs.Inner.GrowingInPlace.{made_zone}
-use Rattle.heap_calls.specs.Inner.Numbered.{Agrees, state_of, memory_of, handle_number, pointer_number}
+use Rattle.heap_calls.specs.Inner.Numbered.{Agrees, state_of, memory_of, handle_number, pointer_number, no_number}
 use Rattle.heap_calls.specs.Inner.Packed.{Packs}
 use Rattle.heap_calls.specs.Inner.Reaching.{Reaches, sized_reply}
-use Rattle.heap_calls.proofs.Numbering.Answering.{content_of-rename}
-use Rattle.heap_calls.proofs.Numbering.Changing.{unmoved, unmoved-is}
-use Rattle.heap_calls.proofs.Numbering.Looking.{size_searches-rename, fitted-rename}
-use Rattle.heap_calls.proofs.Numbering.MoveNames.{size_moves-rename}
-use Rattle.heap_calls.proofs.Numbering.Numbers.{is_relocatable-number}
-use Rattle.heap_calls.proofs.Numbering.Rebuilding.{TellsNone, not-reached, rebuilt-reply, reached_in, resize-row}
-use Rattle.heap_calls.proofs.Room.MoveCounts.{not-moved, moving-done, none-reached}
-use Rattle.heap_calls.proofs.Sizes.Behind.{either, lengthened-rename, hand-row, hand-searches, hand-moves, slice-row}
-use Rattle.heap_calls.proofs.Sizes.Behind.{slice-searches, slice-moves}
+use Rattle.heap_calls.specs.Inner.Telling.{OpensNone, fitted_gone}
+use Rattle.heap_calls.proofs.Numbering.Answering.{held, content_of-rename}
+use Rattle.heap_calls.proofs.Numbering.Changing.{names-same}
+use Rattle.heap_calls.proofs.Numbering.Numbers.{handle_number-at, is_relocatable-number}
+use Rattle.heap_calls.proofs.Numbering.Pointing.{Lone, IsHeld, is_nonrelocatable-number}
+use Rattle.heap_calls.proofs.Same.Agreeing as same
+use Rattle.heap_calls.proofs.Same.Growing.{same-handle, same-pointer, tell, size-agrees}
+use Rattle.heap_calls.proofs.Same.Resizing.{written-agrees}
+use Rattle.heap_calls.proofs.Sizes.PointerSizes.{stands}
+use Rattle.heap_calls.proofs.Went.{Follows, changed-is, changed-gone}
 
--- A call that gives the block of a handle another size.
+-- A call that gives a block another size: what its path does is what the store did.
 
--- what such a call answers of a heap: its zone, its searches, and how often packing moves a block down
-pub record Tells (zone : List Block) (rest : Rest) (es : List Anchor) (row : State → Answer (Unit {0}))
-    (looks moves : State → ℕ) (made : Option (List Block)) (k n : ℕ) : Type 0 where
-  pub row_is : row (state_of zone rest.slots es)
-      ≡ rebuilt (option_map (rename (handle_number es) (pointer_number es)) made) (state_of zone rest.slots es)
-  pub searches_is : looks (state_of zone rest.slots es) ≡ k
-  pub moves_is : moves (state_of zone rest.slots es) ≡ n
+-- the same for a copy of the entries
+pub reached_in : (zone : List Block) (slots : ℕ → Slot) (es es' : List Anchor) (handle : Option ℕ)
+    (r : Result Reached OsErr) → es' ≡ es → Reaches zone slots es' handle r → Reaches zone slots es handle r
+reached_in zone slots es es' handle r same found = let P : List Anchor → Type 0 = λ l. Reaches zone slots l handle r in
+    subst P same found
 
-module _ (value : Memory) (zone : List Block) (rest : Rest) (es : List Anchor) (log : Log)
-    (is : memory_of zone rest es log ≡ value) (row : State → Answer (Unit {0})) (looks moves : State → ℕ)
+-- a handle without a block, and a name that is no pointer's
+pub resize-none : (handle : Option ℕ) (n : ℕ) (s : State) (code : OsErr) → look_up handle s ≡ Err code
+    → set_handle_size handle n s ≡ refused code s
+resize-none handle n s code none = ap (λ r. for_found r s (λ (k : Held). changed (is_relocatable k.number)
+    (seek_size n (is_relocatable k.number) s.zone k.at) s)) none
+
+pub pointer-none : (pointer : Option ℕ) (n : ℕ) (s : State) (code : OsErr) → pointed_at pointer s ≡ Err code
+    → set_pointer_size pointer n s ≡ refused code s
+pointer-none pointer n s code none =
+    ap (λ r. for_found r s (λ (k : Held). changed nothing (seek_size n nothing s.zone k.at) s)) none
+
+pub slice-none : (handle : Option ℕ) (x : List ℕ) (s : State) (code : OsErr) → look_up handle s ≡ Err code
+    → pointer_and_hand handle x s ≡ refused code s
+slice-none handle x s code none = ap (λ r. for_found r s (λ (k : Held). append (is_relocatable k.number) k x s)) none
+
+module _ (from to : Option ℕ) (s : State) (code : OsErr)
   where
-    -- the handle has no block
-    pub nothing-grown : (code : OsErr) (handle : Option ℕ) (es' : List Anchor) → es' ≡ es
-        → Reaches zone rest.slots es' handle (Err code)
-        → ((code : OsErr) → look_up handle (state_of zone rest.slots es) ≡ Err code
-        → TellsNone (state_of zone rest.slots es) row looks moves code)
-        → moving (moves value.heap) (searching (looks value.heap) (silent row value)) ≡ (Err code, value)
-    nothing-grown code handle es' same none' tells =
-        let none = reached_in zone rest.slots es es' handle (Err code) same none' in
-        not-moved (moves value.heap) (searching (looks value.heap) (silent row value)) code value zone rest es log is
-        (not-reached value zone rest es log is row looks code handle none
-        (λ code is. let t = tells code is in (t.row_is, t.searches_is)))
-        (none-reached moves code handle value zone rest es log is none (λ code is. (tells code is).moves_is))
+    abbrev joined : Held → Held → Done (Unit {0})
+    joined x y = append (λ b. is_relocatable x.number b || is_relocatable y.number b) y (content_of x.at.here) s
 
-    -- the block got the size, or there was no room for it
-    pub grown-done : (made : Option (List Block)) (k n : ℕ) → Tells zone rest es row looks moves made k n
-        → (zone' : List Block) (rest' : Rest) → KeepsSlots rest rest' → (done : Bool) (seen : ℕ) → seen ≡ k
-        → made ≡ made_zone done zone' → (done ≡ false → zone' ≡ zone) → Packs n rest rest'
-        → moving (moves value.heap) (searching (looks value.heap) (silent row value)) ≡ (
-          sized_reply done,
-          memory_of zone' rest' es (record log { searches = counted log.searches seen }),
-        )
-    grown-done made k n tells zone' rest' kept done seen seen_is made_is full packed =
-        moving-done (moves value.heap) n (searching (looks value.heap) (silent row value)) (sized_reply done) zone'
-        rest rest' es (record log { searches = counted log.searches seen })
-        (rebuilt-reply value zone rest es log is row looks zone' (unmoved rest rest') (unmoved-is rest rest' kept) seen
-        (tells.searches_is ∙ sym seen_is) done made tells.row_is made_is full)
-        (ap (λ (m : Memory). moves m.heap) (sym is) ∙ tells.moves_is) packed
+    pub hand-none : look_up from s ≡ Err code → hand_and_hand from to s ≡ refused code s
+    hand-none none = ap (λ r. for_found r s (λ x. for_found (look_up to s) s (joined x))) none
 
--- What the calls tell of a heap, by handles that were reached in the store.
-module _ (zone : List Block) (rest : Rest) (es : List Anchor) (agrees : Agrees zone rest es)
+    pub hand-nowhere : (x : Held) → look_up from s ≡ Ok x → look_up to s ≡ Err code
+        → hand_and_hand from to s ≡ refused code s
+    hand-nowhere x found none = ap (λ r. for_found r s (λ x. for_found (look_up to s) s (joined x))) found
+        ∙ ap (λ r. for_found r s (joined x)) none
+
+-- the store came to a zone, or found no room for it
+follows-made : {tell : List Block → List Gone} {spared : Block → Bool} {zone zone' : List Block} {p : Sought} {done : Bool}
+    {n : ℕ} {rest rest' : Rest} (after : Option (List Block)) (searches moves : ℕ) (purged : List Gone)
+    → same.Agrees tell spared zone after searches moves purged p → after ≡ made_zone done zone'
+    → (done ≡ false → zone' ≡ zone) → n ≡ searches → Packs moves rest rest' → Follows spared zone p done n zone' rest rest'
+follows-made {zone = zone} {zone' = zone'} {done = done} {rest = rest} after searches moves purged a made full looks packs =
+    record {
+      finds = (cases done full).0 ∙ sym (ap is_some made) ∙ a.finds;
+      leaves = (cases done full).1 ∙ sym (ap (λ o. unwrap_or o zone) made) ∙ a.leaves;
+      looks = looks ∙ a.looks;
+      lowers = packs ∙ ap (counted rest.moves) a.lowers;
+    }
   where
+    cases : (t : Bool) → (t ≡ false → zone' ≡ zone) → (t ≡ is_some (made_zone t zone'))
+        × (zone' ≡ unwrap_or (made_zone t zone') zone)
+    cases true full = (refl, refl)
+    cases false full = (refl, full refl)
+
+-- the names of a path, and what is written after it
+names-append : (f g : ℕ → ℕ) (a b : List Move) → PathNames f g a → PathNames f g b → PathNames f g (a ++ b)
+names-append f g [] b first later = later
+names-append f g (m ∷ a) b first later = (first.0, names-append f g a b first.1 later)
+
+around-names : (f g : ℕ → ℕ) (later : List Move) (p : Sought) → PathNames f g p.path → PathNames f g later
+    → PathNames f g (around [] later p).path
+around-names f g later p named also = cases p.found
+  where
+    cases : (t : Bool) → PathNames f g (cond t (p.path ++ later) p.path)
+    cases true = names-append f g p.path later named also
+    cases false = named
+
+around-rename : (f g : ℕ → ℕ) (later : List Move) (p : Sought)
+    → around [] (map (rename_move f g) later) (rename_sought f g p) ≡ rename_sought f g (around [] later p)
+around-rename f g later p = ap (λ (l : List Move). let s : Sought = record { found = p.found; path = l } in s)
+    (cases p.found)
+  where
+    cases : (t : Bool) → cond t (map (rename_move f g) p.path ++ map (rename_move f g) later) (map (rename_move f g) p.path)
+        ≡ map (rename_move f g) (cond t (p.path ++ later) p.path)
+    cases true = sym (map-append (rename_move f g) p.path later)
+    cases false = refl
+
+fits-names : (f g : ℕ → ℕ) (t : Bool) (p : Sought) → PathNames f g p.path → PathNames f g (cond t p no_room).path
+fits-names f g true p named = named
+fits-names f g false p named = tt
+
+module _ (zone : List Block) (rest : Rest) (es : List Anchor)
+  where
+    abbrev s : State
+    s = state_of zone rest.slots es
+
     abbrev f : ℕ → ℕ
     f = handle_number es
 
-    abbrev h : ℕ → ℕ
-    h = pointer_number es
+    abbrev g : ℕ → ℕ
+    g = pointer_number es
 
-    same-named : (handle : Option ℕ) (r : Reached) → Reaches zone rest.slots es handle (Ok r) → (b : Block)
-        → is_relocatable r.number (rename_block f h b) ≡ is_relocatable r.slot b
-    same-named handle r there = is_relocatable-number es r.number r.slot there.5 agrees.apart there.6
-
-    module _ (handle : Option ℕ) (r : Reached) (there : Reaches zone rest.slots es handle (Ok r))
+    -- a block that gets another size, by names
+    module _ (n : ℕ) (t u : Block → Bool) (named : (b : Block) → t (rename_block f g b) ≡ u b) (at : Spot)
+        (here : is_same (resized n at.here) ≡ u) (there : is_same (resized n (rename_block f g at.here)) ≡ t)
       where
-        abbrev t : Block → Bool
-        t = is_relocatable r.number
+        apart : Apart f g (resized n at.here)
+        apart b = ap (λ (v : Block → Bool). v (rename_block f g b)) (ap is_same (sym (resized-rename f g n at.here)) ∙ there)
+            ∙ named b ∙ sym (ap (λ (v : Block → Bool). v b) here)
 
-        abbrev u : Block → Bool
-        u = is_relocatable r.slot
+        sized-names : (q : Block → Bool) → PathNames f g (seek_size n q zone at).path
+        sized-names q = fits-names f g (is_some (phys n)) (seek_resized (resized n at.here) q zone at)
+            (resized-names f g (resized n at.here) q zone at apart)
 
-        pub resize-tells : (n : ℕ) → Tells zone rest es (set_handle_size handle n) (set_handle_size_searches handle n)
-            (set_handle_size_moves handle n) (fitted u u n zone) (size_searches u u n zone) (size_moves u u n zone)
-        resize-tells n = let same = same-named handle r there in record {
-          row_is = resize-row handle n (state_of zone rest.slots es) _ there.1
-              ∙ ap (λ o. rebuilt o (state_of zone rest.slots es))
-              (fitted-rename f h t u same t u same n zone);
-          searches_is = ap (λ r. found_searches r (λ (k : Held). size_searches (is_relocatable k.number)
-              (is_relocatable k.number) n (rename f h zone))) there.1
-              ∙ size_searches-rename f h t u same t u same n zone;
-          moves_is = ap (λ r. found_searches r (λ (k : Held). size_moves (is_relocatable k.number)
-              (is_relocatable k.number) n (rename f h zone))) there.1 ∙ size_moves-rename f h t u same t u same n zone;
-        }
+        sized-row : (p q : Block → Bool) → ((b : Block) → p (rename_block f g b) ≡ q b)
+            → seek_size n p s.zone (rename_spot f g at) ≡ rename_sought f g (seek_size n q zone at)
+        sized-row p q spares = size_at-rename f g p q spares n zone at apart
 
-    -- bytes behind those of a block
-    module _ (p q : Block → Bool) (spares : (b : Block) → p (rename_block f h b) ≡ q b) (handle : Option ℕ)
-        (r : Reached) (there : Reaches zone rest.slots es handle (Ok r)) (x y : List ℕ) (same_bytes : x ≡ y)
-        (row : State → Answer (Unit {0})) (looks moves : State → ℕ)
+    -- a call whose row has a path of the store, by names
+    pub record IsCall (call : State → Done (Unit {0})) (p : Block → Bool) (nd : Sparing) (path : Sought) : Type 0 where
+      pub spares : (b : Block) → p (rename_block f g b) ≡ spared nd b
+      pub names : PathNames f g path.path
+      pub row : call s ≡ changed p (rename_sought f g path) s
+
+    -- what is answered where the store came to a zone, or found no room for it, and what is purged
+    module _ (log : Log) (value : Memory) (is : memory_of zone rest es log ≡ value) (call : State → Done (Unit {0}))
+        (p : Block → Bool) (nd : Sparing) (path : Sought) (c : IsCall call p nd path) (after : Option (List Block))
+        (searches moves : ℕ) (purged : List Gone) (whole : OpensNone nd)
+        (a : same.Agrees (tell es nd whole) (spared nd) zone after searches moves purged path)
       where
-        abbrev s : Spot
-        s = there.0
+        pub grown-answer : (zone' : List Block) (rest' : Rest) (done : Bool) (m : ℕ) → KeepsSlots rest rest'
+            → after ≡ made_zone done zone' → (done ≡ false → zone' ≡ zone) → m ≡ searches → Packs moves rest rest'
+            → doing_silently call value
+            ≡ (sized_reply done, memory_of zone' rest' es (record log { searches = counted log.searches m }))
+        grown-answer zone' rest' done m kept made full looks packs =
+            changed-is zone rest es log value is zone' rest' call p (spared nd) c.spares path c.names c.row done m
+            (follows-made after searches moves purged a made full looks packs)
+            (names-same rest.slots rest'.slots es (λ h k t at. kept.slots k), kept.window)
 
-        abbrev len : ℕ
-        len = length (content_of (rename_block f h s.here))
+        pub grown-gone : purged ≡ purges_made call value.heap
+        grown-gone = a.tells ∙ changed-gone zone rest es log value is zone rest call p (spared nd) c.spares path c.names c.row
 
-        abbrev n : ℕ
-        n = length_of r.slot zone
+    -- SetPtrSize
+    module _ (pointer : Option ℕ) (t : Target) (there : IsHeld zone rest.slots es pointer t) (lone : Lone es) (n : ℕ)
+      where
+        named_place : t.number < no_number → (b : Block)
+            → is_nonrelocatable t.number (rename_block f g b) ≡ is_nonrelocatable t.place b
+        named_place small = is_nonrelocatable-number es t.number t.place there.entry lone small
 
-        len_is : len ≡ n
-        len_is = ap length (content_of-rename f h s.here) ∙ ap (λ o. length (bytes_of o)) (sym there.2)
+        place_same : is_same (resized n there.s.here) ≡ is_nonrelocatable t.place
+        place_same = same-pointer t.place n there.s.here there.nonrelocatable
 
-        pub appended-tells : row (state_of zone rest.slots es)
-            ≡ rebuilt (lengthened p r.number len x (rename f h zone)) (state_of zone rest.slots es)
-            → looks (state_of zone rest.slots es) ≡ size_searches (is_relocatable r.number) p (len + length x)
-            (rename f h zone)
-            → moves (state_of zone rest.slots es) ≡ size_moves (is_relocatable r.number) p (len + length x)
-            (rename f h zone)
-            → Tells zone rest es row looks moves (lengthened q r.slot n y zone)
-            (size_searches (is_relocatable r.slot) q (n + length y) zone)
-            (size_moves (is_relocatable r.slot) q (n + length y) zone)
-        appended-tells is looked moved =
-            let same = same-named handle r there in
-            let t : Block → Bool = is_relocatable r.number in
-            let u : Block → Bool = is_relocatable r.slot in record {
-              row_is = is ∙ ap (λ k. rebuilt (lengthened p r.number k x (rename f h zone))
-                  (state_of zone rest.slots es)) len_is
-                  ∙ ap (λ l. rebuilt (lengthened p r.number n l (rename f h zone))
-                  (state_of zone rest.slots es)) same_bytes
-                  ∙ ap (λ o. rebuilt o (state_of zone rest.slots es))
-                  (lengthened-rename f h p q spares r.number r.slot same n y zone);
-              searches_is = looked ∙ ap (λ k. size_searches t p (k + length x) (rename f h zone)) len_is
-                  ∙ ap (λ l. size_searches t p (n + length l) (rename f h zone)) same_bytes
-                  ∙ size_searches-rename f h p q spares t u same (n + length y) zone;
-              moves_is = moved ∙ ap (λ k. size_moves t p (k + length x) (rename f h zone)) len_is
-                  ∙ ap (λ l. size_moves t p (n + length l) (rename f h zone)) same_bytes
-                  ∙ size_moves-rename f h p q spares t u same (n + length y) zone;
+        pub pointer-call : t.number < no_number
+            → IsCall (set_pointer_size pointer n) nothing Nothing (seek_size n nothing zone there.s)
+        pointer-call small =
+            let other = same-pointer t.number n (rename_block f g there.s.here)
+            (named_place small there.s.here ∙ there.nonrelocatable) in record {
+              spares = λ b. refl;
+              names = sized-names n (is_nonrelocatable t.number) (is_nonrelocatable t.place) (named_place small) there.s
+                  place_same other nothing;
+              row = ap (λ r. for_found r s (λ (k : Held). changed nothing (seek_size n nothing s.zone k.at) s)) there.looked
+                  ∙ ap (λ x. changed nothing x s) (sized-row n (is_nonrelocatable t.number) (is_nonrelocatable t.place)
+                  (named_place small) there.s place_same other nothing nothing (λ b. refl));
             }
 
-    pub slice-tells : (handle : Option ℕ) (r : Reached) → Reaches zone rest.slots es handle (Ok r) → (x : List ℕ)
-        → Tells zone rest es (pointer_and_hand handle x) (pointer_and_hand_searches handle x)
-        (pointer_and_hand_moves handle x)
-        (lengthened (is_relocatable r.slot) r.slot (length_of r.slot zone) x zone)
-        (size_searches (is_relocatable r.slot) (is_relocatable r.slot) (length_of r.slot zone + length x) zone)
-        (size_moves (is_relocatable r.slot) (is_relocatable r.slot) (length_of r.slot zone + length x) zone)
-    slice-tells handle r there x =
-        appended-tells (is_relocatable r.number) (is_relocatable r.slot) (same-named handle r there) handle r there x x
-        refl (pointer_and_hand handle x) (pointer_and_hand_searches handle x) (pointer_and_hand_moves handle x)
-        (slice-row handle x (state_of zone rest.slots es) _ there.1) (slice-searches handle x
-        (state_of zone rest.slots es) _ there.1)
-        (slice-moves handle x (state_of zone rest.slots es) _ there.1)
+        pub pointer-agrees : same.Agrees (tell es Nothing (λ b. refl)) nothing zone
+            (fitted (is_nonrelocatable t.place) nothing n zone) (size_searches (is_nonrelocatable t.place) nothing n zone)
+            (size_moves (is_nonrelocatable t.place) nothing n zone)
+            (fitted_gone es (is_nonrelocatable t.place) Nothing n zone) (seek_size n nothing zone there.s)
+        pointer-agrees = size-agrees es Nothing (λ b. refl) (is_nonrelocatable t.place) zone there.s there.found n place_same
 
-    pub hand-tells : (from to : Option ℕ) (a r : Reached) (source : Reaches zone rest.slots es from (Ok a))
-        → Reaches zone rest.slots es to (Ok r) → (more : ℕ) → more ≡ length_of a.slot zone
-        → Tells zone rest es (hand_and_hand from to) (hand_and_hand_searches from to) (hand_and_hand_moves from to)
-        (lengthened (spared (sparing.Two a.slot r.slot)) r.slot (length_of r.slot zone)
-        (bytes_of (spot (is_relocatable a.slot) zone)) zone)
-        (size_searches (is_relocatable r.slot) (spared (sparing.Two a.slot r.slot)) (length_of r.slot zone + more) zone)
-        (size_moves (is_relocatable r.slot) (spared (sparing.Two a.slot r.slot)) (length_of r.slot zone + more) zone)
-    hand-tells from to a r source there more more_is =
-        let same = same-named to r there in
-        let same_source = same-named from a source in
-        let q : Block → Bool = spared (sparing.Two a.slot r.slot) in
-        let P : ℕ → Type 0 = λ k. Tells zone rest es (hand_and_hand from to) (hand_and_hand_searches from to)
-        (hand_and_hand_moves from to) (lengthened q r.slot (length_of r.slot zone)
-        (bytes_of (spot (is_relocatable a.slot) zone)) zone)
-        (size_searches (is_relocatable r.slot) q (length_of r.slot zone + k) zone)
-        (size_moves (is_relocatable r.slot) q (length_of r.slot zone + k) zone) in
-        subst P (sym more_is)
-        (appended-tells (either a.number r.number) q (λ b. rw (same_source b, same b) refl) to r there
-        (content_of (rename_block f h source.0.here)) (bytes_of (spot (is_relocatable a.slot) zone))
-        (content_of-rename f h source.0.here ∙ ap bytes_of (sym source.2))
-        (hand_and_hand from to) (hand_and_hand_searches from to) (hand_and_hand_moves from to)
-        (hand-row from to (state_of zone rest.slots es) _ _ source.1 there.1) (hand-searches from to
-        (state_of zone rest.slots es) _ _ source.1 there.1)
-        (hand-moves from to (state_of zone rest.slots es) _ _ source.1 there.1))
+        -- nothing is moved down for it
+        pub pointer-packs : (rest' : Rest) → rest'.moves ≡ rest.moves
+            → Packs (size_moves (is_nonrelocatable t.place) nothing n zone) rest rest'
+        pointer-packs rest' still =
+            let new = resized n there.s.here in
+            let u = is_nonrelocatable t.place in
+            let small = nat_le (size new) (size there.s.here) in
+            let fits = is_some (phys n) in
+            still ∙ sym (counted-none rest.moves) ∙ ap (counted rest.moves)
+            (sym (ap (λ o. cond {A = ℕ} fits (growth_moves u nothing (resized_at n o) zone o) 0) there.found
+            ∙ ap (λ v. cond {A = ℕ} fits (cond {A = ℕ} small 0 (cond {A = ℕ} v (room_moves (grow_mover u new)
+            (grow_moves u new) nothing zone) 0)) 0) (stands t.place there.s.here there.nonrelocatable).0
+            ∙ zero fits small))
+          where
+            zero : (v w : Bool) → cond {A = ℕ} v (cond {A = ℕ} w 0 0) 0 ≡ 0
+            zero true true = refl
+            zero true false = refl
+            zero false w = refl
+
+    module _ (agrees : Agrees zone rest es)
+      where
+        module _ (handle : Option ℕ) (r : Reached) (there : Reaches zone rest.slots es handle (Ok r))
+          where
+            abbrev own : Block → Bool
+            own = is_relocatable r.number
+
+            abbrev at : Spot
+            at = there.0
+
+            named : (b : Block) → own (rename_block f g b) ≡ is_relocatable r.slot b
+            named = is_relocatable-number es r.number r.slot there.5 agrees.apart there.6
+
+            slot_same : (n : ℕ) → is_same (resized n at.here) ≡ is_relocatable r.slot
+            slot_same n = same-handle r.slot n at.here (spot-passes (is_relocatable r.slot) zone at there.2)
+
+            own_same : (n : ℕ) → is_same (resized n (rename_block f g at.here)) ≡ own
+            own_same n = same-handle r.number n (rename_block f g at.here)
+                (named at.here ∙ spot-passes (is_relocatable r.slot) zone at there.2)
+
+            -- SetHandleSize
+            pub resize-call : (n : ℕ) → IsCall (set_handle_size handle n) own (One r.slot)
+                (seek_size n (is_relocatable r.slot) zone at)
+            resize-call n = record {
+              spares = named;
+              names = sized-names n own (is_relocatable r.slot) named at (slot_same n) (own_same n) (is_relocatable r.slot);
+              row = ap (λ q. for_found q s (λ (k : Held). changed (is_relocatable k.number)
+                  (seek_size n (is_relocatable k.number) s.zone k.at) s)) there.1
+                  ∙ ap (λ x. changed own x s) (sized-row n own (is_relocatable r.slot) named at (slot_same n) (own_same n)
+                  own (is_relocatable r.slot) named);
+            }
+
+            pub sized-agrees : (nd : Sparing) (whole : OpensNone nd) (n : ℕ) → same.Agrees (tell es nd whole) (spared nd)
+                zone (fitted (is_relocatable r.slot) (spared nd) n zone)
+                (size_searches (is_relocatable r.slot) (spared nd) n zone)
+                (size_moves (is_relocatable r.slot) (spared nd) n zone) (fitted_gone es (is_relocatable r.slot) nd n zone)
+                (seek_size n (spared nd) zone at)
+            sized-agrees nd whole n = size-agrees es nd whole (is_relocatable r.slot) zone at there.2 n (slot_same n)
+
+            -- bytes appended
+            abbrev len : ℕ
+            len = length_of r.slot zone
+
+            abbrev appended : Sparing → List ℕ → Sought
+            appended nd x = around [] (Write r.slot len x ∷ []) (seek_size (len + length x) (spared nd) zone at)
+
+            append-call : (call : State → Done (Unit {0})) (p : Block → Bool) (nd : Sparing)
+                → ((b : Block) → p (rename_block f g b) ≡ spared nd b) → (x y : List ℕ) → x ≡ y
+                → call s ≡ append p (held r.number (rename_spot f g at)) x s → IsCall call p nd (appended nd y)
+            append-call call p nd spares x y same_bytes row =
+                let n = len + length y in
+                let q = spared nd in
+                let sized = seek_size n q zone at in record {
+                  spares = spares;
+                  names = around-names f g (Write r.slot len y ∷ []) sized
+                      (sized-names n own (is_relocatable r.slot) named at (slot_same n) (own_same n) q) (
+                        λ b. ap (λ (k : ℕ). is_relocatable k (rename_block f g b))
+                            (handle_number-at es r.number r.slot there.5 agrees.apart) ∙ named b,
+                        tt,
+                      );
+                  row = row
+                      ∙ ap (λ (l : List ℕ). append p (held r.number (rename_spot f g at)) l s) same_bytes
+                      ∙ ap (λ (k : ℕ). changed p (around [] (Write r.number k y ∷ [])
+                      (seek_size (k + length y) p s.zone (rename_spot f g at))) s)
+                      (ap length (content_of-rename f g at.here) ∙ ap (λ o. length (bytes_of o)) (sym there.2))
+                      ∙ ap (λ z. changed p (around [] (Write r.number len y ∷ []) z) s)
+                      (sized-row n own (is_relocatable r.slot) named at (slot_same n) (own_same n) p q spares)
+                      ∙ ap (λ (k : ℕ). changed p (around [] (Write k len y ∷ []) (rename_sought f g sized)) s)
+                      (sym (handle_number-at es r.number r.slot there.5 agrees.apart))
+                      ∙ ap (λ z. changed p z s) (around-rename f g (Write r.slot len y ∷ []) sized);
+                }
+
+            pub appended-agrees : (nd : Sparing) (whole : OpensNone nd) (x : List ℕ) → same.Agrees (tell es nd whole)
+                (spared nd) zone (lengthened (spared nd) r.slot len x zone)
+                (size_searches (is_relocatable r.slot) (spared nd) (len + length x) zone)
+                (size_moves (is_relocatable r.slot) (spared nd) (len + length x) zone)
+                (fitted_gone es (is_relocatable r.slot) nd (len + length x) zone) (appended nd x)
+            appended-agrees nd whole x =
+                let n = len + length x in
+                written-agrees (tell es nd whole) (spared nd) zone (fitted (is_relocatable r.slot) (spared nd) n zone)
+                (size_searches (is_relocatable r.slot) (spared nd) n zone)
+                (size_moves (is_relocatable r.slot) (spared nd) n zone) (fitted_gone es (is_relocatable r.slot) nd n zone)
+                (seek_size n (spared nd) zone at) (sized-agrees nd whole n) r.slot len x
+
+            -- PtrAndHand
+            pub slice-call : (x : List ℕ) → IsCall (pointer_and_hand handle x) own (One r.slot) (appended (One r.slot) x)
+            slice-call x = append-call (pointer_and_hand handle x) own (One r.slot) named x x refl
+                (ap (λ q. for_found q s (λ (k : Held). append (is_relocatable k.number) k x s)) there.1)
+
+        -- HandAndHand
+        pub hand-call : (from to : Option ℕ) (a r : Reached) (source : Reaches zone rest.slots es from (Ok a))
+            (there : Reaches zone rest.slots es to (Ok r)) → IsCall (hand_and_hand from to)
+            (λ b. is_relocatable a.number b || is_relocatable r.number b) (Two a.slot r.slot)
+            (appended to r there (Two a.slot r.slot) (bytes_of (spot (is_relocatable a.slot) zone)))
+        hand-call from to a r source there =
+            append-call to r there (hand_and_hand from to) (λ b. is_relocatable a.number b || is_relocatable r.number b)
+            (Two a.slot r.slot) (λ b. rw (named from a source b, named to r there b) refl)
+            (content_of (rename_block f g source.0.here)) (bytes_of (spot (is_relocatable a.slot) zone))
+            (content_of-rename f g source.0.here ∙ ap bytes_of (sym source.2))
+            (ap (λ q. for_found q s (λ (x : Held). for_found (look_up to s) s (λ (y : Held). append
+            (λ b. is_relocatable x.number b || is_relocatable y.number b) y (content_of x.at.here) s))) source.1
+            ∙ ap (λ q. for_found q s (λ (y : Held). append (λ b. is_relocatable a.number b || is_relocatable y.number b) y
+            (content_of (rename_block f g source.0.here)) s)) there.1)

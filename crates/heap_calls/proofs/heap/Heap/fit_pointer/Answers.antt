@@ -1,27 +1,23 @@
-use Rattle.heap_calls.specs.Rows as rows
-use Rattle.heap_calls.specs.Rows.{doing_silently, purges_made}
-use Rattle.heap_calls.proofs.Same.Silent.{set_pointer_size-silent}
-use Rattle.heap_calls.proofs.Same.Resizing.{set_pointer_size-same}
-use Rattle.std.proofs.Common.{◌≡◌, arith, Err, List, ap, refl, ◌∙◌, rules, sym}
+use Rattle.std.proofs.Common.{◌≡◌, arith, Err, List, ap, refl, ◌∙◌, rules}
 use Rattle.std.proofs.lemmas.Result.{err_from_is_err_and}
-use Rattle.heap_calls.specs.Answer.{silent, searching}
-use Rattle.heap_calls.proofs.Tables.Replies.{set_pointer_size}
-use Rattle.heap_calls.proofs.Tables.Searches.{set_pointer_size_searches}
-use Rattle.heap_calls.proofs.Numbering.Changing.{agrees-placed, heap-same}
-use Rattle.heap_calls.proofs.Numbering.Pointing.{IsHeld, pointer-held, target_in}
-use Rattle.heap_calls.proofs.Sizes.PointerSizes.{set_pointer_size-done, no_pointer}
-use Rattle.heap_calls.proofs.Numbering.Memories.{memory_as, reply-as}
-use Rattle.heap_calls.proofs.heap.Heap.fit_pointer.Given.{Over}
-use Rattle.heap_calls.proofs.heap.Heap.fit_pointer.Goals.{In_ok-target, After-account}
-use Rattle.heap_calls.proofs.Hearing.{stops-halted, hears-none, hears-as}
 use Rattle.block_store.specs.Block.{is_nonrelocatable}
 use Rattle.block_store.specs.declared.sparing.Sparing.TheVariants.{Nothing}
 use Rattle.heap_calls.specs.declared.anchor.Anchor.{Anchor}
+use Rattle.heap_calls.specs.Answer.{nothing}
 use Rattle.heap_calls.specs.Gone.{Hears}
+use Rattle.heap_calls.specs.Rows.{set_pointer_size, doing_silently, purges_made, refused}
 use Rattle.heap_calls.specs.Inner.Given.{KeepsMoves}
+use Rattle.heap_calls.specs.Inner.Numbered.{state_of}
 use Rattle.heap_calls.specs.Inner.Telling.{fitted_gone}
-use Rattle.heap_calls.proofs.GoneForSizes.{no_pointer-gone, set_pointer_size-gone}
+use Rattle.heap_calls.proofs.Hearing.{stops-halted, hears-none, hears-as}
+use Rattle.heap_calls.proofs.Numbering.Changing.{agrees-placed, slots_kept, heap-same}
+use Rattle.heap_calls.proofs.Numbering.Memories.{memory_as, reply-as}
+use Rattle.heap_calls.proofs.Numbering.Pointing.{IsHeld, pointer-held, target_in, pointed_at-refused}
 use Rattle.heap_calls.proofs.Numbering.Reserved.{fits-same}
+use Rattle.heap_calls.proofs.Sizes.Grown.{pointer-none, pointer-call, pointer-agrees, pointer-packs, grown-answer, grown-gone}
+use Rattle.heap_calls.proofs.Went.{unfound-is, unfound-gone}
+use Rattle.heap_calls.proofs.heap.Heap.fit_pointer.Given.{Over}
+use Rattle.heap_calls.proofs.heap.Heap.fit_pointer.Goals.{In_err-target, In_ok-target, After-account}
 use Rattle.heap_calls.proofs.heap.Heap.fit_pointer.Goals as goal
 
 -- the pointer's block
@@ -33,16 +29,26 @@ target g c =
     c.in_ok-target.target c.self.invariant (g.met.S.BlockStore.placed a.store) (g.met.S.BlockStore.tidied a.store)
     (omega arith) c.deref.ensures.value c.in_ok-target.ensures
 
+-- a name that is no pointer's
+absent : (g : Over) (c : In_err-target g) → set_pointer_size c.args.pointer c.args.size
+    (state_of (g.S.BlockStore.zone c.self.inside.store) (g.S.BlockStore.rest c.self.inside.store).slots
+    c.self.inside.names.items) ≡ refused c.in_err-target.field-0.0
+    (state_of (g.S.BlockStore.zone c.self.inside.store) (g.S.BlockStore.rest c.self.inside.store).slots
+    c.self.inside.names.items)
+absent g c =
+    let a = c.self.inside in
+    let e = c.in_err-target.field-0.0 in
+    pointer-none c.args.pointer c.args.size _ e (pointed_at-refused (g.S.BlockStore.zone a.store)
+    (g.S.BlockStore.rest a.store).slots a.names.items c.args.pointer e
+    (target_in a.names.items _ c.args.pointer (Err e) c.deref.ensures.value c.in_err-target.ensures))
+
 pub returns-in_err-target-clause-answer : goal.returns-in_err-target-clause-answer
 returns-in_err-target-clause-answer g c =
     let p = err_from_is_err_and c.from_residual.result c.from_residual.ensures.1 in
     let a = c.self.inside in
-    let e = c.in_err-target.field-0.0 in
-    rw (p.1, p.2) (set_pointer_size-silent c.args.pointer c.args.size c.args.self.now.memory ∙ no_pointer
-    c.args.self.now.memory (g.S.BlockStore.zone a.store) (g.S.BlockStore.rest a.store)
-    a.names.items
-    a.log e c.args.pointer c.args.size (memory_as c.self.view_is)
-    (target_in a.names.items _ c.args.pointer (Err e) c.deref.ensures.value c.in_err-target.ensures))
+    rw (p.1, p.2) (unfound-is (g.S.BlockStore.zone a.store) (g.S.BlockStore.rest a.store) a.names.items a.log
+    c.args.self.now.memory (memory_as c.self.view_is) (set_pointer_size c.args.pointer c.args.size)
+    c.in_err-target.field-0.0 (absent g (goal.at.returns-in_err-target-clause-answer g c).In_err-target))
 
 pub fit_nonrelocatable-requires-clause-found : goal.fit_nonrelocatable-requires-clause-found
 fit_nonrelocatable-requires-clause-found g c =
@@ -64,27 +70,26 @@ invariant_of-self-2 g c =
     c.fit_nonrelocatable.ensures.rest
 
 -- what the call answers where the pointer has a block
-tabled : (g : Over) (c : After-account g) → IsHeld (g.S.BlockStore.zone c.self.inside.store)
-    (g.S.BlockStore.rest c.self.inside.store).slots c.self.inside.names.items c.args.pointer c.in_ok-target.target
-    → searching (set_pointer_size_searches c.args.pointer c.args.size c.args.self.now.memory.heap)
-    (silent (set_pointer_size c.args.pointer c.args.size) c.args.self.now.memory)
-    ≡ (c.account.result, c.account.new.self.memory)
-tabled g c there =
-    let a = c.self.inside in
-    rw (c.account.ensures.reply, c.account.ensures.counted)
-    (set_pointer_size-done c.args.self.now.memory (g.S.BlockStore.zone a.store) (g.S.BlockStore.zone
-    c.fit_nonrelocatable.new.store)
-    (g.S.BlockStore.rest a.store) (g.S.BlockStore.rest c.fit_nonrelocatable.new.store) a.names.items a.log c.args.pointer
-    c.in_ok-target.target c.args.size c.in_ok-grown.grown.searches c.in_ok-grown.grown.done (memory_as c.self.view_is)
-    there c.self.invariant.lone (omega arith)
-    c.fit_nonrelocatable.ensures.rest c.in_ok-grown.ensures.searches c.in_ok-grown.ensures.zone c.in_ok-grown.ensures.full)
-
--- and by its path
 told : (g : Over) (c : After-account g) → IsHeld (g.S.BlockStore.zone c.self.inside.store)
     (g.S.BlockStore.rest c.self.inside.store).slots c.self.inside.names.items c.args.pointer c.in_ok-target.target
-    → doing_silently (rows.set_pointer_size c.args.pointer c.args.size) c.args.self.now.memory
+    → doing_silently (set_pointer_size c.args.pointer c.args.size) c.args.self.now.memory
     ≡ (c.account.result, c.account.new.self.memory)
-told g c there = set_pointer_size-silent c.args.pointer c.args.size c.args.self.now.memory ∙ tabled g c there
+told g c there =
+    let a = c.self.inside in
+    let zone = g.S.BlockStore.zone a.store in
+    let rest = g.S.BlockStore.rest a.store in
+    let rest' = g.S.BlockStore.rest c.fit_nonrelocatable.new.store in
+    let t = c.in_ok-target.target in
+    let lone = c.self.invariant.lone in
+    rw (c.account.ensures.reply, c.account.ensures.counted)
+    (grown-answer zone rest a.names.items a.log c.args.self.now.memory (memory_as c.self.view_is)
+    (set_pointer_size c.args.pointer c.args.size) nothing Nothing _
+    (pointer-call zone rest a.names.items c.args.pointer t there lone c.args.size (omega arith)) _ _ _ _ (λ b. refl)
+    (pointer-agrees zone rest a.names.items c.args.pointer t there lone c.args.size)
+    (g.S.BlockStore.zone c.fit_nonrelocatable.new.store) rest' c.in_ok-grown.grown.done c.in_ok-grown.grown.searches
+    (slots_kept rest rest' c.fit_nonrelocatable.ensures.rest) c.in_ok-grown.ensures.zone c.in_ok-grown.ensures.full
+    c.in_ok-grown.ensures.searches (pointer-packs zone rest a.names.items c.args.pointer t there lone c.args.size rest'
+    c.fit_nonrelocatable.ensures.rest.moves))
 
 pub returns-in_err-account-clause-answer : goal.returns-in_err-account-clause-answer
 returns-in_err-account-clause-answer g c =
@@ -103,26 +108,29 @@ pub returns-in_err-target-clause-hears : goal.returns-in_err-target-clause-hears
 returns-in_err-target-clause-hears g c =
     let a = c.self.inside in
     hears-none g.K.PurgeSink.told g.K.PurgeSink.waits g.K.PurgeSink.listens _ _ c.args.sink.now c.requires.idle
-    (sym (set_pointer_size-same c.args.pointer c.args.size c.args.self.now.memory.heap).tells ∙ no_pointer-gone
-    c.args.self.now.memory (g.S.BlockStore.zone a.store) (g.S.BlockStore.rest a.store) a.names.items
-    a.log c.in_err-target.field-0.0 c.args.pointer c.args.size (memory_as c.self.view_is)
-    (target_in a.names.items _ c.args.pointer (Err c.in_err-target.field-0.0) c.deref.ensures.value
-    c.in_err-target.ensures))
+    (unfound-gone (g.S.BlockStore.zone a.store) (g.S.BlockStore.rest a.store) a.names.items a.log
+    c.args.self.now.memory (memory_as c.self.view_is) (set_pointer_size c.args.pointer c.args.size)
+    c.in_err-target.field-0.0 (absent g (goal.at.returns-in_err-target-clause-hears g c).In_err-target))
 
 heard : (g : Over) (c : After-account g) → IsHeld (g.S.BlockStore.zone c.self.inside.store)
     (g.S.BlockStore.rest c.self.inside.store).slots c.self.inside.names.items c.args.pointer c.in_ok-target.target
     → (done : Type 0) → Hears g.K.PurgeSink.told g.K.PurgeSink.waits g.K.PurgeSink.listens done
-    (purges_made (rows.set_pointer_size c.args.pointer c.args.size) c.args.self.now.memory.heap) c.args.sink.now
+    (purges_made (set_pointer_size c.args.pointer c.args.size) c.args.self.now.memory.heap) c.args.sink.now
     c.fit_nonrelocatable.new.sink
 heard g c there done =
     let a = c.self.inside in
     let zone = g.S.BlockStore.zone a.store in
-    let same = ap (λ (e : List Anchor). fitted_gone e (is_nonrelocatable c.in_ok-target.target.place) Nothing c.args.size zone)
+    let rest = g.S.BlockStore.rest a.store in
+    let t = c.in_ok-target.target in
+    let lone = c.self.invariant.lone in
+    let same = ap (λ (e : List Anchor). fitted_gone e (is_nonrelocatable t.place) Nothing c.args.size zone)
     c.deref-2.ensures.value
-    ∙ set_pointer_size-gone c.args.self.now.memory zone (g.S.BlockStore.rest a.store) a.names.items a.log c.args.pointer
-    c.in_ok-target.target c.args.size (memory_as c.self.view_is) there c.self.invariant.lone (omega arith) in
-    hears-as g.K.PurgeSink.told g.K.PurgeSink.waits g.K.PurgeSink.listens _ _ _ _ _ _ (λ some. refl) (same
-    ∙ (set_pointer_size-same c.args.pointer c.args.size c.args.self.now.memory.heap).tells) c.in_ok-grown.ensures.hears
+    ∙ grown-gone zone rest a.names.items a.log c.args.self.now.memory (memory_as c.self.view_is)
+    (set_pointer_size c.args.pointer c.args.size) nothing Nothing _
+    (pointer-call zone rest a.names.items c.args.pointer t there lone c.args.size (omega arith)) _ _ _ _ (λ b. refl)
+    (pointer-agrees zone rest a.names.items c.args.pointer t there lone c.args.size) in
+    hears-as g.K.PurgeSink.told g.K.PurgeSink.waits g.K.PurgeSink.listens _ _ _ _ _ _ (λ some. refl) same
+    c.in_ok-grown.ensures.hears
 
 pub returns-in_err-account-clause-hears : goal.returns-in_err-account-clause-hears
 returns-in_err-account-clause-hears g c = heard g (goal.at.returns-in_err-account-clause-hears g c).After-account

@@ -1,65 +1,62 @@
-use Rattle.heap_calls.specs.Rows as rows
-use Rattle.heap_calls.specs.Rows.{doing_silently, purges_made}
-use Rattle.heap_calls.proofs.Same.Silent.{set_handle_size-silent}
-use Rattle.heap_calls.proofs.Same.Resizing.{set_handle_size-same}
-use Rattle.std.proofs.Common.{◌≡◌, Ok, List, ap, refl, rules, ◌∙◌, sym}
+use Rattle.std.proofs.Common.{◌≡◌, Ok, Err, List, ap, refl, rules, ◌∙◌}
 use Rattle.std.proofs.lemmas.Result.{err_from_is_err_and}
-use Rattle.heap_calls.specs.Answer.{silent, searching, moving}
-use Rattle.heap_calls.proofs.Tables.Replies.{set_handle_size}
-use Rattle.heap_calls.proofs.Tables.Moves.{set_handle_size_moves}
-use Rattle.heap_calls.proofs.Tables.Searches.{set_handle_size_searches}
-use Rattle.heap_calls.proofs.Tables.Gone.{set_handle_size_gone}
-use Rattle.heap_calls.proofs.Numbering.Rebuilding.{reached_in, not-resized}
-use Rattle.heap_calls.proofs.Numbering.Changing.{agrees-kept, heap-same}
-use Rattle.heap_calls.proofs.Sizes.Grown.{nothing-grown, grown-done, resize-tells}
-use Rattle.heap_calls.proofs.Numbering.Reserved.{fits-same}
-use Rattle.heap_calls.proofs.Numbering.Memories.{memory_as, reply-as}
-use Rattle.heap_calls.proofs.heap.Heap.give_size.Given.{Over}
-use Rattle.heap_calls.proofs.heap.Heap.give_size.Goals.{After-account}
-use Rattle.heap_calls.proofs.Hearing.{stops-halted, hears-none, hears-as}
 use Rattle.block_store.specs.Block.{is_relocatable}
 use Rattle.block_store.specs.declared.sparing.Sparing.TheVariants.{One}
 use Rattle.heap_calls.specs.declared.anchor.Anchor.{Anchor}
 use Rattle.heap_calls.specs.Gone.{Hears}
+use Rattle.heap_calls.specs.Rows.{set_handle_size, doing_silently, purges_made, refused}
 use Rattle.heap_calls.specs.Inner.Given.{KeepsNames}
+use Rattle.heap_calls.specs.Inner.Numbered.{state_of}
+use Rattle.heap_calls.specs.Inner.Reaching.{Reaches}
 use Rattle.heap_calls.specs.Inner.Telling.{fitted_gone}
-use Rattle.heap_calls.proofs.GoneForSizes.{not_reached-gone, set_handle_size-gone, nothing-sized}
+use Rattle.heap_calls.proofs.Hearing.{stops-halted, hears-none, hears-as}
+use Rattle.heap_calls.proofs.Numbering.Changing.{agrees-kept, heap-same}
+use Rattle.heap_calls.proofs.Numbering.Memories.{memory_as, reply-as}
+use Rattle.heap_calls.proofs.Numbering.Reserved.{fits-same}
+use Rattle.heap_calls.proofs.Sizes.Grown.{reached_in, resize-none, resize-call, sized-agrees, grown-answer, grown-gone}
+use Rattle.heap_calls.proofs.Went.{unfound-is, unfound-gone}
+use Rattle.heap_calls.proofs.heap.Heap.give_size.Given.{Over}
+use Rattle.heap_calls.proofs.heap.Heap.give_size.Goals.{In_err-held, After-account}
 use Rattle.heap_calls.proofs.heap.Heap.give_size.Goals as goal
+
+-- a handle that has no block
+absent : (g : Over) (c : In_err-held g) → set_handle_size c.args.handle c.args.size
+    (state_of (g.S.BlockStore.zone c.self.inside.store) (g.S.BlockStore.rest c.self.inside.store).slots
+    c.self.inside.names.items) ≡ refused c.in_err-held.field-0.0 (state_of (g.S.BlockStore.zone c.self.inside.store)
+    (g.S.BlockStore.rest c.self.inside.store).slots c.self.inside.names.items)
+absent g c = resize-none c.args.handle c.args.size _ c.in_err-held.field-0.0 (reached_in _ _ _ _ c.args.handle
+    (Err c.in_err-held.field-0.0) c.deref.ensures.value c.in_err-held.ensures)
 
 pub returns-in_err-held-clause-answer : goal.returns-in_err-held-clause-answer
 returns-in_err-held-clause-answer g c =
     let p = err_from_is_err_and c.from_residual.result c.from_residual.ensures.1 in
     let a = c.self.inside in
-    rw (p.1, p.2)
-    (set_handle_size-silent c.args.handle c.args.size c.args.self.now.memory ∙ nothing-grown c.args.self.now.memory _
-    (g.S.BlockStore.rest a.store) a.names.items a.log (memory_as c.self.view_is)
-    (set_handle_size c.args.handle c.args.size) (set_handle_size_searches c.args.handle c.args.size)
-    (set_handle_size_moves c.args.handle c.args.size) c.in_err-held.field-0.0
-    c.args.handle _ c.deref.ensures.value c.in_err-held.ensures (not-resized c.args.handle c.args.size _))
+    rw (p.1, p.2) (unfound-is (g.S.BlockStore.zone a.store) (g.S.BlockStore.rest a.store) a.names.items a.log
+    c.args.self.now.memory (memory_as c.self.view_is) (set_handle_size c.args.handle c.args.size)
+    c.in_err-held.field-0.0 (absent g (goal.at.returns-in_err-held-clause-answer g c).In_err-held))
+
+-- the handle's block
+reached : (g : Over) (c : After-account g) → Reaches (g.S.BlockStore.zone c.self.inside.store)
+    (g.S.BlockStore.rest c.self.inside.store).slots c.self.inside.names.items c.args.handle (Ok c.in_ok-held.held)
+reached g c = reached_in _ _ _ _ c.args.handle (Ok c.in_ok-held.held) c.deref.ensures.value c.in_ok-held.ensures
 
 -- what the call answers where the handle has a block
-tabled : (g : Over) (c : After-account g) → moving (set_handle_size_moves c.args.handle c.args.size
-    c.args.self.now.memory.heap) (searching (set_handle_size_searches c.args.handle c.args.size
-    c.args.self.now.memory.heap) (silent (set_handle_size c.args.handle c.args.size) c.args.self.now.memory))
-    ≡ (c.account.result, c.account.new.self.memory)
-tabled g c =
+told : (g : Over) (c : After-account g) → doing_silently (set_handle_size c.args.handle c.args.size)
+    c.args.self.now.memory ≡ (c.account.result, c.account.new.self.memory)
+told g c =
     let a = c.self.inside in
-    let held = c.in_ok-held.held in
+    let zone = g.S.BlockStore.zone a.store in
     let rest = g.S.BlockStore.rest a.store in
-    let there = reached_in (g.S.BlockStore.zone a.store) rest.slots a.names.items _ c.args.handle (Ok held)
-    c.deref.ensures.value c.in_ok-held.ensures in
+    let held = c.in_ok-held.held in
+    let there = reached g c in
     rw (c.account.ensures.reply, c.account.ensures.counted)
-    (grown-done c.args.self.now.memory _ rest _ _ (memory_as c.self.view_is) _ _ _ _ _ _
-    (resize-tells _ rest _ c.self.invariant c.args.handle held there c.args.size)
-    _ (g.S.BlockStore.rest c.fit_block.new.store) c.in_ok-grown.ensures.rest c.in_ok-grown.grown.done
-    c.in_ok-grown.grown.searches c.in_ok-grown.ensures.searches c.in_ok-grown.ensures.zone
-    c.in_ok-grown.ensures.full c.in_ok-grown.ensures.moves)
-
--- and by its path
-told : (g : Over) (c : After-account g) → doing_silently (rows.set_handle_size c.args.handle c.args.size)
-    c.args.self.now.memory
-    ≡ (c.account.result, c.account.new.self.memory)
-told g c = set_handle_size-silent c.args.handle c.args.size c.args.self.now.memory ∙ tabled g c
+    (grown-answer zone rest a.names.items a.log c.args.self.now.memory (memory_as c.self.view_is)
+    (set_handle_size c.args.handle c.args.size) (is_relocatable held.number) (One held.slot) _
+    (resize-call zone rest a.names.items c.self.invariant c.args.handle held there c.args.size) _ _ _ _ (λ b. refl)
+    (sized-agrees zone rest a.names.items c.self.invariant c.args.handle held there (One held.slot) (λ b. refl) c.args.size)
+    (g.S.BlockStore.zone c.fit_block.new.store) (g.S.BlockStore.rest c.fit_block.new.store) c.in_ok-grown.grown.done
+    c.in_ok-grown.grown.searches c.in_ok-grown.ensures.rest c.in_ok-grown.ensures.zone c.in_ok-grown.ensures.full
+    c.in_ok-grown.ensures.searches c.in_ok-grown.ensures.moves)
 
 pub returns-in_err-account-clause-answer : goal.returns-in_err-account-clause-answer
 returns-in_err-account-clause-answer g c =
@@ -85,28 +82,29 @@ pub returns-in_err-held-clause-hears : goal.returns-in_err-held-clause-hears
 returns-in_err-held-clause-hears g c =
     let a = c.self.inside in
     hears-none g.K.PurgeSink.told g.K.PurgeSink.waits g.K.PurgeSink.listens _ _ c.args.sink.now c.requires.idle
-    (sym (set_handle_size-same c.args.handle c.args.size c.args.self.now.memory.heap).tells ∙ not_reached-gone
-    c.args.self.now.memory (g.S.BlockStore.zone a.store) (g.S.BlockStore.rest a.store) a.names.items
-    a.log (memory_as c.self.view_is) (set_handle_size_gone c.args.handle c.args.size) c.in_err-held.field-0.0
-    c.args.handle _ c.deref.ensures.value c.in_err-held.ensures (nothing-sized c.args.handle c.args.size _))
+    (unfound-gone (g.S.BlockStore.zone a.store) (g.S.BlockStore.rest a.store) a.names.items a.log
+    c.args.self.now.memory (memory_as c.self.view_is) (set_handle_size c.args.handle c.args.size)
+    c.in_err-held.field-0.0 (absent g (goal.at.returns-in_err-held-clause-hears g c).In_err-held))
 
 heard : (g : Over) (c : After-account g) → (done : Type 0)
     → Hears g.K.PurgeSink.told g.K.PurgeSink.waits g.K.PurgeSink.listens done
-    (purges_made (rows.set_handle_size c.args.handle c.args.size) c.args.self.now.memory.heap) c.args.sink.now
+    (purges_made (set_handle_size c.args.handle c.args.size) c.args.self.now.memory.heap) c.args.sink.now
     c.fit_block.new.sink
 heard g c done =
     let a = c.self.inside in
     let zone = g.S.BlockStore.zone a.store in
     let rest = g.S.BlockStore.rest a.store in
     let held = c.in_ok-held.held in
-    let there = reached_in zone rest.slots a.names.items _ c.args.handle (Ok held) c.deref.ensures.value
-    c.in_ok-held.ensures in
+    let there = reached g c in
     let same = ap (λ (e : List Anchor). fitted_gone e (is_relocatable held.slot) (One held.slot) c.args.size zone)
     c.deref-2.ensures.value
-    ∙ set_handle_size-gone c.args.self.now.memory zone rest a.names.items a.log (memory_as c.self.view_is)
-    c.self.invariant c.args.handle held there c.args.size in
-    hears-as g.K.PurgeSink.told g.K.PurgeSink.waits g.K.PurgeSink.listens _ _ _ _ _ _ (λ some. refl) (same
-    ∙ (set_handle_size-same c.args.handle c.args.size c.args.self.now.memory.heap).tells) c.in_ok-grown.ensures.hears
+    ∙ grown-gone zone rest a.names.items a.log c.args.self.now.memory (memory_as c.self.view_is)
+    (set_handle_size c.args.handle c.args.size) (is_relocatable held.number) (One held.slot) _
+    (resize-call zone rest a.names.items c.self.invariant c.args.handle held there c.args.size) _ _ _ _ (λ b. refl)
+    (sized-agrees zone rest a.names.items c.self.invariant c.args.handle held there (One held.slot) (λ b. refl)
+    c.args.size) in
+    hears-as g.K.PurgeSink.told g.K.PurgeSink.waits g.K.PurgeSink.listens _ _ _ _ _ _ (λ some. refl) same
+    c.in_ok-grown.ensures.hears
 
 pub returns-in_err-account-clause-hears : goal.returns-in_err-account-clause-hears
 returns-in_err-account-clause-hears g c = heard g (goal.at.returns-in_err-account-clause-hears g c).After-account _
