@@ -1,14 +1,13 @@
 use Rattle.std.proofs.Common.{◌≡◌, ℕ, ◌-◌, ◌<◌, zero, suc, Bool, true, false, not, ◌&&◌, List, [], ◌∷◌, ◌++◌, length, map}
-use Rattle.std.proofs.Common.{refl, sym, ◌∙◌, ap, cond, Option, Some, Result, Ok, Err, is_some, slice_get}
+use Rattle.std.proofs.Common.{refl, sym, ◌∙◌, ap, cond, Option, Some, Err, is_some, slice_get}
 use Rattle.std.specs.Option.{option_map}
 use Rattle.std.proofs.lemmas.Bool.{false≢true}
 use Rattle.std.proofs.lemmas.List.{map-id, length-map, length-replicate}
 use Rattle.mac_words.specs.Size.{phys, padded}
 use Rattle.mac_words.specs.declared.code.OsErr.{OsErr}
-use Rattle.mac_words.specs.declared.code.TheConstants.OsErr.{PURGED}
 use Rattle.mac_words.proofs.Plain.{is_some-map}
 use Rattle.block_store.specs.Block.{Block, Free, size, is_relocatable, is_purgeable, rename, rename_block}
-use Rattle.block_store.specs.Room.{Spot, spot, rename_spot, filled, place, least, may_be_purged, purge, count_of, put_in_place, room}
+use Rattle.block_store.specs.Room.{Spot, rename_spot, filled, place, least, may_be_purged, purge, count_of, put_in_place, room}
 use Rattle.block_store.specs.Slot.{Slot}
 use Rattle.block_store.specs.Rest.{Rest}
 use Rattle.block_store.specs.Grow.{freed}
@@ -23,12 +22,10 @@ use Rattle.heap_calls.specs.declared.anchor.Anchor.{Anchor}
 use Rattle.heap_calls.specs.declared.anchor.Anchor.TheVariants.{Handle}
 use Rattle.heap_calls.specs.declared.log.Log.{Log}
 use Rattle.heap_calls.specs.State.{State, Memory}
-use Rattle.heap_calls.specs.Answer.{Known, handle_at, nothing}
-use Rattle.heap_calls.specs.Purging.{is_loose}
+use Rattle.heap_calls.specs.Answer.{nothing}
 use Rattle.heap_calls.specs.Gone.{Gone, gone, gone_of, room_gone, found_gone, refill_gone}
 use Rattle.heap_calls.specs.Inside.{has_block}
 use Rattle.heap_calls.specs.Inner.Given.{slot_of}
-use Rattle.heap_calls.specs.Inner.Loose.{FindsLoose, loose, loose_at}
 use Rattle.heap_calls.specs.Inner.NewBlock.{fresh_block}
 use Rattle.heap_calls.specs.Searches.{room_searches}
 use Rattle.heap_calls.specs.Inner.Numbered.{handle_number, pointer_number, name_of, no_number, state_of, memory_of}
@@ -38,7 +35,7 @@ use Rattle.heap_calls.proofs.NewBlocks.NewHandles.{tries-same}
 use Rattle.heap_calls.proofs.NewBlocks.NewSlots.{tries-map}
 use Rattle.heap_calls.proofs.Numbering.Answering.{handle_at-refused}
 use Rattle.heap_calls.proofs.Numbering.Looking.{count_of-rename}
-use Rattle.heap_calls.proofs.Numbering.Loosening.{known, handle_at-by}
+use Rattle.heap_calls.proofs.Numbering.Loosening.{handle_at-by}
 use Rattle.heap_calls.proofs.Numbering.Numbers.{Apart, is_relocatable-number}
 use Rattle.std.proofs.Common.{◌*◌, Some, None}
 use Rattle.std.specs.Prelude.{unwrap_or}
@@ -57,7 +54,6 @@ use Rattle.heap_calls.specs.Inner.Numbered.{state_of, Agrees}
 use Rattle.heap_calls.specs.Inner.Telling.{fresh_gone, after_slot_gone, new_gone}
 use Rattle.heap_calls.proofs.GoneBlocks.{slot_gone-is}
 use Rattle.heap_calls.proofs.NewBlocks.NewHandles.{slotted-is}
-use Rattle.heap_calls.proofs.Tables.Gone.{reallocate_handle_gone}
 
 -- What a sink is told of blocks that are purged for the place of a relocatable block.
 
@@ -187,45 +183,6 @@ renewed_gone-is es h slot at apart small n slots zone =
     ∙ ap (room_gone all (put_in_place (fresh_block h n)) nothing)
     (sym (freed-rename f g (is_relocatable h) (is_relocatable slot) (is_relocatable-number es h slot at apart small)
     zone)))
-
--- what ReallocateHandle purges for a handle that has no block that is locked
-reallocate_gone-loose : (handle : Option ℕ) (n : ℕ) (s : State)
-    → reallocate_handle_gone handle n s ≡ found_gone (loose_at handle s)
-    (λ k. put_gone (length s.names) k.number n (freed (is_relocatable k.number) s.zone))
-reallocate_gone-loose handle n s = found (handle_at handle s)
-  where
-    of : Known → List Gone
-    of k = put_gone (length s.names) k.number n (freed (is_relocatable k.number) s.zone)
-
-    here : (k : Known) (t : Bool) → cond t (of k) [] ≡ found_gone (cond t (Ok k) (Err PURGED)) of
-    here k true = refl
-    here k false = refl
-
-    found : (r : Result Known OsErr) → found_gone r (λ k. cond (is_loose (spot (is_relocatable k.number) s.zone))
-        (of k) []) ≡ found_gone (loose r s.zone) of
-    found (Err code) = refl
-    found (Ok k) = here k (is_loose (spot (is_relocatable k.number) s.zone))
-
-pub reallocate_gone-is : (value : Memory) (zone : List Block) (rest : Rest) (es : List Anchor) (log : Log)
-    (handle : Option ℕ) (h slot n : ℕ) {guarded : Bool} → memory_of zone rest es log ≡ value
-    → loose_at handle (state_of zone rest.slots es) ≡ Ok (known rest.slots h slot guarded)
-    → slice_get es h ≡ Some (Handle slot guarded) → Apart es → h < no_number
-    → renewed_gone es slot n zone ≡ reallocate_handle_gone handle n value.heap
-reallocate_gone-is value zone rest es log handle h slot n is found at apart small =
-    let s : State = state_of zone rest.slots es in
-    renewed_gone-is es h slot at apart small n rest.slots zone
-    ∙ sym (reallocate_gone-loose handle n s ∙ ap (λ r. found_gone r (λ k. put_gone (length s.names) k.number n
-    (freed (is_relocatable k.number) s.zone))) found)
-    ∙ ap (λ (m : Memory). reallocate_handle_gone handle n m.heap) is
-
--- nothing where the handle isn't found, or has a locked block
-pub reallocate_gone-none : (value : Memory) (zone : List Block) (rest : Rest) (es : List Anchor) (log : Log)
-    (handle : Option ℕ) (n : ℕ) (code : OsErr) → memory_of zone rest es log ≡ value
-    → FindsLoose zone rest.slots es handle (Err code) → reallocate_handle_gone handle n value.heap ≡ []
-reallocate_gone-none value zone rest es log handle n code is found =
-    let s : State = state_of zone rest.slots es in
-    ap (λ (m : Memory). reallocate_handle_gone handle n m.heap) (sym is) ∙ reallocate_gone-loose handle n s
-    ∙ ap (λ r. found_gone r (λ k. put_gone (length s.names) k.number n (freed (is_relocatable k.number) s.zone))) found
 
 -- what is purged for an empty handle
 pub refill_gone-is : (value : Memory) (zone : List Block) (rest : Rest) (es : List Anchor) (log : Log)

@@ -12,7 +12,6 @@ pub mod GoneBlocks
 pub mod GoneForSizes
 pub mod GonePlaces
 pub mod Hearing
-pub mod Tables
 mod Exchanging
 mod Worked
 mod Same

@@ -18,7 +18,7 @@ use Rattle.block_store.specs.declared.sparing.Sparing.TheVariants as sparing
 use Rattle.block_store.proofs.Zone.Apart.{apart-tidied}
 use Rattle.block_store.proofs.Zone.Tidy.{spot-passes}
 use Rattle.block_store.proofs.Nonrelocatable.Counts.{not_nonrelocatable-room}
-use Rattle.heap_calls.specs.State.{State, Memory, Meaning, uses_slot}
+use Rattle.heap_calls.specs.State.{State, Memory, uses_slot}
 use Rattle.heap_calls.specs.State as names
 use Rattle.heap_calls.specs.Answer.{nothing}
 use Rattle.heap_calls.specs.Inner.Base.{IsBaseAt, base, base_searches}

@@ -1,12 +1,11 @@
-use Rattle.std.proofs.Common.{◌≡◌, ℕ, ◌<◌, Bool, true, false, List, ◌∷◌, ◌++◌, refl, sym, ◌∙◌, ap, cond, Option, Some}
-use Rattle.std.proofs.Common.{None, Result, Ok, Err, slice_get, subst, is_some, ◌-◌}
+use Rattle.std.proofs.Common.{◌≡◌, ℕ, ◌<◌, Bool, true, false, List, [], length, ◌∷◌, ◌++◌, refl, sym, ◌∙◌, ap, cond, Option, Some}
+use Rattle.std.proofs.Common.{None, Ok, Err, slice_get, subst, is_some, ◌-◌}
 use Rattle.std.proofs.lemmas.Option.{none-some}
-use Rattle.std.specs.Option.{option_map, option_or, IfSome, IsSomeAnd, MatchOption}
+use Rattle.std.specs.Option.{option_map, option_or, IfSome, IsSomeAnd}
 use Rattle.std.specs.Prelude.{option_and_then}
 use Rattle.std.specs.Bool.{IsTrue}
 use Rattle.mac_words.specs.Size.{phys, padded}
 use Rattle.mac_words.specs.declared.code.OsErr.{OsErr}
-use Rattle.mac_words.specs.declared.code.TheConstants.OsErr.{MEM_FULL}
 use Rattle.block_store.specs.Block.{Block, size, rename, rename_block, is_relocatable, is_room, tidy}
 use Rattle.block_store.specs.Run.{has, has_free, settle, with_run, change_run, run_spot, RunSpot}
 use Rattle.block_store.specs.Room.{Spot, spot, spot_at, filled, place, put_in_place, room, lowest_purged}
@@ -14,7 +13,7 @@ use Rattle.block_store.specs.Grow.{freed}
 use Rattle.block_store.specs.Rest.{Rest}
 use Rattle.block_store.specs.Sparing.{spared, purged, most_purges}
 use Rattle.block_store.specs.declared.sparing.Sparing.TheVariants as sparing
-use Rattle.block_store.proofs.Renamed.Renaming.{room-rename, put_in_place-rename, freed-rename}
+use Rattle.block_store.proofs.Renamed.Renaming.{freed-rename}
 use Rattle.block_store.proofs.Zone.Tidy.{has-tidy, has-freed, spot-is}
 use Rattle.mac_words.proofs.Plain.{is_some-map}
 use Rattle.block_store.proofs.Regroup.HavingRoom.{place-room}
@@ -24,7 +23,7 @@ use Rattle.heap_calls.specs.declared.search.Room.{Room}
 use Rattle.heap_calls.specs.declared.anchor.Anchor.{Anchor}
 use Rattle.heap_calls.specs.declared.anchor.Anchor.TheVariants.{Handle}
 use Rattle.heap_calls.specs.State.{State, Memory}
-use Rattle.heap_calls.specs.Answer.{nothing, for_found, rebuilt, silent}
+use Rattle.heap_calls.specs.Answer.{nothing}
 use Rattle.heap_calls.specs.Inner.NewBlock.{fresh_block}
 use Rattle.heap_calls.specs.Inner.Search.{placement, placement_searches, IsAt}
 use Rattle.heap_calls.specs.Searches.{room_searches}
@@ -36,15 +35,25 @@ use Rattle.heap_calls.specs.Inner.Numbered.{state_of, memory_of, handle_number, 
 use Rattle.heap_calls.proofs.Numbering.Numbers.{Apart, is_relocatable-number, handle_number-at}
 use Rattle.block_store.proofs.Zone.Absence.{none-lowest_purged, none-settled}
 use Rattle.heap_calls.proofs.Room.Placements.{fresh-size}
-use Rattle.heap_calls.proofs.Numbering.Changing.{silent-kept, spot_at-is, phys-some, unmoved, unmoved-is}
-use Rattle.heap_calls.proofs.Numbering.Loosening.{known, renewed_answer, reallocate_handle-loose}
-use Rattle.heap_calls.proofs.Numbering.Loosening.{reallocate_searches-loose, reallocate_moves-loose}
-use Rattle.heap_calls.proofs.Numbering.Looking.{tries-same, room_searches-rename}
-use Rattle.heap_calls.proofs.Numbering.MoveNames.{put_moves-rename}
+use Rattle.heap_calls.proofs.Numbering.Changing.{spot_at-is, phys-some, names-same}
+use Rattle.std.specs.Prelude.{unwrap_or, MatchOption}
+use Rattle.block_store.specs.Rest.{counted}
+use Rattle.heap_calls.specs.Inner.Packed.{Packs}
+use Rattle.heap_calls.proofs.Numbering.Loosening.{known}
+use Rattle.heap_calls.proofs.Numbering.Looking.{tries-same}
 use Rattle.heap_calls.specs.Inner.Reaching.{sized_reply}
-use Rattle.heap_calls.proofs.Tables.Searches.{found_searches, reallocate_handle_searches}
-use Rattle.heap_calls.proofs.Tables.Moves.{reallocate_handle_moves}
-use Rattle.heap_calls.proofs.Tables.Replies.{reallocate_handle}
+use Rattle.moves.specs.Moves.{Put, Drop}
+use Rattle.moves.specs.Seeking.{Sought, seek, if_fits, around, rename_sought}
+use Rattle.moves.proofs.Renamed.{PathNames}
+use Rattle.moves.proofs.Searches.{seek-rename}
+use Rattle.heap_calls.specs.Rows.{Done, doing_silently, purges_made, purged_by, refused, changed, reallocate_handle}
+use Rattle.heap_calls.specs.Inner.Loose.{FindsLoose}
+use Rattle.heap_calls.specs.Inner.Telling.{renewed_gone}
+use Rattle.heap_calls.proofs.GonePlaces.{renewed_gone-is}
+use Rattle.heap_calls.proofs.Numbering.Loosening.{reallocate-loose}
+use Rattle.heap_calls.proofs.Same.Resizing.{again, renewed-agrees}
+use Rattle.heap_calls.proofs.Sizes.Grown.{around-names, around-rename, fits-names}
+use Rattle.heap_calls.proofs.Went.{changed-is, seek-names, fits-rename}
 
 -- A new block for a handle, for which its old one counts as Free.
 
@@ -157,107 +166,84 @@ module _ (slot : ℕ) (zone : List Block)
                 let done : after ≡ filled new found.0 = subst Q found.2 h in
                 renewed-is ∙ ap (option_map (filled new)) found.1 ∙ ap Some (sym done)
 
--- what was made of the block of a slot, told of the handle's number
-module _ (value : Memory) (zone zone' : List Block) (rest rest' : Rest) (es : List Anchor) (log : Log)
-    (handle : Option ℕ) (h slot n : ℕ) {guarded : Bool} (made : Room)
-    (is : memory_of zone rest es log ≡ value) (found : loose_at handle (state_of zone rest.slots es)
-    ≡ Ok (known rest.slots h slot guarded)) (at : slice_get es h ≡ Some (Handle slot guarded)) (apart : Apart es)
-    (small : h < no_number)
-    (done : IsRenewal slot n zone rest made zone' rest')
+-- what ReallocateHandle answers, and what it purges, by the handle's number
+module _ (zone : List Block) (rest : Rest) (es : List Anchor) (log : Log) (value : Memory)
+    (is : memory_of zone rest es log ≡ value) (handle : Option ℕ) (n : ℕ)
   where
-    abbrev f : ℕ → ℕ
-    f = handle_number es
+    abbrev s : State
+    s = state_of zone rest.slots es
 
-    abbrev g : ℕ → ℕ
-    g = pointer_number es
+    pub not-loose : (code : OsErr) → FindsLoose zone rest.slots es handle (Err code)
+        → reallocate_handle handle n s ≡ refused code s
+    not-loose code found = reallocate-loose handle n s (Err code) found
 
-    abbrev state : State
-    state = state_of zone rest.slots es
-
-    abbrev block : Block
-    block = fresh_block slot n
-
-    same-block : fresh_block h n ≡ rename_block f g block
-    same-block = ap (λ k. fresh_block k n) (sym (handle_number-at es h slot at apart))
-
-    freed-same : freed (is_relocatable h) state.zone ≡ rename f g (freed (is_relocatable slot) zone)
-    freed-same = freed-rename f g (is_relocatable h) (is_relocatable slot)
-        (is_relocatable-number es h slot at apart small) zone
-
-    renewed-rename : renewed h n state.zone ≡ option_map (rename f g) (renewed slot n zone)
-    renewed-rename =
-        ap (λ o. cond (is_some (phys n)) o None)
-        (ap (λ z. room (put_in_place (fresh_block h n)) nothing z) freed-same
-        ∙ ap (λ b. room (put_in_place b) nothing (rename f g (freed (is_relocatable slot) zone))) same-block
-        ∙ room-rename f g nothing nothing (put_in_place (rename_block f g block)) (put_in_place block) (λ b. refl)
-        (put_in_place-rename f g block) (freed (is_relocatable slot) zone))
-        ∙ cases (is_some (phys n))
+    module _ (h slot : ℕ) {guarded : Bool} (found : loose_at handle s ≡ Ok (known rest.slots h slot guarded))
+        (at : slice_get es h ≡ Some (Handle slot guarded)) (apart : Apart es) (small : h < no_number)
       where
-        cases : (t : Bool) → cond t (option_map (rename f g) (reallocated slot n zone)) None
-            ≡ option_map (rename f g) (cond t (reallocated slot n zone) None)
-        cases true = refl
-        cases false = refl
+        abbrev f : ℕ → ℕ
+        f = handle_number es
 
-    searches-rename : renewed_searches h n state.zone ≡ renewed_searches slot n zone
-    searches-rename =
-        ap (λ k. cond {A = ℕ} (is_some (phys n)) k 0)
-        (ap (λ z. room_searches (put_in_place (fresh_block h n)) nothing z) freed-same
-        ∙ ap (λ b. room_searches (put_in_place b) nothing (rename f g (freed (is_relocatable slot) zone))) same-block
-        ∙ room_searches-rename f g nothing nothing (λ b. refl) (put_in_place (rename_block f g block))
-        (put_in_place block) (put_in_place-rename f g block) (freed (is_relocatable slot) zone))
+        abbrev g : ℕ → ℕ
+        g = pointer_number es
 
-    pub reallocate_searches-is : reallocate_handle_searches handle n value.heap ≡ made.searches
-    reallocate_searches-is =
-        ap (λ (m : Memory). reallocate_handle_searches handle n m.heap) (sym is)
-        ∙ reallocate_searches-loose handle n state
-        ∙ ap (λ r. found_searches r (λ k. renewed_searches k.number n state.zone)) found ∙ searches-rename
-        ∙ sym done.searches
+        abbrev open_zone : List Block
+        open_zone = freed (is_relocatable slot) zone
 
-    pub reallocate_moves-is : reallocate_handle_moves handle n value.heap ≡ renewed_moves slot n zone
-    reallocate_moves-is =
-        ap (λ (m : Memory). reallocate_handle_moves handle n m.heap) (sym is) ∙ reallocate_moves-loose handle n state
-        ∙ ap (λ r. found_searches r (λ k. renewed_moves k.number n state.zone)) found
-        ∙ ap (λ k. cond {A = ℕ} (is_some (phys n)) k 0)
-        (ap (put_moves (fresh_block h n) nothing) freed-same ∙ ap
-        (λ b. put_moves b nothing (rename f g (freed (is_relocatable slot) zone))) same-block
-        ∙ put_moves-rename f g nothing nothing (λ b. refl) block (freed (is_relocatable slot) zone))
+        abbrev sought_it : Sought
+        sought_it = if_fits n (seek (Put (fresh_block slot n)) nothing open_zone)
 
-    -- the zone that it comes to
-    row : (r : Result (Unit {0}) OsErr) (o : Option (List Block)) → renewed slot n zone ≡ o
-        → rebuilt (option_map (rename f g) o) state ≡ (r, record state { zone = rename f g zone' })
-        → silent (reallocate_handle handle n) value ≡ (r, memory_of zone' (unmoved rest rest') es log)
-    row r o made now =
-        silent-kept (reallocate_handle handle n) value zone zone' rest (unmoved rest rest') es log r is
-        (reallocate_handle-loose handle n state ∙ ap (λ r. for_found r state (renewed_answer n state)) found
-        ∙ ap (λ o. rebuilt o state) (renewed-rename ∙ ap (option_map (rename f g)) made) ∙ now)
-        (unmoved-is rest rest' done.slots)
+        number : f slot ≡ h
+        number = handle_number-at es h slot at apart
 
-    reallocate-none : is_some made.place ≡ false → silent (reallocate_handle handle n) value
-        ≡ (Err MEM_FULL, memory_of zone' (unmoved rest rest') es log)
-    reallocate-none none =
-        let left = same made.place none done.none in
-        row (Err MEM_FULL) None left.0 (ap (λ z. (Err MEM_FULL, record state { zone = rename f g z })) (sym left.1))
-      where
-        same : (o : Option ℕ) → is_some o ≡ false → MatchOption o ((renewed slot n zone ≡ None) × (zone' ≡ zone))
-            (λ _. renewed slot n zone ≡ Some zone') → (renewed slot n zone ≡ None) × (zone' ≡ zone)
-        same None none m = m
-        same (Some p) none m = let z : true ≡ false = none in cc
+        row : reallocate_handle handle n s ≡ changed nothing (rename_sought f g (again slot n zone)) s
+        row =
+            reallocate-loose handle n s (Ok (known rest.slots h slot guarded)) found
+            ∙ ap (λ z. changed nothing (around (Drop h ∷ []) [] (if_fits n (seek (Put (fresh_block h n)) nothing z))) s)
+            (freed-rename f g (is_relocatable h) (is_relocatable slot)
+            (is_relocatable-number es h slot at apart small) zone)
+            ∙ ap (λ (k : ℕ). changed nothing (around (Drop k ∷ []) [] (if_fits n (seek (Put (fresh_block k n)) nothing
+            (rename f g open_zone)))) s) (sym number)
+            ∙ ap (λ r. changed nothing (around (Drop (f slot) ∷ []) [] (if_fits n r)) s)
+            (seek-rename f g nothing nothing (λ b. refl) (Put (fresh_block slot n)) tt open_zone)
+            ∙ ap (λ r. changed nothing (around (Drop (f slot) ∷ []) [] r) s)
+            (fits-rename f g (is_some (phys n)) (seek (Put (fresh_block slot n)) nothing open_zone))
+            ∙ ap (λ r. changed nothing r s) (around-rename f g (Drop slot ∷ []) [] sought_it)
 
-    reallocate-some : is_some made.place ≡ true → silent (reallocate_handle handle n) value
-        ≡ (Ok tt, memory_of zone' (unmoved rest rest') es log)
-    reallocate-some some = row (Ok tt) (Some zone') (put made.place some done.none) refl
-      where
-        put : (o : Option ℕ) → is_some o ≡ true → MatchOption o ((renewed slot n zone ≡ None) × (zone' ≡ zone))
-            (λ _. renewed slot n zone ≡ Some zone') → renewed slot n zone ≡ Some zone'
-        put None some m = let z : false ≡ true = some in cc
-        put (Some p) some m = m
+        names : PathNames f g (again slot n zone).path
+        names = around-names f g (Drop slot ∷ []) [] sought_it (
+          λ b. ap (λ (k : ℕ). is_relocatable k (rename_block f g b)) number
+              ∙ is_relocatable-number es h slot at apart small b,
+          tt,
+        )
+            (fits-names f g (is_some (phys n)) (seek (Put (fresh_block slot n)) nothing open_zone)
+            (seek-names f g nothing (Put (fresh_block slot n)) tt open_zone)) tt
 
-    -- both, by whether there was room
-    pub reallocate-told : silent (reallocate_handle handle n) value
-        ≡ (sized_reply (is_some made.place), memory_of zone' (unmoved rest rest') es log)
-    reallocate-told = cases (is_some made.place) refl
-      where
-        cases : (t : Bool) → is_some made.place ≡ t → silent (reallocate_handle handle n) value
-            ≡ (sized_reply t, memory_of zone' (unmoved rest rest') es log)
-        cases true some = reallocate-some some
-        cases false none = reallocate-none none
+        pub reallocate-answer : (zone' : List Block) (rest' : Rest) (made : Room) → IsRenewal slot n zone rest made zone' rest'
+            → Packs (renewed_moves slot n zone) rest rest' → doing_silently (reallocate_handle handle n) value ≡ (
+              sized_reply (is_some made.place),
+              memory_of zone' rest' es (record log { searches = counted log.searches made.searches }),
+            )
+        reallocate-answer zone' rest' made done packs =
+            let a = renewed-agrees 0 slot n zone in
+            let d = ends made.place done.none in
+            changed-is zone rest es log value is zone' rest' (reallocate_handle handle n) nothing nothing (λ b. refl)
+            (again slot n zone) names row (is_some made.place) made.searches (record {
+              finds = sym d.0 ∙ a.finds;
+              leaves = d.1 ∙ a.leaves;
+              looks = done.searches ∙ a.looks;
+              lowers = packs ∙ ap (counted rest.moves) a.lowers;
+            }) (names-same rest.slots rest'.slots es (λ h k t at. done.slots.slots k), done.slots.window)
+          where
+            ends : (o : Option ℕ) → MatchOption o ((renewed slot n zone ≡ None) × (zone' ≡ zone))
+                (λ _. renewed slot n zone ≡ Some zone')
+                → (is_some (renewed slot n zone) ≡ is_some o) × (zone' ≡ unwrap_or (renewed slot n zone) zone)
+            ends None m = (ap is_some m.0, m.1 ∙ sym (ap (λ o. unwrap_or o zone) m.0))
+            ends (Some p) m = (ap is_some m, sym (ap (λ o. unwrap_or o zone) m))
+
+        pub reallocate-gone : renewed_gone es slot n zone ≡ purges_made (reallocate_handle handle n) value.heap
+        reallocate-gone =
+            renewed_gone-is es h slot at apart small n rest.slots zone
+            ∙ (renewed-agrees (length s.names) h n s.zone).tells
+            ∙ sym (ap (λ (d : Done (Unit {0})). purged_by d s)
+            (reallocate-loose handle n s (Ok (known rest.slots h slot guarded)) found))
+            ∙ ap (λ (m : Memory). purges_made (reallocate_handle handle n) m.heap) is

@@ -26,7 +26,7 @@ use Rattle.block_store.specs.Grow.{freed}
 use Rattle.block_store.proofs.Renamed.Renaming.{total-rename, free_of-rename, freed-rename, tidy-rename}
 use Rattle.block_store.proofs.Zone.Tidy.{rename-unless, rename_nonrelocatable-unless, has-released}
 use Rattle.block_store.proofs.Nonrelocatable.Counts.{not_nonrelocatable-room}
-use Rattle.heap_calls.specs.State.{State, Memory, CountedMemory, Meaning, Role, Plain, Resource, used_slots, all_slots, uses_slot}
+use Rattle.heap_calls.specs.State.{State, Memory, CountedMemory, Meaning, Plain, uses_slot}
 use Rattle.heap_calls.specs.State as names
 use Rattle.heap_calls.specs.Answer.{Answer, Held, refused, without, written_at, for_found}
 use Rattle.heap_calls.specs.Answer.{silent}

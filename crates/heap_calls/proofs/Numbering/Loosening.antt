@@ -1,10 +1,9 @@
 use Rattle.std.proofs.Common.{◌≡◌, ℕ, ◌+◌, ◌<◌, Bool, true, false, List, [], ◌∷◌, refl, sym, ◌∙◌, ap, cond, Option}
-use Rattle.std.proofs.Common.{Some, None, Result, Ok, Err, slice_get, subst, is_some}
+use Rattle.std.proofs.Common.{Some, None, Result, Ok, Err, slice_get, subst}
 use Rattle.std.proofs.lemmas.Option.{slice_get-map, none-some}
 use Rattle.std.specs.Option.{option_map}
-use Rattle.mac_words.specs.Size.{phys}
 use Rattle.mac_words.specs.declared.code.OsErr.{OsErr}
-use Rattle.mac_words.specs.declared.code.TheConstants.OsErr.{PURGED, MEM_FULL}
+use Rattle.mac_words.specs.declared.code.TheConstants.OsErr.{PURGED}
 use Rattle.block_store.specs.Block.{Block, Free, Nonrelocatable, Masters, Relocatable, size, rename, rename_block}
 use Rattle.block_store.specs.Block.{is_relocatable, is_mover, tidy}
 use Rattle.block_store.specs.Slot.{Slot}
@@ -12,20 +11,18 @@ use Rattle.block_store.specs.Room.{Spot, spot, raised, rename_spot}
 use Rattle.block_store.specs.Rest.{Rest, IsRest}
 use Rattle.block_store.specs.Seen.{seen}
 use Rattle.block_store.specs.Grow.{freed}
-use Rattle.block_store.proofs.Plain.Counters.{counted-none}
 use Rattle.block_store.proofs.Renamed.Renaming.{spot-rename, is_mover-rename, tidy-rename, freed-rename}
 use Rattle.heap_calls.specs.declared.log.Log.{Log}
 use Rattle.heap_calls.specs.State.{State, Memory}
 use Rattle.heap_calls.specs.Answer.{Answer, Known, Held, handle_at, known_as, held_at, for_found, on_block, refused}
-use Rattle.heap_calls.specs.Answer.{rebuilt, silent, searching}
+use Rattle.heap_calls.specs.Answer.{nothing, silent}
 use Rattle.heap_calls.specs.Inner.Given.{seen_flags}
 use Rattle.heap_calls.specs.Purging.{bit, is_resource, block_bits, h_get_state, is_loose, emptied_at, empty_handle}
-use Rattle.heap_calls.specs.Purging.{reallocated}
 use Rattle.heap_calls.specs.Inside.{is_owned}
-use Rattle.heap_calls.proofs.Tables.Replies.{reallocate_handle}
-use Rattle.heap_calls.proofs.Tables.Searches.{found_searches, reallocate_handle_searches}
-use Rattle.heap_calls.proofs.Tables.Moves.{reallocate_handle_moves}
-use Rattle.heap_calls.specs.Inner.Loose.{FindsLoose, bits_of, loose, loose_at, renewed, renewed_searches, renewed_moves}
+use Rattle.heap_calls.specs.Rows as rows
+use Rattle.heap_calls.specs.Rows.{Done, changed, reallocate_handle}
+use Rattle.heap_calls.proofs.Same.Resizing.{again}
+use Rattle.heap_calls.specs.Inner.Loose.{FindsLoose, bits_of, loose, loose_at}
 use Rattle.heap_calls.specs.Inner.Numbered.{state_of, memory_of, name_of, role_of, handle_number, pointer_number}
 use Rattle.heap_calls.specs.Inner.Numbered.{no_number}
 use Rattle.heap_calls.specs.declared.anchor.Anchor.{Anchor}
@@ -104,61 +101,25 @@ empty_handle-loose handle s tidied = found (handle_at handle s)
     found (Err code) = refl
     found (Ok k) = here k (spot (is_relocatable k.number) s.zone) refl
 
--- the answer of ReallocateHandle at a handle that is loose
-abbrev pub renewed_answer : ℕ → State → Known → Answer (Unit {0})
-renewed_answer n s k = rebuilt (renewed k.number n s.zone) s
+-- ReallocateHandle, for a handle that is loose
+abbrev pub renewed_row : ℕ → State → ℕ → Done (Unit {0})
+renewed_row n s h = changed nothing (again h n s.zone) s
 
-pub reallocate_handle-loose : (handle : Option ℕ) (n : ℕ) (s : State)
-    → reallocate_handle handle n s ≡ for_found (loose_at handle s) s (renewed_answer n s)
-reallocate_handle-loose handle n s = found (handle_at handle s)
+pub reallocate-loose : (handle : Option ℕ) (n : ℕ) (s : State) (r : Result Known OsErr) → loose_at handle s ≡ r
+    → reallocate_handle handle n s ≡ rows.for_found r s (λ k. renewed_row n s k.number)
+reallocate-loose handle n s r is =
+    found (handle_at handle s) ∙ ap (λ r. rows.for_found r s (λ (k : Known). renewed_row n s k.number)) is
   where
-    here : (k : Known) (t u : Bool) → cond t (cond u (rebuilt (reallocated k.number n s.zone) s) (refused MEM_FULL s))
-        (refused PURGED s) ≡ for_found (cond t (Ok k) (Err PURGED)) s
-        (λ k. rebuilt (cond u (reallocated k.number n s.zone) None) s)
-    here k true true = refl
-    here k true false = refl
-    here k false u = refl
-
-    found : (r : Result Known OsErr) → for_found r s (λ k. cond (is_loose (spot (is_relocatable k.number) s.zone))
-        (cond (is_some (phys n)) (rebuilt (reallocated k.number n s.zone) s) (refused MEM_FULL s)) (refused PURGED s))
-        ≡ for_found (loose r s.zone) s (renewed_answer n s)
-    found (Err code) = refl
-    found (Ok k) = here k (is_loose (spot (is_relocatable k.number) s.zone)) (is_some (phys n))
-
--- what is counted of a handle that has no block that is locked
-loose-counted : (of : Known → ℕ) (handle : Option ℕ) (s : State)
-    → found_searches (handle_at handle s) (λ k. cond {A = ℕ} (is_loose (spot (is_relocatable k.number) s.zone)) (of k)
-    0) ≡ found_searches (loose_at handle s) of
-loose-counted of handle s = found (handle_at handle s)
-  where
-    here : (k : Known) (t : Bool) → cond {A = ℕ} t (of k) 0 ≡ found_searches (cond t (Ok k) (Err PURGED)) of
+    here : (k : Known) (t : Bool) → cond t (renewed_row n s k.number) (rows.refused PURGED s)
+        ≡ rows.for_found (cond t (Ok k) (Err PURGED)) s (λ (k : Known). renewed_row n s k.number)
     here k true = refl
     here k false = refl
 
-    found : (r : Result Known OsErr) → found_searches r (λ k. cond {A = ℕ}
-        (is_loose (spot (is_relocatable k.number) s.zone)) (of k) 0) ≡ found_searches (loose r s.zone) of
+    found : (r : Result Known OsErr) → rows.for_found r s (λ (k : Known). cond (is_loose (spot (is_relocatable k.number)
+        s.zone)) (renewed_row n s k.number) (rows.refused PURGED s))
+        ≡ rows.for_found (loose r s.zone) s (λ (k : Known). renewed_row n s k.number)
     found (Err code) = refl
     found (Ok k) = here k (is_loose (spot (is_relocatable k.number) s.zone))
-
--- the searches that it takes
-pub reallocate_searches-loose : (handle : Option ℕ) (n : ℕ) (s : State)
-    → reallocate_handle_searches handle n s ≡ found_searches (loose_at handle s)
-    (λ k. renewed_searches k.number n s.zone)
-reallocate_searches-loose handle n s = loose-counted (λ k. renewed_searches k.number n s.zone) handle s
-
--- the blocks that it moves
-pub reallocate_moves-loose : (handle : Option ℕ) (n : ℕ) (s : State)
-    → reallocate_handle_moves handle n s ≡ found_searches (loose_at handle s) (λ k. renewed_moves k.number n s.zone)
-reallocate_moves-loose handle n s = loose-counted (λ k. renewed_moves k.number n s.zone) handle s
-
--- none where the handle isn't loose
-pub no_moves-loose : (handle : Option ℕ) (n : ℕ) (code : OsErr) (value : Memory) (zone : List Block) (rest : Rest)
-    (es : List Anchor) (log : Log) → memory_of zone rest es log ≡ value → FindsLoose zone rest.slots es handle (Err code)
-    → reallocate_handle_moves handle n value.heap ≡ 0
-no_moves-loose handle n code value zone rest es log is none =
-    ap (λ (m : Memory). reallocate_handle_moves handle n m.heap) (sym is)
-    ∙ reallocate_moves-loose handle n (state_of zone rest.slots es)
-    ∙ ap (λ r. found_searches r (λ k. renewed_moves k.number n (state_of zone rest.slots es).zone)) none
 
 -- the bits of a handle's block, and the one of a resource's
 abbrev pub bits_answer : ℕ → State → Held → Answer ℕ
@@ -224,23 +185,6 @@ not_emptied handle code zone rest es copy log value tidied is same found =
     loose_refused (empty_handle handle) code zone rest es log handle value (emptied_answer state) is
     (loose_in zone rest.slots es copy handle (Err code) same found)
     (empty_handle-loose handle state (tidy-rename f g zone ∙ ap (rename f g) tidied))
-
--- the same for a call that searches for room
-pub loose_not_searched : (n : ℕ) (code : OsErr) (zone : List Block) (rest : Rest) (es : List Anchor) (log : Log)
-    (handle : Option ℕ) (value : Memory) → memory_of zone rest es log ≡ value
-    → FindsLoose zone rest.slots es handle (Err code) → searching (reallocate_handle_searches handle n value.heap)
-    (silent (reallocate_handle handle n) value) ≡ (Err code, value)
-loose_not_searched n code zone rest es log handle value is found =
-    let state : State = state_of zone rest.slots es in
-    let none : reallocate_handle_searches handle n value.heap ≡ 0 =
-    ap (λ (m : Memory). reallocate_handle_searches handle n m.heap) (sym is) ∙ reallocate_searches-loose handle n state
-    ∙ ap (λ r. found_searches r (λ k. renewed_searches k.number n state.zone)) found in
-    ap (searching (reallocate_handle_searches handle n value.heap))
-    (loose_refused (reallocate_handle handle n) code zone rest es log handle value (renewed_answer n state)
-    is found (reallocate_handle-loose handle n state))
-    ∙ ap (λ k. searching k (Err code, value)) none
-    ∙ ap (λ k. (Err code, record value { log = record value.log { searches = k } }))
-    (counted-none value.log.searches)
 
 -- the answer of EmptyHandle, where the block of its slot was released
 pub empty_handle-done : (value : Memory) (zone zone' : List Block) (rest rest' : Rest) (es : List Anchor) (log : Log)

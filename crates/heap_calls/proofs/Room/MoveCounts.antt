@@ -1,5 +1,5 @@
 use Rattle.std.proofs.Common.{◌≡◌, ℕ, ◌+◌, ◌-◌, ◌≤◌, ◌<◌, Bool, true, false, ◌&&◌, List, refl, sym, ◌∙◌, ap, subst}
-use Rattle.std.proofs.Common.{cond, arith, Option, Some, None, Result, Err, is_some}
+use Rattle.std.proofs.Common.{cond, arith, Option, Some, None, Result, is_some}
 use Rattle.std.proofs.lemmas.Option.{none-some}
 use Rattle.std.proofs.lemmas.Bool.{cond-true, cond-false, le-leb, lt-leb}
 use Rattle.std.specs.Option.{option_map, option_or, IfSome}
@@ -18,14 +18,13 @@ use Rattle.heap_calls.specs.declared.log.Log.{Log}
 use Rattle.heap_calls.specs.declared.anchor.Anchor.{Anchor}
 use Rattle.heap_calls.specs.declared.search.Placement.{Placement}
 use Rattle.heap_calls.specs.declared.search.Placement.TheVariants as see
-use Rattle.heap_calls.specs.State.{State, Memory}
-use Rattle.heap_calls.specs.Answer.{look_up, moving}
+use Rattle.heap_calls.specs.State.{Memory}
+use Rattle.heap_calls.specs.Answer.{moving}
 use Rattle.heap_calls.specs.Inner.Growing.{FindsGrowth, Stays, grown, growing_searches}
 use Rattle.heap_calls.specs.Moves.{run_moves, as_it_is, place_moves, mover_moves, grow_moves, room_moves, growth_moves}
 use Rattle.heap_calls.specs.Moves.{size_moves}
-use Rattle.heap_calls.specs.Inner.Numbered.{memory_of, state_of}
+use Rattle.heap_calls.specs.Inner.Numbered.{memory_of}
 use Rattle.heap_calls.specs.Inner.Packed.{Packs, placement_moves, content_moves}
-use Rattle.heap_calls.specs.Inner.Reaching.{Reaches}
 use Rattle.heap_calls.specs.Inner.Search.{FindsPlacement, placement_searches}
 use Rattle.heap_calls.specs.Searches.{room_searches, resized_at}
 use Rattle.heap_calls.proofs.Sizes.Carrying.{IsLast, high-at}
@@ -230,19 +229,3 @@ pub moving-done : {T : Type 0} (m n : ℕ) (a : Result T OsErr × Memory) (r : R
 moving-done m n a r zone rest rest' es log is same now =
     ap (moving m) is ∙ ap (λ (k : ℕ). (r, record (memory_of zone rest' es log) { moves = counted rest.moves k })) same
     ∙ ap (λ (k : ℕ). (r, record (memory_of zone rest' es log) { moves = k })) (sym now)
-
--- a call that was refused before it packed
-pub not-moved : {T : Type 0} (m : ℕ) (a : Result T OsErr × Memory) (code : OsErr) (value : Memory) (zone : List Block)
-    (rest : Rest) (es : List Anchor) (log : Log) → memory_of zone rest es log ≡ value
-    → a ≡ (Err code, value) → m ≡ 0 → moving m a ≡ (Err code, value)
-not-moved m a code value zone rest es log is answer none =
-    ap (moving m) answer ∙ ap (λ (k : ℕ). (Err code, record value { moves = counted value.moves k })) none
-    ∙ ap (λ (k : ℕ). (Err code, record value { moves = k })) (counted-none value.moves)
-
--- none is moved for a handle that has no block
-pub none-reached : (of : State → ℕ) (code : OsErr) (handle : Option ℕ) (value : Memory) (zone : List Block) (rest : Rest)
-    (es : List Anchor) (log : Log) → memory_of zone rest es log ≡ value → Reaches zone rest.slots es handle (Err code)
-    → ((code : OsErr) → look_up handle (state_of zone rest.slots es) ≡ Err code → of (state_of zone rest.slots es) ≡ 0)
-    → of value.heap ≡ 0
-none-reached of code handle value zone rest es log is none tells =
-    ap (λ (m : Memory). of m.heap) (sym is) ∙ tells code none

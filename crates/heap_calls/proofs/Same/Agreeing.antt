@@ -12,11 +12,11 @@ use Rattle.heap_calls.specs.Gone.{Gone, gone_of, gone, room_gone}
 use Rattle.heap_calls.specs.Rows.{told_blocks}
 use Rattle.heap_calls.proofs.Room.LeastSearches.{least-of, tries-of}
 
--- What the tables say of a search, and what its path does.
+-- What is said of a search without its path, and what its path does.
 
 -- the zone after a search, its searches, its moves and what it purges are those of the path
-pub record Agrees (tell : List Block → List Gone) (spared : Block → Bool) (zone : List Block) (after : Option (List Block)) (searches moves : ℕ)
-    (purged : List Gone) (r : Sought) : Type 0 where
+pub record Agrees (tell : List Block → List Gone) (spared : Block → Bool) (zone : List Block)
+    (after : Option (List Block)) (searches moves : ℕ) (purged : List Gone) (r : Sought) : Type 0 where
   pub finds : is_some after ≡ r.found
   pub leaves : unwrap_or after zone ≡ (did spared r.path zone).zone
   pub looks : searches ≡ (did spared r.path zone).searches
@@ -24,9 +24,9 @@ pub record Agrees (tell : List Block → List Gone) (spared : Block → Bool) (z
   pub tells : purged ≡ tell (did spared r.path zone).gone
 
 -- the same of what is equal
-pub agrees-as : {tell : List Block → List Gone} {spared : Block → Bool} {zone : List Block} {r : Sought} (after after' : Option (List Block))
-    (searches searches' moves moves' : ℕ) (purged purged' : List Gone) → after' ≡ after → searches' ≡ searches
-    → moves' ≡ moves → purged' ≡ purged → Agrees tell spared zone after searches moves purged r
+pub agrees-as : {tell : List Block → List Gone} {spared : Block → Bool} {zone : List Block} {r : Sought}
+    (after after' : Option (List Block)) (searches searches' moves moves' : ℕ) (purged purged' : List Gone)
+    → after' ≡ after → searches' ≡ searches → moves' ≡ moves → purged' ≡ purged → Agrees tell spared zone after searches moves purged r
     → Agrees tell spared zone after' searches' moves' purged' r
 agrees-as {zone = zone} after after' searches searches' moves moves' purged purged' same s m p a = record {
   finds = ap is_some same ∙ a.finds;

@@ -31,7 +31,7 @@ use Rattle.heap_calls.specs.Inner.GrowingInPlace.{enough}
 use Rattle.heap_calls.specs.Inner.Numbered.{handle_number, pointer_number}
 use Rattle.heap_calls.specs.Inner.Telling.{OpensNone, gone_named, gone_from, try_gone, still_gone, grown_gone, fitted_gone}
 
--- The growth of a block, and its tables.
+-- The growth of a block in a store.
 
 -- the block at another size has the same name
 pub same-handle : (h n : ℕ) (b : Block) → is_relocatable h b ≡ true → is_same (resized n b) ≡ is_relocatable h
@@ -54,7 +54,7 @@ module _ (test : Block → Bool) (new : Block) (zone : List Block)
     abbrev ends : Spot → Option RunSpot
     ends s = run_spot (λ run. has test run && has_free (growth new s) run) zone
 
--- as the table and as the move count them
+-- as they are counted, and as the move counts them
 growth-same : (new : Block) (zone : List Block) (o : Option Spot) → mover_moves (is_same new) new zone o
     ≡ growth_lowers new zone o
 growth-same new zone None = refl

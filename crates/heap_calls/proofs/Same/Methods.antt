@@ -7,7 +7,7 @@ use Rattle.heap_calls.specs.Gone.{Gone}
 use Rattle.heap_calls.specs.Rows.{Done, doing_silently, answer_made, searches_made, moves_made}
 use Rattle.heap_calls.proofs.Same.NewBlocks.{Same}
 
--- A call as the tables have it is what its path does.
+-- A call whose answer, searches and moves are said apart is what its path does.
 
 -- an answer in the memory, which sets no code
 abbrev silently : {T : Type 0} → Answer T → Memory → Result T OsErr × Memory

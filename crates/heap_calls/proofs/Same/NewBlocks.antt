@@ -4,7 +4,6 @@ use Rattle.std.specs.Option.{option_map}
 use Rattle.std.specs.Prelude.{unwrap_or}
 use Rattle.std.proofs.lemmas.List.{length-replicate}
 use Rattle.mac_words.specs.Size.{phys}
-use Rattle.mac_words.specs.declared.code.OsErr.{OsErr}
 use Rattle.mac_words.specs.declared.code.TheConstants.OsErr.{MEM_FULL}
 use Rattle.mac_words.proofs.Plain.{is_some-map}
 use Rattle.mac_words.specs.Size.{padded}
@@ -18,7 +17,7 @@ use Rattle.moves.specs.Moves.{Put, Base, place_lowers, lowered_in}
 use Rattle.moves.specs.Seeking.{Sought, no_room, seek, if_fits, seek_slot, then_seek}
 use Rattle.heap_calls.specs.State.{State, Plain, Meaning, Handle}
 use Rattle.heap_calls.specs.Answer as today
-use Rattle.heap_calls.specs.Answer.{Answer, Held, look_up, nothing}
+use Rattle.heap_calls.specs.Answer.{Answer, nothing}
 use Rattle.heap_calls.specs.Slots as slots
 use Rattle.heap_calls.specs.Slots.{slotted, more_masters}
 use Rattle.heap_calls.specs.Searches.{room_searches, slot_searches, ready_searches, block_searches}
@@ -27,15 +26,15 @@ use Rattle.heap_calls.specs.Moves.{run_moves, as_it_is, place_moves, put_moves, 
 use Rattle.heap_calls.specs.Gone.{Gone, room_gone, slot_gone, ready_gone}
 use Rattle.heap_calls.specs.Inside.{new_filled, new_empty}
 use Rattle.heap_calls.specs.Rows as rows
-use Rattle.heap_calls.specs.Rows.{told_blocks, Done, work, heap_after, purged_by, is_unused, next_block}
+use Rattle.heap_calls.specs.Rows.{told_blocks, Done, work, heap_after, purged_by, is_unused}
 use Rattle.heap_calls.proofs.Same.Agreeing.{Agrees, BothAgree, seek-agrees, gone-is, agrees-if, then-agrees}
 use Rattle.heap_calls.proofs.Same.Agreeing.{on_some}
 use Rattle.heap_calls.proofs.Numbering.Looking.{tries-same}
 use Rattle.heap_calls.proofs.Room.MoveCounts.{no-place}
 
--- The calls that make a block: each table is what is read off the row's path.
+-- The search for a new block; the words of the Resource Manager's steps say what a row's path does.
 
--- a row says what the four tables say
+-- an answer, its searches, its moves and what it purges are those of a row
 pub record Same {T : Type 0} (answer : Answer T) (searches moves : ℕ) (gone : List Gone) (d : Done T) (s : State)
     : Type 0 where
   pub answers : answer ≡ (d.reply, heap_after d s)
@@ -298,26 +297,3 @@ new_empty_handle-same s =
         ≡ given_as (Handle Plain) s (is_some o) (unwrap_or o s.zone)
     cases None = refl
     cases (Some z) = refl
-
--- a call that changes the zone where there is room
-pub rebuilt-is : (s : State) (o : Option (List Block)) → today.rebuilt o s
-    ≡ (cond (is_some o) (Ok tt) (Err MEM_FULL), ready_with s (unwrap_or o s.zone))
-rebuilt-is s None = refl
-rebuilt-is s (Some zone) = refl
-
-pub changed-same : (spared : Block → Bool) (s : State) (after : Option (List Block)) (searches moves : ℕ)
-    (gone : List Gone) (r : Sought) → Agrees (told_blocks (length s.names)) spared s.zone after searches moves gone r
-    → Same (today.rebuilt after s) searches moves gone (rows.changed spared r s) s
-changed-same spared s after searches moves gone r a = record {
-  answers = rebuilt-is s after
-      ∙ ap (λ t. (cond t (Ok tt) (Err MEM_FULL), ready_with s (unwrap_or after s.zone))) a.finds
-      ∙ ap (λ z. (cond r.found (Ok tt) (Err MEM_FULL), ready_with s z)) a.leaves;
-  looks = a.looks;
-  lowers = a.lowers;
-  tells = a.tells;
-}
-
--- a refusal
-pub refused-same : {T : Type 0} (code : OsErr) (s : State)
-    → Same {T = T} (today.refused code s) 0 0 [] (rows.refused code s) s
-refused-same code s = record { answers = refl; looks = refl; lowers = refl; tells = refl }

@@ -1,4 +1,4 @@
-use Rattle.std.proofs.Common.{◌≡◌, ℕ, Bool, true, false, List, [], ◌∷◌, ◌++◌, length, replicate}
+use Rattle.std.proofs.Common.{◌≡◌, ℕ, Bool, true, false, List, [], ◌∷◌, ◌++◌}
 use Rattle.std.proofs.Common.{Option, Some, None, Result, Ok, Err, refl, sym, ◌∙◌, ap, cond, arith, is_some, append-nil}
 use Rattle.std.specs.Option.{option_map, ok_or}
 use Rattle.std.specs.Result.{result_ok}
@@ -6,9 +6,9 @@ use Rattle.std.specs.Prelude.{unwrap_or, slice_get}
 use Rattle.std.proofs.lemmas.Option.{none-some, same_Some}
 use Rattle.mac_words.specs.Size.{phys}
 use Rattle.mac_words.specs.declared.code.OsErr.{OsErr}
-use Rattle.mac_words.specs.declared.code.TheConstants.OsErr.{MEM_FULL, NIL_HANDLE, PURGED}
-use Rattle.block_store.specs.Block.{Block, Relocatable, is_relocatable}
-use Rattle.block_store.specs.Block.{is_nonrelocatable, no_flags}
+use Rattle.mac_words.specs.declared.code.TheConstants.OsErr.{NIL_HANDLE}
+use Rattle.block_store.specs.Block.{Block, is_relocatable}
+use Rattle.block_store.specs.Block.{is_nonrelocatable}
 use Rattle.block_store.specs.Room.{Spot, spot, put_in_place}
 use Rattle.block_store.specs.Grow.{freed}
 use Rattle.moves.specs.Moves.{Move, Put, Drop, Write, Did, did, moved, gone_by, lowered_by, searches_by}
@@ -17,26 +17,21 @@ use Rattle.moves.specs.Seeking.{Sought, seek, if_fits, around}
 use Rattle.moves.proofs.Paths.{did-append}
 use Rattle.moves.proofs.Refused.{Refuses, fits-refused, seek-refused}
 use Rattle.heap_calls.specs.State.{State, Meaning, Handle, Pointer, Disposed}
-use Rattle.heap_calls.specs.Answer as today
-use Rattle.heap_calls.proofs.Tables.Replies as tables
-use Rattle.heap_calls.specs.Answer.{Answer, Known, Held, handle_at, held_at, look_up, nothing}
+use Rattle.heap_calls.specs.Answer.{Known, Held, held_at, nothing}
 use Rattle.heap_calls.specs.Pointers.{pointed, pointed_at}
 use Rattle.heap_calls.specs.Copying.{written_in}
-use Rattle.heap_calls.specs.Purging.{is_loose, reallocated}
+use Rattle.heap_calls.specs.Purging.{reallocated}
 use Rattle.heap_calls.specs.Searches.{room_searches}
-use Rattle.heap_calls.proofs.Tables.Searches.{found_searches}
-use Rattle.heap_calls.proofs.Tables.Searches.{reallocate_handle_searches}
-use Rattle.heap_calls.proofs.Tables.Moves.{reallocate_handle_moves}
-use Rattle.heap_calls.proofs.Tables.Gone.{reallocate_handle_gone}
 use Rattle.heap_calls.specs.Moves.{put_moves}
-use Rattle.heap_calls.specs.Gone.{Gone, room_gone, found_gone}
-use Rattle.heap_calls.specs.Rows as rows
+use Rattle.heap_calls.specs.Gone.{Gone, room_gone}
 use Rattle.heap_calls.specs.Rows.{told_blocks}
 use Rattle.heap_calls.specs.Inner.Appending.{behind}
 use Rattle.heap_calls.proofs.Same.Agreeing.{Agrees, agrees-if}
-use Rattle.heap_calls.proofs.Same.NewBlocks.{Same, put-agrees, changed-same, refused-same}
+use Rattle.heap_calls.proofs.Same.NewBlocks.{put-agrees}
+use Rattle.heap_calls.specs.Inner.NewBlock.{fresh_block}
+use Rattle.heap_calls.specs.Inner.Loose.{renewed, renewed_searches, renewed_moves}
 
--- The calls that give a block another size: each table is what is read off the row's path.
+-- What is done beside a search: bytes are written after it, or a block is freed before it.
 
 -- a block that is found stands at its spot
 spot-held : (kind : ℕ → Block → Bool) (k : ℕ) (zone : List Block) (held : Held) → ok_or (option_map (λ (at : Spot).
@@ -157,68 +152,22 @@ module _ (n h : ℕ) (zone : List Block) (after : Option (List Block)) (searches
               tells = a.tells ∙ sym (ap (λ (x : Did). told_blocks n x.gone) d);
             }
 
--- ReallocateHandle
-pub reallocate_handle-same : (handle : Option ℕ) (n : ℕ) (s : State) → Same (tables.reallocate_handle handle n s)
-    (reallocate_handle_searches handle n s) (reallocate_handle_moves handle n s) (reallocate_handle_gone handle n s)
-    (rows.reallocate_handle handle n s) s
-reallocate_handle-same handle n s = by_handle (handle_at handle s)
-  where
-    fits : Bool
-    fits = is_some (phys n)
+-- the new block of a handle, of n bytes
+abbrev pub again : ℕ → ℕ → List Block → Sought
+again h n zone = around (Drop h ∷ []) [] (if_fits n (seek (Put (fresh_block h n)) nothing (freed (is_relocatable h) zone)))
 
-    new : ℕ → Block
-    new h = Relocatable h no_flags (replicate n 0)
-
-    open_zone : ℕ → List Block
-    open_zone h = freed (is_relocatable h) s.zone
-
-    row : ℕ → Sought
-    row h = around (Drop h ∷ []) [] (if_fits n (seek (Put (new h)) nothing (open_zone h)))
-
-    loose-same : (h : ℕ) → Same (cond fits (today.rebuilt (reallocated h n s.zone) s) (today.refused MEM_FULL s))
-        (cond fits (room_searches (put_in_place (new h)) nothing (open_zone h)) 0)
-        (cond fits (put_moves (new h) nothing (open_zone h)) 0)
-        (cond fits (room_gone (length s.names) (put_in_place (new h)) nothing (open_zone h)) [])
-        (rows.changed nothing (row h) s) s
-    loose-same h =
-        let looks = room_searches (put_in_place (new h)) nothing (open_zone h) in
-        let moves = put_moves (new h) nothing (open_zone h) in
-        let told = room_gone (length s.names) (put_in_place (new h)) nothing (open_zone h) in
-        let r = seek (Put (new h)) nothing (open_zone h) in
-        let all = changed-same nothing s (cond fits (reallocated h n s.zone) None) (cond fits looks 0)
-        (cond fits moves 0) (cond fits told []) (row h)
-        (freed-agrees (length s.names) h s.zone (cond fits (reallocated h n s.zone) None) (cond fits looks 0)
-        (cond fits moves 0) (cond fits told []) (if_fits n r)
-        (agrees-if refl fits (reallocated h n s.zone) looks moves told r
-        (put-agrees (length s.names) nothing (new h) (omega arith) (open_zone h)))
-        (fits-refused nothing n r (seek-refused nothing (Put (new h)) (open_zone h)))) in
-        record { answers = cases fits ∙ all.answers; looks = all.looks; lowers = all.lowers; tells = all.tells }
-      where
-        cases : (t : Bool) → cond t (today.rebuilt (reallocated h n s.zone) s) (today.refused MEM_FULL s)
-            ≡ today.rebuilt (cond t (reallocated h n s.zone) None) s
-        cases true = refl
-        cases false = refl
-
-    by_handle : (r : Result Known OsErr)
-        → Same (today.for_found r s (λ k. cond (is_loose (spot (is_relocatable k.number) s.zone))
-        (cond fits (today.rebuilt (reallocated k.number n s.zone) s) (today.refused MEM_FULL s))
-        (today.refused PURGED s)))
-        (found_searches r (λ k. cond (is_loose (spot (is_relocatable k.number) s.zone))
-        (cond fits (room_searches (put_in_place (new k.number)) nothing (open_zone k.number)) 0) 0))
-        (found_searches r (λ k. cond (is_loose (spot (is_relocatable k.number) s.zone))
-        (cond fits (put_moves (new k.number) nothing (open_zone k.number)) 0) 0))
-        (found_gone r (λ k. cond (is_loose (spot (is_relocatable k.number) s.zone))
-        (cond fits (room_gone (length s.names) (put_in_place (new k.number)) nothing (open_zone k.number)) []) []))
-        (rows.for_found r s (λ k. cond (is_loose (spot (is_relocatable k.number) s.zone))
-        (rows.changed nothing (row k.number) s) (rows.refused PURGED s))) s
-    by_handle (Err code) = refused-same code s
-    by_handle (Ok k) = by_block (is_loose (spot (is_relocatable k.number) s.zone))
-      where
-        by_block : (t : Bool) → Same (cond t (cond fits (today.rebuilt (reallocated k.number n s.zone) s)
-            (today.refused MEM_FULL s)) (today.refused PURGED s))
-            (cond t (cond fits (room_searches (put_in_place (new k.number)) nothing (open_zone k.number)) 0) 0)
-            (cond t (cond fits (put_moves (new k.number) nothing (open_zone k.number)) 0) 0)
-            (cond t (cond fits (room_gone (length s.names) (put_in_place (new k.number)) nothing (open_zone k.number)) [])
-            []) (cond t (rows.changed nothing (row k.number) s) (rows.refused PURGED s)) s
-        by_block true = loose-same k.number
-        by_block false = refused-same PURGED s
+pub renewed-agrees : (m h n : ℕ) (zone : List Block) → Agrees (told_blocks m) nothing zone (renewed h n zone)
+    (renewed_searches h n zone) (renewed_moves h n zone) (cond (is_some (phys n)) (room_gone m
+    (put_in_place (fresh_block h n)) nothing (freed (is_relocatable h) zone)) []) (again h n zone)
+renewed-agrees m h n zone =
+    let open_zone = freed (is_relocatable h) zone in
+    let new = fresh_block h n in
+    let r = seek (Put new) nothing open_zone in
+    let looks = room_searches (put_in_place new) nothing open_zone in
+    let moves = put_moves new nothing open_zone in
+    let told = room_gone m (put_in_place new) nothing open_zone in
+    freed-agrees m h zone (renewed h n zone) (renewed_searches h n zone) (renewed_moves h n zone)
+    (cond (is_some (phys n)) told [])
+    (if_fits n r) (agrees-if refl (is_some (phys n)) (reallocated h n zone) looks moves told r
+    (put-agrees m nothing new (omega arith) open_zone))
+    (fits-refused nothing n r (seek-refused nothing (Put new) open_zone))

@@ -1,22 +1,17 @@
-use Rattle.std.proofs.Common.{◌≡◌, ℕ, Option, List, length}
+use Rattle.std.proofs.Common.{◌≡◌, ℕ, List, length}
 use Rattle.block_store.specs.declared.flags.Flags.{Flags}
 use Rattle.heap_calls.specs.State.{Plain, Memory}
 use Rattle.heap_calls.specs.Gone.{slot_gone}
 use Rattle.heap_calls.specs.Inside.{new_filled, new_empty, new_inside, new_empty_inside}
-use Rattle.heap_calls.proofs.Tables.Replies as tables
-use Rattle.heap_calls.specs.Answer.{silent, searching, moving, nothing}
+use Rattle.heap_calls.specs.Answer.{nothing}
 use Rattle.heap_calls.specs.Searches.{new_handle_searches, new_empty_handle_searches}
-use Rattle.heap_calls.proofs.Tables.Searches.{reallocate_handle_searches}
-use Rattle.heap_calls.proofs.Tables.Moves.{reallocate_handle_moves}
-use Rattle.heap_calls.proofs.Tables.Gone.{reallocate_handle_gone}
 use Rattle.heap_calls.specs.Moves.{new_handle_moves}
 use Rattle.heap_calls.specs.Rows as rows
 use Rattle.heap_calls.specs.Rows.{doing_silently}
 use Rattle.heap_calls.proofs.Same.NewBlocks.{filling, filled-same, new_empty_handle-same}
-use Rattle.heap_calls.proofs.Same.Resizing.{reallocate_handle-same}
 use Rattle.heap_calls.proofs.Same.Methods.{packs-silently, seeks-silently}
 
--- What each method answers, by the tables as by the path.
+-- A new handle, by the words of the Resource Manager's steps as by its path.
 
 pub filled-silent : (flags : Flags) (x : List ℕ) (m : Memory)
     → doing_silently (filling flags x) m ≡ new_inside Plain flags x m
@@ -26,10 +21,3 @@ filled-silent flags x m = packs-silently (new_filled Plain flags x) (new_handle_
 pub new_empty_handle-silent : (m : Memory) → doing_silently rows.new_empty_handle m ≡ new_empty_inside Plain m
 new_empty_handle-silent m = seeks-silently (new_empty Plain) new_empty_handle_searches rows.new_empty_handle m
     (slot_gone nothing m.heap) (new_empty_handle-same m.heap)
-
-pub reallocate_handle-silent : (handle : Option ℕ) (n : ℕ) (m : Memory) → doing_silently (rows.reallocate_handle handle
-    n) m ≡ moving (reallocate_handle_moves handle n m.heap) (searching (reallocate_handle_searches handle n m.heap)
-    (silent (tables.reallocate_handle handle n) m))
-reallocate_handle-silent handle n m = packs-silently (tables.reallocate_handle handle n) (reallocate_handle_searches
-    handle n) (rows.reallocate_handle handle n) m (reallocate_handle_gone handle n m.heap) (reallocate_handle_moves
-    handle n) (reallocate_handle-same handle n m.heap)

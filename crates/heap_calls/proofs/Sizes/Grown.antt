@@ -108,25 +108,28 @@ names-append : (f g : ℕ → ℕ) (a b : List Move) → PathNames f g a → Pat
 names-append f g [] b first later = later
 names-append f g (m ∷ a) b first later = (first.0, names-append f g a b first.1 later)
 
-around-names : (f g : ℕ → ℕ) (later : List Move) (p : Sought) → PathNames f g p.path → PathNames f g later
-    → PathNames f g (around [] later p).path
-around-names f g later p named also = cases p.found
+pub around-names : (f g : ℕ → ℕ) (before later : List Move) (p : Sought) → PathNames f g before → PathNames f g p.path
+    → PathNames f g later → PathNames f g (around before later p).path
+around-names f g before later p first named also = cases p.found
   where
-    cases : (t : Bool) → PathNames f g (cond t (p.path ++ later) p.path)
-    cases true = names-append f g p.path later named also
+    cases : (t : Bool) → PathNames f g (cond t (before ++ p.path ++ later) p.path)
+    cases true = names-append f g (before ++ p.path) later (names-append f g before p.path first named) also
     cases false = named
 
-around-rename : (f g : ℕ → ℕ) (later : List Move) (p : Sought)
-    → around [] (map (rename_move f g) later) (rename_sought f g p) ≡ rename_sought f g (around [] later p)
-around-rename f g later p = ap (λ (l : List Move). let s : Sought = record { found = p.found; path = l } in s)
+pub around-rename : (f g : ℕ → ℕ) (before later : List Move) (p : Sought)
+    → around (map (rename_move f g) before) (map (rename_move f g) later) (rename_sought f g p)
+    ≡ rename_sought f g (around before later p)
+around-rename f g before later p = ap (λ (l : List Move). let s : Sought = record { found = p.found; path = l } in s)
     (cases p.found)
   where
-    cases : (t : Bool) → cond t (map (rename_move f g) p.path ++ map (rename_move f g) later) (map (rename_move f g) p.path)
-        ≡ map (rename_move f g) (cond t (p.path ++ later) p.path)
-    cases true = sym (map-append (rename_move f g) p.path later)
+    cases : (t : Bool) → cond t (map (rename_move f g) before ++ map (rename_move f g) p.path
+        ++ map (rename_move f g) later) (map (rename_move f g) p.path)
+        ≡ map (rename_move f g) (cond t (before ++ p.path ++ later) p.path)
+    cases true = sym (map-append (rename_move f g) (before ++ p.path) later
+        ∙ ap (λ l. l ++ map (rename_move f g) later) (map-append (rename_move f g) before p.path))
     cases false = refl
 
-fits-names : (f g : ℕ → ℕ) (t : Bool) (p : Sought) → PathNames f g p.path → PathNames f g (cond t p no_room).path
+pub fits-names : (f g : ℕ → ℕ) (t : Bool) (p : Sought) → PathNames f g p.path → PathNames f g (cond t p no_room).path
 fits-names f g true p named = named
 fits-names f g false p named = tt
 
@@ -283,7 +286,7 @@ module _ (zone : List Block) (rest : Rest) (es : List Anchor)
                 let q = spared nd in
                 let sized = seek_size n q zone at in record {
                   spares = spares;
-                  names = around-names f g (Write r.slot len y ∷ []) sized
+                  names = around-names f g [] (Write r.slot len y ∷ []) sized tt
                       (sized-names n own (is_relocatable r.slot) named at (slot_same n) (own_same n) q) (
                         λ b. ap (λ (k : ℕ). is_relocatable k (rename_block f g b))
                             (handle_number-at es r.number r.slot there.5 agrees.apart) ∙ named b,
@@ -298,7 +301,7 @@ module _ (zone : List Block) (rest : Rest) (es : List Anchor)
                       (sized-row n own (is_relocatable r.slot) named at (slot_same n) (own_same n) p q spares)
                       ∙ ap (λ (k : ℕ). changed p (around [] (Write k len y ∷ []) (rename_sought f g sized)) s)
                       (sym (handle_number-at es r.number r.slot there.5 agrees.apart))
-                      ∙ ap (λ z. changed p z s) (around-rename f g (Write r.slot len y ∷ []) sized);
+                      ∙ ap (λ z. changed p z s) (around-rename f g [] (Write r.slot len y ∷ []) sized);
                 }
 
             pub appended-agrees : (nd : Sparing) (whole : OpensNone nd) (x : List ℕ) → same.Agrees (tell es nd whole)

@@ -1,4 +1,0 @@
-pub mod Replies
-pub mod Searches
-pub mod Moves
-pub mod Gone
