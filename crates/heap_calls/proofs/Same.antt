@@ -2,5 +2,4 @@ pub mod Agreeing
 pub mod NewBlocks
 pub mod Growing
 pub mod Resizing
-pub mod Methods
 pub mod Silent
