@@ -26,28 +26,25 @@ use denote.Triple.Entry.{alive}
 use denote.Triple.Spec.{triple_of}
 use denote.Triple.Call.{calls_at_last}
 use denote.Triple.Table.{framed}
-use denote.Triple.Walked.{Stays, stay_dropped, walk_of}
+use denote.Triple.Walked.{walk_of}
 use Rattle.core.proofs.alloc.Calls.{Goes-blank}
 use Rattle.core.proofs.alloc.Shapes.{after}
 use Rattle.core.proofs.cell.Inside.{Good}
 use Rattle.std.proofs.raw_atomic.Walks.{proved_at, leaves}
-use Rattle.std.specs.Box.Ownership.{box_owns}
 use Rattle.std.specs.contracts.impls.GlobalAllocator.TheImpl.{ghosts, dict}
 use Rattle.std.proofs.impls.GlobalAllocator.TheImpl.Met as allocates
 use Rattle.std_alloc.proofs.BoxSteps.Form as box
 use Rattle.std_alloc.proofs.BoxSteps.Steps.{box_out, box_in}
 use Rattle.std_alloc.specs.contracts.boxed.Box.from_raw as g
 use Rattle.std_alloc.proofs.boxed.Box.from_raw.Met.{met}
+use Rattle.raw_region.proofs.Leaving.{all_gone}
 use Rattle.macmem_c.proofs.Pointing.{pointing, pointing-good, pointer-good, parts_out}
-use Rattle.macmem_c.proofs.Keeps.{ZoneRow, HeapRow, HeapLaws, KeptRow, ZoneArg, HeapArg, ZoneArgLaws, HeapArgLaws}
+use Rattle.macmem_c.proofs.Keeps.{HeapRow, HeapLaws, KeptRow, ZoneArg, HeapArg, ZoneArgLaws, HeapArgLaws}
 use Rattle.macmem_c.proofs.Keeps.{no_drop, ZoneBox, some_kept}
 use Rattle.macmem_c.specs.contracts.kept.Kept as kept
 use Rattle.macmem_c.specs.contracts.kept.Kept.into_box as f
 use Rattle.macmem_c.proofs.kept.Kept.into_box.Code as code
 use Rattle.macmem_c.proofs.kept.Kept.into_box.Statement.{statement}
-
-abbrev stayed : Stays f.ended.signature.params f.ended.kept
-stayed = (stay_dropped (plain (λ _. KeptRow)) yes, tt)
 
 abbrev BoxRow : RattleType
 BoxRow = box.B ZoneBox
@@ -55,7 +52,7 @@ BoxRow = box.B ZoneBox
 pub into_box_spec : {M : Type 1} → statement M
 unfolding Rattle.macmem_c.proofs.Destruct++none.drop.Code.code
 into_box_spec {M} 𝓤 𝓛 𝓜 𝓡 wired =
-    let c = f.clauses 𝓛 𝓜.mem 𝓡.returns in let 𝓣 = tables 𝓤 𝓛.H 𝓜 𝓡 𝓡.env in
+    let stayed = all_gone f.ended in let c = f.clauses 𝓛 𝓜.mem 𝓡.returns in let 𝓣 = tables 𝓤 𝓛.H 𝓜 𝓡 𝓡.env in
     let callee =
     triple_of 𝓛 (g.signature ZoneArg HeapArg ghosts dict no_drop) (g.spec ZoneArg HeapArg ghosts dict no_drop 𝓛 𝓜.mem 𝓡.returns) in
     let met_here = met 𝓤 𝓛 𝓜 𝓡 (code.calls-std_alloc::boxed::Box::from_raw 𝓡.env wired) ZoneArg HeapArg ZoneArgLaws

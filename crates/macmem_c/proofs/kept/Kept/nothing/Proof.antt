@@ -1,9 +1,8 @@
 -- `nothing` puts a null pointer beside the allocator. It owns nothing.
-use Rattle.std.proofs.Common.{◌≡◌, List, [], ◌∷◌, ◌++◌, refl, sym, lit<}
+use Rattle.std.proofs.Common.{◌≡◌, List, [], ◌∷◌, ◌++◌, refl}
 use Rattle.std.specs.Prelude.{None}
 use mir.Val.{Val}
 use base.Logic.{SProp, emp}
-use base.Fml.{ftrue}
 use prog.Wp.{WpFn}
 use types.Kit.{‵, raw, ◌⊛◌, prop, ◌$◌, ◌∵◌, !, qed, by, move, keep, split, fsplit, fjoin, use0, regoal, rewrite}
 use types.Part.{agg}
@@ -17,12 +16,12 @@ use denote.Signature.{types_at, plain}
 use denote.RawPtr.{null_ptr}
 use denote.Steps.{nothing}
 use denote.Param.{layout}
-use denote.Struct.Owning.{Owning}
 use denote.Triple.Entry.{alive}
-use denote.Triple.Walked.{Stays, stay_dropped, walk_of, Goes-dropped}
+use denote.Triple.Walked.{walk_of, Goes-dropped}
 use Rattle.core.proofs.cell.Inside.{one}
 use Rattle.std.proofs.raw_atomic.Walks.{proved_at, leaves}
 use Rattle.std.specs.contracts.impls.GlobalAllocator.TheImpl.{ghosts}
+use Rattle.raw_region.proofs.Leaving.{all_gone}
 use Rattle.macmem_c.proofs.Pointing.{pointing, pointing-good, parts_in}
 use Rattle.macmem_c.proofs.Keeps.{HeapRow, HeapLaws}
 use Rattle.macmem_c.specs.contracts.kept.Kept as kept
@@ -30,12 +29,9 @@ use Rattle.macmem_c.specs.contracts.kept.Kept.nothing as f
 use Rattle.macmem_c.proofs.kept.Kept.nothing.Code as code
 use Rattle.macmem_c.proofs.kept.Kept.nothing.Statement.{statement}
 
-abbrev stayed : Stays f.ended.signature.params f.ended.kept
-stayed = (stay_dropped (plain (λ _. HeapRow)) yes, tt)
-
 pub nothing_spec : {M : Type 1} → statement M
 nothing_spec 𝓤 𝓛 𝓜 𝓡 wired =
-    let c = f.clauses 𝓛 𝓜.mem 𝓡.returns in let 𝓣 = tables 𝓤 𝓛.H 𝓜 𝓡 𝓡.env in
+    let stayed = all_gone f.ended in let c = f.clauses 𝓛 𝓜.mem 𝓡.returns in let 𝓣 = tables 𝓤 𝓛.H 𝓜 𝓡 𝓡.env in
     proved_at 𝓛 f.ended stayed c 𝓜 𝓡 (Goes-dropped 𝓛 0 (plain (λ _. HeapRow)) yes (λ κs x w. refl), tt)
     f.Key.name code.function (code.unfolded 𝓤 𝓛.H 𝓜 𝓡 wired) (λ y are.
     let a = y.0.3.0 in let Post : Val → SProp 𝓤 = (walk_of 𝓛 f.ended stayed c).post y in

@@ -1,7 +1,7 @@
 -- `of` takes the box apart: what it owned goes over.
-use Rattle.std.proofs.Common.{◌≡◌, List, [], ◌∷◌, ◌++◌, refl, sym, ap, ◌∙◌}
+use Rattle.std.proofs.Common.{◌≡◌, List, [], ◌∷◌, ◌++◌, refl, ap}
 use mir.Syntax.{a_type, dcons, dnil}
-use mir.Val.{Val, vstruct, of_list}
+use mir.Val.{Val}
 use mir.MapTy.{inst_fn}
 use base.Logic.{SProp, emp, id⊢}
 use base.Fml.{ftrue, fsep, flft}
@@ -25,7 +25,7 @@ use denote.Struct.Declared as declared
 use denote.Struct.Tuple.{Tuple, tuple_type}
 use denote.Triple.Spec.{triple_of}
 use denote.Triple.Call.{calls_at}
-use denote.Triple.Walked.{Stays, stay_dropped, walk_of}
+use denote.Triple.Walked.{walk_of}
 use Rattle.core.proofs.alloc.Calls.{Goes-blank}
 use Rattle.core.proofs.atomic.Steps.{fm}
 use Rattle.std.specs.Box.Ownership.{box_owns}
@@ -34,6 +34,7 @@ use Rattle.std_alloc.proofs.BoxSteps.Form as box
 use Rattle.std_alloc.proofs.BoxSteps.Steps.{box_out, box_in}
 use Rattle.std_alloc.specs.contracts.boxed.Box.into_raw_with_allocator as g
 use Rattle.std_alloc.proofs.boxed.Box.into_raw_with_allocator.Met.{met}
+use Rattle.raw_region.proofs.Leaving.{all_gone}
 use Rattle.macmem_c.proofs.Pointing.{pointing, pointing-good, pointer-good, parts_out, parts_in}
 use Rattle.macmem_c.specs.contracts.loose.Loose as loose
 use Rattle.macmem_c.specs.contracts.loose.Loose.of as f
@@ -46,7 +47,7 @@ of_spec 𝓤 𝓛 𝓜 𝓡 wired T A L LA ghosts d dx dd allocator glue glued =
     let args = bounded (a_type ∷ a_type ∷ []) (T, (A, tt)) (dcons d (dcons dx (dcons dd dnil))) in let fn = inst_fn args code.function in
     let En = f.ended T A ghosts d dx dd in let c = f.clauses T A ghosts d dx dd 𝓛 𝓜.mem 𝓡.returns in
     let E : box.Bx = record { row = T; laws = L; al = record { row = A; laws = LA; g = ghosts; d = d; drops = dd } } in
-    let stayed : Stays En.signature.params En.kept = (stay_dropped (plain (λ _. box.B E)) no, tt) in
+    let stayed = all_gone En in
     let callee = triple_of 𝓛 (g.signature T A ghosts d dd dx) (g.spec T A ghosts d dd dx 𝓛 𝓜.mem 𝓡.returns) in
     let met_here =
     met 𝓤 𝓛 𝓜 𝓡 (code.calls-std_alloc::boxed::Box::into_raw_with_allocator 𝓡.env wired) T A L LA ghosts d dd dx allocator glued glue in
