@@ -1,5 +1,5 @@
 -- Accesses that are made one after the other, and what stops them.
-use Rattle.std.proofs.Common.{◌≡◌, ◌∷◌, ◌++◌, ℕ, List, [], Option, Some, None, Result, Ok, Err, OnOk, IfErr, inl, inr, refl, sym, ap, subst}
+use Rattle.std.proofs.Common.{◌≡◌, ◌∷◌, ◌++◌, ℕ, List, [], Option, Some, None, Result, Ok, Err, IfErr, inl, inr, refl, sym, ap, subst}
 use Rattle.std.proofs.Common.{append_assoc, append-nil}
 use Rattle.fork_tasks.specs.Fault.{Message, Usage, CannotRead, Script, Fork, CannotWrite, HostMemory, NotLaunched, Dump, message_of}
 use Rattle.fork_tasks.specs.declared.fault.ToolFault.{ToolFault}
@@ -84,8 +84,3 @@ pub also_err : {X : Type 0} (P Q : ToolFault → Type 0) (result : Result X Tool
     → ((fault : ToolFault) → P fault → Q fault) → IfErr result P → IfErr result Q
 also_err P Q (Ok x) next h = tt
 also_err P Q (Err fault) next h = next fault h
-
--- what else is known of a call that did not fail
-pub also_on : {X E : Type 0} (P Q : Type 0) (result : Result X E) → (P → Q) → OnOk result P → OnOk result Q
-also_on P Q (Ok x) next h = next h
-also_on P Q (Err fault) next h = tt

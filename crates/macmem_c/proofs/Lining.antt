@@ -1,17 +1,12 @@
 -- Texts of faulty lines, a line for each.
 use Rattle.std.proofs.Common.{◌≡◌, ◌∷◌, ◌++◌, ◌∙◌, ◌<◌, ◌≤◌, ◌+◌, ℕ, List, [], refl, sym, ap, subst, append_assoc, append-nil}
-use Rattle.std.proofs.Common.{Result, Ok, Err, IfOk, OnOk, map, length, drop, get_or, arith}
+use Rattle.std.proofs.Common.{map, length, drop, get_or, arith}
 use Rattle.std.proofs.lemmas.Grind.{common_steps}
 use Rattle.script_text.specs.declared.fault.FaultKind.{FaultKind}
 use Rattle.lint.specs.Faults.{script_faults}
 use Rattle.lint.specs.Seen.{seen}
 use Rattle.lint.specs.declared.wrong.Fault.{Fault}
 use Rattle.macmem_c.specs.Described.{faulty_line, AreLines, AreFaulty}
-
--- what follows from a promise of a call that did what it says
-pub also_on : {A E : Type 0} (P Q : Type 0) (r : Result A E) → (P → Q) → OnOk r P → OnOk r Q
-also_on P Q (Ok a) step h = step h
-also_on P Q (Err e) step h = tt
 
 -- The text so far, with any lines of the faulty lines that are left, is the lines of all.
 abbrev pub GoesOn : List ℕ → List ℕ → List ℕ → Type 0

@@ -1,5 +1,5 @@
-use Rattle.fork_tasks.proofs.Accesses.{also_on}
+use Rattle.std.proofs.lemmas.Result.{on_ok_weaker}
 use Rattle.fork_tasks.proofs.linting.add_line.Goals as goal
 
 pub returns : goal.returns
-returns c = also_on _ _ c.add_words.result (λ h. (_, h)) c.add_words.ensures
+returns c = on_ok_weaker c.add_words.result (λ h. (_, h)) c.add_words.ensures

@@ -1,9 +1,10 @@
 use Rattle.std.proofs.Common.{◌≡◌, ◌∙◌, Err, length, map, rules, sym}
 use Rattle.std.proofs.lemmas.List.{length-map}
 use Rattle.std.specs.Prelude.{string_bytes}
+use Rattle.std.proofs.lemmas.Result.{on_ok_weaker}
 use Rattle.fork_edits.specs.View.{view_list}
 use Rattle.fork_tasks.specs.declared.fault.ToolFault.TheVariants.{HostMemory as NoMemory}
-use Rattle.fork_tasks.proofs.Accesses.{told_err, also_err, also_on}
+use Rattle.fork_tasks.proofs.Accesses.{told_err, also_err}
 use Rattle.fork_tasks.proofs.Packed.{no_paths, files_unread, all_read, unfit, unwritten, packs}
 use Rattle.fork_tasks.proofs.packing.pack.Goals as goal
 
@@ -34,7 +35,7 @@ returns-clause-packs g c =
     let count : length (map (λ file. file.items) c.in_ok-files.files.items) ≡ length (map string_bytes c.as_slice.result.now) =
     length-map c.in_ok-files.files.items (λ file. file.items) ∙ c.in_ok-files.ensures.count
     ∙ sym (length-map c.as_slice.result.now string_bytes) in
-    also_on _ _ c.deliver.result (λ h. packs c.args.packing said.0 (view_list c.in_ok-list.list)
+    on_ok_weaker c.deliver.result (λ h. packs c.args.packing said.0 (view_list c.in_ok-list.list)
     (map string_bytes c.as_slice.result.now) (map (λ file. file.items) c.in_ok-files.files.items) _ _ _ _ _ _ said.1
     (search rules) count
     (all_read c.args.packing said.0 (view_list c.in_ok-list.list) _ _ _ _ _ said.2 (search rules) c.in_ok-files.ensures.read)

@@ -1,8 +1,9 @@
 use Rattle.std.proofs.Common.{IfErr, OnOk, map, sym, subst}
+use Rattle.std.proofs.lemmas.Result.{on_ok_weaker}
 use Rattle.fork_tasks.specs.Fault.{message_of}
 use Rattle.job_tasks.specs.Gathering.{source_given}
 use Rattle.job_tasks.specs.Playing.{DoesPlay, IsPlayUndone}
-use Rattle.fork_tasks.proofs.Accesses.{also_err, also_on}
+use Rattle.fork_tasks.proofs.Accesses.{also_err}
 use Rattle.job_tasks.proofs.playing.do_work.Goals as goal
 
 -- nothing is printed where something is written
@@ -13,7 +14,7 @@ returns-in-Leavings-clause-done g c =
     (g.H.Host.printed c.args.host.now) (g.H.Host.printed c.write_leavings.new.host)
     (g.H.Host.accesses c.args.host.now) (g.H.Host.accesses c.write_leavings.new.host)))
     (sym c.in-Leavings.is)
-    (also_on _ _ c.write_leavings.result (λ h. (c.write_leavings.ensures.silent, h)) c.write_leavings.ensures.done)
+    (on_ok_weaker c.write_leavings.result (λ h. (c.write_leavings.ensures.silent, h)) c.write_leavings.ensures.done)
 
 pub returns-in-Leavings-clause-undone : goal.returns-in-Leavings-clause-undone
 returns-in-Leavings-clause-undone g c =
