@@ -37,6 +37,7 @@ use Rattle.heap_calls.proofs.Gates.Served.{served-gated}
 use Rattle.moves.specs.Moves.{Put, Drop}
 use Rattle.moves.specs.Seeking.{seek, if_fits, around}
 use Rattle.moves.proofs.Rows.{again-most}
+pub use Rattle.moves.proofs.Told.{weight, by_bytes}
 use Rattle.heap_calls.specs.Rows as rows
 use Rattle.heap_calls.specs.Rows.{work, told_blocks}
 use Rattle.heap_calls.proofs.Rows.Kinds.{none-by, gated-by}
@@ -50,50 +51,42 @@ use Rattle.heap_calls.proofs.ToldGone.Rows.{row_gone, rows-even, filled_step-eve
 
 -- What a call tells of a handle is what the handle loses.
 
--- what bytes come to, each by a measure
-abbrev pub weigh : (List ℕ → ℕ) → List (List ℕ) → ℕ
-weigh f [] = 0
-weigh f (x ∷ xs) = f x + weigh f xs
-
 -- how many there are
 abbrev pub many : List (List ℕ) → ℕ
-many = weigh (λ x. 1)
+many = weight (λ x. 1)
 
 -- what the blocks of a handle come to, by their bytes
-abbrev pub held : (List ℕ → ℕ) → ℕ → Block → ℕ
-held f h b = cond (is_relocatable h b) (f (content_of b)) 0
-
-pub held-bytes : (f : List ℕ → ℕ) (h : ℕ) (zone : List Block) → total (held f h) zone ≡ weigh f (bytes_in h zone)
+pub held-bytes : (f : List ℕ → ℕ) (h : ℕ) (zone : List Block) → total (by_bytes f h) zone ≡ weight f (bytes_in h zone)
 held-bytes f h [] = refl
 held-bytes f h (b ∷ zone) = cases (is_relocatable h b) (held-bytes f h zone)
   where
-    cases : (t : Bool) → total (held f h) zone ≡ weigh f (bytes_in h zone)
-        → cond t (f (content_of b)) 0 + total (held f h) zone
-        ≡ weigh f (cond t (content_of b ∷ bytes_in h zone) (bytes_in h zone))
+    cases : (t : Bool) → total (by_bytes f h) zone ≡ weight f (bytes_in h zone)
+        → cond t (f (content_of b)) 0 + total (by_bytes f h) zone
+        ≡ weight f (cond t (content_of b ∷ bytes_in h zone) (bytes_in h zone))
     cases true r = omega arith
     cases false r = omega arith
 
-told-adds : (f : List ℕ → ℕ) (h : ℕ) → Adds (λ l. weigh f (told_of h l))
+told-adds : (f : List ℕ → ℕ) (h : ℕ) → Adds (λ l. weight f (told_of h l))
 told-adds f h [] ys = omega arith
 told-adds f h (g ∷ xs) ys = cases (g.0 == h) (told-adds f h xs ys)
   where
-    cases : (t : Bool) → weigh f (told_of h (xs ++ ys)) ≡ weigh f (told_of h xs) + weigh f (told_of h ys)
-        → weigh f (cond t (g.1 ∷ told_of h (xs ++ ys)) (told_of h (xs ++ ys)))
-        ≡ weigh f (cond t (g.1 ∷ told_of h xs) (told_of h xs)) + weigh f (told_of h ys)
+    cases : (t : Bool) → weight f (told_of h (xs ++ ys)) ≡ weight f (told_of h xs) + weight f (told_of h ys)
+        → weight f (cond t (g.1 ∷ told_of h (xs ++ ys)) (told_of h (xs ++ ys)))
+        ≡ weight f (cond t (g.1 ∷ told_of h xs) (told_of h xs)) + weight f (told_of h ys)
     cases true r = omega arith
     cases false r = omega arith
 
 -- a block that is told of comes to what it is told to have
-told-one : (f : List ℕ → ℕ) (h n : ℕ) → h < n → (b : Block) → weigh f (told_of h (gone_of n b)) ≡ held f h b
+told-one : (f : List ℕ → ℕ) (h n : ℕ) → h < n → (b : Block) → weight f (told_of h (gone_of n b)) ≡ by_bytes f h b
 told-one f h n within (Free m) = refl
 told-one f h n within (Nonrelocatable id content) = refl
 told-one f h n within Masters = refl
 told-one f h n within (Relocatable id flags content) = cases (nat_lt id n) (id == h) refl refl
   where
     cases : (t u : Bool) → nat_lt id n ≡ t → (id == h) ≡ u
-        → weigh f (told_of h (cond t ((id, content) ∷ []) [])) ≡ cond u (f content) 0
-    cases true true is same = ap (λ v. weigh f (cond v (content ∷ []) [])) same ∙ (omega arith)
-    cases true false is same = ap (λ v. weigh f (cond v (content ∷ []) [])) same
+        → weight f (told_of h (cond t ((id, content) ∷ []) [])) ≡ cond u (f content) 0
+    cases true true is same = ap (λ v. weight f (cond v (content ∷ []) [])) same ∙ (omega arith)
+    cases true false is same = ap (λ v. weight f (cond v (content ∷ []) [])) same
     cases false true is same = absurd (let e : id ≡ h = (Decides-eqb id h).0 same in grind (arith, nat_tests, is, within))
     cases false false is same = refl
 
@@ -111,7 +104,7 @@ weigh-same x y le = cases (bytes_eq y x) refl le
 
 -- what is told, where a handle has one block at most
 only : (told bytes : List (List ℕ)) (after : ℕ) → many bytes ≤ 1 → many bytes ≤ after + many told
-    → (told ≡ []) ⊎ (after + many told ≤ many bytes) → ((f : List ℕ → ℕ) → weigh f told ≤ weigh f bytes)
+    → (told ≡ []) ⊎ (after + many told ≤ many bytes) → ((f : List ℕ → ℕ) → weight f told ≤ weight f bytes)
     → (t : Bool) → (t ≡ true → 1 ≤ after) → (t ≡ false → after ≡ 0) → told ≡ cond t [] bytes
 only [] bytes after once least most each true some gone = refl
 only [] bytes after once least most each false some gone =
@@ -125,7 +118,7 @@ only (y ∷ more) (x ∷ others) after once least (inr most) each false some gon
     let f : List ℕ → ℕ = λ z. cond {A = ℕ} (bytes_eq z x) 0 1 in
     let own : f x ≡ 0 = cond-true (bytes_eq x x) 0 1 ((bytes_eq-Decides x x).1 refl) in
     let le = each f in
-    let others_none : weigh f others ≡ 0 = ap (weigh f) none_other in
+    let others_none : weight f others ≡ 0 = ap (weight f) none_other in
     let same : y ≡ x = weigh-same x y (omega (arith, le, own, others_none)) in
     ap (λ (l : List (List ℕ)). y ∷ l) none_more ∙ ap (λ (z : List ℕ). z ∷ []) same
     ∙ ap (λ (l : List (List ℕ)). x ∷ l) (sym none_other)
@@ -267,9 +260,9 @@ module _ (h : ℕ) (m : Memory) (within : h < length m.heap.names)
 
     -- all that is told of a handle comes to no more than its blocks
     told-few : (a : Asked) (f : List ℕ → ℕ)
-        → weigh f (told_of h (gone_in a m)) ≤ weigh f (bytes_in h m.heap.zone)
+        → weight f (told_of h (gone_in a m)) ≤ weight f (bytes_in h m.heap.zone)
     told-few a f =
-        let most = told-most (length m.heap.names) (held f h) (λ k. refl) refl (λ l. weigh f (told_of h l)) refl
+        let most = told-most (length m.heap.names) (by_bytes f h) (λ k. refl) refl (λ l. weight f (told_of h l)) refl
         (told-adds f h) (λ b goes. let one = told-one f h (length m.heap.names) within b in omega arith) a m refl in
         omega (arith, most, held-bytes f h m.heap.zone)
 
@@ -313,7 +306,7 @@ module _ (h : ℕ) (m : Memory) (within : h < length m.heap.names)
 
     -- what a call's row tells of a handle
     row-tells : (a : Asked) → ((f : List ℕ → ℕ)
-        → weigh f (told_of h (row_gone a m.heap)) ≤ weigh f (bytes_in h m.heap.zone))
+        → weight f (told_of h (row_gone a m.heap)) ≤ weight f (bytes_in h m.heap.zone))
         → told_of h (row_gone a m.heap)
         ≡ cond (takes_block h a || has (is_relocatable h) (answered a m).1.heap.zone) [] (bytes_in h m.heap.zone)
     row-tells a each = by_going (lets_go h a) refl
@@ -339,9 +332,9 @@ module _ (h : ℕ) (m : Memory) (within : h < length m.heap.names)
 
     -- what a step tells of a handle comes to no more than its blocks
     step-few : (step : Step) (f : List ℕ → ℕ)
-        → weigh f (told_of h (gone_at step m)) ≤ weigh f (bytes_in h m.heap.zone)
+        → weight f (told_of h (gone_at step m)) ≤ weight f (bytes_in h m.heap.zone)
     step-few step f =
-        let most = step-most (length m.heap.names) (held f h) (λ k. refl) refl (λ l. weigh f (told_of h l)) refl
+        let most = step-most (length m.heap.names) (by_bytes f h) (λ k. refl) refl (λ l. weight f (told_of h l)) refl
         (told-adds f h) (λ b goes. let one = told-one f h (length m.heap.names) within b in omega arith) step m refl in
         omega (arith, most, held-bytes f h m.heap.zone)
 
@@ -460,7 +453,7 @@ pub tells-what-goes : (a : Asked) (m : Memory)
     → sizes m.heap.zone ≤ GREATEST_ZONE → TellsWhatGoes a m
 tells-what-goes a m once small h within =
     ap (told_of h) (gone-gated a m)
-    ∙ by_gate (gate a m) (λ f. subst (λ (l : List Gone). weigh f (told_of h l) ≤ weigh f (bytes_in h m.heap.zone))
+    ∙ by_gate (gate a m) (λ f. subst (λ (l : List Gone). weight f (told_of h l) ≤ weight f (bytes_in h m.heap.zone))
     (gone-gated a m) (told-few h m within once small a f))
     ∙ ap (λ (answer : Told × Memory). cond (takes_block h a || has (is_relocatable h) answer.1.heap.zone) []
     (bytes_in h m.heap.zone)) (sym (served-gated a m))
@@ -471,7 +464,7 @@ tells-what-goes a m once small h within =
     by_notes why false = kept h m within once small (takes_block h a) m.heap.zone
 
     by_gate : (o : Option OsErr) → ((f : List ℕ → ℕ)
-        → weigh f (told_of h (gone_unless o (row_gone a m.heap))) ≤ weigh f (bytes_in h m.heap.zone))
+        → weight f (told_of h (gone_unless o (row_gone a m.heap))) ≤ weight f (bytes_in h m.heap.zone))
         → told_of h (gone_unless o (row_gone a m.heap)) ≡ cond (takes_block h a
         || has (is_relocatable h) (gated o a m).1.heap.zone) [] (bytes_in h m.heap.zone)
     by_gate None each = row-tells h m within once small a each

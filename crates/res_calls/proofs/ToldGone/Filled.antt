@@ -25,7 +25,7 @@ use Rattle.heap_calls.proofs.Steps.Standstill.{step-bytes}
 use Rattle.heap_calls.proofs.Steps.Ways.{Fits, filled-goes, slotted-names}
 use Rattle.heap_calls.proofs.ToldGone.Bounds.{step-most}
 use Rattle.heap_calls.proofs.ToldGone.Sums.{Adds}
-use Rattle.heap_calls.proofs.ToldGone.Laws.{weigh, many, held, held-bytes, many-none}
+use Rattle.heap_calls.proofs.ToldGone.Laws.{weight, many, by_bytes, held-bytes, many-none}
 use Rattle.res_calls.specs.ToldGone.{IsWhole}
 
 pub many-length : (xs : List (List ℕ)) → many xs ≡ length xs
@@ -55,7 +55,7 @@ other-same x y le = cases (bytes_eq x y) refl le
     cases true e le = (bytes_eq-Decides x y).0 e
     cases false e le = absurd (let f : 1 ≤ 0 = le in omega arith)
 
-pub same-one : (xs ys : List (List ℕ)) → many ys ≤ 1 → 1 ≤ many xs → ((f : List ℕ → ℕ) → weigh f xs ≤ weigh f ys)
+pub same-one : (xs ys : List (List ℕ)) → many ys ≤ 1 → 1 ≤ many xs → ((f : List ℕ → ℕ) → weight f xs ≤ weight f ys)
     → xs ≡ ys
 same-one [] ys few some each = absurd (omega arith)
 same-one (x ∷ more) [] few some each = absurd (let l = each (λ z. 1) in omega arith)
@@ -65,7 +65,7 @@ same-one (x ∷ more) (y ∷ others) few some each =
     let none_more : more ≡ [] = many-none more (omega arith) in
     let own : other y y ≡ 0 = cond-true (bytes_eq y y) 0 1 ((bytes_eq-Decides y y).1 refl) in
     let le = each (other y) in
-    let others_none : weigh (other y) others ≡ 0 = ap (weigh (other y)) none_other in
+    let others_none : weight (other y) others ≡ 0 = ap (weight (other y)) none_other in
     let same : x ≡ y = other-same x y (omega (arith, le, own, others_none)) in
     ap (λ (l : List (List ℕ)). x ∷ l) none_more ∙ ap (λ (z : List ℕ). z ∷ []) same
     ∙ ap (λ (l : List (List ℕ)). y ∷ l) (sym none_other)
@@ -270,7 +270,7 @@ kept-most role flags x m of sees new (inl w) = w.most of sees
 kept-most role flags x m of sees new (inr w) = let l = w.most of sees in omega (arith, new)
 
 pub older-unseen : (f : List ℕ → ℕ) (h : ℕ) (flags : Flags) (x : List ℕ) (n : ℕ) → h < n
-    → held f h (Relocatable n flags x) ≡ 0
+    → by_bytes f h (Relocatable n flags x) ≡ 0
 older-unseen f h flags x n within = cond-false (n == h) (f x) 0 (grind (arith, nat_tests, within))
 
 pub kept-bytes : (h : ℕ) (role : Role) (flags : Flags) (x : List ℕ) (m : Memory) → IsWhole m.heap
@@ -281,7 +281,7 @@ kept-bytes h role flags x m whole within w here =
     same-one (bytes_in h after) (bytes_in h m.heap.zone)
     (let o = whole.once h in omega (arith, held-bytes (λ z. 1) h m.heap.zone))
     (let c = has-count (is_relocatable h) after here in omega (arith, held-bytes (λ z. 1) h after))
-    (λ f. let l = kept-most role flags x m (held f h) ((λ n. refl), refl)
+    (λ f. let l = kept-most role flags x m (by_bytes f h) ((λ n. refl), refl)
     (older-unseen f h flags x (length m.heap.names) within) w in
     omega (arith, held-bytes f h after, held-bytes f h m.heap.zone))
   where
@@ -295,10 +295,10 @@ pub new-bytes : (role : Role) (flags : Flags) (x : List ℕ) (m : Memory) → Is
 new-bytes role flags x m whole w =
     same-one (bytes_in n after) (x ∷ []) (omega arith)
     (let c = has-count (is_relocatable n) after w.there in omega (arith, held-bytes (λ z. 1) n after))
-    (λ f. let l = w.most (held f n) ((λ k. refl), refl) in
-    let none : weigh f (bytes_in n m.heap.zone) ≡ 0 =
-    ap (weigh f) (none-bytes n m.heap.zone (ungiven n m.heap whole (omega arith))) in
-    let own : held f n (Relocatable n flags x) ≡ f x = cond-true (n == n) (f x) 0 ((Decides-eqb n n).1 refl) in
+    (λ f. let l = w.most (by_bytes f n) ((λ k. refl), refl) in
+    let none : weight f (bytes_in n m.heap.zone) ≡ 0 =
+    ap (weight f) (none-bytes n m.heap.zone (ungiven n m.heap whole (omega arith))) in
+    let own : by_bytes f n (Relocatable n flags x) ≡ f x = cond-true (n == n) (f x) 0 ((Decides-eqb n n).1 refl) in
     omega (arith, held-bytes f n after, held-bytes f n m.heap.zone))
   where
     n : ℕ
