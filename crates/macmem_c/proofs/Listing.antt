@@ -1,5 +1,5 @@
 -- What is made of the content of a file.
-use Rattle.std.proofs.Common.{◌≡◌, ◌∙◌, List, ℕ, Result, Ok, Err, IfErr, map, sym, ap, subst}
+use Rattle.std.proofs.Common.{◌≡◌, ◌∙◌, List, ℕ, Result, Ok, map, sym, ap, subst}
 use Rattle.std.specs.List.{flat_map}
 use Rattle.fork_format.specs.Content.{Content}
 use Rattle.fork_edits.specs.Resources.{rows}
@@ -14,10 +14,6 @@ use Rattle.fork_commands.specs.declared.fault.WorkFault.TheVariants.{File, HostM
 use Rattle.macmem_c.specs.Described.{listing, listed_line}
 use Rattle.macmem_c.specs.Listed.{row_as, listed}
 use Rattle.macmem_c.specs.declared.rows.Row.{Row}
-
--- what holds of a fault holds of the result that is that fault
-pub err_is : {A E : Type 0} (P : E → Type 0) (r : Result A E) (e : E) → r ≡ Err e → P e → IfErr r P
-err_is P r e is p = subst (λ s. IfErr s P) (sym is) p
 
 -- a fault in the place of a result is one in the place of what follows
 then_stops : {A B : Type 0} (f : WorkFault) (made : Result A FileFault) (next : A → Result B FileFault) → Stops f made

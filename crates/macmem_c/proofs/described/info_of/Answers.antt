@@ -1,8 +1,8 @@
 use Rattle.std.proofs.Common.{◌≡◌, Err, rules}
-use Rattle.macmem_c.proofs.Listing.{err_is, info_stopped}
+use Rattle.macmem_c.proofs.Listing.{info_stopped}
 use Rattle.macmem_c.proofs.described.info_of.Goals as goal
 
 pub returns-in_err-open-clause-fault : goal.returns-in_err-open-clause-fault
 returns-in_err-open-clause-fault c =
     let same : c.from_residual.result ≡ Err c.in_err-open.field-0.0 = search rules in
-    err_is _ _ _ same (info_stopped _ _ c.in_err-open.ensures.fault)
+    rw same (info_stopped _ _ c.in_err-open.ensures.fault)
