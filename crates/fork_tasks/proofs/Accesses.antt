@@ -1,11 +1,12 @@
 -- Accesses that are made one after the other, and what stops them.
-use Rattle.std.proofs.Common.{◌≡◌, ◌∷◌, ◌++◌, ℕ, List, [], Option, Some, None, Result, Ok, Err, IfErr, inl, inr, refl, sym, ap, subst}
+use Rattle.std.proofs.Common.{◌≡◌, ◌∷◌, ◌++◌, ℕ, List, [], Option, Some, None, Result, Err, IfErr, inl, inr, refl, sym, ap, subst}
 use Rattle.std.proofs.Common.{append_assoc, append-nil}
 use Rattle.fork_tasks.specs.Fault.{Message, Usage, CannotRead, Script, Fork, CannotWrite, HostMemory, NotLaunched, Dump, message_of}
 use Rattle.fork_tasks.specs.declared.fault.ToolFault.{ToolFault}
 use Rattle.fork_tasks.specs.declared.host.WriteError.{WriteError}
 use Rattle.fork_tasks.specs.declared.host.WriteError.TheVariants as write_error
 use Rattle.fork_commands.specs.declared.fault.FileFault.{FileFault}
+pub use Rattle.fork_commands.proofs.Pairs.{also_err}
 use Rattle.fork_tasks.specs.Fault.{write_message, IsForkFault}
 use Rattle.fork_tasks.specs.Accesses.{Access, Failed, and_then, RefusesWrite, IsUnread, IsUnwritten, Stops, Ends}
 
@@ -78,9 +79,3 @@ stops_from mid all new message same stops = subst (λ m. Stops m new message) sa
 pub told_err : {X E : Type 0} (P : E → Type 0) (result : Result X E) (fault : E)
     → result ≡ Err fault → P fault → IfErr result P
 told_err P result fault is h = subst (λ r. IfErr r P) (sym is) h
-
--- what else is known of a fault
-pub also_err : {X : Type 0} (P Q : ToolFault → Type 0) (result : Result X ToolFault)
-    → ((fault : ToolFault) → P fault → Q fault) → IfErr result P → IfErr result Q
-also_err P Q (Ok x) next h = tt
-also_err P Q (Err fault) next h = next fault h

@@ -1,5 +1,5 @@
 -- A source that was read, the files that it names, and the fork that it states.
-use Rattle.std.proofs.Common.{◌≡◌, ◌∷◌, ◌∙◌, ℕ, List, [], Option, Result, Ok, Err, refl, sym, ap, subst, map}
+use Rattle.std.proofs.Common.{◌≡◌, ◌∷◌, ◌∙◌, ℕ, List, [], Option, Ok, Err, refl, sym, ap, subst, map}
 use Rattle.std.proofs.Common.{length}
 use Rattle.std.specs.Borrow.{Bor}
 use Rattle.rez_statements.specs.Types.{Declared}
@@ -7,7 +7,7 @@ use Rattle.rez_text.specs.declared.fault.FileName.{FileName}
 use Rattle.fork_commands.specs.declared.fault.FileFault.{FileFault}
 use Rattle.fork_commands.specs.declared.packaging.Packaging.TheVariants.{AsRead}
 use Rattle.fork_commands.specs.Packaging.{packed}
-use Rattle.fork_commands.specs.Sources.{Unassembled, Faulty, Lacks, assembled}
+use Rattle.fork_commands.specs.Sources.{Faulty, Lacks, assembled}
 use Rattle.fork_tasks.specs.declared.assembling.Assembly.{Assembly}
 use Rattle.fork_tasks.specs.declared.delivering.Target.TheVariants.{NewFile}
 use Rattle.fork_tasks.specs.Accesses.{Access, Read, and_then, reads_at, StopsReading}

@@ -23,7 +23,7 @@ use Rattle.fork_tasks.specs.Delivering.{IsUndelivered}
 use Rattle.fork_tasks.specs.Ending.{ending_of}
 use Rattle.fork_tasks.specs.Fault.{Message}
 use Rattle.fork_tasks.specs.Linting.{Adds, AreLines, IsLinted, AreLinted, HasLinted, PrintsLines, LeavesLines, Undelivered, is_clean}
-use Rattle.fork_tasks.specs.Linting.{line_of, LinesOf, faulty_lines, kind_at, lines_by, Lints, IsUnlinted, Unknown, Unprinted, paths_of}
+use Rattle.fork_tasks.specs.Linting.{line_of, LinesOf, faulty_lines, kind_at, lines_by, Lints, IsUnlinted, Unprinted, paths_of}
 use Rattle.fork_tasks.specs.Linting.{types_read, KnowsFor, KnowsIf, needs_types}
 use Rattle.fork_tasks.specs.Surveying.{IsSeen, AreSeen, is_reading}
 use Rattle.fork_tasks.proofs.Accesses.{none, one_more}

@@ -6,7 +6,7 @@ use Rattle.fork_commands.specs.Packing.{listed_in, listed_paths, fork_of_files}
 use Rattle.fork_tasks.specs.declared.packing.Packing.{Packing}
 use Rattle.fork_tasks.specs.Accesses.{Access, Read, Write, and_then, reads_at, IsUnread, IsNextUnread, StopsReading, IsPartWritten}
 use Rattle.fork_tasks.specs.Fault.{Message, HostMemory, Usage, CannotRead, Script, Fork, CannotWrite, NotLaunched, Dump, IsForkFault}
-use Rattle.fork_tasks.specs.Packing.{list_path, reads_listed, Packs, IsUnpacked, ListUnread, ListFaulty, FileUnread, Unfit, Unwritten}
+use Rattle.fork_tasks.specs.Packing.{list_path, reads_listed, Packs, IsUnpacked, ListFaulty, FileUnread, Unfit, Unwritten}
 use Rattle.fork_tasks.proofs.Accesses.{none, one_more}
 
 -- Of these paths all but the rest are read.
