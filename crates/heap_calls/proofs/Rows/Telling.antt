@@ -9,14 +9,14 @@ use Rattle.block_store.proofs.Zone.Totals.{total-append}
 use Rattle.moves.specs.Moves.{Move, Search, Purge, Put, Base, Grow, Extend, Push, Cut, Drop, Write, is_same, did, one}
 use Rattle.moves.specs.Moves.{lowest_gone}
 use Rattle.moves.specs.Moves.{gone_above}
-use Rattle.moves.proofs.Conserved.{PathWeighs, put_on, puts-none, conserved}
+use Rattle.moves.proofs.Conserved.{PathWeighs, Weighs, PutsNone, put_on, puts-none, conserved}
 use Rattle.heap_calls.specs.State.{Memory}
 use Rattle.heap_calls.specs.Gone.{Gone, gone_of}
 use Rattle.heap_calls.specs.Rows.{told_blocks}
 use Rattle.heap_calls.specs.Table.{Row, answer_of, purged_by}
 use Rattle.heap_calls.proofs.Same.Agreeing.{told-append}
 use Rattle.heap_calls.proofs.Rows.Kinds.{has_path, of-path}
-use Rattle.heap_calls.proofs.Rows.Weighing.{RowWeighs, RowPuts}
+use Rattle.heap_calls.proofs.Rows.Along.{Keeps}
 
 -- What a row that is a path leaves, and what is told of blocks that are purged for it, come to just what the zone came to.
 
@@ -84,9 +84,9 @@ module _ (n : ℕ) (of : Block → ℕ) (none : (k : ℕ) → of (Free k) ≡ 0)
 pub path-row-even : (of : Block → ℕ) (none : (k : ℕ) → of (Free k) ≡ 0) (told : List Gone → ℕ) (nil : told [] ≡ 0)
     (adds : (xs ys : List Gone) → told (xs ++ ys) ≡ told xs + told ys) (m : Memory)
     (goes : (b : Block) → is_purgeable b ≡ true → told (gone_of (length m.heap.names) b) ≡ of b) (r : Row)
-    → has_path r ≡ true → RowPuts of r m.heap → RowWeighs of r m.heap
+    → has_path r ≡ true → Keeps (λ sp. PutsNone of) r m.heap → Keeps (λ sp. Weighs of) r m.heap
     → total of (answer_of r m).1.heap.zone + told (purged_by r m.heap) ≡ total of m.heap.zone
-path-row-even of none told nil adds m goes r = of-path (λ r. RowPuts of r m.heap → RowWeighs of r m.heap
+path-row-even of none told nil adds m goes r = of-path (λ r. Keeps (λ sp. PutsNone of) r m.heap → Keeps (λ sp. Weighs of) r m.heap
     → total of (answer_of r m).1.heap.zone + told (purged_by r m.heap) ≡ total of m.heap.zone)
     (λ T bar tell does puts weighs. let d = does m.heap in
     path-even (length m.heap.names) of none told nil adds goes d.spared d.path m.heap.zone

@@ -30,12 +30,6 @@ abbrev pub Renews : (Block → ℕ) → Asked → Type 0
 Renews of (asked.ReallocateHandle (Some k) n) = (b : Block) → is_relocatable k b ≡ true → of b ≡ 0
 Renews of asked = Unit {0}
 
-abbrev pub RowWeighs : (Block → ℕ) → Row → State → Type 0
-RowWeighs of r s = Keeps (λ sp. Weighs of) r s
-
-abbrev pub RowPuts : (Block → ℕ) → Row → State → Type 0
-RowPuts of r s = Keeps (λ sp. PutsNone of) r s
-
 -- where a named block stands, by the name of the block that it becomes
 pub named-there : (n : ℕ) (sp : Block → Bool) (s : State) (held : Held) → Spared sp s held
     → spot (is_same (resized n held.at.here)) s.zone ≡ Some held.at
@@ -110,8 +104,8 @@ allows-puts of none masters pointers a s fresh own = record {
 -- by a measure that sees no block that may be purged, a row that is a path loses nothing
 pub none-lost : (of : Block → ℕ) (none : (n : ℕ) → of (Free n) ≡ 0)
     (goes : (b : Block) → is_purgeable b ≡ true → of b ≡ 0) (r : Row) (m : Memory) → has_path r ≡ true
-    → RowWeighs of r m.heap → total of m.heap.zone ≤ total of (answer_of r m).1.heap.zone
-none-lost of none goes r m = of-path (λ r. RowWeighs of r m.heap
+    → Keeps (λ sp. Weighs of) r m.heap → total of m.heap.zone ≤ total of (answer_of r m).1.heap.zone
+none-lost of none goes r m = of-path (λ r. Keeps (λ sp. Weighs of) r m.heap
     → total of m.heap.zone ≤ total of (answer_of r m).1.heap.zone)
     (λ T bar tell does weighs. let d = does m.heap in
     let le : total of m.heap.zone ≤ total of (did d.spared d.path m.heap.zone).zone = omega (
