@@ -1,5 +1,5 @@
 use Rattle.std.specs.Prelude.{◌≡◌, ◌<◌, ℕ, ◌==◌, ◌||◌, true, List, [], ◌∷◌, length, if◌then◌else◌}
-use Rattle.block_store.specs.Block.{Block, is_relocatable, content_of}
+pub use Rattle.moves.specs.Bytes.{bytes_in}
 use Rattle.heap_calls.specs.State.{Memory}
 use Rattle.heap_calls.specs.Asked.{Asked}
 use Rattle.heap_calls.specs.Table.{served}
@@ -16,11 +16,6 @@ use Rattle.heap_calls.specs.Path.{Step, stepped, gone_at, step_disposes}
 abbrev pub told_of : ℕ → List Gone → List (List ℕ)
 told_of h [] = []
 told_of h (g ∷ more) = if g.0 == h then g.1 ∷ told_of h more else told_of h more
-
--- The bytes of the blocks of the handle h in a zone, the lowest first: of one block at most where no handle has two.
-abbrev pub bytes_in : ℕ → List Block → List (List ℕ)
-bytes_in h [] = []
-bytes_in h (b ∷ above) = if is_relocatable h b then content_of b ∷ bytes_in h above else bytes_in h above
 
 -- What one try of a call reports of a handle is what the handle loses: once, with its bytes, where the handle has a
 -- block before the call and none after it; else nothing. Nothing either of a handle that the call itself disposes of or

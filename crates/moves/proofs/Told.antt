@@ -4,15 +4,11 @@ use Rattle.std.proofs.lemmas.Slice.Eq.{bytes_eq-Decides}
 use Rattle.std.specs.Prelude.{bytes_eq}
 use Rattle.block_store.specs.Block.{Block, total, is_relocatable, is_purgeable, content_of}
 use Rattle.block_store.specs.Room.{may_be_purged}
+use Rattle.moves.specs.Bytes.{bytes_in}
 use Rattle.moves.specs.Moves.{Move, did}
 use Rattle.moves.proofs.Conserved.{put_on, PathWeighs, conserved, only-purgeable}
 
 -- What a path purges of a handle is what goes: the handle's block, where it has none afterwards, and else nothing.
-
--- the bytes of a handle's blocks, the lowest first
-abbrev pub bytes_in : ℕ → List Block → List (List ℕ)
-bytes_in h [] = []
-bytes_in h (b ∷ above) = cond (is_relocatable h b) (content_of b ∷ bytes_in h above) (bytes_in h above)
 
 -- what bytes come to, and what a handle's block comes to by its bytes
 abbrev pub weight : (List ℕ → ℕ) → List (List ℕ) → ℕ
@@ -22,7 +18,7 @@ weight f (x ∷ xs) = f x + weight f xs
 abbrev pub by_bytes : (List ℕ → ℕ) → ℕ → Block → ℕ
 by_bytes f h b = cond (is_relocatable h b) (f (content_of b)) 0
 
-weighed : (f : List ℕ → ℕ) (h : ℕ) (bs : List Block) → total (by_bytes f h) bs ≡ weight f (bytes_in h bs)
+pub weighed : (f : List ℕ → ℕ) (h : ℕ) (bs : List Block) → total (by_bytes f h) bs ≡ weight f (bytes_in h bs)
 weighed f h [] = refl
 weighed f h (b ∷ bs) = cases (is_relocatable h b) (weighed f h bs)
   where

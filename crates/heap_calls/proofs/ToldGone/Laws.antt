@@ -11,7 +11,7 @@ use Rattle.mac_words.specs.Told.{Told}
 use Rattle.mac_words.specs.Size.{phys}
 use Rattle.block_store.specs.declared.flags.Flags.{Flags}
 use Rattle.block_store.specs.Block.{Block, Free, Nonrelocatable, Masters, Relocatable, sizes, total, count, is_purgeable}
-use Rattle.block_store.specs.Block.{is_relocatable, is_nonrelocatable, content_of, with_content, resized, no_flags}
+use Rattle.block_store.specs.Block.{is_relocatable, is_nonrelocatable, with_content, resized, no_flags}
 use Rattle.block_store.specs.Run.{has}
 use Rattle.block_store.specs.Room.{spot}
 use Rattle.block_store.specs.Grow.{freed}
@@ -37,7 +37,7 @@ use Rattle.heap_calls.proofs.Gates.Served.{served-gated}
 use Rattle.moves.specs.Moves.{Put, Drop}
 use Rattle.moves.specs.Seeking.{seek, if_fits, around}
 use Rattle.moves.proofs.Rows.{again-most}
-pub use Rattle.moves.proofs.Told.{weight, by_bytes}
+pub use Rattle.moves.proofs.Told.{weight, by_bytes, weighed}
 use Rattle.heap_calls.specs.Rows as rows
 use Rattle.heap_calls.specs.Rows.{work, told_blocks}
 use Rattle.heap_calls.proofs.Rows.Kinds.{none-by, gated-by}
@@ -54,17 +54,6 @@ use Rattle.heap_calls.proofs.ToldGone.Rows.{row_gone, rows-even, filled_step-eve
 -- how many there are
 abbrev pub many : List (List ℕ) → ℕ
 many = weight (λ x. 1)
-
--- what the blocks of a handle come to, by their bytes
-pub held-bytes : (f : List ℕ → ℕ) (h : ℕ) (zone : List Block) → total (by_bytes f h) zone ≡ weight f (bytes_in h zone)
-held-bytes f h [] = refl
-held-bytes f h (b ∷ zone) = cases (is_relocatable h b) (held-bytes f h zone)
-  where
-    cases : (t : Bool) → total (by_bytes f h) zone ≡ weight f (bytes_in h zone)
-        → cond t (f (content_of b)) 0 + total (by_bytes f h) zone
-        ≡ weight f (cond t (content_of b ∷ bytes_in h zone) (bytes_in h zone))
-    cases true r = omega arith
-    cases false r = omega arith
 
 told-adds : (f : List ℕ → ℕ) (h : ℕ) → Adds (λ l. weight f (told_of h l))
 told-adds f h [] ys = omega arith
@@ -264,7 +253,7 @@ module _ (h : ℕ) (m : Memory) (within : h < length m.heap.names)
     told-few a f =
         let most = told-most (length m.heap.names) (by_bytes f h) (λ k. refl) refl (λ l. weight f (told_of h l)) refl
         (told-adds f h) (λ b goes. let one = told-one f h (length m.heap.names) within b in omega arith) a m refl in
-        omega (arith, most, held-bytes f h m.heap.zone)
+        omega (arith, most, weighed f h m.heap.zone)
 
     -- where a call is barred, the handle keeps its block
     kept : (t : Bool) (zone : List Block) → [] ≡ cond (t || has (is_relocatable h) zone) [] (bytes_in h zone)
@@ -274,7 +263,7 @@ module _ (h : ℕ) (m : Memory) (within : h < length m.heap.names)
         cases : (t : Bool) → has (is_relocatable h) zone ≡ t → [] ≡ cond t [] (bytes_in h zone)
         cases true e = refl
         cases false e = sym (many-none (bytes_in h zone)
-            (omega (arith, held-bytes (λ x. 1) h zone, count-none (is_relocatable h) zone e)))
+            (omega (arith, weighed (λ x. 1) h zone, count-none (is_relocatable h) zone e)))
 
     -- and that is what the handle loses
     taken-tells : (a : Asked) → lets_go h a ≡ true
@@ -300,7 +289,7 @@ module _ (h : ℕ) (m : Memory) (within : h < length m.heap.names)
             sym (ap (λ t. cond t [] (bytes_in h m.heap.zone)) (renewed-there h k n m takes e))
         by_block false e =
             let held : bytes_in h m.heap.zone ≡ [] = many-none (bytes_in h m.heap.zone)
-            (omega (arith, held-bytes (λ x. 1) h m.heap.zone, count-none (is_relocatable h) m.heap.zone e)) in
+            (omega (arith, weighed (λ x. 1) h m.heap.zone, count-none (is_relocatable h) m.heap.zone e)) in
             sym (ap (λ l. cond (has (is_relocatable h) after) [] l) held ∙ none (has (is_relocatable h) after))
     taken-tells a takes = let f : false ≡ true = takes in cc
 
@@ -322,7 +311,7 @@ module _ (h : ℕ) (m : Memory) (within : h < length m.heap.names)
         by_going true e = taken-none a e ∙ taken-tells a e
         by_going false e =
             let even = balance a e in
-            let counted : count (is_relocatable h) m.heap.zone ≡ many bytes = held-bytes (λ x. 1) h m.heap.zone in
+            let counted : count (is_relocatable h) m.heap.zone ≡ many bytes = weighed (λ x. 1) h m.heap.zone in
             let one = once h within in
             only (told_of h (row_gone a m.heap)) bytes (count (is_relocatable h) after)
             (omega (arith, counted)) (let l = even.0 in omega (arith, counted, l))
@@ -336,7 +325,7 @@ module _ (h : ℕ) (m : Memory) (within : h < length m.heap.names)
     step-few step f =
         let most = step-most (length m.heap.names) (by_bytes f h) (λ k. refl) refl (λ l. weight f (told_of h l)) refl
         (told-adds f h) (λ b goes. let one = told-one f h (length m.heap.names) within b in omega arith) step m refl in
-        omega (arith, most, held-bytes f h m.heap.zone)
+        omega (arith, most, weighed f h m.heap.zone)
 
     -- as many blocks of a handle go as a step tells of
     abbrev StepBalance : Step → Type 0
@@ -415,7 +404,7 @@ module _ (h : ℕ) (m : Memory) (within : h < length m.heap.names)
         bytes = bytes_in h m.heap.zone
 
         counted : count (is_relocatable h) m.heap.zone ≡ many bytes
-        counted = held-bytes (λ x. 1) h m.heap.zone
+        counted = weighed (λ x. 1) h m.heap.zone
 
         disposed : (step : Step) → step_disposes step h ≡ true → told_of h (gone_at step m) ≡ []
         disposed (Release k) e = refl

@@ -36,7 +36,7 @@ use Rattle.res_calls.proofs.Walks.Own.{own_steps, own-goes, own-purgeable}
 use Rattle.res_calls.proofs.Walks.Steps.{for_found, fetch_steps_as, fetch_steps, preload_steps, map_steps, fork_steps}
 use Rattle.res_calls.proofs.Walks.Steps.{unless_steps, open_steps, steps_of}
 use Rattle.res_calls.proofs.Walks.Going.{given-memory}
-use Rattle.heap_calls.proofs.ToldGone.Laws.{held-bytes}
+use Rattle.heap_calls.proofs.ToldGone.Laws.{weighed}
 
 -- the table of a fetch names what its step purges
 fetch-along : (loading : Bool) (at : Found) (o : Option ℕ) (s : Managers)
@@ -109,7 +109,7 @@ few-bytes : (h : ℕ) (s : State) (t : Bool) → count (is_relocatable h) s.zone
     → length (cond t [] (bytes_in h s.zone)) ≤ 1
 few-bytes h s true once = omega arith
 few-bytes h s false once =
-    omega (arith, held-bytes (λ x. 1) h s.zone, many-length (bytes_in h s.zone))
+    omega (arith, weighed (λ x. 1) h s.zone, many-length (bytes_in h s.zone))
 
 few-told : (told : List (List ℕ)) (bytes : List (List ℕ)) → told ≡ bytes → length bytes ≤ 1 → length told ≤ 1
 few-told told bytes is few = subst (λ (l : List (List ℕ)). length l ≤ 1) (sym is) few

@@ -25,7 +25,7 @@ use Rattle.heap_calls.proofs.Steps.Standstill.{step-bytes}
 use Rattle.heap_calls.proofs.Steps.Ways.{Fits, filled-goes, slotted-names}
 use Rattle.heap_calls.proofs.ToldGone.Bounds.{step-most}
 use Rattle.heap_calls.proofs.ToldGone.Sums.{Adds}
-use Rattle.heap_calls.proofs.ToldGone.Laws.{weight, many, by_bytes, held-bytes, many-none}
+use Rattle.heap_calls.proofs.ToldGone.Laws.{weight, many, by_bytes, weighed, many-none}
 use Rattle.res_calls.specs.ToldGone.{IsWhole}
 
 pub many-length : (xs : List (List ℕ)) → many xs ≡ length xs
@@ -35,7 +35,7 @@ many-length (x ∷ xs) = omega (arith, many-length xs)
 -- a handle without a block
 pub none-bytes : (h : ℕ) (zone : List Block) → has (is_relocatable h) zone ≡ false → bytes_in h zone ≡ []
 none-bytes h zone none = many-none (bytes_in h zone)
-    (omega (arith, held-bytes (λ x. 1) h zone, count-none (is_relocatable h) zone none))
+    (omega (arith, weighed (λ x. 1) h zone, count-none (is_relocatable h) zone none))
 
 pub has-one : (test : Block → Bool) (zone : List Block) → 1 ≤ count test zone → has test zone ≡ true
 has-one test zone some = cases (has test zone) refl
@@ -279,11 +279,11 @@ pub kept-bytes : (h : ℕ) (role : Role) (flags : Flags) (x : List ℕ) (m : Mem
     → bytes_in h (stepped (NewFilled role flags x) m).heap.zone ≡ bytes_in h m.heap.zone
 kept-bytes h role flags x m whole within w here =
     same-one (bytes_in h after) (bytes_in h m.heap.zone)
-    (let o = whole.once h in omega (arith, held-bytes (λ z. 1) h m.heap.zone))
-    (let c = has-count (is_relocatable h) after here in omega (arith, held-bytes (λ z. 1) h after))
+    (let o = whole.once h in omega (arith, weighed (λ z. 1) h m.heap.zone))
+    (let c = has-count (is_relocatable h) after here in omega (arith, weighed (λ z. 1) h after))
     (λ f. let l = kept-most role flags x m (by_bytes f h) ((λ n. refl), refl)
     (older-unseen f h flags x (length m.heap.names) within) w in
-    omega (arith, held-bytes f h after, held-bytes f h m.heap.zone))
+    omega (arith, weighed f h after, weighed f h m.heap.zone))
   where
     after : List Block
     after = (stepped (NewFilled role flags x) m).heap.zone
@@ -294,12 +294,12 @@ pub new-bytes : (role : Role) (flags : Flags) (x : List ℕ) (m : Memory) → Is
     → bytes_in (length m.heap.names) (stepped (NewFilled role flags x) m).heap.zone ≡ x ∷ []
 new-bytes role flags x m whole w =
     same-one (bytes_in n after) (x ∷ []) (omega arith)
-    (let c = has-count (is_relocatable n) after w.there in omega (arith, held-bytes (λ z. 1) n after))
+    (let c = has-count (is_relocatable n) after w.there in omega (arith, weighed (λ z. 1) n after))
     (λ f. let l = w.most (by_bytes f n) ((λ k. refl), refl) in
     let none : weight f (bytes_in n m.heap.zone) ≡ 0 =
     ap (weight f) (none-bytes n m.heap.zone (ungiven n m.heap whole (omega arith))) in
     let own : by_bytes f n (Relocatable n flags x) ≡ f x = cond-true (n == n) (f x) 0 ((Decides-eqb n n).1 refl) in
-    omega (arith, held-bytes f n after, held-bytes f n m.heap.zone))
+    omega (arith, weighed f n after, weighed f n m.heap.zone))
   where
     n : ℕ
     n = length m.heap.names
