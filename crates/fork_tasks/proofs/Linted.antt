@@ -9,6 +9,7 @@ use Rattle.std.proofs.Math.Bool.{and_assoc, and-true}
 use Rattle.std.proofs.lemmas.Grind.{common_steps}
 use Rattle.std.proofs.lemmas.List.{length-map}
 use Rattle.std.proofs.lemmas.List.Folds.{list_all-append}
+use Rattle.fork_format.proofs.Bools.{and_both}
 use Rattle.script_text.specs.declared.fault.FaultKind.{FaultKind}
 use Rattle.rez_statements.specs.Types.{Declared}
 use Rattle.lint.specs.Seen.{seen}
@@ -27,7 +28,7 @@ use Rattle.fork_tasks.specs.Linting.{line_of, LinesOf, faulty_lines, kind_at, li
 use Rattle.fork_tasks.specs.Linting.{types_read, KnowsFor, KnowsIf, needs_types}
 use Rattle.fork_tasks.specs.Surveying.{IsSeen, AreSeen, is_reading}
 use Rattle.fork_tasks.proofs.Accesses.{none, one_more}
-use Rattle.fork_tasks.proofs.Surveyed.{both, seen_reads, seen_step}
+use Rattle.fork_tasks.proofs.Surveyed.{seen_reads, seen_step}
 
 -- What is added to a text now, with any lines of the faulty lines that are left, is the lines of all.
 abbrev pub GoesOn : List ℕ → List ℕ → List ℕ → List ℕ → List ℕ → Type 0
@@ -194,7 +195,7 @@ further faulty all rest x old mid new text more next was is now a come seen lint
   accesses = come.accesses ++ a ∷ [];
   done = λ xs h. subst (AreSeen all) (sym (append_assoc come.accesses (a ∷ []) xs))
       (come.done ((a ∷ []) ++ xs) (seen_step x rest a seen xs h));
-  reads = list_all-append is_reading come.accesses (a ∷ []) ∙ both come.reads (seen_reads x a seen);
+  reads = list_all-append is_reading come.accesses (a ∷ []) ∙ and_both _ _ come.reads (seen_reads x a seen);
   linted = linted_on faulty come.accesses (a ∷ []) old mid new text more next was is now come.linted linted;
 }
 

@@ -5,6 +5,7 @@ use Rattle.std.specs.List.{flat_map, list_all}
 use Rattle.std.proofs.Math.Bool.{and_assoc, and-true}
 use Rattle.std.proofs.lemmas.Grind.{flat_map-append}
 use Rattle.std.proofs.lemmas.List.Folds.{list_all-append}
+use Rattle.fork_format.proofs.Bools.{and_both}
 use Rattle.fork_tasks.specs.Accesses.{Access, Read, Listed, Folder, Write, Failed, and_then}
 use Rattle.fork_tasks.specs.declared.delivering.Target.TheVariants.{Printed}
 use Rattle.fork_tasks.specs.Delivering.{IsUndelivered}
@@ -12,14 +13,6 @@ use Rattle.fork_tasks.specs.Fault.{Message}
 use Rattle.fork_tasks.specs.Surveying.{IsSeen, AreSeen, IsFolderSurveyed, IsSurveyed, AreSurveyed, line_of, is_good, is_reading, Went}
 use Rattle.fork_tasks.specs.Surveying.{OnlyReads, IsUnlisted, Undelivered}
 use Rattle.fork_tasks.proofs.Accesses.{none, one_more}
-
--- what holds in any case holds of a fault
-pub for_err : {A E : Type 0} (r : Result A E) (Q : Type 0) → Q → IfErr r (λ _. Q)
-for_err (Ok x) Q q = tt
-for_err (Err e) Q q = q
-
-pub both : {a b : Bool} → a ≡ true → b ≡ true → (a && b) ≡ true
-both p q = cc
 
 -- a file that is seen is read
 pub seen_reads_one : (path : List ℕ) (a : Access) → IsSeen path a → is_reading a ≡ true
@@ -33,10 +26,10 @@ pub all_seen_read : (paths : List (List ℕ)) (seen : List Access) → AreSeen p
 all_seen_read [] [] h = refl
 all_seen_read [] (a ∷ seen) h = cc
 all_seen_read (path ∷ paths) [] h = absurd h
-all_seen_read (path ∷ paths) (a ∷ seen) h = both (seen_reads_one path a h.0) (all_seen_read paths seen h.1)
+all_seen_read (path ∷ paths) (a ∷ seen) h = and_both _ _ (seen_reads_one path a h.0) (all_seen_read paths seen h.1)
 
 pub seen_reads : (path : List ℕ) (a : Access) → IsSeen path a → list_all is_reading (a ∷ []) ≡ true
-seen_reads path a h = both (seen_reads_one path a h) refl
+seen_reads path a h = and_both _ _ (seen_reads_one path a h) refl
 
 -- the files of a folder are read
 pub surveyed_reads : (path : List ℕ) (xs : List Access) → IsSurveyed path xs → list_all is_reading xs ≡ true
@@ -48,7 +41,7 @@ pub reads_on : (old mid new : Option (List Access)) (xs : List Access) → list_
     → mid ≡ and_then old xs → OnlyReads mid new → OnlyReads old new
 reads_on old mid new xs reads made (ys, more, next) = (
   xs ++ ys,
-  list_all-append is_reading xs ys ∙ both reads more,
+  list_all-append is_reading xs ys ∙ and_both _ _ reads more,
   next ∙ ap (λ a. and_then a ys) made ∙ one_more old xs ys,
 )
 
@@ -93,7 +86,7 @@ pub further : (Are : List (List ℕ) → List Access → Type 0) (why : Bool) (a
 further Are why all rest x old mid new text more next was is now first come step reads went = record {
   accesses = come.accesses ++ first;
   done = λ xs h. subst (Are all) (sym (append_assoc come.accesses first xs)) (come.done (first ++ xs) (step xs h));
-  reads = list_all-append is_reading come.accesses first ∙ both come.reads reads;
+  reads = list_all-append is_reading come.accesses first ∙ and_both _ _ come.reads reads;
   went = went_on why come.accesses first old mid new text more next was is now come.went went;
 }
 

@@ -1,8 +1,9 @@
 use Rattle.std.proofs.Common.{◌≡◌, ◌+◌, ◌∷◌, ◌∙◌, [], ℕ, List, drop, map, true, get_or, subst, arith}
 use Rattle.std.proofs.lemmas.Grind.{common_steps}
+use Rattle.mac_words.proofs.Plain.{on_err}
 use Rattle.rez_statements.specs.View.{types_of}
 use Rattle.fork_tasks.specs.Linting.{lines_by}
-use Rattle.fork_tasks.proofs.Surveyed.{reads_on, for_err}
+use Rattle.fork_tasks.proofs.Surveyed.{reads_on}
 use Rattle.fork_tasks.proofs.Linted.{Come, further, all_linted}
 use Rattle.fork_tasks.proofs.linting.lint_files.Goals as goal
 
@@ -24,7 +25,7 @@ loop-path-preserved g c =
 pub returns-in_err-lint_file-clause-stopped : goal.returns-in_err-lint_file-clause-stopped
 returns-in_err-lint_file-clause-stopped g c =
     let come = c.loop-path.invariant.come in
-    for_err _ _ (reads_on _ _ _ come.accesses come.reads come.linted.made c.in_err-lint_file.ensures.stopped)
+    on_err _ _ (reads_on _ _ _ come.accesses come.reads come.linted.made c.in_err-lint_file.ensures.stopped)
 
 pub returns-clause-seen : goal.returns-clause-seen
 returns-clause-seen g c =

@@ -1,7 +1,8 @@
 use Rattle.std.proofs.Common.{◌≡◌, ◌+◌, ◌∷◌, ◌∙◌, [], ℕ, List, drop, map, string_bytes, subst, arith}
 use Rattle.std.proofs.lemmas.Grind.{common_steps}
+use Rattle.mac_words.proofs.Plain.{on_err}
 use Rattle.fork_tasks.specs.Surveying.{IsSeen, AreSeen}
-use Rattle.fork_tasks.proofs.Surveyed.{Come, further, seen_step, seen_reads, reads_on, for_err, all_seen}
+use Rattle.fork_tasks.proofs.Surveyed.{Come, further, seen_step, seen_reads, reads_on, all_seen}
 use Rattle.fork_tasks.proofs.surveying.survey_files.Goals as goal
 
 pub loop-file-preserved : goal.loop-file-preserved
@@ -24,7 +25,7 @@ loop-file-preserved g c =
 pub returns-in_err-survey_file-clause-stopped : goal.returns-in_err-survey_file-clause-stopped
 returns-in_err-survey_file-clause-stopped g c =
     let come = c.loop-file.invariant.come in
-    for_err _ _ (reads_on _ _ _ come.accesses come.reads come.went.made c.in_err-survey_file.ensures.stopped)
+    on_err _ _ (reads_on _ _ _ come.accesses come.reads come.went.made c.in_err-survey_file.ensures.stopped)
 
 pub returns-clause-seen : goal.returns-clause-seen
 returns-clause-seen g c =

@@ -1,7 +1,8 @@
 use Rattle.std.proofs.Common.{◌≡◌, ◌+◌, ◌∷◌, ◌∙◌, [], ℕ, List, drop, map, true, get_or, subst, arith}
 use Rattle.std.proofs.lemmas.Grind.{common_steps}
+use Rattle.mac_words.proofs.Plain.{on_err}
 use Rattle.fork_tasks.specs.Surveying.{AreSurveyed}
-use Rattle.fork_tasks.proofs.Surveyed.{Come, further, surveyed_step, surveyed_reads, reads_on, for_err, all_surveyed}
+use Rattle.fork_tasks.proofs.Surveyed.{Come, further, surveyed_step, surveyed_reads, reads_on, all_surveyed}
 use Rattle.fork_tasks.proofs.surveying.surveyed.Goals as goal
 
 pub loop-path-preserved : goal.loop-path-preserved
@@ -23,7 +24,7 @@ loop-path-preserved g c =
 pub returns-in_err-survey_path-clause-stopped : goal.returns-in_err-survey_path-clause-stopped
 returns-in_err-survey_path-clause-stopped g c =
     let come = c.loop-path.invariant.come in
-    for_err _ _ (reads_on _ _ _ come.accesses come.reads come.went.made c.in_err-survey_path.ensures.stopped)
+    on_err _ _ (reads_on _ _ _ come.accesses come.reads come.went.made c.in_err-survey_path.ensures.stopped)
 
 pub returns-clause-surveyed : goal.returns-clause-surveyed
 returns-clause-surveyed g c =
