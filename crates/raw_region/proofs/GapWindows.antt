@@ -10,8 +10,7 @@ use Rattle.std.proofs.lemmas.List.Sums.{prefix_len_stops}
 use Rattle.std.specs.List.{prefix_len, position_or_len, insert, remove, Contains}
 use denote.RawPtr.{Ptr}
 use Rattle.plain_laws.proofs.Mapped.{prefix_len-map}
-use Rattle.memory_windows.specs.declared.Window.{Window}
-use Rattle.memory_windows.proofs.Ordered.{below_cond}
+use Rattle.memory_windows.proofs.Ordered.{below_cond, order-from}
 use Rattle.memory_windows.specs.Windows.{window, is_window, IsApart, InOrder}
 use Rattle.raw_region.specs.Gaps.{bytes_of, windows_of, window_of, gap_ends_by, gap_is, IsLaid, IsStart, Fits, front}
 use Rattle.raw_region.specs.Gaps.{back, joined, EndsFit}
@@ -135,10 +134,6 @@ is_out at len gs c =
     omega (arith, low, same, long)
 
 -- ---- the windows lie in order
-in_order_from : (o p : ℕ) (ws : List Window) (n : ℕ) → p ≤ o → InOrder o ws n → InOrder p ws n
-in_order_from o p [] n h w = omega (arith, h, w)
-in_order_from o p (x ∷ ws) n h w = (let a = w.0 in omega (arith, h, a), w.1)
-
 in_order : (h : Ptr) (o : ℕ) (gs : List Gap) (n : ℕ) → IsLaid h o gs → o + length (bytes_of gs) ≡ n
     → InOrder o (map window_of gs) n
 in_order h o [] n l e = omega (arith, e)
@@ -146,12 +141,12 @@ in_order h o (g ∷ gs) n l e =
     let s = span g gs in
     let a = l.0 in (
       omega (arith, a),
-      in_order_from (o + (g.len + length g.after.items)) (g.at + g.len) (map window_of gs) n (omega (arith, a))
+      order-from (o + (g.len + length g.after.items)) (g.at + g.len) n (map window_of gs) (omega (arith, a))
           (in_order h (o + (g.len + length g.after.items)) gs n l.3 (omega (arith, s, e))),
     )
 
 pub windows_in_order : (h : Ptr) (gs : List Gap) → IsLaid h 0 gs → IsStart gs
     → InOrder 0 (windows_of gs) (length (bytes_of gs))
 windows_in_order h [] l s = absurd s
-windows_in_order h (g ∷ gs) l s = in_order_from (g.at + g.len) 0 (map window_of gs) _ (omega arith)
+windows_in_order h (g ∷ gs) l s = order-from (g.at + g.len) 0 _ (map window_of gs) (omega arith)
     (in_order h 0 (g ∷ gs) _ l (zero-add _)).1
