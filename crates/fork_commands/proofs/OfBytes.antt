@@ -1,6 +1,6 @@
-use Rattle.std.proofs.Common.{◌≡◌, ℕ, zero, suc, ◌+◌, ◌<◌, Bool, true, false, cond, List, [], ◌∷◌, map, drop, replicate, arith}
+use Rattle.std.proofs.Common.{◌≡◌, ℕ, zero, suc, ◌+◌, Bool, true, false, cond, List, [], ◌∷◌, map, drop, replicate, arith}
 use Rattle.std.proofs.Common.{Option, Some, None, Ok, Err, refl}
-use Rattle.std.specs.Prelude.{◌==◌, nat_le, ◌&&◌, filter, length, slice_index, IfSome}
+use Rattle.std.specs.Prelude.{◌==◌, nat_le, ◌&&◌, filter, length, IfSome}
 use Rattle.std.specs.List.{flat_map, AllByRecursion}
 use Rattle.fork_format.specs.Content.{Ref, Group, Content, is_of, distinct}
 use Rattle.fork_format.specs.Fork.{number, part, ref_at, ref_places, group_at, type_places, content_of, area_of, name_at, name_place}
@@ -9,14 +9,10 @@ use Rattle.rez_text.specs.Bytes.{AreBytes, HasBytes, IsOfBytes}
 use Rattle.mac_words.specs.declared.code.TheConstants.OsErr.{END_OF_FILE, MAP_READ}
 use Rattle.fork_commands.specs.declared.fault.FileFault.TheVariants.{Code}
 use Rattle.fork_commands.specs.Reading.{content_or_fault, content_of_fork}
-use Rattle.plain_laws.proofs.Bytes.{byte-at, bytes-take, bytes-drop}
+use Rattle.plain_laws.proofs.Bytes.{bytes-take, bytes-drop}
 use Rattle.plain_laws.proofs.Elements.{each-append}
 
 -- The content of a fork of bytes is of bytes.
-
--- each place of bytes has a byte
-pub each_byte : (bytes : List ℕ) → AreBytes bytes → (k : ℕ) → slice_index bytes k < 256
-each_byte bytes are = λ k. byte-at bytes k are
 
 pub zeros : (n : ℕ) → AreBytes (replicate n 0)
 zeros zero = tt

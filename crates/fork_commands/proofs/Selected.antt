@@ -15,7 +15,8 @@ use Rattle.fork_commands.specs.declared.selecting.Selection.{Selection}
 use Rattle.fork_commands.specs.declared.selecting.Selection.TheVariants.{All, OfType, One}
 use Rattle.fork_commands.specs.Reading.{content_of_fork}
 use Rattle.fork_commands.specs.Sources.{is_selected, selected_group, selected_groups, alone, selected}
-use Rattle.fork_commands.proofs.OfBytes.{each_byte, of_bytes, spelled_by, zeros}
+use Rattle.plain_laws.proofs.Bytes.{byte-at}
+use Rattle.fork_commands.proofs.OfBytes.{of_bytes, spelled_by, zeros}
 
 -- What is selected of a content that was read is as good as the content: it can be printed and read again.
 
@@ -31,7 +32,7 @@ pub is_read : (fork : List ℕ) (c : Content) → AreBytes fork → content_of_f
 is_read fork c are has =
     let spells = spelled_by fork c has in
     record {
-      limits = subst IsContent spells.content (spelled_content fork (each_byte fork are));
+      limits = subst IsContent spells.content (spelled_content fork (λ k. byte-at fork k are));
       bytes = subst IsOfBytes spells.content (of_bytes fork are);
       references = spelled_references fork c spells;
       distinct = spelled_types fork c spells;
