@@ -7,7 +7,8 @@ use Rattle.mac_words.specs.declared.call.Call.{Call}
 use Rattle.mac_words.specs.declared.call.Call.TheVariants as call
 use Rattle.mac_words.specs.declared.call.ControlCall.TheVariants as control
 use Rattle.block_store.specs.Rest.{Site}
-use Rattle.block_store.specs.Block.{sizes, free, fresh}
+use Rattle.block_store.specs.Block.{sizes, fresh}
+use Rattle.block_store.proofs.Zone.Alike.{sizes-free}
 use Rattle.heap_calls.specs.State.{Memory, fresh_memory}
 use Rattle.mac_words.specs.Told.{Told}
 use Rattle.heap_calls.specs.Asked.{Asked}
@@ -339,13 +340,9 @@ launched-elsewhere resources n site = ap begun (preloaded-elsewhere site manager
       grow = [];
     }
 
-free-total : (m : ℕ) → sizes (free m) ≡ m
-free-total zero = refl
-free-total (suc m) = omega arith
-
 -- a fresh zone of n bytes takes n bytes
 pub sizes-fresh : (n : ℕ) → 272 ≤ n → sizes (fresh n) ≡ n
-sizes-fresh n big = omega (arith, free-total (n - 272))
+sizes-fresh n big = omega (arith, sizes-free (n - 272))
 
 -- the course of an application that was launched anywhere
 pub launched_course : (resources : Resources) (r : Running) (site : Site) (n : ℕ) (blocks : Blocks) (lines : List Line)

@@ -10,6 +10,7 @@ use Rattle.res_map.specs.Split.{Split, split, place, replaced, removed}
 use Rattle.res_map.specs.Map.{Reference, content}
 use Rattle.fork_format.specs.Canonical.{fits}
 use Rattle.res_map.proofs.Splitting.{split-whole, split-passes, get-whole, found-place, remove-replaced}
+use Rattle.res_map.proofs.Order.{map-remove}
 use Rattle.fork_format.proofs.Rest.{rest-map}
 use Rattle.res_calls.specs.Files.{OpenFile, Resources}
 use Rattle.res_calls.specs.declared.files.File.{File as StoredFile}
@@ -74,13 +75,6 @@ released_none references n m all whole e =
 pub number_seen : (xs : List StoredOpenFile) (i : ℕ) (x : StoredOpenFile) → i < length xs → x ≡ get_or xs i x
     → x.number ≡ first_number (map view_open (drop i xs))
 number_seen xs i x inside is = sym (ap first_number (rest-map view_open xs i x inside is))
-
--- what is left of items, as they are seen
-remove-seen : {X A : Type 0} (view : X → A) (n : ℕ) (xs : List X) → map view (remove xs n) ≡ remove (map view xs) n
-remove-seen view zero [] = refl
-remove-seen view zero (x ∷ xs) = refl
-remove-seen view (suc n) [] = refl
-remove-seen view (suc n) (x ∷ xs) = ap (λ l. view x ∷ l) (remove-seen view n xs)
 
 -- a list without the item of a split, and what stands behind it
 drop-replaced : {A : Type 0} (before : List A) (x : A) (after : List A)
@@ -188,7 +182,7 @@ closed_seen n i older q files files' xs ys zs x m after found some each here fir
     closed_so n i older (stored_in files xs q) (stored_in files' ys q) (map view_open zs) x m after found some
     (λ s at. each q s at) here
     (first ∙ ap first_number (sym (drop-map view_open (i + 1) ys)))
-    (ap (map view_open) without ∙ remove-seen view_open i ys) released
+    (ap (map view_open) without ∙ map-remove view_open ys i) released
 
 -- a file that isn't closed, since its content doesn't fit
 refused_so : (o : Option Resources) (answer : Resources → Answer (Unit {0})) (q r : Resources) (m : Memory)
