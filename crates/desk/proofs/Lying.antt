@@ -16,6 +16,7 @@ use Rattle.desk.specs.Phase.{Phase, Waiting, Running, Ended, window_of}
 use Rattle.desk.specs.Desk.{Place, after_events}
 use Rattle.desk.specs.Job.{opening}
 use Rattle.desk.specs.Held.{closed}
+use Rattle.desk.specs.declared.partition.OpenZone.{OpenZone}
 use Rattle.desk.specs.Lying.{Lying, IsHeapOf, LiesOf, LiesAt, AllLie, LieAfter, LieAtEnd}
 use Rattle.desk.specs.Whole.{system_of}
 
@@ -30,12 +31,12 @@ LeftSo Left ws rest places = (front : List Place) × (places ≡ front ++ rest) 
 
 -- the zone of who leaves lies in its window
 pub lies_of : {S : Type 0} (zone : S → List Block) (slots : S → ℕ → Slot) (Left : Lying) (phase : Phase)
-    (freed : Option (Window × S)) → option_map (λ f. f.0) freed ≡ window_of phase
-    → IfSome freed (λ f. IsHeapOf phase (zone f.1) (slots f.1))
-    → IfSome freed (λ f. Left f.0 (zone f.1) (slots f.1)) → LiesOf Left phase
-lies_of zone slots Left (Running live) (Some f) same stored lies =
-    let is : f.0 ≡ live.window = cc in
-    (zone f.1, slots f.1, stored, subst (λ v. Left v (zone f.1) (slots f.1)) is lies)
+    (freed : Option (OpenZone S)) → option_map (λ z. z.window) freed ≡ window_of phase
+    → IfSome freed (λ z. IsHeapOf phase (zone z.store) (slots z.store))
+    → IfSome freed (λ z. Left z.window (zone z.store) (slots z.store)) → LiesOf Left phase
+lies_of zone slots Left (Running live) (Some z) same stored lies =
+    let is : z.window ≡ live.window = cc in
+    (zone z.store, slots z.store, stored, subst (λ v. Left v (zone z.store) (slots z.store)) is lies)
 lies_of zone slots Left (Running live) None same stored lies = absurd cc
 lies_of zone slots Left (Waiting start) freed same stored lies = tt
 lies_of zone slots Left (Ended launched) freed same stored lies = tt

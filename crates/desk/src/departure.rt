@@ -1,5 +1,7 @@
 //! An application leaves the desk.
 
+use crate::outcome::{AppOutcome, Launched};
+use crate::partition::OpenZone;
 use block_store::BlockStore;
 use mac_words::{Label, OsErr};
 use memory_windows::Window;
@@ -14,4 +16,28 @@ pub struct Departure<'j, S: BlockStore> {
     pub(crate) code: OsErr,
     /// The store of the application's zone.
     pub(crate) store: S,
+}
+
+/// What an application leaves that runs, as it stands.
+pub struct LiveParts<S: BlockStore> {
+    /// What the application leaves to be told.
+    pub(crate) launched: Launched,
+    /// The application's zone.
+    pub(crate) zone: OpenZone<S>,
+}
+
+/// What an application leaves that waits, runs or has ended.
+pub struct PhaseParts<S: BlockStore> {
+    /// What the application leaves to be told, if it was launched.
+    pub(crate) launched: Option<Launched>,
+    /// The application's zone, if it is open.
+    pub(crate) zone: Option<OpenZone<S>>,
+}
+
+/// What an application leaves at its place, as the desk is finished.
+pub struct SeatParts<S: BlockStore> {
+    /// What the application leaves to be told.
+    pub(crate) app: AppOutcome,
+    /// The application's zone, if it is open.
+    pub(crate) zone: Option<OpenZone<S>>,
 }

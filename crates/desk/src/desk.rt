@@ -31,10 +31,11 @@ ghost use Rattle.desk.specs.Lying.{AllLie};
 ghost use Rattle.desk.specs.View.{seen, told_seen};
 
 use crate::act::Act;
-use crate::departure::Departure;
+use crate::departure::{Departure, SeatParts};
 use crate::job::App;
 use crate::live::Live;
 use crate::outcome::AppOutcome;
+use crate::partition::OpenZone;
 use crate::preparing::{Ready, prepared};
 use crate::seat::Seat;
 use crate::seats;
@@ -62,6 +63,16 @@ pub struct Desk<'j, Z: ZoneMaker> {
     /// the desk is made.
     outcome: Vec<AppOutcome>,
     log: Vec<u8>,
+}
+
+/// What a desk leaves that is finished.
+pub struct Finished<Z: ZoneMaker> {
+    /// What the applications leave, in order.
+    pub apps: Vec<AppOutcome>,
+    /// The desk's log.
+    pub log: Vec<u8>,
+    /// The maker of zones, with no zone open.
+    pub zones: Z,
 }
 
 impl<'j, Z: ZoneMaker> Model for Desk<'j, Z> {
@@ -310,19 +321,18 @@ impl<'j, Z: ZoneMaker> Desk<'j, Z> {
         longest_script(&self.seats)
     }
 
-    /// Returns what the applications leave, in order; the desk's log; and the maker of zones, with
-    /// no zone open. In the window of each application that still ran lies its zone. Takes no host
-    /// memory.
-    pub fn finish(self) -> (Vec<AppOutcome>, Vec<u8>, Z)
-        ensures apps { map told_seen result.0.items ≡ map told self.entry.state.places }
-        ensures log { result.1.items ≡ self.entry.state.log }
-        ensures windows { Z.windows result.2 ≡ [] }
-        ensures memory { Z.memory result.2 ≡ self.entry.state.memory }
+    /// Returns what the applications leave, the desk's log, and the maker of zones, with no zone
+    /// open. In the window of each application that still ran lies its zone. Takes no host memory.
+    pub fn finish(self) -> Finished<Z>
+        ensures apps { map told_seen result.apps.items ≡ map told self.entry.state.places }
+        ensures log { result.log.items ≡ self.entry.state.log }
+        ensures windows { Z.windows result.zones ≡ [] }
+        ensures memory { Z.memory result.zones ≡ self.entry.state.memory }
         ensures kept { (w : Stretch) (site : Site) → Z.made self.entry.zones w site
-            → Z.made result.2 w site }
-        ensures lies { AllLie (Z.left result.2) self.entry.state.places }
+            → Z.made result.zones w site }
+        ensures lies { AllLie (Z.left result.zones) self.entry.state.places }
         ensures outside { (place : ℕ) → IsFree place self.entry.state
-            → Z.byte result.2 place ≡ Z.byte self.entry.zones place }
+            → Z.byte result.zones place ≡ Z.byte self.entry.zones place }
     {
         let Desk {
             alloc: _,
@@ -334,12 +344,16 @@ impl<'j, Z: ZoneMaker> Desk<'j, Z> {
         } = self;
         'places: while !seats.is_empty() {
             let seat = seats.remove(0);
-            let (app, freed) = seats::leave(seat);
+            let SeatParts { app, zone } = seats::leave(seat);
             outcome.push_reserved(app);
-            release(&mut zones, &mut grants, freed);
+            release(&mut zones, &mut grants, zone);
         }
         seats.destroy_empty();
-        (outcome, log, zones)
+        Finished {
+            apps: outcome,
+            log,
+            zones,
+        }
     }
 }
 
@@ -394,31 +408,32 @@ fn give_back<Z: ZoneMaker>(zones: &mut Z, grants: &mut Grants, window: Window, s
     grants.give_back(window);
 }
 
-/// Closes a store and gives its window back, if there are any.
-fn release<Z: ZoneMaker>(zones: &mut Z, grants: &mut Grants, freed: Option<(Window, Z::Store)>)
+/// Closes a zone and gives its window back, if there is one.
+fn release<Z: ZoneMaker>(zones: &mut Z, grants: &mut Grants, freed: Option<OpenZone<Z::Store>>)
     requires same { Z.windows zones.old ≡ grants.old.windows }
     requires made { MadeOf (Z.made zones.old)
-        (option_map (λ f. (f.0, (Z.Store.rest f.1).window)) freed) }
-    requires out { IfSome (option_map (λ f. f.0) freed) (λ w. Contains grants.old.windows w) }
-    ensures windows { grants.new.windows ≡ closed (option_map (λ f. f.0) freed) grants.old.windows }
+        (option_map (λ z. (z.window, (Z.Store.rest z.store).window)) freed) }
+    requires out { IfSome (option_map (λ z. z.window) freed) (λ w. Contains grants.old.windows w) }
+    ensures windows { grants.new.windows
+        ≡ closed (option_map (λ z. z.window) freed) grants.old.windows }
     ensures zones { Z.windows zones.new ≡ grants.new.windows }
     ensures memory { Z.memory zones.new ≡ Z.memory zones.old }
     ensures kept { (w : Stretch) (site : Site) → Z.made zones.old w site → Z.made zones.new w site }
-    ensures lies { IfSome freed (λ f.
-        Z.left zones.new f.0 (Z.Store.zone f.1) (Z.Store.rest f.1).slots) }
+    ensures lies { IfSome freed (λ z.
+        Z.left zones.new z.window (Z.Store.zone z.store) (Z.Store.rest z.store).slots) }
     ensures left { (w : Stretch) (blocks : List Block) (slots : ℕ → Slot)
-        → IfSome (option_map (λ f. f.0) freed) (λ v. Misses w v)
+        → IfSome (option_map (λ z. z.window) freed) (λ v. Misses w v)
         → Z.left zones.old w blocks slots → Z.left zones.new w blocks slots }
-    ensures outside { (place : ℕ) → IfSome (option_map (λ f. f.0) freed) (λ v. IsOutside place v)
+    ensures outside { (place : ℕ)
+        → IfSome (option_map (λ z. z.window) freed) (λ v. IsOutside place v)
         → Z.byte zones.new place ≡ Z.byte zones.old place }
 {
-    if let Some((window, store)) = freed {
+    if let Some(OpenZone { window, store }) = freed {
         give_back(zones, grants, window, store);
     }
 }
 
-/// Opens a fresh zone in a window that is granted, and returns the window and the zone's store.
-/// Returns `None` if there is no room.
+/// Opens a fresh zone in a window that is granted. Returns `None` if there is no room.
 ///
 /// # Errors
 ///
@@ -427,23 +442,24 @@ fn open_zone<Z: ZoneMaker>(
     zones: &mut Z,
     grants: &mut Grants,
     sizes: PartitionSizes,
-) -> Result<Option<(Window, Z::Store)>, AllocError>
+) -> Result<Option<OpenZone<Z::Store>>, AllocError>
     requires same { Z.windows zones.old ≡ grants.old.windows }
     requires memory { Z.memory zones.old ≡ grants.old.memory }
     requires few { length grants.old.windows < MOST_WINDOWS }
-    ensures answer { IfOk result (λ o. option_map (λ f. f.0) o
+    ensures answer { IfOk result (λ o. option_map (λ z. z.window) o
         ≡ grant grants.old.memory grants.old.windows sizes.preferred sizes.minimum) }
     ensures windows { IfOk result (λ o. grants.new.windows
-        ≡ opened (option_map (λ f. f.0) o) grants.old.windows) }
-    ensures zone { IfOk result (λ o. IfSome o (λ f. Z.Store.zone f.1 ≡ fresh f.0.len)) }
-    ensures unused { IfOk result (λ o. IfSome o (λ f. (Z.Store.rest f.1).unused ≡ 64)) }
-    ensures all { IfOk result (λ o. IfSome o (λ f. (Z.Store.rest f.1).all ≡ 64)) }
-    ensures moves { IfOk result (λ o. IfSome o (λ f. (Z.Store.rest f.1).moves ≡ 0)) }
-    ensures whole { IfOk result (λ o. IfSome o (λ f. f.0.len % 16 ≡ 0)) }
-    ensures least { IfOk result (λ o. IfSome o (λ f. 512 ≤ f.0.len)) }
-    ensures most { IfOk result (λ o. IfSome o (λ f. f.0.len ≤ GREATEST_ZONE)) }
+        ≡ opened (option_map (λ z. z.window) o) grants.old.windows) }
+    ensures zone { IfOk result (λ o.
+        IfSome o (λ z. Z.Store.zone z.store ≡ fresh z.window.len)) }
+    ensures unused { IfOk result (λ o. IfSome o (λ z. (Z.Store.rest z.store).unused ≡ 64)) }
+    ensures all { IfOk result (λ o. IfSome o (λ z. (Z.Store.rest z.store).all ≡ 64)) }
+    ensures moves { IfOk result (λ o. IfSome o (λ z. (Z.Store.rest z.store).moves ≡ 0)) }
+    ensures whole { IfOk result (λ o. IfSome o (λ z. z.window.len % 16 ≡ 0)) }
+    ensures least { IfOk result (λ o. IfSome o (λ z. 512 ≤ z.window.len)) }
+    ensures most { IfOk result (λ o. IfSome o (λ z. z.window.len ≤ GREATEST_ZONE)) }
     ensures made { IfOk result (λ o.
-        IfSome o (λ f. Z.made zones.new f.0 (Z.Store.rest f.1).window)) }
+        IfSome o (λ z. Z.made zones.new z.window (Z.Store.rest z.store).window)) }
     ensures err { OnErr result (grants.new.windows ≡ grants.old.windows) }
     ensures size { grants.new.memory ≡ grants.old.memory }
     ensures same { Z.windows zones.new ≡ grants.new.windows }
@@ -458,7 +474,7 @@ fn open_zone<Z: ZoneMaker>(
         return Ok(None);
     };
     match zones.open(window) {
-        Ok(store) => Ok(Some((window, store))),
+        Ok(store) => Ok(Some(OpenZone { window, store })),
         Err(e) => {
             grants.give_back(window);
             Err(e)
@@ -498,7 +514,7 @@ fn begin<'j, Z: ZoneMaker>(
         → Z.byte zones.new place ≡ Z.byte zones.old place }
 {
     let Ready { resources, sizes } = ready;
-    let Some((window, store)) = open_zone(zones, grants, sizes)? else {
+    let Some(OpenZone { window, store }) = open_zone(zones, grants, sizes)? else {
         return Ok(None);
     };
     match Live::begin(alloc, window, store, resources) {

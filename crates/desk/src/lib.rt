@@ -26,7 +26,7 @@ mod turns;
 mod whole;
 
 pub use applications::{Application, Unwatched, Watch};
-pub use desk::Desk;
+pub use desk::{Desk, Finished};
 pub use giving::give_in_region;
 pub use in_region::run;
 pub use job::{App, AppFile, Job};

@@ -14,8 +14,9 @@ ghost use Rattle.desk.specs.Live.{live_seen, HasCome, LeavesAs, lot_of_live, lea
 ghost use Rattle.desk.specs.Lying.{heap_of};
 
 use crate::act::Act;
+use crate::departure::LiveParts;
 use crate::outcome::Launched;
-use crate::partition::Partition;
+use crate::partition::{OpenZone, Partition};
 use applications::{Application, Exit, ends_turn};
 use block_store::BlockStore;
 use mac_words::OsErr;
@@ -209,12 +210,13 @@ impl<'j, S: BlockStore> Live<'j, S> {
         }
     }
 
-    /// Returns what the application leaves as it stands, and its window and store. `asked` says
-    /// whether it was asked to quit.
-    pub(crate) fn leave(self, asked: bool) -> (Launched, Window, S)
-        ensures launched { leaves_seen result.0 ≡ leaves asked (live_seen self.entry) }
-        ensures lot { (result.1, (S.rest result.2).window) ≡ lot_of_live self.entry }
-        ensures heap { IsStored (S.zone result.2) (S.rest result.2).slots
+    /// Returns what the application leaves as it stands, with its zone. `asked` says whether it was
+    /// asked to quit.
+    pub(crate) fn leave(self, asked: bool) -> LiveParts<S>
+        ensures launched { leaves_seen result.launched ≡ leaves asked (live_seen self.entry) }
+        ensures lot { (result.zone.window, (S.rest result.zone.store).window)
+            ≡ lot_of_live self.entry }
+        ensures heap { IsStored (S.zone result.zone.store) (S.rest result.zone.store).slots
             (heap_of (live_seen self.entry)) }
     {
         let Live {
@@ -231,7 +233,13 @@ impl<'j, S: BlockStore> Live<'j, S> {
             transcript: text,
             files,
         };
-        (launched, partition.window, store)
+        LiveParts {
+            launched,
+            zone: OpenZone {
+                window: partition.window,
+                store,
+            },
+        }
     }
 }
 

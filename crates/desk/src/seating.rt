@@ -13,16 +13,15 @@ ghost use Rattle.desk.specs.Lying.{IsHeapOf};
 ghost use Rattle.desk.specs.View.{place_seen, phase_seen, is_waiting, lot_of, left_of};
 
 use crate::act::Act;
-use crate::departure::Departure;
+use crate::departure::{Departure, LiveParts, PhaseParts};
 use crate::job::App;
 use crate::live::Live;
-use crate::outcome::Launched;
+use crate::partition::OpenZone;
 use crate::phase::Phase;
 use crate::seat::Seat;
 use block_store::BlockStore;
 use core::mem::replace_with;
 use mac_words::Label;
-use memory_windows::Window;
 use std::alloc::AllocError;
 
 /// Performs an act of the application of a place, if it runs. Returns what the application gives
@@ -107,7 +106,8 @@ fn go_on<'j, S: BlockStore>(
     match live.act(&app.script, act) {
         Ok(None) => (Phase::Running(live), Ok(None)),
         Ok(Some(code)) => {
-            let (launched, window, store) = live.leave(is_asked(act));
+            let LiveParts { launched, zone } = live.leave(is_asked(act));
+            let OpenZone { window, store } = zone;
             let departure = Departure {
                 name: &app.name,
                 window,
@@ -159,27 +159,34 @@ pub(crate) fn is_running<S: BlockStore>(seat: &Seat<'_, S>) -> bool
     matches!(seat.phase, Phase::Running(_))
 }
 
-/// Returns what an application leaves, if it was launched, and its window and the store of its
-/// zone, if the zone is open.
-pub(crate) fn part<'j, S: BlockStore>(
-    phase: Phase<'j, S>,
-) -> (Option<Launched>, Option<(Window, S)>)
+/// Returns what an application leaves, if it was launched, with its zone, if that is open.
+pub(crate) fn part<'j, S: BlockStore>(phase: Phase<'j, S>) -> PhaseParts<S>
     ensures told { (start : Result Opened Code)
-        → option_map leaves_seen result.0 ≡ told_of (phase_seen start phase.entry) }
+        → option_map leaves_seen result.launched ≡ told_of (phase_seen start phase.entry) }
     ensures window { (start : Result Opened Code)
-        → option_map (λ f. f.0) result.1 ≡ window_of (phase_seen start phase.entry) }
-    ensures lot { option_map (λ f. (f.0, (S.rest f.1).window)) result.1 ≡ lot_of phase.entry }
+        → option_map (λ z. z.window) result.zone ≡ window_of (phase_seen start phase.entry) }
+    ensures lot { option_map (λ z. (z.window, (S.rest z.store).window)) result.zone
+        ≡ lot_of phase.entry }
     ensures zone { (start : Result Opened Code)
-        → IfSome result.1 (λ f.
-        IsHeapOf (phase_seen start phase.entry) (S.zone f.1) (S.rest f.1).slots) }
+        → IfSome result.zone (λ z.
+        IsHeapOf (phase_seen start phase.entry) (S.zone z.store) (S.rest z.store).slots) }
 {
     match phase {
-        Phase::Waiting => (None, None),
+        Phase::Waiting => PhaseParts {
+            launched: None,
+            zone: None,
+        },
         Phase::Running(live) => {
-            let (launched, window, store) = live.leave(false);
-            (Some(launched), Some((window, store)))
+            let LiveParts { launched, zone } = live.leave(false);
+            PhaseParts {
+                launched: Some(launched),
+                zone: Some(zone),
+            }
         }
-        Phase::Ended(launched) => (Some(launched), None),
+        Phase::Ended(launched) => PhaseParts {
+            launched: Some(launched),
+            zone: None,
+        },
     }
 }
 

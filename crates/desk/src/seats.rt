@@ -16,7 +16,7 @@ ghost use Rattle.desk.specs.Lying.{IsHeapOf};
 ghost use Rattle.desk.specs.View.{place_seen, seen, lot_of, lots, left_of, told_seen};
 
 use crate::act::Act;
-use crate::departure::Departure;
+use crate::departure::{Departure, PhaseParts, SeatParts};
 use crate::job::App;
 use crate::live::Live;
 use crate::outcome::AppOutcome;
@@ -25,7 +25,6 @@ use crate::seat::Seat;
 use crate::seating;
 use block_store::BlockStore;
 use fork_format::Content;
-use memory_windows::Window;
 use std::alloc::{AllocError, Global};
 
 /// Returns a place for each application, at which it waits for its launch.
@@ -103,23 +102,27 @@ pub(crate) fn start_at<'j, S: BlockStore>(seats: &mut Vec<Seat<'j, S>>, i: usize
     seating::start(&mut seats[i], live);
 }
 
-/// Returns what an application leaves, and its window and the store of its zone, if the zone is
-/// open.
-pub(crate) fn leave<'j, S: BlockStore>(seat: Seat<'j, S>) -> (AppOutcome, Option<(Window, S)>)
-    ensures told { told_seen result.0 ≡ told (place_seen seat.entry) }
-    ensures window { option_map (λ f. f.0) result.1 ≡ window_of (place_seen seat.entry).phase }
-    ensures lot { option_map (λ f. (f.0, (S.rest f.1).window)) result.1 ≡ lot_of seat.entry.phase }
-    ensures zone { IfSome result.1 (λ f.
-        IsHeapOf (place_seen seat.entry).phase (S.zone f.1) (S.rest f.1).slots) }
+/// Returns what an application leaves, with its zone, if that is open.
+pub(crate) fn leave<'j, S: BlockStore>(seat: Seat<'j, S>) -> SeatParts<S>
+    ensures told { told_seen result.app ≡ told (place_seen seat.entry) }
+    ensures window { option_map (λ z. z.window) result.zone
+        ≡ window_of (place_seen seat.entry).phase }
+    ensures lot { option_map (λ z. (z.window, (S.rest z.store).window)) result.zone
+        ≡ lot_of seat.entry.phase }
+    ensures zone { IfSome result.zone (λ z.
+        IsHeapOf (place_seen seat.entry).phase (S.zone z.store) (S.rest z.store).slots) }
 {
     let Seat {
         system: _,
         app,
         phase,
     } = seat;
-    let (launched, freed) = seating::part(phase);
+    let PhaseParts { launched, zone } = seating::part(phase);
     let name = seating::own_name(&app.name);
-    (AppOutcome { name, launched }, freed)
+    SeatParts {
+        app: AppOutcome { name, launched },
+        zone,
+    }
 }
 
 /// Reports whether any application runs.

@@ -21,7 +21,7 @@ ghost use Rattle.desk.specs.Lying.{AllLie, LieAtEnd};
 ghost use Rattle.desk.specs.View.{told_seen, outcome_seen};
 ghost use Rattle.desk.specs.Whole.{IsOutcome, EachLaunched, IsAlone, InItsSteps};
 
-use crate::desk::Desk;
+use crate::desk::{Desk, Finished};
 use crate::forks::write_forks;
 use crate::job::Job;
 use crate::outcome::{AppOutcome, Outcome, RunFault};
@@ -111,7 +111,7 @@ fn run_events<Z: ZoneMaker, W: Watch>(
         ≡ append_known (W.heard watch.old) (reports result.0.done (length job.now.events.items)) }
 {
     let done = serve_all(&mut desk, &job.events, watch);
-    let (apps, log, zones) = desk.finish();
+    let Finished { apps, log, zones } = desk.finish();
     (outcome_by(done, job.events.len(), log, apps), zones)
 }
 

@@ -18,5 +18,5 @@ returns-clause-window g c = rw (← c.seat.view_is) (c.part-launched.ensures.win
 
 pub returns-clause-zone : goal.returns-clause-zone
 returns-clause-zone g c =
-    subst (λ (s : Placed _). IfSome c.part-launched.result.1 (λ f. IsHeapOf (place_seen s).phase (g.S.BlockStore.zone f.1)
-    (g.S.BlockStore.rest f.1).slots)) c.seat.view_is (c.part-launched.ensures.zone _)
+    subst (λ (s : Placed _). IfSome c.part-launched.result.zone (λ z. IsHeapOf (place_seen s).phase
+    (g.S.BlockStore.zone z.store) (g.S.BlockStore.rest z.store).slots)) c.seat.view_is (c.part-launched.ensures.zone _)

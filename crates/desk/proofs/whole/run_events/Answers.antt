@@ -50,6 +50,6 @@ returns-clause-lies g c = λ whole.
     let least = c.outcome_by.ensures.whole whole in
     let few = c.serve_all-done.ensures.few in
     let done = c.serve_all-done.ensures.all (omega (arith, least, few, count)) in
-    subst (λ (s : State). AllLie (g.Z.ZoneMaker.left c.finish-apps.result.2) s.places)
+    subst (λ (s : State). AllLie (g.Z.ZoneMaker.left c.finish-apps.result.zones) s.places)
     (done ∙ ap (λ (es : List Event). after_events es c.args.desk.state) c.deref.ensures.value)
     c.finish-apps.ensures.lies

@@ -89,7 +89,7 @@ places-preserved g c =
     let one = split_first c.places.seats.items c.remove-seat.new.self.items c.remove-seat.result (search rules)
     c.remove-seat.ensures.value c.remove-seat.ensures.items in
     record {
-      apps = told_next told_seen told c.places.outcome.items c.push_reserved.new.self.items c.leave-app.result.0
+      apps = told_next told_seen told c.places.outcome.items c.push_reserved.new.self.items c.leave-app.result.app
           (seen c.places.seats.items) (seen c.remove-seat.new.self.items) (seen c.self.inside.seats.items)
           (place_seen c.remove-seat.result) c.push_reserved.ensures.items c.leave-app.ensures.told (ap seen one) c.places.invariant.apps;
       memory = search rules;
@@ -116,7 +116,7 @@ places-preserved g c =
           (subst (λ (o : Option Window). IfSome o (λ v. Misses w v)) (sym c.leave-app.ensures.window) m) l)
           (lies_of g.Z.Store.BlockStore.zone (λ s. (g.Z.Store.BlockStore.rest s).slots)
           (g.Z.ZoneMaker.left c.release.new.zones)
-          (place_seen c.remove-seat.result).phase c.leave-app.result.1 c.leave-app.ensures.window
+          (place_seen c.remove-seat.result).phase c.leave-app.result.zone c.leave-app.ensures.window
           c.leave-app.ensures.zone c.release.ensures.lies)
           c.places.invariant.left;
       kept = λ w site m. c.release.ensures.kept w site (c.places.invariant.kept w site m);
