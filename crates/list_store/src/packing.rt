@@ -78,19 +78,28 @@ fn run_length(entries: &[StoredBlock]) -> usize
     entries.len()
 }
 
+/// The indexes between which a run lies: that of its first entry, and that after its last.
+struct RunBounds {
+    start: usize,
+    end: usize,
+}
+
 /// Returns the indexes between which the run at a place lies.
-fn run_bounds(entries: &[StoredBlock], place: u32) -> (usize, usize)
+fn run_bounds(entries: &[StoredBlock], place: u32) -> RunBounds
     requires fits { sizes (blocks_of entries.now) < 2 ^ 32 }
     requires run { IsSome (run_at place (blocks_of entries.now)) }
-    ensures order { result.0 ≤ result.1 }
-    ensures within { result.1 ≤ length entries.now }
+    ensures order { result.start ≤ result.end }
+    ensures within { result.end ≤ length entries.now }
     ensures run { run_at place (blocks_of entries.now)
-        ≡ Some (run_between result.0 result.1 (blocks_of entries.now)) }
+        ≡ Some (run_between result.start result.end (blocks_of entries.now)) }
 {
-    let Some(i) = run_start(entries, place) else {
+    let Some(start) = run_start(entries, place) else {
         unreachable!()
     };
-    (i, i + run_length(&entries[i..]))
+    RunBounds {
+        start,
+        end: start + run_length(&entries[start..]),
+    }
 }
 
 /// Returns the number of entries of a run that move when the run is compacted.
@@ -226,7 +235,7 @@ pub fn settle_run(entries: &mut Vec<StoredBlock>, place: u32) -> u64
     ensures lowered { IfSome (run_at place (blocks_of entries.old.items)) (λ r. result
         ≡ lowered_in_run r.run) }
 {
-    let (start, end) = run_bounds(entries, place);
+    let RunBounds { start, end } = run_bounds(entries, place);
     let lowered = count_lowered(&entries[start..end]);
     pack_between(entries, start, end, 0);
     lowered
@@ -258,7 +267,7 @@ pub fn hoist_slot(entries: &mut Vec<StoredBlock>, place: u32, number: u32)
     ensures { IfSome (run_at place (blocks_of entries.old.items)) (λ r.
         blocks_of entries.new.items ≡ tidy (with_run (high (is_relocatable number)) r)) }
 {
-    let (start, end) = run_bounds(entries, place);
+    let RunBounds { start, end } = run_bounds(entries, place);
     hoist_between(entries, start, end, number);
 }
 
@@ -271,7 +280,7 @@ pub fn raise_run(entries: &mut Vec<StoredBlock>, place: u32, bytes: u32) -> Resu
         blocks_of entries.new.items ≡ tidy (with_run (low (Free bytes)) r))) }
     ensures err { OnErr result (entries.new.items ≡ entries.old.items) }
 {
-    let (start, end) = run_bounds(entries, place);
+    let RunBounds { start, end } = run_bounds(entries, place);
     entries.insert(start, StoredBlock::Free(bytes))?;
     pack_between(entries, start + 1, end + 1, bytes);
     Ok(())

@@ -10,7 +10,7 @@ use Rattle.list_store.proofs.packing.raise_run.Goals as goal
 
 -- the run with a Free block more
 raised : (c : In_ok-insert) → Raised (blocks_of c.args.entries.now.items) (blocks_of c.insert.new.self.items)
-    c.args.place c.args.bytes c.run_bounds-start.result.0 c.run_bounds-start.result.1
+    c.args.place c.args.bytes c.run_bounds-start.result.start c.run_bounds-start.result.end
 raised c =
     let now = c.run_bounds-start.ensures in
     raised-above c.args.entries.now.items _ c.insert.new.self.items c.args.place c.args.bytes _ _ c.deref.ensures.value

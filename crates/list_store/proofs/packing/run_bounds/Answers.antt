@@ -8,7 +8,7 @@ use Rattle.list_store.proofs.packing.run_bounds.Goals as goal
 pub returns-clause-run : goal.returns-clause-run
 returns-clause-run c =
     let es = c.args.entries.now in
-    let i = c.in-Some.i in
+    let i = c.in-Some.start in
     let part = take (length es - i) (drop i es) in
     let same = ap blocks_of (take_all (length es - i) (drop i es) (let z = length-drop i es in omega arith))
     ∙ blocks_of-drop i es in
