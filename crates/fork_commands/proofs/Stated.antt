@@ -87,11 +87,11 @@ some_words why bare [] text new is has = let both : true ≡ false = is in cc
 some_words why bare (b ∷ bytes) text new is has = has
 
 -- the words for a fork that was found in a file
-pub found_words_of : (why bare : Bool) (bytes fork text new : List ℕ) (container : Container) → fork_in bytes ≡ Ok fork
-    → container ≡ container_of bytes → bare ≡ is_bare container → new ≡ text ++ fork_words why bare fork
+pub found_words_of : (why : Bool) (bytes fork text new : List ℕ) (container : Container) → fork_in bytes ≡ Ok fork
+    → container ≡ container_of bytes → new ≡ text ++ fork_words why (is_bare container) fork
     → new ≡ text ++ state_words why bytes
-found_words_of why bare bytes fork text new container found within is has =
-    has ∙ ap (λ k. text ++ fork_words why k fork) (is ∙ ap is_bare within)
+found_words_of why bytes fork text new container found within has =
+    has ∙ ap (λ k. text ++ fork_words why (is_bare k) fork) within
     ∙ ap (λ f. text ++ found_words why (is_bare (container_of bytes)) f) (sym found)
 
 -- and for a file in which none is found

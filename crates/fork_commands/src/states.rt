@@ -79,18 +79,25 @@ fn append_damage(text: &mut Vec<u8>, why: bool, broken: &Broken) -> Result<(), A
     }
 }
 
+/// Reports whether a file is a fork as it stands, in no wrapper.
+fn is_in_none(container: Container) -> bool
+    ensures { result ≡ is_bare container }
+{
+    container == Container::Wrapped(Wrapping::Plain)
+}
+
 /// Appends the words for bytes that break a rule.
 fn append_broken(
     text: &mut Vec<u8>,
     why: bool,
-    bare: bool,
+    container: Container,
     fork: &[u8],
     broken: &Broken,
 ) -> Result<(), AllocError>
     ensures { OnOk result (text.new.items
-        ≡ text.old.items ++ broken_words why bare fork.now broken.now) }
+        ≡ text.old.items ++ broken_words why (is_bare container) fork.now broken.now) }
 {
-    if bare && is_something_else(fork, broken) {
+    if is_in_none(container) && is_something_else(fork, broken) {
         text.extend_from_slice(b"not a fork")
     } else {
         append_damage(text, why, broken)
@@ -195,16 +202,16 @@ fn rule_of(fork: &[u8]) -> Option<Broken>
 fn append_without(
     text: &mut Vec<u8>,
     why: bool,
-    bare: bool,
+    container: Container,
     fork: &[u8],
     broken: &Broken,
 ) -> Result<bool, AllocError>
     requires { rule_of fork.now ≡ Some broken.now }
     ensures words { OnOk result (text.new.items
-        ≡ text.old.items ++ broken_words why bare fork.now broken.now) }
+        ≡ text.old.items ++ broken_words why (is_bare container) fork.now broken.now) }
     ensures content { IfOk result (λ has. has ≡ is_ok (content_of_fork fork.now)) }
 {
-    append_broken(text, why, bare, fork, broken)?;
+    append_broken(text, why, container, fork, broken)?;
     Ok(false)
 }
 
@@ -229,15 +236,15 @@ fn append_judged(
     alloc: Global,
     text: &mut Vec<u8>,
     why: bool,
-    bare: bool,
+    container: Container,
     fork: &[u8],
 ) -> Result<bool, AllocError>
     ensures words { OnOk result (text.new.items
-        ≡ text.old.items ++ judged_words why bare fork.now (rule_of fork.now)) }
+        ≡ text.old.items ++ judged_words why (is_bare container) fork.now (rule_of fork.now)) }
     ensures content { IfOk result (λ has. has ≡ is_ok (content_of_fork fork.now)) }
 {
     match rule_of(fork) {
-        Some(broken) => append_without(text, why, bare, fork, &broken),
+        Some(broken) => append_without(text, why, container, fork, &broken),
         None => append_with(alloc, text, why, fork),
     }
 }
@@ -248,17 +255,18 @@ fn append_fork(
     alloc: Global,
     text: &mut Vec<u8>,
     why: bool,
-    bare: bool,
+    container: Container,
     fork: &[u8],
 ) -> Result<bool, AllocError>
-    ensures words { OnOk result (text.new.items ≡ text.old.items ++ fork_words why bare fork.now) }
+    ensures words { OnOk result (text.new.items
+        ≡ text.old.items ++ fork_words why (is_bare container) fork.now) }
     ensures content { IfOk result (λ has. has ≡ is_ok (content_of_fork fork.now)) }
 {
     if fork.is_empty() {
         text.extend_from_slice(b"no fork")?;
         return Ok(false);
     }
-    let has = append_judged(alloc, text, why, bare, fork)?;
+    let has = append_judged(alloc, text, why, container, fork)?;
     Ok(has)
 }
 
@@ -446,13 +454,6 @@ fn append_fault(text: &mut Vec<u8>, why: bool, fault: &FileFault) -> Result<(), 
     }
 }
 
-/// Reports whether a file is a fork as it stands, in no wrapper.
-fn is_in_none(container: Container) -> bool
-    ensures { result ≡ is_bare container }
-{
-    container == Container::Wrapped(Wrapping::Plain)
-}
-
 /// Appends the state of a file that was opened, and returns whether it has a content.
 #[tactic(auto, using(crate::proofs::Stated::found_words_of, crate::proofs::Stated::lost_words_of, crate::proofs::Stated::found_content, crate::proofs::Stated::lost_content))]
 fn append_opened(
@@ -468,8 +469,7 @@ fn append_opened(
 {
     match fork_in(file) {
         Ok(found) => {
-            let bare = is_in_none(found.container);
-            let has = append_fork(alloc, text, why, bare, found.fork)?;
+            let has = append_fork(alloc, text, why, found.container, found.fork)?;
             Ok(has)
         }
         Err(fault) => {
