@@ -1,6 +1,6 @@
 //! The handles and pointers that a call names.
 
-ghost use Rattle.std.specs.Prelude.{◌≡◌};
+ghost use Rattle.std.specs.Prelude.{◌≡◌, None};
 ghost use Rattle.heap_calls.specs.Table.{first_named, second_named};
 ghost use Rattle.res_calls.specs.Asked as finds;
 ghost use Rattle.applications.specs.Trying.{asked, resource_asked};
@@ -8,43 +8,70 @@ ghost use Rattle.applications.specs.Trying.{asked, resource_asked};
 use crate::names::Names;
 use mac_words::{HeapCall, Replacement, ResourceCall};
 
+/// The numbers of the handles and pointers that a call names as arguments, two at most.
+pub struct Arguments {
+    /// The number of the one that the call names first, or alone.
+    pub first: Option<usize>,
+    /// The number of the one that the call names second.
+    pub second: Option<usize>,
+}
+
+/// Returns the numbers of a call that names at most one handle or pointer.
+fn only(first: Option<usize>) -> Arguments
+    ensures first { result.first ≡ first }
+    ensures second { result.second ≡ None }
+{
+    Arguments {
+        first,
+        second: None,
+    }
+}
+
+/// Returns the numbers of a call that names two handles or pointers.
+fn both(first: Option<usize>, second: Option<usize>) -> Arguments
+    ensures first { result.first ≡ first }
+    ensures second { result.second ≡ second }
+{
+    Arguments { first, second }
+}
+
 /// Returns the numbers of the handles and pointers that a call names as arguments, two at most. A
 /// name that the call binds is not an argument.
-pub fn named(call: &HeapCall, names: &Names) -> (Option<usize>, Option<usize>)
-    ensures first { result.0 ≡ first_named (asked call.now names.now) }
-    ensures second { result.1 ≡ second_named (asked call.now names.now) }
+pub fn named(call: &HeapCall, names: &Names) -> Arguments
+    ensures first { result.first ≡ first_named (asked call.now names.now) }
+    ensures second { result.second ≡ second_named (asked call.now names.now) }
 {
     match call {
-        HeapCall::HandAndHand(from, to) => (names.number(from), names.number(to)),
-        HeapCall::BlockMove(from, _, to, _, _) => (names.number(from), names.number(to)),
-        HeapCall::DisposeHandle(name) => (names.number(name), None),
-        HeapCall::GetHandleSize(name) => (names.number(name), None),
-        HeapCall::SetHandleSize(name, _) => (names.number(name), None),
-        HeapCall::ReallocateHandle(name, _) => (names.number(name), None),
-        HeapCall::EmptyHandle(name) => (names.number(name), None),
-        HeapCall::HLock(name) => (names.number(name), None),
-        HeapCall::HUnlock(name) => (names.number(name), None),
-        HeapCall::HPurge(name) => (names.number(name), None),
-        HeapCall::HNoPurge(name) => (names.number(name), None),
-        HeapCall::HGetState(name) => (names.number(name), None),
-        HeapCall::HandleZone(name) => (names.number(name), None),
-        HeapCall::HSetState(name, _) => (names.number(name), None),
-        HeapCall::MoveHHi(name) => (names.number(name), None),
-        HeapCall::HLockHi(name) => (names.number(name), None),
-        HeapCall::HandToHand(_, from) => (names.number(from), None),
-        HeapCall::PtrAndHand(name, _) => (names.number(name), None),
-        HeapCall::PtrToXHand(name, _) => (names.number(name), None),
-        HeapCall::Munger(name, _, _, Replacement::Bytes(_)) => (names.number(name), None),
-        HeapCall::Munger(name, _, _, Replacement::Nil) => (names.number(name), None),
-        HeapCall::DisposePtr(name) => (names.number(name), None),
-        HeapCall::GetPtrSize(name) => (names.number(name), None),
-        HeapCall::PtrZone(name) => (names.number(name), None),
-        HeapCall::SetPtrSize(name, _) => (names.number(name), None),
-        HeapCall::Put(name, _, _) => (names.number(name), None),
-        HeapCall::Show(name) => (names.number(name), None),
-        HeapCall::PutPtr(name, _, _) => (names.number(name), None),
-        HeapCall::ShowPtr(name) => (names.number(name), None),
-        HeapCall::Where(name) => (names.number(name), None),
+        HeapCall::HandAndHand(from, to) => both(names.number(from), names.number(to)),
+        HeapCall::BlockMove(from, _, to, _, _) => both(names.number(from), names.number(to)),
+        HeapCall::DisposeHandle(name) => only(names.number(name)),
+        HeapCall::GetHandleSize(name) => only(names.number(name)),
+        HeapCall::SetHandleSize(name, _) => only(names.number(name)),
+        HeapCall::ReallocateHandle(name, _) => only(names.number(name)),
+        HeapCall::EmptyHandle(name) => only(names.number(name)),
+        HeapCall::HLock(name) => only(names.number(name)),
+        HeapCall::HUnlock(name) => only(names.number(name)),
+        HeapCall::HPurge(name) => only(names.number(name)),
+        HeapCall::HNoPurge(name) => only(names.number(name)),
+        HeapCall::HGetState(name) => only(names.number(name)),
+        HeapCall::HandleZone(name) => only(names.number(name)),
+        HeapCall::HSetState(name, _) => only(names.number(name)),
+        HeapCall::MoveHHi(name) => only(names.number(name)),
+        HeapCall::HLockHi(name) => only(names.number(name)),
+        HeapCall::HandToHand(_, from) => only(names.number(from)),
+        HeapCall::PtrAndHand(name, _) => only(names.number(name)),
+        HeapCall::PtrToXHand(name, _) => only(names.number(name)),
+        HeapCall::Munger(name, _, _, Replacement::Bytes(_)) => only(names.number(name)),
+        HeapCall::Munger(name, _, _, Replacement::Nil) => only(names.number(name)),
+        HeapCall::DisposePtr(name) => only(names.number(name)),
+        HeapCall::GetPtrSize(name) => only(names.number(name)),
+        HeapCall::PtrZone(name) => only(names.number(name)),
+        HeapCall::SetPtrSize(name, _) => only(names.number(name)),
+        HeapCall::Put(name, _, _) => only(names.number(name)),
+        HeapCall::Show(name) => only(names.number(name)),
+        HeapCall::PutPtr(name, _, _) => only(names.number(name)),
+        HeapCall::ShowPtr(name) => only(names.number(name)),
+        HeapCall::Where(name) => only(names.number(name)),
         HeapCall::NewHandle(..)
         | HeapCall::NewEmptyHandle(_)
         | HeapCall::PtrToHand(..)
@@ -58,7 +85,7 @@ pub fn named(call: &HeapCall, names: &Names) -> (Option<usize>, Option<usize>)
         | HeapCall::MaxMem
         | HeapCall::ReserveMem(_)
         | HeapCall::MoreMasters
-        | HeapCall::MemError => (None, None),
+        | HeapCall::MemError => only(None),
     }
 }
 

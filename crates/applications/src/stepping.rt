@@ -23,7 +23,7 @@ ghost use Rattle.applications.specs.Reports.{reports};
 ghost use Rattle.applications.specs.Stopping.{steps_taken, StopsAfter};
 
 use crate::application::Application;
-use crate::naming::{named, named_resource};
+use crate::naming::{Arguments, named, named_resource};
 use crate::onlooker::{Onlooker, Unseen};
 use crate::quitting::Exit;
 use crate::tried::Tried;
@@ -61,7 +61,7 @@ impl<'s, S: BlockStore> Application<'s, S> {
     {
         match call {
             Call::Heap(call) => {
-                let (first, second) = named(call, &self.names);
+                let Arguments { first, second } = named(call, &self.names);
                 self.mark_number(busy, first);
                 self.mark_number(busy, second);
                 self.mark_number(busy, reading);

@@ -13,7 +13,7 @@ ghost use Rattle.applications.specs.Replies.{TellsTold, IsTried};
 use crate::application::Application;
 use crate::finding::shown_in as found_in;
 use crate::names::Names;
-use crate::naming::named;
+use crate::naming::{Arguments, named};
 use crate::tried::{
     Tried, code_of_another, completed, done, given, measured, number, offset, recovered, replaced,
     shown, space, state,
@@ -127,7 +127,7 @@ fn answered<S: BlockStore, K: PurgeSink>(
         (gone_in (asked call.now names.now) heap.old.memory) sink.old sink.new }
     ensures lies { heap.new.memory.window ≡ heap.old.memory.window }
 {
-    let (first, second) = named(call, names);
+    let Arguments { first, second } = named(call, names);
     match call {
         HeapCall::NewHandle(_, size) => given(heap.new_handle(*size, sink)),
         HeapCall::NewEmptyHandle(_) => given(heap.new_empty_handle(sink)),
