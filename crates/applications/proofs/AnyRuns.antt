@@ -1,21 +1,8 @@
-use Rattle.std.proofs.Common.{ℕ, List}
-use Rattle.std.proofs.lemmas.Bool.{and_left}
-use Rattle.script_text.specs.declared.script.Line.{Line}
-use Rattle.res_calls.specs.Files.{Resources}
-use Rattle.res_calls.specs.Fetch.{Managers}
-use Rattle.res_calls.proofs.Walks.Launching.{preloaded-busy}
-use Rattle.heap_calls.specs.State.{fresh_memory}
-use Rattle.heap_calls.specs.LastPut.{Holds}
-use Rattle.heap_calls.specs.Locked.{locked_place}
-use Rattle.heap_calls.specs.Standing.{pointer_place}
-use Rattle.heap_calls.proofs.Promises.Knowing.{holds-known}
-use Rattle.applications.specs.Trying.{Blocks, launched_with, nowhere}
-use Rattle.applications.specs.Step.{Event, course_of}
-use Rattle.applications.specs.Laws.{put_at_launch, EachTry, Linked, ShowsPut, HoldsPut, KeepsLocked, KeepsNonrelocatable}
-use Rattle.applications.specs.Laws.{PurgesOnlyPurgeable, SearchesFew, RefusedLeaves, RefusedCosts, RefusedBinds, NothingBusy}
-use Rattle.applications.specs.Laws.{GoesByRule}
-use Rattle.applications.specs.Laws.{KeepsResources, KeepsFiles, KeepsTable, is_answered, frees, drops, freed_by}
-use Rattle.applications.specs.Laws.{dropped_by, LockedStay, NonrelocatableStay}
+use Rattle.applications.proofs.Cited.{ℕ, List, and_left, Line, Resources, Managers, preloaded-busy, fresh_memory, Holds, locked_place}
+use Rattle.applications.proofs.Cited.{pointer_place, holds-known, Blocks, launched_with, nowhere, Event, course_of, put_at_launch, EachTry}
+use Rattle.applications.proofs.Cited.{Linked, ShowsPut, HoldsPut, KeepsLocked, KeepsNonrelocatable, PurgesOnlyPurgeable, SearchesFew}
+use Rattle.applications.proofs.Cited.{RefusedLeaves, RefusedCosts, RefusedBinds, NothingBusy, GoesByRule, KeepsResources, KeepsFiles}
+use Rattle.applications.proofs.Cited.{KeepsTable, is_answered, frees, drops, freed_by, dropped_by, LockedStay, NonrelocatableStay}
 use Rattle.applications.proofs.TryLaws.{sound-launched, once-shows, once-holds, once-locked, once-nonrelocatable, once-purgeable}
 use Rattle.applications.proofs.TryLaws.{once-searches, once-refused, once-costs, once-keeps-resources, once-keeps-files}
 use Rattle.applications.proofs.TryLaws.{once-keeps-table}

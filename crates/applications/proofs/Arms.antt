@@ -1,17 +1,7 @@
-use Rattle.std.proofs.Common.{◌≡◌, ◌∙◌, Bool, true, false, Result, Ok, Err, List, sym, ap, subst}
-use Rattle.std.specs.Prelude.{IfOk, OnOk, IsOk}
-use Rattle.std.specs.declared.alloc.AllocError.{AllocError}
-use Rattle.mac_words.specs.Told.{Told}
-use Rattle.mac_words.specs.declared.resource_call.ResourceCall.{ResourceCall}
-use Rattle.res_calls.specs.Fetch.{Managers, Answer}
-use Rattle.res_calls.specs.Asked.{Served, served, telling}
-use Rattle.res_calls.specs.Fetching.{fetches}
-use Rattle.heap_calls.specs.Gone.{Gone, Hears}
-use Rattle.heap_calls.proofs.Hearing.{hears-as}
-use Rattle.res_calls.specs.Gone.{gone_for}
-use Rattle.applications.specs.Trying.{resource_asked}
-use Rattle.applications.specs.Names.{Bindings}
-use Rattle.applications.specs.Replies.{TellsServed}
+use Rattle.applications.proofs.Cited.{◌≡◌, ◌∙◌, Bool, true, false, Result, Ok, Err, List, sym, ap, subst, IfOk, OnOk, IsOk, AllocError}
+use Rattle.applications.proofs.Cited.{Told, ResourceCall, Managers, Answer, Served, telling, fetches, Gone, Hears, hears-as, gone_for}
+use Rattle.applications.proofs.Cited.{resource_asked, Bindings, TellsServed}
+use Rattle.res_calls.specs.Asked.{served}
 use Rattle.applications.specs.declared.tried.Tried.{Tried}
 
 -- How one call of the Resource Manager's table is tried: what its method answers is what the table tells.

@@ -1,9 +1,5 @@
-use Rattle.std.proofs.Common.{◌≡◌, ℕ, Bool, true, false, refl, sym, cond, map, List, [], ◌∷◌}
-use Rattle.std.specs.Prelude.{bytes_eq}
-use Rattle.std.specs.Map.{lookup}
-use Rattle.indexmap.specs.IndexMap.{insert_entry}
-use Rattle.mac_words.specs.declared.name.Label.{Label}
-use Rattle.applications.specs.Names.{bound_to, bind, binding}
+use Rattle.applications.proofs.Cited.{◌≡◌, ℕ, Bool, true, false, refl, sym, cond, map, List, [], ◌∷◌, bytes_eq, lookup, insert_entry, Label}
+use Rattle.applications.proofs.Cited.{bound_to, bind, binding}
 
 -- names are equal where their bytes are
 abbrev pub TellsNames : (Label → Label → Bool) → Type 0

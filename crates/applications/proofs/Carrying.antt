@@ -1,18 +1,10 @@
-use Rattle.std.proofs.Common.{◌≡◌, ℕ, Bool, true, false, zero, suc, List, [], ◌∷◌, ◌++◌, refl, sym, ap, ◌∙◌, subst}
-use Rattle.std.proofs.Common.{cond}
-use Rattle.std.proofs.Common.{Option, Some, None}
-use Rattle.mac_words.specs.declared.code.OsErr.{OsErr}
-use Rattle.mac_words.specs.declared.call.Call.{Call}
+use Rattle.applications.proofs.Cited.{◌≡◌, ℕ, Bool, true, false, zero, suc, List, [], ◌∷◌, ◌++◌, refl, sym, ap, ◌∙◌, subst, cond, Option}
+use Rattle.applications.proofs.Cited.{Some, None, OsErr, Call, State, Memory, first_named, second_named, Line, named, Running, Blocks}
+use Rattle.applications.proofs.Cited.{Tried, once, asked, resource_asked, code_told, Event, Course, nothing_yet, joined, event_of, marked}
+use Rattle.applications.proofs.Cited.{marked_for, grown_line, grown, grown_for, asked_for, kept_anew, ended, stands, Round, Ends, Again}
+use Rattle.applications.proofs.Cited.{made_room, after_asking, round, continued, step_in, step, most_rounds, course_of, put_event}
+use Rattle.applications.proofs.Cited.{put_events, EachTry, Linked}
 use Rattle.mac_words.specs.declared.call.Call.TheVariants as call
-use Rattle.heap_calls.specs.State.{State, Memory}
-use Rattle.heap_calls.specs.Table.{first_named, second_named}
-use Rattle.script_text.specs.declared.script.Line.{Line}
-use Rattle.res_calls.specs.Asked.{named}
-use Rattle.applications.specs.Trying.{Running, Blocks, Tried, once, asked, resource_asked, code_told}
-use Rattle.applications.specs.Step.{Event, Course, nothing_yet, joined, event_of, marked, marked_for, grown_line, grown}
-use Rattle.applications.specs.Step.{grown_for, asked_for, kept_anew, ended, stands, Round, Ends, Again, made_room, after_asking}
-use Rattle.applications.specs.Step.{round, continued, step_in, step, most_rounds, course_of}
-use Rattle.applications.specs.Laws.{put_event, put_events, EachTry, Linked}
 use Rattle.applications.proofs.TryLaws.{Sound, once-sound}
 
 -- What holds of one try holds of each try of a run.

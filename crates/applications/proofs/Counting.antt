@@ -1,17 +1,10 @@
-use Rattle.std.proofs.Common.{◌≡◌, ◌+◌, ◌≤◌, ◌<◌, ◌++◌, ◌||◌, ◌⊎◌, inl, inr, ℕ, Bool, true, false, List, [], ◌∷◌, Some}
-use Rattle.std.proofs.Common.{length, take, get_or, refl, sym, ap, ◌∙◌, subst, cond, arith, append-nil, append_assoc}
-use Rattle.std.specs.Prelude.{slice_get, Option, None, if◌then◌else◌}
-use Rattle.std.proofs.lemmas.Bool.{le-ltb, lt-ltb}
-use Rattle.std.proofs.lemmas.List.{take_more, take_all}
-use Rattle.std.proofs.lemmas.Option.{slice_get_within, get_or_from_slice_get, slice_get_cases}
-use Rattle.mac_words.specs.Told.{Told}
-use Rattle.script_text.specs.Script.{ScriptParts}
-use Rattle.script_text.specs.declared.script.Line.{Line}
-use Rattle.res_calls.specs.Files.{Resources}
-use Rattle.applications.specs.Trying.{Running, Blocks, launched_with, nowhere, last_code, is_fatal}
-use Rattle.applications.specs.Step.{Event, Shown, LineEnd, Course, AlikeCourses, nothing_yet, joined, step, unless_over}
-use Rattle.applications.specs.Step.{course_of}
-use Rattle.applications.specs.Alone.{Ending, first_steps, ending, ending_of, quits, stops}
+use Rattle.applications.proofs.Cited.{◌≡◌, ◌+◌, ◌≤◌, ◌<◌, ◌++◌, ◌||◌, ◌⊎◌, inl, inr, ℕ, Bool, true, false, List, [], ◌∷◌, Some, length}
+use Rattle.applications.proofs.Cited.{take, get_or, refl, sym, ap, ◌∙◌, subst, cond, arith, append-nil, append_assoc, slice_get}
+use Rattle.applications.proofs.Cited.{if◌then◌else◌, le-ltb, lt-ltb, take_more, take_all, slice_get_within, get_or_from_slice_get}
+use Rattle.applications.proofs.Cited.{slice_get_cases, Told, ScriptParts, Line, Resources, Running, Blocks, launched_with, nowhere}
+use Rattle.applications.proofs.Cited.{last_code, is_fatal, Event, Shown, LineEnd, Course, AlikeCourses, nothing_yet, joined, step}
+use Rattle.applications.proofs.Cited.{unless_over, course_of, Ending, first_steps, ending, ending_of, quits, stops}
+use Rattle.std.specs.Prelude.{Option, None}
 
 -- A run counted step by step: what the next line adds to the first steps, and to how the application ended.
 

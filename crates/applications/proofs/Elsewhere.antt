@@ -1,44 +1,25 @@
-use Rattle.std.proofs.Common.{◌≡◌, ◌∙◌, ◌≤◌, ◌-◌, ◌++◌, arith, ℕ, Bool, true, false, zero, suc, List, [], ◌∷◌, refl}
-use Rattle.std.proofs.Common.{sym, ap}
-use Rattle.std.proofs.Common.{cond, Option, Some, None, pos, map}
-use Rattle.std.proofs.lemmas.List.{map-append}
-use Rattle.mac_words.specs.declared.code.OsErr.{OsErr}
-use Rattle.mac_words.specs.declared.call.Call.{Call}
+use Rattle.applications.proofs.Cited.{◌≡◌, ◌∙◌, ◌≤◌, ◌-◌, ◌++◌, arith, ℕ, Bool, true, false, zero, suc, List, [], ◌∷◌, refl, sym, ap, cond}
+use Rattle.applications.proofs.Cited.{Option, Some, None, pos, map, map-append, OsErr, Call, Site, sizes, fresh, sizes-free, Memory}
+use Rattle.applications.proofs.Cited.{fresh_memory, Told, Asked, served, gone_in, first_named, second_named, elsewhere, served-elsewhere}
+use Rattle.applications.proofs.Cited.{Line, Resources, Managers, Reads, own_datum, Served, named, gone-elsewhere, table_in, code_type}
+use Rattle.applications.proofs.Cited.{Running, Blocks, Tried, once, asked, resource_asked, managers_of, program_of, launched_with, nowhere}
+use Rattle.applications.proofs.Cited.{heap_tried, resource_tried, segment_tried, with_stored, code_told, served_moved, preloaded-elsewhere}
+use Rattle.applications.proofs.Cited.{Event, LineEnd, Course, joined, event_of, marked, marked_for, grown_line, grown, grown_for, asked_for}
+use Rattle.applications.proofs.Cited.{kept_anew, ended, stands, Round, Ends, Again, made_room, after_asking, after_try, round, continued}
+use Rattle.applications.proofs.Cited.{step_in, step, most_rounds, unless_over, course_of, Glance, glance_of, glances, glances_after}
+use Rattle.applications.proofs.Cited.{glances_for, glances_grown, glances_in, glances_try, moved, event_elsewhere, line_end_elsewhere}
+use Rattle.applications.proofs.Cited.{course_elsewhere}
 use Rattle.mac_words.specs.declared.call.Call.TheVariants as call
 use Rattle.mac_words.specs.declared.call.ControlCall.TheVariants as control
-use Rattle.block_store.specs.Rest.{Site}
-use Rattle.block_store.specs.Block.{sizes, fresh}
-use Rattle.block_store.proofs.Zone.Alike.{sizes-free}
-use Rattle.heap_calls.specs.State.{Memory, fresh_memory}
-use Rattle.mac_words.specs.Told.{Told}
-use Rattle.heap_calls.specs.Asked.{Asked}
-use Rattle.heap_calls.specs.Table.{served, gone_in, first_named, second_named}
-use Rattle.heap_calls.proofs.Tries.Elsewhere.{elsewhere, served-elsewhere, gone-elsewhere as heap-gone-elsewhere}
-use Rattle.script_text.specs.declared.script.Line.{Line}
-use Rattle.res_calls.specs.Files.{Resources}
-use Rattle.res_calls.specs.Fetch.{Managers, Reads}
-use Rattle.res_calls.specs.Own.{own_datum}
-use Rattle.res_calls.specs.Asked.{Served, named}
+use Rattle.heap_calls.proofs.Tries.Elsewhere.{gone-elsewhere as heap-gone-elsewhere}
 use Rattle.res_calls.specs.Asked as finds
 use Rattle.res_calls.specs.Gone as purges
-use Rattle.res_calls.proofs.GoneElsewhere.{gone-elsewhere}
-use Rattle.segments.specs.Table.{table_in}
-use Rattle.segments.specs.Calls.{code_type}
 use Rattle.segments.specs.Asked.{Served as Jumped}
 use Rattle.segments.specs.Asked as jumps
 use Rattle.segments.specs.Gone as jump_purges
 use Rattle.segments.proofs.Purging.{gone-elsewhere as jump-gone-elsewhere}
-use Rattle.applications.specs.Trying.{Running, Blocks, Tried, once, asked, resource_asked, managers_of, program_of}
-use Rattle.applications.specs.Trying.{launched_with, nowhere, heap_tried, resource_tried, segment_tried, with_stored}
-use Rattle.applications.specs.Trying.{code_told}
-use Rattle.res_calls.proofs.Walks.Place.{served-elsewhere as found-elsewhere, served_moved}
-use Rattle.res_calls.proofs.Walks.Launching.{preloaded-elsewhere}
+use Rattle.res_calls.proofs.Walks.Place.{served-elsewhere as found-elsewhere}
 use Rattle.segments.proofs.Laws.{served-elsewhere as jumped-elsewhere, served_moved as jumped_moved}
-use Rattle.applications.specs.Step.{Event, LineEnd, Course, joined, event_of, marked, marked_for, grown_line, grown}
-use Rattle.applications.specs.Step.{grown_for, asked_for, kept_anew, ended, stands, Round, Ends, Again, made_room, after_asking}
-use Rattle.applications.specs.Step.{after_try, round, continued, step_in, step, most_rounds, unless_over, course_of}
-use Rattle.applications.specs.Inside.{Glance, glance_of, glances, glances_after, glances_for, glances_grown, glances_in, glances_try}
-use Rattle.applications.specs.Elsewhere.{moved, event_elsewhere, line_end_elsewhere, course_elsewhere}
 
 -- What a run comes to doesn't hang on where its partition lies.
 

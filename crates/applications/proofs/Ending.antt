@@ -1,24 +1,13 @@
-use Rattle.std.proofs.Common.{◌≡◌, ◌≤◌, ◌<◌, ℕ, Bool, true, false, zero, suc, List, [], ◌∷◌, refl, sym, ap, ◌∙◌}
-use Rattle.std.proofs.Common.{cond, arith, subst, Option}
-use Rattle.std.proofs.lemmas.Bool.{ltb-true}
-use Rattle.mac_words.specs.declared.code.OsErr.{OsErr}
-use Rattle.mac_words.specs.declared.call.Call.{Call}
+use Rattle.applications.proofs.Cited.{◌≡◌, ◌≤◌, ◌<◌, ℕ, Bool, true, false, zero, suc, List, [], ◌∷◌, refl, sym, ap, ◌∙◌, cond, arith, subst}
+use Rattle.applications.proofs.Cited.{Option, ltb-true, OsErr, Call, Block, sizes, count, is_masters, State, Memory, Told, Done, Given}
+use Rattle.applications.proofs.Cited.{Fetched, Number, Numbers, Offset, Code, Bytes, Kind, Info, Entry, Refused, ease, staying, parted}
+use Rattle.applications.proofs.Cited.{less_stays, served_bytes, served_masters_no_fewer, served_no_more, Line, Running, Blocks, Tried, once}
+use Rattle.applications.proofs.Cited.{asked, resource_asked, managers_of, program_of, code_told, is_full, Course, event_of, marked_for}
+use Rattle.applications.proofs.Cited.{grown, grown_for, asked_for, Round, Ends, Again, made_room, after_asking, joined, ended, stands}
+use Rattle.applications.proofs.Cited.{round, continued, step_in, step, step_by_rule, most_rounds, Event, put_event, put_events, GoesByRule}
+use Rattle.applications.proofs.Cited.{served-bytes, served-masters, served-no_more}
 use Rattle.mac_words.specs.declared.call.Call.TheVariants as call
 use Rattle.mac_words.specs.declared.call.ControlCall.TheVariants as control
-use Rattle.block_store.specs.Block.{Block, sizes, count, is_masters}
-use Rattle.heap_calls.specs.State.{State, Memory}
-use Rattle.mac_words.specs.Told.{Told, Done, Given, Fetched, Number, Numbers, Offset, Code, Bytes, Kind, Info, Entry, Refused}
-use Rattle.heap_calls.specs.Staying.{ease, staying}
-use Rattle.heap_calls.proofs.Tries.Parting.{parted, less_stays}
-use Rattle.heap_calls.proofs.Tries.Keeping.{served_bytes, served_masters_no_fewer, served_no_more}
-use Rattle.script_text.specs.declared.script.Line.{Line}
-use Rattle.applications.specs.Trying.{Running, Blocks, Tried, once, asked, resource_asked, managers_of, program_of}
-use Rattle.applications.specs.Trying.{code_told, is_full}
-use Rattle.applications.specs.Step.{Course, event_of, marked_for, grown, grown_for, asked_for, Round, Ends}
-use Rattle.applications.specs.Step.{Again, made_room, after_asking, joined, ended, stands, round, continued, step_in, step}
-use Rattle.applications.specs.Step.{step_by_rule, most_rounds, Event}
-use Rattle.applications.specs.Laws.{put_event, put_events, GoesByRule}
-use Rattle.res_calls.proofs.Walks.Laws.{served-bytes, served-masters, served-no_more}
 use Rattle.segments.proofs.Laws as jumping
 use Rattle.applications.proofs.TryLaws.{Sound, of-try, once-sound}
 use Rattle.applications.proofs.Carrying.{asked-goes, step-goes, marked_for-heap, marked_for-sound}

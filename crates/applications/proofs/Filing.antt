@@ -1,47 +1,21 @@
-use Rattle.std.proofs.Common.{◌≡◌, ◌∙◌, ◌++◌, ◌⊎◌, ◌≢◌, inl, inr, Bool, true, false, refl, sym, ap, Option, None, Result, Ok, Err, List, []}
-use Rattle.std.proofs.Common.{ℕ, ℤ, ◌<◌, map, Some, option_map, length, take, slice_index_or, true≢false, append_assoc, append-nil}
-use Rattle.std.proofs.Math.Seq.{take-append_seam}
-use Rattle.std.proofs.lemmas.List.Folds.{list_all_at}
-use Rattle.std.specs.Global.{Global}
-use Rattle.std.specs.Prelude.{Box, IsOk, OnOk, OnErr, is_some}
-use Rattle.mac_words.specs.declared.code.OsErr.{OsErr}
-use Rattle.mac_words.specs.declared.name.Name.{Name}
-use Rattle.mac_words.specs.declared.name.OsType.{OsType}
-use Rattle.mac_words.specs.declared.call.Call.{Call}
+use Rattle.applications.proofs.Cited.{◌≡◌, ◌∙◌, ◌++◌, ◌⊎◌, ◌≢◌, inl, inr, Bool, true, false, refl, sym, ap, Option, None, Result, Ok, Err}
+use Rattle.applications.proofs.Cited.{List, [], ℕ, ℤ, ◌<◌, map, Some, option_map, length, take, slice_index_or, true≢false, append_assoc}
+use Rattle.applications.proofs.Cited.{append-nil, take-append_seam, list_all_at, Global, Box, IsOk, OnOk, OnErr, is_some, OsErr, Name}
+use Rattle.applications.proofs.Cited.{OsType, Call, Reply, Told, Done, Code, Refused, told_as, Refusal, HostMemory, Managers, Answer}
+use Rattle.applications.proofs.Cited.{IsAnswered, File, ResourceAsked, writes, SegmentCall, gone_in, heard, gone-files, is_allowed}
+use Rattle.applications.proofs.Cited.{are_allowed, Line, values_of, type_shown, name_shown, bytes_shown, Bindings, Running, Blocks, once}
+use Rattle.applications.proofs.Cited.{asked, resource_asked, managers_of, program_of, deed_of, kept_anew, number_given, writes_files}
+use Rattle.applications.proofs.Cited.{bytes_told, Extends, Says, goes_on, Exit}
 use Rattle.mac_words.specs.declared.call.Call.TheVariants as call
 use Rattle.mac_words.specs.declared.call.ControlCall.TheVariants as control
 use Rattle.mac_words.specs.declared.resource_call.ResourceCall.TheVariants as resource
-use Rattle.mac_words.specs.declared.reply.Reply.{Reply}
-use Rattle.mac_words.specs.Told.{Told, Done, Code, Refused}
-use Rattle.heap_calls.specs.Asked.{told_as}
-use Rattle.heap_calls.specs.declared.refusal.Refusal.{Refusal}
-use Rattle.heap_calls.specs.declared.refusal.Refusal.TheVariants.{HostMemory}
-use Rattle.res_calls.specs.Fetch.{Managers, Answer}
-use Rattle.res_calls.specs.Given.{IsAnswered}
-use Rattle.res_calls.specs.Files.{File}
-use Rattle.res_calls.specs.Asked.{ResourceAsked}
 use Rattle.res_calls.specs.Asked as finds
-use Rattle.res_calls.specs.Writing.{writes}
-use Rattle.mac_words.specs.declared.segment_call.SegmentCall.{SegmentCall}
-use Rattle.heap_calls.specs.Table.{gone_in}
 use Rattle.res_calls.specs.Gone as purges
-use Rattle.res_calls.specs.Purging.{heard}
-use Rattle.res_calls.proofs.Storing.{gone-files}
 use Rattle.segments.specs.Asked as jumps
 use Rattle.segments.specs.Gone as jump_purges
 use Rattle.res_calls.proofs.Walks.Laws as laws
 use Rattle.segments.proofs.Laws as jumping
-use Rattle.script_text.specs.Call.{is_allowed}
-use Rattle.script_text.specs.Script.{are_allowed}
-use Rattle.script_text.specs.declared.script.Line.{Line}
-use Rattle.script_text.specs.Transcript.{Shown, Number as Count, values_of, type_shown, name_shown, bytes_shown}
-use Rattle.applications.specs.Names.{Bindings}
-use Rattle.applications.specs.Trying.{Running, Blocks, once, asked, resource_asked, managers_of, program_of}
-use Rattle.applications.specs.Step.{deed_of, kept_anew, number_given}
-use Rattle.applications.specs.Laws.{writes_files}
-use Rattle.applications.specs.Application.{bytes_told}
-use Rattle.applications.specs.Replies.{Extends, Says, goes_on}
-use Rattle.applications.specs.declared.quitting.Exit.{Exit}
+use Rattle.script_text.specs.Transcript.{Shown, Number as Count}
 use Rattle.applications.specs.declared.stepping.Next.TheVariants as next
 use Rattle.applications.proofs.TryLaws.{of-try}
 use Rattle.applications.proofs.Ending.{full-refused}

@@ -1,39 +1,19 @@
-use Rattle.std.proofs.Common.{◌≡◌, ◌∙◌, ℕ, ◌==◌, Bool, true, false, refl, sym, cond, List, Option, Some, None}
-use Rattle.std.proofs.Common.{Result, Ok, Err, ◌⊎◌, inl, inr, ◌+◌, ap, subst, []}
-use Rattle.std.specs.Prelude.{IfOk, IsOk}
-use Rattle.std.specs.declared.alloc.AllocError.{AllocError}
-use Rattle.std.specs.Prelude.{nat_lt, nat_le, length, not, ◌&&◌, ◌||◌, if◌then◌else◌}
-use Rattle.mac_words.specs.declared.code.OsErr.{OsErr}
-use Rattle.mac_words.specs.Told.{Told, Bytes, Done, Number, Kind}
-use Rattle.mac_words.specs.declared.code.TheConstants.OsErr.{IN_MEMORY, OFFSET, PROFILE}
-use Rattle.res_map.specs.Map.{resized_datum}
-use Rattle.memory_windows.specs.Writes.{piece, written}
-use Rattle.heap_calls.specs.Answer.{code_of}
-use Rattle.heap_calls.specs.Gone.{Gone}
-use Rattle.res_map.specs.Split.{Split, place}
-use Rattle.res_map.specs.Map.{Map, is_changed, is_protected}
-use Rattle.res_calls.specs.Files.{File, OpenFile, Resources, Found, file_named, file_of, open_at}
-use Rattle.res_calls.specs.Fetch.{Managers, Answer, Fetched, done, refused, is_system}
-use Rattle.res_calls.specs.Rows.{on_found, on_open, on_resource, resource_of, bars, told_or, open_fork, open_unless}
-use Rattle.res_calls.specs.Rows.{keep_error, with_resources}
-use Rattle.res_calls.specs.Rows.{open_named, greatest_number, map_in, open_map, if_updated, Info}
-use Rattle.res_calls.specs.Changing.{most_files, create_named, on_known, on_removable, if_changeable, set_file}
-use Rattle.res_calls.specs.Update.{update}
-use Rattle.res_calls.specs.Gone.{gone_for}
-use Rattle.res_calls.specs.Partial.{is_in_memory, read_part_found, read_partial_resource, restored_unless}
-use Rattle.res_calls.specs.Partial.{size_refusal, write_refusal}
-use Rattle.res_calls.specs.Purging.{heard, stored_gone}
-use Rattle.res_calls.proofs.Storing.{heard-none}
-use Rattle.heap_calls.specs.Answer.{Known, handle_at}
-use Rattle.heap_calls.specs.Purging.{is_resource}
-use Rattle.heap_calls.specs.Inside.{has_block}
-use Rattle.heap_calls.specs.Asked.{told_as}
-use Rattle.res_calls.specs.Asked.{ResourceAsked, Served, served, tell_fetched, tell_info}
+use Rattle.applications.proofs.Cited.{◌≡◌, ◌∙◌, ℕ, ◌==◌, Bool, true, false, refl, sym, cond, List, Option, Some, None, Result, Ok, Err, ◌⊎◌}
+use Rattle.applications.proofs.Cited.{inl, inr, ◌+◌, ap, subst, [], IfOk, IsOk, AllocError, nat_lt, nat_le, not, ◌&&◌, if◌then◌else◌, OsErr}
+use Rattle.applications.proofs.Cited.{Told, Bytes, Done, Number, Kind, IN_MEMORY, OFFSET, PROFILE, resized_datum, piece, written, code_of}
+use Rattle.applications.proofs.Cited.{Gone, Split, place, Map, is_changed, is_protected, File, OpenFile, Resources, Found, file_named}
+use Rattle.applications.proofs.Cited.{file_of, open_at, Managers, Answer, done, refused, is_system, on_found, on_open, on_resource}
+use Rattle.applications.proofs.Cited.{resource_of, bars, told_or, open_fork, open_unless, keep_error, with_resources, open_named}
+use Rattle.applications.proofs.Cited.{greatest_number, map_in, open_map, if_updated, most_files, create_named, on_known, on_removable}
+use Rattle.applications.proofs.Cited.{if_changeable, set_file, update, gone_for, is_in_memory, read_part_found, read_partial_resource}
+use Rattle.applications.proofs.Cited.{restored_unless, size_refusal, write_refusal, heard, stored_gone, heard-none, Known, handle_at}
+use Rattle.applications.proofs.Cited.{is_resource, has_block, told_as, ResourceAsked, Served, tell_fetched, tell_info, fetches, Running}
+use Rattle.applications.proofs.Cited.{resource_tried, bytes_told, TellsServed, IsTried}
+use Rattle.std.specs.Prelude.{length, ◌||◌}
+use Rattle.res_calls.specs.Fetch.{Fetched}
+use Rattle.res_calls.specs.Rows.{Info}
+use Rattle.res_calls.specs.Asked.{served}
 use Rattle.res_calls.specs.Asked as asks
-use Rattle.res_calls.specs.Fetching.{fetches}
-use Rattle.applications.specs.Trying.{Running, resource_tried}
-use Rattle.applications.specs.Application.{bytes_told}
-use Rattle.applications.specs.Replies.{TellsServed, IsTried}
 use Rattle.applications.specs.declared.tried.Tried.{Tried}
 
 -- What a call of the Resource Manager shows and reads again.

@@ -1,14 +1,7 @@
-use Rattle.std.proofs.Common.{◌≡◌, ◌≢◌, ℕ, Result, Ok, Err, refl, sym, ap}
-use Rattle.std.specs.Prelude.{IfOk, OnOk}
-use Rattle.std.specs.declared.alloc.AllocError.{AllocError}
-use Rattle.mac_words.specs.declared.code.OsErr.{OsErr}
-use Rattle.mac_words.specs.Told.{Told, Given}
-use Rattle.heap_calls.specs.State.{Memory}
+use Rattle.applications.proofs.Cited.{◌≡◌, ◌≢◌, ℕ, Result, Ok, Err, refl, sym, ap, IfOk, OnOk, AllocError, OsErr, Told, Given, Memory}
+use Rattle.applications.proofs.Cited.{IsAnswer, Refusal, HostMemory, GivenAs, TellsTold}
 use Rattle.heap_calls.specs.Asked.{telling}
-use Rattle.heap_calls.specs.Inner.Given.{IsAnswer}
-use Rattle.heap_calls.specs.declared.refusal.Refusal.{Refusal}
-use Rattle.heap_calls.specs.declared.refusal.Refusal.TheVariants.{Code, HostMemory}
-use Rattle.applications.specs.Replies.{GivenAs, TellsTold}
+use Rattle.heap_calls.specs.declared.refusal.Refusal.TheVariants.{Code}
 use Rattle.applications.specs.declared.tried.Tried.{Tried}
 
 -- What a try tells and leaves whose call returns a new handle or pointer.

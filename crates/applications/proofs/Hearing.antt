@@ -1,11 +1,6 @@
 -- What a sink of resources hears of a try, and what is stored of it.
-use Rattle.std.proofs.Common.{◌≡◌, Bool, true, false, List, [], Result, Ok, Err, refl, ap, ◌∙◌}
-use Rattle.std.specs.Prelude.{OnOk, OnErr, IsOk}
-use Rattle.heap_calls.specs.Gone.{Gone, Tells, IsIdle, Hears}
-use Rattle.heap_calls.proofs.Hearing.{hears-none}
-use Rattle.res_calls.specs.Files.{Resources}
-use Rattle.res_calls.specs.Purging.{PurgesValue, heard, stored_gone}
-use Rattle.applications.specs.Trying.{Running, storing}
+use Rattle.applications.proofs.Cited.{◌≡◌, Bool, true, false, List, [], Result, Ok, Err, refl, ap, ◌∙◌, OnOk, OnErr, IsOk, Gone, Tells}
+use Rattle.applications.proofs.Cited.{IsIdle, Hears, hears-none, Resources, PurgesValue, heard, stored_gone, Running, storing}
 
 -- a try that purges nothing tells nothing
 pub hears_nothing : {A : Type 0} (told waits : A → List Gone → Type 0) (listens : A → Bool) (done : Type 0) (sink : A)

@@ -1,24 +1,14 @@
-use Rattle.std.proofs.Common.{◌≡◌, ◌∙◌, ℕ, ℤ, pos, Bool, true, false, cond, refl, sym, ap, subst, Option, Some, None}
-use Rattle.std.proofs.Common.{Result, Ok, Err, List}
-use Rattle.std.specs.Prelude.{IfOk, slice_get}
-use Rattle.std.specs.Ordering.{int_eq}
-use Rattle.std.specs.declared.alloc.AllocError.{AllocError}
-use Rattle.mac_words.specs.declared.code.OsErr.{OsErr}
-use Rattle.mac_words.specs.declared.code.TheConstants.OsErr.{SYSTEM_ERROR}
-use Rattle.mac_words.specs.Told.{Told, Done}
-use Rattle.mac_words.specs.declared.segment_call.SegmentCall.{SegmentCall}
+use Rattle.applications.proofs.Cited.{◌≡◌, ◌∙◌, ℕ, ℤ, pos, Bool, true, false, cond, refl, sym, ap, subst, Option, Some, None, Result, Ok}
+use Rattle.applications.proofs.Cited.{Err, List, IfOk, slice_get, int_eq, AllocError, OsErr, SYSTEM_ERROR, Told, Done, SegmentCall}
+use Rattle.applications.proofs.Cited.{own_datum, own_handle, fetch_own, bars, can_load, Program, Called, load_by, load_datum, load_seg}
+use Rattle.applications.proofs.Cited.{unload_seg, call_entry, call_loading, call_through, call_found, called, is_there, show_entry}
+use Rattle.applications.proofs.Cited.{show_found, show_of, code_type, tell_loaded, tell_called, tell_shown, Running, segment_tried}
+use Rattle.applications.proofs.Cited.{program_of, bytes_told, IsTried, Settled}
 use Rattle.mac_words.specs.declared.segment_call.SegmentCall.TheVariants as segment
 use Rattle.res_calls.specs.Fetch.{Fetched, Answer as FetchAnswer}
-use Rattle.res_calls.specs.Own.{own_datum, own_handle, fetch_own}
-use Rattle.res_calls.specs.Rows.{bars}
-use Rattle.segments.specs.Table.{Entry, can_load}
-use Rattle.segments.specs.Calls.{Program, Answer, Called, Shown, refused, load_by, load_datum}
-use Rattle.segments.specs.Calls.{load_seg, unload_seg, call_entry, call_loading, call_through}
-use Rattle.segments.specs.Calls.{call_found, called, is_there, show_entry, show_found, show_of, code_type}
-use Rattle.segments.specs.Asked.{Served, served, telling, tell_loaded, tell_called, tell_shown}
-use Rattle.applications.specs.Trying.{Running, segment_tried, program_of}
-use Rattle.applications.specs.Application.{bytes_told}
-use Rattle.applications.specs.Replies.{IsTried, Settled}
+use Rattle.segments.specs.Table.{Entry}
+use Rattle.segments.specs.Calls.{Answer, Shown, refused}
+use Rattle.segments.specs.Asked.{Served, served, telling}
 use Rattle.applications.specs.declared.tried.Tried.{Tried}
 use Rattle.applications.proofs.FoundCalls.{told-none}
 

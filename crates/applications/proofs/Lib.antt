@@ -1,3 +1,4 @@
+mod Cited
 mod Binding
 pub mod Rounds
 mod Saying

@@ -1,20 +1,11 @@
-use Rattle.std.proofs.Common.{◌≡◌, ℕ, Bool, true, false, zero, suc, Option, Some, None, List, [], ◌∷◌, ◌++◌}
-use Rattle.std.proofs.Common.{refl, sym, ◌∙◌, ap, subst, cond}
-use Rattle.std.proofs.lemmas.Option.{same_Some, none-some}
-use Rattle.mac_words.specs.declared.call.Call.{Call}
+use Rattle.applications.proofs.Cited.{◌≡◌, ℕ, Bool, true, false, zero, suc, Option, Some, None, List, [], ◌∷◌, ◌++◌, refl, sym, ◌∙◌, ap}
+use Rattle.applications.proofs.Cited.{subst, cond, same_Some, none-some, Call, OsErr, Told, Refused, Block, State, Line, served-wants}
+use Rattle.applications.proofs.Cited.{Running, Blocks, Tried, once, program_of, code_told, Event, Shown, LineEnd, Course, joined, event_of}
+use Rattle.applications.proofs.Cited.{marked_for, grown, grown_for, asked_for, ended, stands, Round, Ends, Again, made_room, after_asking}
+use Rattle.applications.proofs.Cited.{round, continued, step_in, step, most_rounds, course_of, put_event, put_events, is_answered, StayPut}
+use Rattle.applications.proofs.Cited.{taken_in, LinesStayPut}
 use Rattle.mac_words.specs.declared.call.Call.TheVariants as call
 use Rattle.mac_words.specs.declared.call.ControlCall.TheVariants as control
-use Rattle.mac_words.specs.declared.code.OsErr.{OsErr}
-use Rattle.mac_words.specs.Told.{Told, Refused}
-use Rattle.block_store.specs.Block.{Block}
-use Rattle.heap_calls.specs.State.{State}
-use Rattle.script_text.specs.declared.script.Line.{Line}
-use Rattle.segments.proofs.Taking.{served-wants}
-use Rattle.applications.specs.Trying.{Running, Blocks, Tried, once, program_of, code_told}
-use Rattle.applications.specs.Step.{Event, Shown, LineEnd, Course, joined, event_of, marked_for, grown, grown_for}
-use Rattle.applications.specs.Step.{asked_for, ended, stands, Round, Ends, Again, made_room, after_asking, round}
-use Rattle.applications.specs.Step.{continued, step_in, step, most_rounds, course_of}
-use Rattle.applications.specs.Laws.{put_event, put_events, is_answered, StayPut, taken_in, LinesStayPut}
 use Rattle.applications.proofs.TryLaws.{Sound, once-sound}
 use Rattle.applications.proofs.Carrying.{marked_for-heap, marked_for-sound, kept-heap, asked-goes, step-goes}
 use Rattle.applications.proofs.Ending.{full-refused, Any, any}

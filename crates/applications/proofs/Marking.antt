@@ -1,24 +1,10 @@
-use Rattle.std.proofs.Common.{◌≡◌, ◌==◌, ℕ, Bool, true, false, zero, suc, List, [], ◌∷◌, refl, ap, ◌∙◌, cond}
-use Rattle.std.proofs.Common.{Option, Some, None, ◌⊎◌, inl, inr}
-use Rattle.std.proofs.lemmas.Bool.Decides.{Decides-eqb}
-use Rattle.mac_words.specs.declared.code.OsErr.{OsErr}
-use Rattle.mac_words.specs.declared.call.Call.{Call}
+use Rattle.applications.proofs.Cited.{◌≡◌, ◌==◌, ℕ, Bool, true, false, zero, suc, List, [], ◌∷◌, refl, ap, ◌∙◌, cond, Option, Some, None}
+use Rattle.applications.proofs.Cited.{◌⊎◌, inl, inr, Decides-eqb, OsErr, Call, HeapCall, ResourceCall, SegmentCall, named, Memory, Asked}
+use Rattle.applications.proofs.Cited.{Places, idle, holds, busied, eased, first_named, second_named, Line, Bindings, Running, Blocks, Tried}
+use Rattle.applications.proofs.Cited.{once, asked, resource_asked, code_told, Course, marked, marked_for, grown, asked_for, kept_anew}
+use Rattle.applications.proofs.Cited.{ended, stands, Round, Ends, Again, made_room, after_asking, round, continued, step_in, step, joined}
+use Rattle.applications.proofs.Cited.{most_rounds, NothingBusy}
 use Rattle.mac_words.specs.declared.call.Call.TheVariants as call
-use Rattle.mac_words.specs.declared.call.HeapCall.{HeapCall}
-use Rattle.mac_words.specs.declared.resource_call.ResourceCall.{ResourceCall}
-use Rattle.mac_words.specs.declared.segment_call.SegmentCall.{SegmentCall}
-use Rattle.res_calls.specs.Asked.{named}
-use Rattle.heap_calls.specs.State.{Memory}
-use Rattle.heap_calls.specs.Asked.{Asked}
-use Rattle.heap_calls.specs.Busy.{Places, idle, holds, busied, eased}
-use Rattle.heap_calls.specs.Table.{first_named, second_named}
-use Rattle.script_text.specs.declared.script.Line.{Line}
-use Rattle.applications.specs.Names.{Bindings}
-use Rattle.applications.specs.Trying.{Running, Blocks, Tried, once, asked, resource_asked, code_told}
-use Rattle.applications.specs.Step.{Course, marked, marked_for, grown, asked_for, kept_anew, ended}
-use Rattle.applications.specs.Step.{stands, Round, Ends, Again, made_room, after_asking, round, continued, step_in, step}
-use Rattle.applications.specs.Step.{joined, most_rounds}
-use Rattle.applications.specs.Laws.{NothingBusy}
 use Rattle.applications.proofs.TryLaws.{once-busy}
 use Rattle.applications.proofs.StepLaws.{each-step, grown-names}
 

@@ -1,12 +1,6 @@
-use Rattle.std.proofs.Common.{◌≡◌, ◌∙◌, refl, sym, ap, subst, List, Result, Ok, Err}
-use Rattle.mac_words.specs.declared.code.OsErr.{OsErr}
-use Rattle.fork_format.specs.Content.{Content}
-use Rattle.heap_calls.specs.declared.refusal.Refusal.{Refusal}
+use Rattle.applications.proofs.Cited.{◌≡◌, ◌∙◌, refl, sym, ap, subst, List, Result, Ok, Err, OsErr, Content, Refusal, File, Resources}
+use Rattle.applications.proofs.Cited.{IsReply, launched_resources, no_content, own_files, own_resources}
 use Rattle.heap_calls.specs.declared.refusal.Refusal.TheVariants.{Code}
-use Rattle.res_calls.specs.Files.{File, Resources}
-use Rattle.res_calls.specs.Given.{IsReply}
-use Rattle.res_calls.specs.Rows.{launched_resources}
-use Rattle.applications.specs.Trying.{no_content, own_files, own_resources}
 
 -- A fork without resources is read.
 

@@ -1,32 +1,12 @@
-use Rattle.std.proofs.Common.{◌≡◌, ◌∙◌, ◌≤◌, ◌+◌, ◌++◌, ◌||◌, arith, zero, suc, ℕ, Bool}
-use Rattle.std.proofs.Common.{true, false, refl, sym, ap, List, [], ◌∷◌, cond, length, take}
-use Rattle.std.proofs.Common.{Option, Some, None}
-use Rattle.std.specs.Prelude.{nat_lt}
-use Rattle.mac_words.specs.declared.code.OsErr.{OsErr}
-use Rattle.mac_words.specs.declared.code.TheConstants.OsErr.{NO_ERR}
-use Rattle.block_store.specs.Rest.{Site}
-use Rattle.heap_calls.specs.State.{Memory}
-use Rattle.script_text.specs.Script.{ScriptParts}
-use Rattle.script_text.specs.declared.script.Line.{Line}
-use Rattle.script_text.specs.Transcript.{launch_line}
-use Rattle.res_map.specs.Split.{Split}
-use Rattle.res_calls.specs.Files.{OpenFile, Resources}
-use Rattle.res_calls.specs.Fetch.{Managers, is_system}
-use Rattle.res_calls.specs.Rows.{handles_of, closed}
-use Rattle.res_calls.specs.Update.{update}
-use Rattle.res_calls.specs.Leaving.{FilesClosed, updated_or, update_code, left_file, first_code, last_opened}
-use Rattle.res_calls.specs.Leaving.{leave_files}
-use Rattle.res_calls.proofs.Walks.Place.{moved as managers_moved, releases-place}
-use Rattle.applications.specs.Trying.{Running, launched_with, launched, own_resources, nowhere, managers_of, last_code}
-use Rattle.applications.specs.Trying.{is_fatal}
-use Rattle.applications.specs.Step.{Course, course_of}
-use Rattle.applications.specs.Application.{lines_told}
-use Rattle.applications.specs.Alone.{Ending, alone, quits, ending_of, first_steps, run_alone, end_told}
-use Rattle.applications.specs.Alone.{files_after, has_quit, left_after, stops, heap_alone}
-use Rattle.applications.specs.Replies.{Came, exit_of, end_by, end_if, has_ended, left_if}
-use Rattle.applications.specs.declared.quitting.Exit.{Exit}
-use Rattle.applications.specs.declared.quitting.Exit.TheVariants.{Quits, Stops}
-use Rattle.applications.specs.Elsewhere.{moved, course_elsewhere}
+use Rattle.applications.proofs.Cited.{◌≡◌, ◌∙◌, ◌≤◌, ◌+◌, ◌++◌, ◌||◌, arith, zero, suc, ℕ, Bool, true, false, refl, sym, ap, List, [], ◌∷◌}
+use Rattle.applications.proofs.Cited.{cond, length, take, Option, Some, None, nat_lt, OsErr, NO_ERR, Site, Memory, ScriptParts, Line}
+use Rattle.applications.proofs.Cited.{launch_line, Split, OpenFile, Resources, Managers, is_system, handles_of, closed, update, FilesClosed}
+use Rattle.applications.proofs.Cited.{updated_or, update_code, left_file, first_code, last_opened, leave_files, releases-place, Running}
+use Rattle.applications.proofs.Cited.{launched_with, launched, own_resources, nowhere, managers_of, last_code, is_fatal, Course, course_of}
+use Rattle.applications.proofs.Cited.{lines_told, Ending, alone, quits, ending_of, first_steps, run_alone, end_told, files_after, has_quit}
+use Rattle.applications.proofs.Cited.{left_after, stops, heap_alone, Came, exit_of, end_by, end_if, has_ended, left_if, Exit, Quits, Stops}
+use Rattle.applications.proofs.Cited.{moved, course_elsewhere}
+use Rattle.res_calls.proofs.Walks.Place.{moved as managers_moved}
 use Rattle.applications.proofs.Elsewhere.{launched-elsewhere, launched_course}
 
 -- How an application ends, which doesn't hang on where its partition lies, and what it gives alone.

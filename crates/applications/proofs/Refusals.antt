@@ -1,43 +1,21 @@
-use Rattle.std.proofs.Common.{◌≡◌, ◌⊎◌, inl, inr, ℕ, ℤ, pos, Bool, true, false, Option, Some, None, Result, Ok, Err, List, []}
-use Rattle.std.proofs.Common.{◌∷◌, ◌++◌, refl, sym, ◌∙◌, ap, subst, cond}
-use Rattle.std.specs.Prelude.{slice_get}
-use Rattle.std.specs.Ordering.{int_eq}
-use Rattle.mac_words.specs.declared.code.OsErr.{OsErr}
-use Rattle.mac_words.specs.declared.segment_call.SegmentCall.{SegmentCall}
+use Rattle.applications.proofs.Cited.{◌≡◌, ◌⊎◌, inl, inr, ℕ, ℤ, pos, Bool, true, false, Option, Some, None, Result, Ok, Err, List, [], ◌∷◌}
+use Rattle.applications.proofs.Cited.{◌++◌, refl, sym, ◌∙◌, ap, subst, cond, slice_get, int_eq, OsErr, SegmentCall, Done, Refused, Flags}
+use Rattle.applications.proofs.Cited.{Block, Role, State, Memory, nothing, Asked, answered, served, refused_zone, code_left, slotted_zone}
+use Rattle.applications.proofs.Cited.{CostsAtMostMasters, new_inside, refill_inside, has_block, Step, NewFilled, NewEmpty, Refill, Release}
+use Rattle.applications.proofs.Cited.{Cast, stepped, walk, reads, read_by, read_new, read_again, refusal_of, same-costs, slotted-costs}
+use Rattle.applications.proofs.Cited.{step_costs, served-holds, served-refused, Found, Managers, Reads, find_own, own_datum, own_handle}
+use Rattle.applications.proofs.Cited.{fetch_own, bars, ResourceAsked, for_found, fetch_steps, fetch_steps_as, steps_of, own-walks}
+use Rattle.applications.proofs.Cited.{own-reads, can_load, Program, code_type, load_fetched, load_by, load_datum, load_seg, called}
+use Rattle.applications.proofs.Cited.{call_loading, is_there, call_loaded, call_through, call_found, show_of, show_found, unload_handle}
+use Rattle.applications.proofs.Cited.{tell_loaded, tell_called, tell_shown, told-refused, LeavesMemory}
 use Rattle.mac_words.specs.declared.segment_call.SegmentCall.TheVariants as segment
-use Rattle.mac_words.specs.Told.{Done, Refused}
-use Rattle.block_store.specs.declared.flags.Flags.{Flags}
-use Rattle.block_store.specs.Block.{Block}
-use Rattle.heap_calls.specs.State.{Role, State, Memory}
-use Rattle.heap_calls.specs.Answer.{nothing}
-use Rattle.heap_calls.specs.Asked.{Asked}
-use Rattle.heap_calls.specs.Table.{answered, served}
 use Rattle.heap_calls.specs.Asked as asks
-use Rattle.heap_calls.specs.Refused.{refused_zone, code_left}
-use Rattle.heap_calls.specs.Slots.{slotted_zone}
-use Rattle.heap_calls.specs.Staying.{CostsAtMostMasters}
-use Rattle.heap_calls.specs.Inside.{new_inside, refill_inside, has_block}
-use Rattle.heap_calls.specs.Path.{Step, NewFilled, NewEmpty, Refill, Release, Cast, stepped, walk, reads, read_by, read_new}
-use Rattle.heap_calls.specs.Path.{read_again, refusal_of}
-use Rattle.heap_calls.proofs.Tries.Costing.{same-costs, slotted-costs, step_costs}
-use Rattle.heap_calls.proofs.Tries.Gating.{served-holds, served-refused}
-use Rattle.res_calls.specs.Files.{Found}
-use Rattle.res_calls.specs.Fetch.{Managers, Reads, Fetched}
-use Rattle.res_calls.specs.Own.{find_own, own_datum, own_handle, fetch_own}
-use Rattle.res_calls.specs.Rows.{bars}
-use Rattle.res_calls.specs.Asked.{ResourceAsked}
+use Rattle.res_calls.specs.Fetch.{Fetched}
 use Rattle.res_calls.specs.Asked as finds
-use Rattle.res_calls.proofs.Walks.Steps.{for_found, fetch_steps, fetch_steps_as, steps_of}
 use Rattle.res_calls.proofs.Walks.Laws as laws
-use Rattle.res_calls.proofs.Walks.Own.{own-walks, own-reads}
-use Rattle.segments.specs.Table.{Entry, can_load}
-use Rattle.segments.specs.Calls.{Program, Answer, code_type, load_fetched, load_by, load_datum, load_seg, called}
-use Rattle.segments.specs.Calls.{call_loading, is_there, call_loaded, call_through, call_found, show_of, show_found}
-use Rattle.segments.specs.Calls.{unload_handle}
+use Rattle.segments.specs.Table.{Entry}
+use Rattle.segments.specs.Calls.{Answer}
 use Rattle.segments.specs.Asked as jumps
-use Rattle.segments.specs.Asked.{tell_loaded, tell_called, tell_shown}
-use Rattle.segments.proofs.Laws.{told-refused}
-use Rattle.applications.specs.Laws.{LeavesMemory}
 
 -- What a refused try leaves of the memory, and what it costs of the bytes that can be had.
 

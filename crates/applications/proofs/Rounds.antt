@@ -1,19 +1,11 @@
-use Rattle.std.proofs.Common.{◌≡◌, ◌∙◌, ◌++◌, ℕ, suc, Bool, true, false, refl, sym, ap, subst, is_some}
-use Rattle.std.proofs.Common.{List, [], ◌∷◌, cond, Option}
-use Rattle.std.proofs.lemmas.Grind.{flat_map-append}
+use Rattle.applications.proofs.Cited.{◌≡◌, ◌∙◌, ◌++◌, ℕ, suc, Bool, true, false, refl, sym, ap, subst, List, [], ◌∷◌, cond, Option}
+use Rattle.applications.proofs.Cited.{flat_map-append, flat_map-cons, Line, Running, Blocks, Tried, once, code_told, last_code, nat_lt}
+use Rattle.applications.proofs.Cited.{ease, Shown, Course, Round, Ends, Again, grown, grown_for, asked_for, after_asking, ended, stands}
+use Rattle.applications.proofs.Cited.{made_room, kept_anew, round, continued, step_in, step, joined, course_of, line_told, lines_told, Came}
+use Rattle.applications.proofs.Cited.{CameRound, exit_as, exit_of, Exit}
+use Rattle.std.proofs.Common.{is_some}
 use Rattle.std.proofs.lemmas.List.{append_assoc, append-nil}
-use Rattle.std.proofs.lemmas.List.Concat.{flat_map-cons}
-use Rattle.script_text.specs.declared.script.Line.{Line}
-use Rattle.applications.specs.Trying.{Running, Blocks, Tried, once, code_told, last_code}
-use Rattle.std.specs.Prelude.{nat_lt}
-use Rattle.heap_calls.specs.Staying.{ease}
-use Rattle.applications.specs.Step.{Shown, Course, Round, Ends, Again, grown, grown_for, asked_for, after_asking, ended}
-use Rattle.applications.specs.Step.{stands, made_room, kept_anew}
-use Rattle.applications.specs.Step.{round, continued, step_in, step, joined, course_of}
-use Rattle.applications.specs.Application.{line_told, lines_told}
-use Rattle.applications.specs.Replies.{Came, CameRound, exit_as, exit_of}
 use Rattle.applications.specs.declared.stepping.Next.TheVariants as next
-use Rattle.applications.specs.declared.quitting.Exit.{Exit}
 
 -- Lines of a transcript, one call after the other.
 

@@ -1,21 +1,9 @@
-use Rattle.std.proofs.Common.{◌≡◌, ℕ, Bool, true, false, Option, Some, None, refl, map, List, [], ◌∷◌}
-use Rattle.std.specs.Prelude.{is_some}
-use Rattle.mac_words.specs.declared.name.Label.{Label}
-use Rattle.mac_words.specs.declared.code.TheConstants.OsErr.{MEM_FULL, WRONG_ZONE, LOCKED}
+use Rattle.applications.proofs.Cited.{◌≡◌, ℕ, Bool, true, false, Option, Some, None, refl, map, List, [], ◌∷◌, is_some, Label, MEM_FULL}
+use Rattle.applications.proofs.Cited.{WRONG_ZONE, LOCKED, ControlCall, HeapCall, Told, Done, Given, Number, Code, Refused, locked_place}
+use Rattle.applications.proofs.Cited.{Line, ScriptParts, Shown, LineEnd, launched, nowhere, report, reports, steps_taken, run_alone}
 use Rattle.mac_words.specs.declared.call.Call.TheVariants as call
-use Rattle.mac_words.specs.declared.call.ControlCall.{ControlCall}
 use Rattle.mac_words.specs.declared.call.ControlCall.TheVariants as control
-use Rattle.mac_words.specs.declared.call.HeapCall.{HeapCall}
 use Rattle.mac_words.specs.declared.call.HeapCall.TheVariants as heap
-use Rattle.mac_words.specs.Told.{Told, Done, Given, Number, Code, Refused}
-use Rattle.heap_calls.specs.Locked.{locked_place}
-use Rattle.script_text.specs.declared.script.Line.{Line}
-use Rattle.script_text.specs.Script.{ScriptParts}
-use Rattle.applications.specs.Step.{Shown, LineEnd}
-use Rattle.applications.specs.Trying.{launched, nowhere}
-use Rattle.applications.specs.Reports.{report, reports}
-use Rattle.applications.specs.Stopping.{steps_taken}
-use Rattle.applications.specs.Alone.{run_alone}
 
 -- Worked examples of grow-zone scripts, in a partition of 1,024 bytes, and of what a watch hears.
 

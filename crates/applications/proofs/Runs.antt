@@ -1,8 +1,4 @@
-use Rattle.std.proofs.Common.{ℕ, List, take}
-use Rattle.script_text.specs.Script.{ScriptParts}
-use Rattle.script_text.specs.declared.script.Line.{Line}
-use Rattle.res_calls.specs.Files.{Resources}
-use Rattle.applications.specs.Promises.{KeepsPromises}
+use Rattle.applications.proofs.Cited.{ℕ, List, take, ScriptParts, Line, Resources, KeepsPromises}
 use Rattle.applications.proofs.AnyRuns.{any_launch_holds, any_goes_by_rule, any_linked, any_shows_put, any_holds_put}
 use Rattle.applications.proofs.AnyRuns.{any_locked_stays, any_nonrelocatable_stays, any_only_purgeable_go, any_searches_few}
 use Rattle.applications.proofs.AnyRuns.{any_refused_leave, any_refused_cost, any_resources_stay, any_files_stay, any_table_stays}

@@ -1,38 +1,20 @@
-use Rattle.std.proofs.Common.{◌≡◌, ◌∙◌, ◌++◌, ℕ, ℤ, true, false, refl, sym, ap, map, List, [], Option, Some, None}
-use Rattle.std.proofs.Common.{Result, Ok, Err, codes, option_map}
-use Rattle.std.specs.Global.{Global}
-use Rattle.std.specs.Prelude.{Box}
-use Rattle.mac_words.specs.declared.code.OsErr.{OsErr}
-use Rattle.mac_words.specs.declared.name.Name.{Name}
-use Rattle.mac_words.specs.declared.name.OsType.{OsType}
-use Rattle.mac_words.specs.declared.reply.Reply.{Reply}
-use Rattle.mac_words.specs.declared.call.Call.{Call}
+use Rattle.applications.proofs.Cited.{◌≡◌, ◌∙◌, ◌++◌, ℕ, ℤ, true, false, refl, sym, ap, map, List, [], Option, Some, None, Result, Ok, Err}
+use Rattle.applications.proofs.Cited.{codes, option_map, Global, Box, OsErr, Name, OsType, Reply, Call, Memory, pointed_at, show_pointer}
+use Rattle.applications.proofs.Cited.{Held, look_up, show, silent, barred, pointer_barred, unless_silent, Row, row, serve, served}
+use Rattle.applications.proofs.Cited.{content_of, CallWord, word_of, Line, values_of, type_shown, name_shown, bytes_shown, reply_line}
+use Rattle.applications.proofs.Cited.{grow_line, Told, Done, Given, Fetched, Numbers, Offset, Code, Bytes, Kind, Info, Entry, Refused}
+use Rattle.applications.proofs.Cited.{Asked, bound_to, Running, Blocks, asked, resource_asked, managers_of, program_of, once, code_told}
+use Rattle.applications.proofs.Cited.{is_full, numbers_told, type_told, name_told, bytes_told, values_told, line_told, Says}
 use Rattle.mac_words.specs.declared.call.Call.TheVariants as call
 use Rattle.mac_words.specs.declared.call.ControlCall.TheVariants as control
-use Rattle.heap_calls.specs.State.{Memory}
-use Rattle.heap_calls.specs.Pointers.{pointed_at, show_pointer}
-use Rattle.heap_calls.specs.Answer.{Held, look_up, for_found, show, silent}
-use Rattle.heap_calls.specs.Busy.{barred, pointer_barred, unless_silent}
-use Rattle.heap_calls.specs.Table.{Row, row, serve, served}
+use Rattle.heap_calls.specs.Answer.{for_found}
 use Rattle.heap_calls.specs.Table as table
-use Rattle.block_store.specs.Block.{content_of}
-use Rattle.script_text.specs.declared.word.CallWord.{CallWord}
-use Rattle.script_text.specs.Call.{word_of}
-use Rattle.script_text.specs.declared.script.Line.{Line}
-use Rattle.script_text.specs.Transcript.{Shown, Number, values_of, type_shown}
-use Rattle.script_text.specs.Transcript.{name_shown, bytes_shown, reply_line, grow_line}
-use Rattle.mac_words.specs.Told.{Told, Done, Given, Fetched, Number as Count, Numbers, Offset, Code, Bytes, Kind, Info, Entry}
-use Rattle.mac_words.specs.Told.{Refused}
-use Rattle.heap_calls.specs.Asked.{Asked}
+use Rattle.script_text.specs.Transcript.{Shown, Number}
+use Rattle.mac_words.specs.Told.{Number as Count}
 use Rattle.heap_calls.specs.Asked as asks
-use Rattle.applications.specs.Names.{bound_to}
-use Rattle.applications.specs.Trying.{Running, Blocks, asked, resource_asked, managers_of, program_of, once, code_told}
-use Rattle.applications.specs.Trying.{is_full}
-use Rattle.applications.specs.Application.{numbers_told, type_told, name_told, bytes_told, values_told, line_told}
 use Rattle.res_calls.specs.Asked as finds
 use Rattle.applications.proofs.FoundCalls.{told-none, found-again}
 use Rattle.applications.proofs.JumpCalls.{jump-shows-none}
-use Rattle.applications.specs.Replies.{Says}
 
 -- What a reply says, and what a call shows again.
 

@@ -1,15 +1,10 @@
-use Rattle.std.proofs.Common.{◌≡◌, ◌∙◌, ◌++◌, ℕ, zero, suc, Bool, true, false, Option, List, [], ◌∷◌, refl, sym, ap, subst, cond, map}
-use Rattle.std.proofs.Common.{arith}
-use Rattle.std.proofs.lemmas.List.{append_assoc, append-nil, map-append}
-use Rattle.mac_words.specs.declared.code.OsErr.{OsErr}
-use Rattle.script_text.specs.declared.script.Line.{Line}
-use Rattle.applications.specs.Inside.{Glance, glance_of, glances, glances_after, glances_for, glances_grown, glances_in, glances_try}
-use Rattle.applications.specs.Inside.{AreSeen, Sight, sight_after, sight_of}
-use Rattle.applications.specs.Replies.{CameRound}
-use Rattle.applications.specs.Step.{Course, Event, Round, Ends, Again, after_asking, asked_for, continued, ended, event_of, grown}
-use Rattle.applications.specs.Step.{joined, made_room, marked_for, most_rounds, round, stands, step, step_in}
-use Rattle.applications.specs.Trying.{Blocks, Running, Tried, code_told, once}
-use Rattle.applications.specs.declared.quitting.Exit.{Exit}
+use Rattle.applications.proofs.Cited.{◌≡◌, ◌∙◌, ◌++◌, ℕ, zero, suc, Bool, true, false, Option, List, [], ◌∷◌, refl, sym, ap, subst, cond}
+use Rattle.applications.proofs.Cited.{map, arith, map-append, OsErr, Line, Glance, glance_of, glances, glances_after, glances_for}
+use Rattle.applications.proofs.Cited.{glances_grown, glances_in, glances_try, AreSeen, Sight, sight_after, sight_of, CameRound, Course}
+use Rattle.applications.proofs.Cited.{Event, Round, Ends, Again, after_asking, asked_for, continued, ended, event_of, grown, joined}
+use Rattle.applications.proofs.Cited.{made_room, marked_for, most_rounds, round, stands, step, step_in, Blocks, Running, Tried, code_told}
+use Rattle.applications.proofs.Cited.{once, Exit}
+use Rattle.std.proofs.lemmas.List.{append_assoc, append-nil}
 use Rattle.applications.specs.declared.stepping.Next.TheVariants as next
 
 -- What an onlooker sees.

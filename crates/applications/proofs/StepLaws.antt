@@ -1,18 +1,9 @@
-use Rattle.std.proofs.Common.{◌≡◌, ℕ, Bool, true, false, zero, suc, List, [], ◌∷◌, refl, ap, ◌∙◌, cond}
-use Rattle.std.proofs.Common.{Option, Some, None}
-use Rattle.std.proofs.lemmas.Option.{same_Some}
-use Rattle.mac_words.specs.declared.code.OsErr.{OsErr}
-use Rattle.mac_words.specs.declared.call.Call.{Call}
+use Rattle.applications.proofs.Cited.{◌≡◌, ℕ, Bool, true, false, zero, suc, List, [], ◌∷◌, refl, ap, ◌∙◌, cond, Option, Some, None}
+use Rattle.applications.proofs.Cited.{same_Some, OsErr, Call, Told, Refused, holds, Line, Bindings, Running, Blocks, Tried, once, code_told}
+use Rattle.applications.proofs.Cited.{Course, marked_for, grown, grown_for, asked_for, names_given, number_given, ended, stands, Round}
+use Rattle.applications.proofs.Cited.{Ends, Again, made_room, after_asking, round, continued, step_in, step, joined, kept_anew, most_rounds}
+use Rattle.applications.proofs.Cited.{EachStep, RefusedBinds}
 use Rattle.mac_words.specs.declared.call.Call.TheVariants as call
-use Rattle.mac_words.specs.Told.{Told, Refused}
-use Rattle.heap_calls.specs.Busy.{holds}
-use Rattle.script_text.specs.declared.script.Line.{Line}
-use Rattle.applications.specs.Names.{Bindings}
-use Rattle.applications.specs.Trying.{Running, Blocks, Tried, once, code_told}
-use Rattle.applications.specs.Step.{Course, marked_for, grown, grown_for, asked_for, names_given, number_given, ended}
-use Rattle.applications.specs.Step.{stands, Round, Ends, Again, made_room, after_asking, round, continued, step_in, step}
-use Rattle.applications.specs.Step.{joined, kept_anew, most_rounds}
-use Rattle.applications.specs.Laws.{EachStep, RefusedBinds}
 use Rattle.applications.proofs.TryLaws.{once-names}
 
 -- What holds of each step of a run; and which names are bound after it.

@@ -1,20 +1,9 @@
-use Rattle.std.proofs.Common.{◌≡◌, ◌∙◌, ◌+◌, ◌<◌, ◌++◌, ℕ, zero, suc, Bool, true, false, List, [], ◌∷◌, Option, Some, None}
-use Rattle.std.proofs.Common.{◌≤◌, refl, sym, ap, subst, arith, cond, is_some, take, length, get_or, append_assoc, append-nil}
-use Rattle.std.proofs.lemmas.List.{take_more}
-use Rattle.std.specs.Io.KnownBytes.{append_known}
-use Rattle.mac_words.proofs.Appending.{known-append}
-use Rattle.block_store.specs.Rest.{Site}
-use Rattle.script_text.specs.Script.{ScriptParts}
-use Rattle.script_text.specs.declared.script.Line.{Line}
-use Rattle.res_calls.specs.Files.{Resources}
-use Rattle.applications.specs.Trying.{Running, Blocks, launched_with, nowhere}
-use Rattle.applications.specs.Step.{Shown, Course, nothing_yet, joined, step, course_of}
-use Rattle.applications.specs.Application.{lines_told}
-use Rattle.applications.specs.Replies.{Came, exit_of}
-use Rattle.applications.specs.Reports.{report, reports}
-use Rattle.applications.specs.Stopping.{steps_taken, steps_alone}
-use Rattle.applications.specs.Elsewhere.{moved}
-use Rattle.applications.specs.declared.quitting.Exit.{Exit}
+use Rattle.applications.proofs.Cited.{◌≡◌, ◌∙◌, ◌+◌, ◌<◌, ◌++◌, ℕ, zero, suc, Bool, true, false, List, [], ◌∷◌, Option, Some, None, ◌≤◌}
+use Rattle.applications.proofs.Cited.{refl, sym, ap, subst, arith, cond, take, length, get_or, append_assoc, append-nil, take_more}
+use Rattle.applications.proofs.Cited.{append_known, known-append, Site, ScriptParts, Line, Resources, Running, Blocks, launched_with}
+use Rattle.applications.proofs.Cited.{nowhere, Shown, Course, nothing_yet, joined, step, course_of, lines_told, Came, exit_of, report}
+use Rattle.applications.proofs.Cited.{reports, steps_taken, steps_alone, moved, Exit}
+use Rattle.std.proofs.Common.{is_some}
 use Rattle.applications.proofs.Rounds.{over-of, two-texts}
 use Rattle.applications.proofs.Counting.{run-then, over-goes_on}
 use Rattle.applications.proofs.Elsewhere.{step-elsewhere, launched-elsewhere}

@@ -1,64 +1,31 @@
-use Rattle.std.proofs.Common.{◌≡◌, ◌≤◌, ◌<◌, ◌^◌, ◌+◌, ◌⊎◌, ℕ, ℤ, length, Bool, true, false, List, [], Some, inl, inr}
-use Rattle.std.proofs.Common.{Option, None, refl, sym, ap, subst, ◌&&◌, true≢false}
-use Rattle.std.proofs.Common.{◌∙◌, arith}
-use Rattle.std.proofs.lemmas.Option.{same_Some, none-some}
-use Rattle.mac_words.specs.declared.call.Call.{Call}
+use Rattle.applications.proofs.Cited.{◌≡◌, ◌≤◌, ◌<◌, ◌^◌, ◌+◌, ◌⊎◌, ℕ, ℤ, length, Bool, true, false, List, [], Some, inl, inr, Option, None}
+use Rattle.applications.proofs.Cited.{refl, sym, ap, subst, true≢false, ◌∙◌, arith, same_Some, none-some, Call, OsErr, ControlCall}
+use Rattle.applications.proofs.Cited.{SegmentCall, Block, count, is_masters, is_relocatable, has, counted, locked_place, pointer_place}
+use Rattle.applications.proofs.Cited.{has_purgeable, State, Memory, fresh_memory, Told, Done, Given, Fetched, Number, Numbers, Offset, Code}
+use Rattle.applications.proofs.Cited.{Bytes, Kind, Info, Entry, Refused, Asked, served, gone_in, holds-known, known-fresh, next-new}
+use Rattle.applications.proofs.Cited.{unsearched, StaysOr, served-known, served-shows, served_searches, served-busy, CostsAtMostMasters}
+use Rattle.applications.proofs.Cited.{served_costs, same-costs, served_masters_no_fewer, served-stays, served-stands, served-empties}
+use Rattle.applications.proofs.Cited.{Resources, Managers, Reads, ResourceAsked, Program, block_of, Line, put_reads, Running, Blocks, once}
+use Rattle.applications.proofs.Cited.{storing, asked, resource_asked, managers_of, program_of, nowhere, heard, stored_gone, gone-files}
+use Rattle.applications.proofs.Cited.{heard-none, launched_with, Deed, Ask, Find, Jump, Steer, deed_of, event_of, put_found, put_deed}
+use Rattle.applications.proofs.Cited.{put_event, ShowsPut, HoldsPut, frees, drops, deed_takes_block, opens, Kept, KeepsLocked}
+use Rattle.applications.proofs.Cited.{KeepsNonrelocatable, PurgesOnlyPurgeable, SearchesFew, RefusedLeaves, RefusedCosts, with_segment}
+use Rattle.applications.proofs.Cited.{OnlyStores, KeepsResources, writes_files, KeepsFiles, KeepsTable, is_answered, StayPut, put_at_launch}
+use Rattle.applications.proofs.Cited.{preloaded-known, preloaded-masters, preloaded-fits, refused-gone}
+use Rattle.std.proofs.Common.{◌&&◌}
 use Rattle.mac_words.specs.declared.call.Call.TheVariants as call
-use Rattle.mac_words.specs.declared.code.OsErr.{OsErr}
-use Rattle.mac_words.specs.declared.call.ControlCall.{ControlCall}
 use Rattle.mac_words.specs.declared.call.ControlCall.TheVariants as control
-use Rattle.mac_words.specs.declared.segment_call.SegmentCall.{SegmentCall}
-use Rattle.block_store.specs.Block.{Block, count, is_masters, is_relocatable}
-use Rattle.block_store.specs.Run.{has}
-use Rattle.block_store.specs.Rest.{counted}
-use Rattle.heap_calls.specs.Locked.{locked_place}
-use Rattle.heap_calls.specs.Standing.{pointer_place}
-use Rattle.heap_calls.specs.Emptying.{has_purgeable}
-use Rattle.heap_calls.specs.State.{State, Memory, fresh_memory}
-use Rattle.mac_words.specs.Told.{Told, Done, Given, Fetched, Number, Numbers, Offset, Code, Bytes, Kind, Info, Entry, Refused}
-use Rattle.heap_calls.specs.Asked.{Asked}
 use Rattle.heap_calls.specs.Asked as asks
-use Rattle.heap_calls.specs.Table.{served, gone_in}
-use Rattle.heap_calls.proofs.Promises.Knowing.{Known, holds-known, known-fresh}
-use Rattle.heap_calls.proofs.Promises.StandingLaws.{next-new}
-use Rattle.heap_calls.proofs.Promises.FewSearches.{unsearched}
-use Rattle.heap_calls.proofs.Promises.Taking.{StaysOr}
-use Rattle.heap_calls.proofs.Tries.Gating.{served-known, served-shows}
-use Rattle.heap_calls.proofs.Tries.Gating.{served_searches, served-busy}
-use Rattle.heap_calls.specs.Staying.{CostsAtMostMasters}
-use Rattle.heap_calls.proofs.Tries.Costing.{served_costs, same-costs}
-use Rattle.heap_calls.proofs.Tries.Keeping.{served_masters_no_fewer}
-use Rattle.heap_calls.proofs.Tries.Taking.{served-stays, served-stands, served-empties}
-use Rattle.res_calls.specs.Files.{Resources}
-use Rattle.res_calls.specs.Fetch.{Managers, Reads}
-use Rattle.res_calls.specs.Asked.{ResourceAsked}
+use Rattle.heap_calls.proofs.Promises.Knowing.{Known}
 use Rattle.res_calls.specs.Asked as finds
-use Rattle.segments.specs.Calls.{Program}
 use Rattle.segments.specs.Asked as jumps
-use Rattle.script_text.specs.Script.{block_of}
-use Rattle.script_text.specs.declared.script.Line.{Line}
-use Rattle.heap_calls.specs.Path.{put_reads}
-use Rattle.applications.specs.Trying.{Running, Blocks, once, storing, asked, resource_asked, managers_of, program_of}
-use Rattle.applications.specs.Trying.{nowhere}
 use Rattle.res_calls.specs.Gone as purges
-use Rattle.res_calls.specs.Purging.{heard, stored_gone}
-use Rattle.res_calls.proofs.Storing.{gone-files, heard-none}
 use Rattle.segments.specs.Gone as jump_purges
-use Rattle.applications.specs.Trying.{launched_with}
-use Rattle.applications.specs.Step.{Deed, Ask, Find, Jump, Steer, deed_of, event_of}
-use Rattle.applications.specs.Laws.{put_found, put_deed, put_event, ShowsPut, HoldsPut, frees, drops, deed_takes_block}
-use Rattle.applications.specs.Laws.{opens, Kept}
-use Rattle.applications.specs.Laws.{KeepsLocked, KeepsNonrelocatable, PurgesOnlyPurgeable, SearchesFew, RefusedLeaves}
-use Rattle.applications.specs.Laws.{RefusedCosts, with_segment}
 use Rattle.applications.proofs.Refusals.{asked-leaves, found-leaves, found-costs, Fetches, fetched_by, jumped-stops, jumped-costs}
-use Rattle.applications.specs.Laws.{OnlyStores}
-use Rattle.applications.specs.Laws.{KeepsResources, writes_files, KeepsFiles, KeepsTable, is_answered, StayPut}
-use Rattle.applications.specs.Laws.{put_at_launch, jumps as is_jump}
+use Rattle.applications.specs.Laws.{jumps as is_jump}
 use Rattle.res_calls.proofs.Walks.Laws as laws
-use Rattle.res_calls.proofs.Walks.Launching.{preloaded-known, preloaded-masters, preloaded-fits}
 use Rattle.res_calls.proofs.Walks.Taking.{served-stays as found-stays, served-empties as found-empties}
 use Rattle.segments.proofs.Laws as jumping
-use Rattle.segments.proofs.Purging.{refused-gone}
 use Rattle.segments.proofs.Taking.{served-stays as jumped-stays}
 
 -- The laws of one try, by any application that a run reaches.

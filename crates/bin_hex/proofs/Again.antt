@@ -1,15 +1,7 @@
-use Rattle.std.proofs.Common.{◌≡◌, ℕ, ◌-◌, false, cond, List, [], ◌∷◌, ◌++◌, map, length, refl, ◌∙◌, ap, arith, append_assoc}
-use Rattle.std.specs.Prelude.{None, Ok, Err, is_some, codes, filter}
-use Rattle.checksums.specs.Checksum.{checksum}
-use Rattle.byteorder.specs.Endian.{big_bytes}
-use Rattle.bin_hex.specs.Alphabet.{character, is_dark}
-use Rattle.bin_hex.specs.BinHex.{decoded, encoded, groups, unpacked, encoded_in, marked_in}
-use Rattle.bin_hex.specs.Contents.{file_in, bytes_of, header, fields, with_checksum}
-use Rattle.bin_hex.specs.Faults.{◌>>=◌}
-use Rattle.bin_hex.specs.File.{File, IsOfBytes, refusal}
-use Rattle.bin_hex.specs.Packing.{bytes_after}
-use Rattle.bin_hex.specs.Runs.{expanded, compressed}
-use Rattle.bin_hex.specs.Text.{mark, is_bin_hex, after_colon}
+use Rattle.bin_hex.proofs.Cited.{◌≡◌, ℕ, ◌-◌, false, cond, List, [], ◌∷◌, ◌++◌, map, length, refl, ◌∙◌, ap, arith, append_assoc, None, Ok}
+use Rattle.bin_hex.proofs.Cited.{Err, is_some, codes, filter, checksum, big_bytes, character, is_dark, decoded, encoded, groups, unpacked}
+use Rattle.bin_hex.proofs.Cited.{encoded_in, marked_in, file_in, bytes_of, header, fields, with_checksum, ◌>>=◌, File, IsOfBytes, refusal}
+use Rattle.bin_hex.proofs.Cited.{bytes_after, expanded, compressed, mark, is_bin_hex, after_colon}
 use Rattle.bin_hex.specs.declared.fault.Damage.TheVariants as damage
 use Rattle.bin_hex.specs.declared.packing.Held.TheVariants as held
 use Rattle.bin_hex.specs.declared.packing.Left.TheVariants as left

@@ -1,23 +1,13 @@
-use Rattle.std.proofs.Common.{◌≡◌, ℕ, ◌+◌, ◌-◌, ◌^◌, ◌<◌, ◌≤◌, Bool, true, false, not, ◌||◌, cond, List, [], ◌∷◌, ◌++◌}
-use Rattle.std.proofs.Common.{length, take, drop, refl, sym, ◌∙◌, ap, arith, rules, append_assoc, length-append, lit<}
-use Rattle.std.specs.Prelude.{◌==◌, nat_le, nat_lt, Result, Ok, Err, Some, None}
-use Rattle.std.proofs.Math.Seq.{drop-append-add, drop-append_seam, take-append_seam}
-use Rattle.std.proofs.lemmas.Bool.{and_parts, le-ltb, eq-eqb, ltb-false, leb-true}
-use Rattle.std.proofs.lemmas.List.{append-nil}
-use Rattle.plain_laws.proofs.Bytes.{bytes-append}
-use Rattle.byteorder.specs.Endian.{big_bytes, big_number}
-use Rattle.byteorder.specs.Numbers.{big_number-reads_back}
-use Rattle.bin_hex.specs.Contents.{piece, checked, after_length, header_in, fork_in, file_in, file_of, field, name_length}
-use Rattle.bin_hex.specs.Contents.{named, fields, header, with_checksum, bytes_of, data_length, resource_length}
-use Rattle.bin_hex.specs.Faults.{◌>>=◌}
-use Rattle.bin_hex.specs.File.{File, AreBytes, IsOfBytes, refusal, is_name_length}
-use Rattle.bin_hex.specs.declared.fault.Damage.{Damage}
+use Rattle.bin_hex.proofs.Cited.{◌≡◌, ℕ, ◌+◌, ◌-◌, ◌^◌, ◌<◌, ◌≤◌, Bool, true, false, not, ◌||◌, cond, List, [], ◌∷◌, ◌++◌, length, take}
+use Rattle.bin_hex.proofs.Cited.{drop, refl, sym, ◌∙◌, ap, arith, rules, append_assoc, length-append, lit<, ◌==◌, nat_le, nat_lt, Result}
+use Rattle.bin_hex.proofs.Cited.{Ok, Err, Some, None, drop-append-add, drop-append_seam, take-append_seam, and_parts, le-ltb, eq-eqb}
+use Rattle.bin_hex.proofs.Cited.{ltb-false, leb-true, append-nil, bytes-append, big_bytes, big_number, big_number-reads_back, piece}
+use Rattle.bin_hex.proofs.Cited.{checked, after_length, header_in, fork_in, file_in, file_of, field, name_length, named, fields, header}
+use Rattle.bin_hex.proofs.Cited.{with_checksum, bytes_of, data_length, resource_length, ◌>>=◌, File, AreBytes, IsOfBytes, refusal}
+use Rattle.bin_hex.proofs.Cited.{is_name_length, Damage, Part, checksum, checksum-small}
 use Rattle.bin_hex.specs.declared.fault.Damage.TheVariants as damage
-use Rattle.bin_hex.specs.declared.fault.Part.{Part}
 use Rattle.bin_hex.specs.declared.fault.Part.TheVariants as part
 use Rattle.bin_hex.specs.declared.fault.WriteFault.TheVariants as fault
-use Rattle.checksums.specs.Checksum.{checksum}
-use Rattle.checksums.proofs.Sums.{checksum-small}
 
 -- The bytes that stand for a file are read as that file.
 

@@ -1,31 +1,16 @@
-use Rattle.std.proofs.Common.{◌≡◌, ℕ, zero, suc, ◌+◌, ◌%◌, ◌-◌, ◌^◌, ◌<◌, ◌≤◌, Bool, true, false, cond}
-use Rattle.std.proofs.Common.{List, [], ◌∷◌, ◌++◌, length, take, drop, replicate, refl, sym, ◌∙◌, ap, subst, arith, lit<, Option, Some}
+use Rattle.bin_hex.proofs.Cited.{◌≡◌, ℕ, zero, suc, ◌+◌, ◌%◌, ◌-◌, ◌^◌, ◌<◌, ◌≤◌, Bool, true, false, cond, List, [], ◌∷◌, ◌++◌, length}
+use Rattle.bin_hex.proofs.Cited.{take, drop, replicate, refl, sym, ◌∙◌, ap, subst, arith, lit<, ◌==◌, nat_lt, position, Result, Ok, Err}
+use Rattle.bin_hex.proofs.Cited.{AllByRecursion, ltb-false, length-drop, length-take-le, position-Some, checksum, bytes-take, bytes-drop}
+use Rattle.bin_hex.proofs.Cited.{bytes-append, byte-at, big_number, big_from-lt, alphabet, is_blank, role_at, role_of, IsRole, decoded}
+use Rattle.bin_hex.proofs.Cited.{unpacked, packed_in, encoded_in, marked_in, piece, checked, after_length, header_in, fork_in, file_in}
+use Rattle.bin_hex.proofs.Cited.{file_of, name_length, data_length, resource_length, ◌>>=◌, File, AreBytes, IsOfBytes, refusal}
+use Rattle.bin_hex.proofs.Cited.{is_name_length, bytes_after, IsHeld, expanded, begins_with_run, after_mark, after_colon, sextets}
+use Rattle.bin_hex.proofs.Cited.{read_from, Role, Damage, Part, Held}
+use Rattle.std.proofs.Common.{Option, Some}
 use Rattle.std.proofs.Common.{None}
-use Rattle.std.specs.Prelude.{◌==◌, nat_lt, position, Result, Ok, Err}
-use Rattle.std.specs.List.{AllByRecursion}
-use Rattle.std.proofs.lemmas.Bool.{ltb-false}
-use Rattle.std.proofs.lemmas.List.{length-drop, length-take-le}
-use Rattle.std.proofs.lemmas.List.Quantifiers.{position-Some}
-use Rattle.checksums.specs.Checksum.{checksum}
-use Rattle.plain_laws.proofs.Bytes.{bytes-take, bytes-drop, bytes-append, byte-at}
-use Rattle.byteorder.specs.Endian.{big_number}
-use Rattle.byteorder.specs.Numbers.{big_from-lt}
-use Rattle.bin_hex.specs.Alphabet.{alphabet, is_blank, role_at, role_of, IsRole}
-use Rattle.bin_hex.specs.BinHex.{decoded, unpacked, packed_in, encoded_in, marked_in}
-use Rattle.bin_hex.specs.Contents.{piece, checked, after_length, header_in, fork_in, file_in, file_of, name_length}
-use Rattle.bin_hex.specs.Contents.{data_length, resource_length}
-use Rattle.bin_hex.specs.Faults.{◌>>=◌}
-use Rattle.bin_hex.specs.File.{File, AreBytes, IsOfBytes, refusal, is_name_length}
-use Rattle.bin_hex.specs.Packing.{bytes_after, IsHeld}
-use Rattle.bin_hex.specs.Runs.{expanded, begins_with_run}
-use Rattle.bin_hex.specs.Text.{after_mark, after_colon, sextets, read_from}
-use Rattle.bin_hex.specs.declared.alphabet.Role.{Role}
 use Rattle.bin_hex.specs.declared.alphabet.Role.TheVariants as role
-use Rattle.bin_hex.specs.declared.fault.Damage.{Damage}
 use Rattle.bin_hex.specs.declared.fault.Damage.TheVariants as damage
-use Rattle.bin_hex.specs.declared.fault.Part.{Part}
 use Rattle.bin_hex.specs.declared.fault.Part.TheVariants as part
-use Rattle.bin_hex.specs.declared.packing.Held.{Held}
 use Rattle.bin_hex.specs.declared.packing.Held.TheVariants as held
 use Rattle.bin_hex.proofs.ContentsAgain.{piece_again}
 use Rattle.bin_hex.proofs.Fitting.{can_be_written}

@@ -1,10 +1,6 @@
-use Rattle.std.proofs.Common.{◌≡◌, ℕ, ◌+◌, ◌<◌, ◌≤◌, true, false, ◌&&◌, cond, List, [], ◌∷◌, get_or, length, drop}
-use Rattle.std.proofs.Common.{refl, sym, ◌∙◌, ap, ◌≢◌}
-use Rattle.std.specs.Prelude.{Option, Some, None, ◌==◌}
-use Rattle.std.specs.List.{starts_with}
-use Rattle.std.proofs.lemmas.Bool.{eq-eqb, ne_eqb}
-use Rattle.std.proofs.lemmas.List.{drop-drop, drop_all, drop_more}
-use Rattle.bin_hex.specs.Text.{begins, mark, after_mark, after_colon}
+use Rattle.bin_hex.proofs.Cited.{◌≡◌, ℕ, ◌+◌, ◌<◌, ◌≤◌, true, false, ◌&&◌, cond, List, [], ◌∷◌, get_or, length, drop, refl, sym, ◌∙◌, ap}
+use Rattle.bin_hex.proofs.Cited.{◌≢◌, Option, Some, None, ◌==◌, starts_with, eq-eqb, ne_eqb, drop-drop, drop_all, drop_more, begins, mark}
+use Rattle.bin_hex.proofs.Cited.{after_mark, after_colon}
 
 -- std's test of the beginning is ours
 begins_so : (text bytes : List ℕ) → starts_with ◌==◌ bytes text ≡ begins text bytes

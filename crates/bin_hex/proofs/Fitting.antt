@@ -1,7 +1,5 @@
-use Rattle.std.proofs.Common.{◌≡◌, ◌^◌, ◌<◌, ◌≤◌, true, not, ◌||◌, cond, length, ◌∙◌, ap, arith}
-use Rattle.std.specs.Prelude.{nat_lt, Some, None}
-use Rattle.std.proofs.lemmas.Bool.{le-ltb}
-use Rattle.bin_hex.specs.File.{File, refusal, is_name_length}
+use Rattle.bin_hex.proofs.Cited.{◌≡◌, ◌^◌, ◌<◌, ◌≤◌, true, not, ◌||◌, cond, length, ◌∙◌, ap, arith, nat_lt, Some, None, le-ltb, File}
+use Rattle.bin_hex.proofs.Cited.{refusal, is_name_length}
 use Rattle.bin_hex.specs.declared.fault.WriteFault.TheVariants as fault
 use Rattle.bin_hex.proofs.ContentsAgain.{name_first, writable}
 

@@ -1,10 +1,6 @@
-use Rattle.std.proofs.Common.{◌≡◌, ℕ, ◌+◌, ◌-◌, ◌<◌, ◌≤◌, Bool, true, false, cond, List, [], ◌∷◌, ◌++◌, get_or, length, drop, replicate}
-use Rattle.std.proofs.Common.{refl, sym, ◌∙◌, ap, arith, length-append}
-use Rattle.std.specs.Prelude.{◌==◌, nat_le}
-use Rattle.std.proofs.lemmas.Bool.{le-leb}
-use Rattle.std.proofs.lemmas.List.{drop_all, drop_more, length-replicate}
-use Rattle.bin_hex.specs.Reader.{given, marked_after}
-use Rattle.bin_hex.specs.Runs.{expanded}
+use Rattle.bin_hex.proofs.Cited.{◌≡◌, ℕ, ◌+◌, ◌-◌, ◌<◌, ◌≤◌, Bool, true, false, cond, List, [], ◌∷◌, ◌++◌, get_or, length, drop, replicate}
+use Rattle.bin_hex.proofs.Cited.{refl, sym, ◌∙◌, ap, arith, length-append, ◌==◌, nat_le, le-leb, drop_all, drop_more, length-replicate}
+use Rattle.bin_hex.proofs.Cited.{given, marked_after, expanded}
 
 -- How many bytes a text with runs stands for.
 

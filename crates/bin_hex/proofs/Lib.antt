@@ -1,3 +1,4 @@
+mod Cited
 pub mod Again
 pub mod ContentsAgain
 pub mod DecodedBytes

@@ -1,6 +1,4 @@
-use Rattle.std.proofs.Common.{◌≡◌, ℕ, suc, ◌+◌, ◌-◌, ◌<◌, List, ◌++◌, replicate, sym, ◌∙◌, ap, arith, append_assoc}
-use Rattle.std.specs.Prelude.{flat_map}
-use Rattle.bin_hex.specs.Runs.{literal}
+use Rattle.bin_hex.proofs.Cited.{◌≡◌, ℕ, suc, ◌+◌, ◌-◌, ◌<◌, List, ◌++◌, replicate, sym, ◌∙◌, ap, arith, append_assoc, flat_map, literal}
 
 -- one literal more
 pub literals_more : (done count byte : ℕ) (out now total : List ℕ) → done < count → now ≡ out ++ literal byte

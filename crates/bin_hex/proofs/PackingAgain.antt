@@ -1,9 +1,6 @@
-use Rattle.std.proofs.Common.{◌≡◌, ℕ, ◌+◌, ◌*◌, ◌/◌, ◌%◌, ◌<◌, List, [], ◌∷◌, refl, ◌∙◌, ap, arith}
-use Rattle.std.specs.List.{AllByRecursion}
-use Rattle.bin_hex.specs.File.{AreBytes}
-use Rattle.bin_hex.specs.Packing.{bytes_after, groups_after, IsLeft}
+use Rattle.bin_hex.proofs.Cited.{◌≡◌, ℕ, ◌+◌, ◌*◌, ◌/◌, ◌%◌, ◌<◌, List, [], ◌∷◌, refl, ◌∙◌, ap, arith, AllByRecursion, AreBytes}
+use Rattle.bin_hex.proofs.Cited.{bytes_after, groups_after, IsLeft, Left}
 use Rattle.bin_hex.specs.declared.packing.Held.TheVariants as held
-use Rattle.bin_hex.specs.declared.packing.Left.{Left}
 use Rattle.bin_hex.specs.declared.packing.Left.TheVariants as left
 
 -- Bytes that are put into groups of six bits are those bytes again.

@@ -1,8 +1,5 @@
-use Rattle.std.proofs.Common.{◌≡◌, ℕ, ◌+◌, ◌<◌, ◌≤◌, false, List, [], ◌∷◌, ◌++◌, cond, get_or, length, take, drop, sym, ◌∙◌, ap, arith}
-use Rattle.std.specs.Prelude.{Ok, Err, nat_le}
-use Rattle.std.proofs.lemmas.Bool.{lt-ltb, le-ltb, leb-false}
-use Rattle.std.proofs.lemmas.List.{take_more, drop_more, length-drop}
-use Rattle.bin_hex.specs.Contents.{piece}
+use Rattle.bin_hex.proofs.Cited.{◌≡◌, ℕ, ◌+◌, ◌<◌, ◌≤◌, false, List, [], ◌∷◌, ◌++◌, cond, get_or, length, take, drop, sym, ◌∙◌, ap, arith}
+use Rattle.bin_hex.proofs.Cited.{Ok, Err, nat_le, lt-ltb, le-ltb, leb-false, take_more, drop_more, length-drop, piece}
 use Rattle.bin_hex.specs.declared.fault.Damage.TheVariants as damage
 
 -- One byte more of a piece.

@@ -1,9 +1,6 @@
-use Rattle.std.proofs.Common.{◌≡◌, ℕ, ◌<◌, ◌≤◌, Bool, true, ◌&&◌, get_or, refl, arith}
-use Rattle.std.specs.Prelude.{◌==◌, nat_lt, position, Option, Some, None}
-use Rattle.std.proofs.lemmas.Bool.{agree_below_at}
-use Rattle.bin_hex.specs.Alphabet.{alphabet, role_at}
+use Rattle.bin_hex.proofs.Cited.{◌≡◌, ℕ, ◌<◌, ◌≤◌, Bool, true, ◌&&◌, get_or, refl, arith, ◌==◌, nat_lt, position, Option, Some, None}
+use Rattle.bin_hex.proofs.Cited.{agree_below_at, alphabet, role_at, PLACES}
 use Rattle.bin_hex.specs.declared.alphabet.Role.TheVariants as role
-use Rattle.bin_hex.specs.declared.alphabet.TheConstants.{PLACES}
 
 -- a place in the alphabet is the one that the table has, or neither is there
 abbrev fits : Option ℕ → ℕ → Bool

@@ -1,17 +1,13 @@
-use Rattle.std.proofs.Common.{◌≡◌, ℕ, ◌-◌, ◌%◌, ◌^◌, ◌<◌, Bool, true, false, cond, List, [], ◌∷◌, ◌++◌, map}
-use Rattle.std.proofs.Common.{length, take, drop, refl, sym, ◌∙◌, ap, subst, arith, append_assoc, length-append, inl, inr, Option, Some}
+use Rattle.bin_hex.proofs.Cited.{◌≡◌, ℕ, ◌-◌, ◌%◌, ◌^◌, ◌<◌, Bool, true, false, cond, List, [], ◌∷◌, ◌++◌, map, length, take, drop, refl}
+use Rattle.bin_hex.proofs.Cited.{sym, ◌∙◌, ap, subst, arith, append_assoc, length-append, inl, inr, ◌==◌, nat_lt, bytes_eq, is_some, Result}
+use Rattle.bin_hex.proofs.Cited.{Ok, Err, take-append_seam, bytes_eq-Decides, agree_below_at, cases_Bool, and_parts, and_cases, and_left}
+use Rattle.bin_hex.proofs.Cited.{and_right, eqb-true, ltb-false, alphabet, character, decoded, groups, encoded_in, marked_in, File}
+use Rattle.bin_hex.proofs.Cited.{AreBytes, IsOfBytes, refusal, or_none, encoded_text, opening, closing, encoded_lines, with_file, with_fork}
+use Rattle.bin_hex.proofs.Cited.{placed, put_or_damage, with_resource_fork, begins, mark, after_mark, is_bin_hex, after_colon, column_after}
+use Rattle.bin_hex.proofs.Cited.{Damage}
+use Rattle.std.proofs.Common.{Option, Some}
 use Rattle.std.proofs.Common.{None}
-use Rattle.std.specs.Prelude.{◌==◌, nat_lt, bytes_eq, get_or, is_some, Result, Ok, Err}
-use Rattle.std.proofs.Math.Seq.{take-append_seam}
-use Rattle.std.proofs.lemmas.Slice.Eq.{bytes_eq-Decides}
-use Rattle.std.proofs.lemmas.Bool.{agree_below_at, cases_Bool, and_parts, and_cases, and_left, and_right, eqb-true, ltb-false}
-use Rattle.bin_hex.specs.Alphabet.{alphabet, character}
-use Rattle.bin_hex.specs.BinHex.{decoded, groups, encoded_in, marked_in}
-use Rattle.bin_hex.specs.File.{File, AreBytes, IsOfBytes, refusal}
-use Rattle.bin_hex.specs.Putting.{or_none, encoded_text, opening, closing, encoded_lines, with_file, with_fork}
-use Rattle.bin_hex.specs.Putting.{placed, put_or_damage, with_resource_fork}
-use Rattle.bin_hex.specs.Text.{begins, mark, after_mark, is_bin_hex, after_colon, column_after}
-use Rattle.bin_hex.specs.declared.fault.Damage.{Damage}
+use Rattle.std.specs.Prelude.{get_or}
 use Rattle.bin_hex.specs.declared.fault.PutFault.TheVariants as fault
 use Rattle.bin_hex.proofs.Again.{laid_out, body_dark}
 use Rattle.bin_hex.proofs.ContentsAgain.{writable}

@@ -1,11 +1,7 @@
-use Rattle.std.proofs.Common.{◌≡◌, ℕ, zero, suc, ◌+◌, ◌-◌, ◌<◌, ◌≤◌, Bool, true, false, not, ◌&&◌, cond, List, [], ◌∷◌, ◌++◌}
-use Rattle.std.proofs.Common.{replicate, refl, sym, ◌∙◌, ap, arith, append_assoc, subst, lit<, inl, inr}
-use Rattle.std.specs.Prelude.{◌==◌, nat_le, nat_lt, flat_map}
-use Rattle.std.proofs.lemmas.Bool.{and_parts, cases_Bool, eqb-true, ltb-true, leb-true, ne_eqb}
-use Rattle.std.proofs.lemmas.List.{append-nil}
-use Rattle.plain_laws.proofs.Bytes.{bytes-append}
-use Rattle.bin_hex.specs.File.{AreBytes}
-use Rattle.bin_hex.specs.Runs.{expanded, begins_with_run, literal, run, runs_after, compressed}
+use Rattle.bin_hex.proofs.Cited.{◌≡◌, ℕ, zero, suc, ◌+◌, ◌-◌, ◌<◌, ◌≤◌, Bool, true, false, not, ◌&&◌, cond, List, [], ◌∷◌, ◌++◌, replicate}
+use Rattle.bin_hex.proofs.Cited.{refl, sym, ◌∙◌, ap, arith, append_assoc, subst, lit<, inl, inr, ◌==◌, nat_le, nat_lt, flat_map, and_parts}
+use Rattle.bin_hex.proofs.Cited.{cases_Bool, eqb-true, ltb-true, leb-true, ne_eqb, append-nil, bytes-append, AreBytes, expanded}
+use Rattle.bin_hex.proofs.Cited.{begins_with_run, literal, run, runs_after, compressed}
 
 -- A text with runs that is written for bytes stands for those bytes.
 

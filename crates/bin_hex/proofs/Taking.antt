@@ -1,14 +1,8 @@
-use Rattle.std.proofs.Common.{◌≡◌, ℕ, ◌+◌, ◌<◌, List, ◌++◌, get_or, length, drop, ◌≤◌, refl, sym, ◌∙◌, ap, arith, append_assoc}
-use Rattle.std.specs.Prelude.{Result, Ok, Err}
-use Rattle.std.proofs.lemmas.List.{append-nil, drop_all, drop_more}
-use Rattle.bin_hex.specs.Alphabet.{role_of}
-use Rattle.bin_hex.specs.Packing.{completed, held_after, bytes_after}
-use Rattle.bin_hex.specs.Text.{sextets, read_from, with_first}
-use Rattle.bin_hex.specs.declared.alphabet.Role.{Role}
+use Rattle.bin_hex.proofs.Cited.{◌≡◌, ℕ, ◌+◌, ◌<◌, List, ◌++◌, get_or, length, drop, ◌≤◌, refl, sym, ◌∙◌, ap, arith, append_assoc, Result}
+use Rattle.bin_hex.proofs.Cited.{Ok, Err, append-nil, drop_all, drop_more, role_of, completed, held_after, bytes_after, sextets, read_from}
+use Rattle.bin_hex.proofs.Cited.{with_first, Role, Damage, Held}
 use Rattle.bin_hex.specs.declared.alphabet.Role.TheVariants as role
-use Rattle.bin_hex.specs.declared.fault.Damage.{Damage}
 use Rattle.bin_hex.specs.declared.fault.Damage.TheVariants as damage
-use Rattle.bin_hex.specs.declared.packing.Held.{Held}
 
 -- bytes that were read, and those of the groups that are read from here on, after bits that are held
 abbrev pub after : List ℕ → Held → Result (List ℕ) Damage → Result (List ℕ) Damage

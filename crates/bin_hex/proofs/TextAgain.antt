@@ -1,12 +1,8 @@
-use Rattle.std.proofs.Common.{◌≡◌, ℕ, ◌+◌, ◌<◌, Bool, true, false, not, ◌&&◌, cond, List, [], ◌∷◌, ◌++◌, map, drop, refl, sym, ◌∙◌, ap}
-use Rattle.std.proofs.Common.{arith, inl, inr, append_assoc}
-use Rattle.std.specs.Prelude.{◌==◌, if◌then◌else◌, Option, Some, Ok, is_some, filter, codes}
-use Rattle.std.specs.List.{AllByRecursion, list_all}
-use Rattle.std.proofs.lemmas.Bool.{agree_below_at, and_parts, and_cases, and_left, and_right, cases_Bool}
-use Rattle.bin_hex.specs.Alphabet.{character, is_blank, is_dark, role_of}
-use Rattle.bin_hex.specs.Text.{begins, mark, after_mark, is_bin_hex, after_colon, sextets, read_from, with_first, put_in_line}
-use Rattle.bin_hex.specs.Text.{column_after, in_lines}
-use Rattle.bin_hex.specs.declared.alphabet.Role.{Role}
+use Rattle.bin_hex.proofs.Cited.{◌≡◌, ℕ, ◌+◌, ◌<◌, Bool, true, false, not, ◌&&◌, cond, List, [], ◌∷◌, ◌++◌, map, drop, refl, sym, ◌∙◌, ap}
+use Rattle.bin_hex.proofs.Cited.{arith, inl, inr, append_assoc, ◌==◌, if◌then◌else◌, Option, Some, Ok, is_some, filter, codes}
+use Rattle.bin_hex.proofs.Cited.{AllByRecursion, list_all, agree_below_at, and_parts, and_cases, and_left, and_right, cases_Bool, character}
+use Rattle.bin_hex.proofs.Cited.{is_blank, is_dark, role_of, begins, mark, after_mark, is_bin_hex, after_colon, sextets, read_from}
+use Rattle.bin_hex.proofs.Cited.{with_first, put_in_line, column_after, in_lines, Role}
 use Rattle.bin_hex.specs.declared.alphabet.Role.TheVariants as role
 
 -- A text that is laid out in any lines is read again.

@@ -1,13 +1,6 @@
-use Rattle.std.proofs.Common.{◌≡◌, ℕ, List, [], ◌∷◌, ◌++◌, map, replicate, take, set, false, true, refl}
-use Rattle.std.specs.Prelude.{Ok, Err, codes}
-use Rattle.checksums.specs.Checksum.{with_bits}
-use Rattle.bin_hex.specs.Alphabet.{alphabet, role_of}
-use Rattle.bin_hex.specs.BinHex.{decoded, encoded}
-use Rattle.bin_hex.specs.Contents.{header_in, fork_in, file_in}
-use Rattle.bin_hex.specs.File.{File}
-use Rattle.bin_hex.specs.Putting.{with_resource_fork}
-use Rattle.bin_hex.specs.Runs.{expanded, compressed}
-use Rattle.bin_hex.specs.Text.{is_bin_hex}
+use Rattle.bin_hex.proofs.Cited.{◌≡◌, ℕ, List, [], ◌∷◌, ◌++◌, map, replicate, take, set, false, true, refl, Ok, Err, codes, with_bits}
+use Rattle.bin_hex.proofs.Cited.{alphabet, role_of, decoded, encoded, header_in, fork_in, file_in, File, with_resource_fork, expanded}
+use Rattle.bin_hex.proofs.Cited.{compressed, is_bin_hex}
 use Rattle.bin_hex.specs.declared.alphabet.Role.TheVariants as role
 use Rattle.bin_hex.specs.declared.fault.Damage.TheVariants as damage
 use Rattle.bin_hex.specs.declared.fault.Part.TheVariants as part

@@ -1,15 +1,8 @@
 -- A header is written by its words, and they are read back. For callers.
-use Rattle.std.proofs.Common.{◌≡◌, ℕ, ◌+◌, ◌-◌, ◌%◌, ◌<◌, ◌≤◌, ◌^◌, List, ◌++◌, length, take, drop, sym, refl, ap, ◌∙◌}
-use Rattle.std.proofs.Common.{arith, zero, suc, append_assoc, length-append}
-use Rattle.std.proofs.lemmas.List.{drop-take, take-take, drop-drop}
-use Rattle.byteorder.specs.Endian.{big_number}
-use Rattle.memory_windows.specs.Writes.{written, piece}
-use Rattle.memory_windows.proofs.Pieces.{piece-written, written-written}
-use Rattle.block_headers.specs.Words.{word, word_at, header}
-use Rattle.block_headers.specs.Headers.{header_bytes, tag_number}
-use Rattle.block_headers.specs.declared.header.Header.{Header}
-use Rattle.block_headers.specs.declared.header.Tag.{Tag}
-use Rattle.block_headers.specs.declared.header.Tag.TheVariants.{Free, Nonrelocatable, Masters, Relocatable}
+use Rattle.block_headers.proofs.Cited.{◌≡◌, ℕ, ◌+◌, ◌-◌, ◌%◌, ◌<◌, ◌≤◌, ◌^◌, List, ◌++◌, length, take, drop, sym, refl, ap, ◌∙◌, arith}
+use Rattle.block_headers.proofs.Cited.{zero, suc, append_assoc, length-append, drop-take, take-take, drop-drop, big_number, written, piece}
+use Rattle.block_headers.proofs.Cited.{piece-written, written-written, word, word_at, header, header_bytes, tag_number, Header, Tag, Free}
+use Rattle.block_headers.proofs.Cited.{Nonrelocatable, Masters, Relocatable}
 use Rattle.block_headers.proofs.Words.{length-word, read_back}
 
 pub length-header : (a b c d : ℕ) → length (header a b c d) ≡ 16

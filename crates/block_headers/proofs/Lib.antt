@@ -1,3 +1,4 @@
+mod Cited
 pub mod Headers
 pub mod Slots
 pub mod Words

@@ -1,9 +1,6 @@
 -- A slot and its number. For callers.
-use Rattle.std.proofs.Common.{◌≡◌, ℕ, ◌+◌, ◌*◌, ◌%◌, inl, inr, refl, ap, arith, Bool, true, false, Option, None, Some}
-use Rattle.std.specs.Prelude.{unwrap_or}
-use Rattle.block_headers.specs.Slots.{slot_number, IsSlotWord, IsSlotNumber}
-use Rattle.block_headers.specs.declared.slot.SlotWord.{SlotWord}
-use Rattle.block_headers.specs.declared.slot.SlotWord.TheVariants.{Block, Empty, Unused}
+use Rattle.block_headers.proofs.Cited.{◌≡◌, ℕ, ◌+◌, ◌*◌, ◌%◌, inl, inr, refl, ap, arith, Bool, true, false, Option, None, Some, unwrap_or}
+use Rattle.block_headers.proofs.Cited.{slot_number, IsSlotWord, IsSlotNumber, SlotWord, Block, Empty, Unused}
 
 -- the number of a slot is one that can be read
 pub slot_reads_as : (s : SlotWord) → IsSlotWord s → IsSlotNumber (slot_number s)

@@ -1,11 +1,6 @@
 -- A word is read back. For callers.
-use Rattle.std.proofs.Common.{◌≡◌, ℕ, ◌+◌, ◌<◌, ◌≤◌, ◌^◌, List, [], length, sym, ap, ◌∙◌, refl, arith}
-use Rattle.std.proofs.lemmas.List.{append-nil}
-use Rattle.byteorder.specs.Endian.{big_bytes, big_number}
-use Rattle.byteorder.specs.Numbers.{big_number-reads_back}
-use Rattle.block_headers.specs.Words.{word, word_at}
-use Rattle.memory_windows.specs.Writes.{written, piece}
-use Rattle.memory_windows.proofs.Pieces.{piece-written}
+use Rattle.block_headers.proofs.Cited.{◌≡◌, ℕ, ◌+◌, ◌<◌, ◌≤◌, ◌^◌, List, [], length, sym, ap, ◌∙◌, refl, arith, append-nil, big_bytes}
+use Rattle.block_headers.proofs.Cited.{big_number, big_number-reads_back, word, word_at, written, piece, piece-written}
 
 pub length-word : (n : ℕ) → length (word n) ≡ 4
 unfolding word

@@ -1,3 +1,4 @@
+mod Cited
 pub mod Zone
 pub mod Renamed
 pub mod Regroup

@@ -1,12 +1,7 @@
 -- Words that ask for a request.
-use Rattle.std.proofs.Common.{◌≡◌, ◌<◌, ◌≤◌, ◌+◌, ◌-◌, ◌∷◌, ◌++◌, ◌∙◌, ℕ, true, List, [], take, drop, get_or, length, map, inl, inr, refl}
-use Rattle.std.proofs.Common.{ap, sym, arith}
-use Rattle.std.proofs.lemmas.List.{take-append-drop, map-append}
-use Rattle.std.specs.Prelude.{bytes_eq, codes}
-use Rattle.std.proofs.lemmas.Slice.Eq.{bytes_eq-Decides}
-use Rattle.std.proofs.lemmas.Grind.{common_steps}
-use Rattle.std.specs.Borrow.{Bor}
-use Rattle.commands.specs.Asking.{StandIn, HasValue, IsGiven, HasValues}
+use Rattle.commands.proofs.Cited.{◌≡◌, ◌<◌, ◌≤◌, ◌+◌, ◌-◌, ◌∷◌, ◌++◌, ◌∙◌, ℕ, true, List, [], take, drop, get_or, length, map, inl, inr}
+use Rattle.commands.proofs.Cited.{refl, ap, sym, arith, take-append-drop, map-append, bytes_eq, codes, bytes_eq-Decides, common_steps, Bor}
+use Rattle.commands.proofs.Cited.{StandIn, HasValue, IsGiven, HasValues}
 
 -- what stands among words does so with a word before them
 pub skip : (word : List ℕ) (words texts : List (List ℕ)) → StandIn words texts → StandIn (word ∷ words) texts

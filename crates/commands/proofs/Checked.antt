@@ -1,12 +1,7 @@
 -- What a survey asks for, done of one path.
-use Rattle.std.proofs.Common.{◌≡◌, ℕ, List, Option, false, inl, inr, refl, subst}
-use Rattle.fork_tasks.specs.declared.ending.Ending.{Ending}
-use Rattle.job_tasks.specs.declared.tasks.Task.{Task}
+use Rattle.commands.proofs.Cited.{◌≡◌, ℕ, List, Option, false, inl, inr, refl, subst, Ending, Task, Access, Looks, IsUnseen, ChecksOne}
+use Rattle.commands.proofs.Cited.{IsOneUnchecked, Message, Lists, IsFolderSurveyed, IsUnlisted}
 use Rattle.job_tasks.specs.declared.tasks.Work.TheVariants as work
-use Rattle.fork_tasks.specs.Accesses.{Access}
-use Rattle.commands.specs.Doing.{Looks, IsUnseen, ChecksOne, IsOneUnchecked}
-use Rattle.fork_tasks.specs.Fault.{Message}
-use Rattle.fork_tasks.specs.Surveying.{Lists, IsFolderSurveyed, IsUnlisted}
 
 -- the host was asked whether a folder lies at the path, which nothing shows
 still_checked : (path : List ℕ) (ending : Ending) (p mid q : Option (List ℕ)) (old then new : Option (List Access))

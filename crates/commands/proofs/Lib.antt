@@ -1,2 +1,3 @@
+mod Cited
 mod Asked
 mod Checked

@@ -1,36 +1,16 @@
-use Rattle.std.proofs.Common.{◌≡◌, ◌∙◌, ◌≤◌, ◌<◌, ◌+◌, ◌++◌, ◌||◌, ◌⊎◌, inl, inr, arith, ℕ, Bool, true, false, refl, sym, ap, cond}
-use Rattle.std.proofs.Common.{subst, append_assoc, append-nil, length, drop, List, [], ◌∷◌, map, Option, Some, None, Result, Ok, Err}
-use Rattle.std.proofs.Common.{get_or}
+use Rattle.desk.proofs.Cited.{◌≡◌, ◌∙◌, ◌≤◌, ◌<◌, ◌+◌, ◌++◌, ◌||◌, ◌⊎◌, inl, inr, arith, ℕ, Bool, true, false, refl, sym, ap, cond, subst}
+use Rattle.desk.proofs.Cited.{append_assoc, append-nil, length, drop, List, [], ◌∷◌, map, Option, Some, None, Result, Ok, Err, get_or}
+use Rattle.desk.proofs.Cited.{le-ltb, slice_get_within, slice_get_cases, flat_map-append, Window, OsErr, Content, ScriptParts, launch_line}
+use Rattle.desk.proofs.Cited.{Line, Event, Resources, Course, Shown, joined, step, unless_over, is_wait, line_told, lines_told, Ending}
+use Rattle.desk.proofs.Cited.{first_steps, ending, ending_of, quits, ended_by, files_after, over-goes_on, steps-next, steps-past}
+use Rattle.desk.proofs.Cited.{ending-next, ending-past, Act, Step, Turn, Quit, App, Launched, Live, Phase, Waiting, Running, Ended, Next}
+use Rattle.desk.proofs.Cited.{GoesOn, Ends, begun, leaves, ends, after_course, called, run_out, step_of, stepped, quitted, and_then}
+use Rattle.desk.proofs.Cited.{turn_through, acted, acted_by, come_by, told_of, grant, sizes_asked, Place, State, coming, place_come, ready}
+use Rattle.desk.proofs.Cited.{begun_in, begun_if, launch_answer, acted_at, after_event, after_events, told, place_given, opening, start_of}
+use Rattle.desk.proofs.Cited.{launched_alone, RunsAsAlone, LeftAsAlone, IsAsAlone, IsPlaceOf, HaltsAfter}
 use Rattle.std.specs.Prelude.{slice_get}
-use Rattle.std.proofs.lemmas.Bool.{le-ltb}
-use Rattle.std.proofs.lemmas.Option.{slice_get_within, slice_get_cases}
-use Rattle.std.proofs.lemmas.List.Concat.{flat_map-append}
-use Rattle.memory_windows.specs.declared.Window.{Window}
-use Rattle.mac_words.specs.declared.code.OsErr.{OsErr}
-use Rattle.fork_format.specs.Content.{Content}
-use Rattle.script_text.specs.Script.{ScriptParts}
-use Rattle.script_text.specs.Transcript.{launch_line}
-use Rattle.script_text.specs.declared.script.Line.{Line}
-use Rattle.script_text.specs.declared.job.Event.{Event}
-use Rattle.res_calls.specs.Files.{Resources}
 use Rattle.applications.specs.Trying as application
-use Rattle.applications.specs.Step.{Course, Shown, joined, step, unless_over, is_wait}
-use Rattle.applications.specs.Application.{line_told, lines_told}
-use Rattle.applications.specs.Alone.{Ending, first_steps, ending, ending_of, quits, ended_by, end_told, files_after}
-use Rattle.applications.proofs.Counting.{over-goes_on, steps-next, steps-past, ending-next, ending-past}
-use Rattle.desk.specs.declared.act.Act.{Act}
-use Rattle.desk.specs.declared.act.Act.TheVariants.{Step, Turn, Quit}
-use Rattle.desk.specs.declared.job.App.{App}
-use Rattle.desk.specs.Outcome.{Launched}
-use Rattle.desk.specs.Phase.{Live, Phase, Waiting, Running, Ended, Next, GoesOn, Ends, begun, leaves, ends, after_course}
-use Rattle.desk.specs.Phase.{called, run_out, step_of, stepped, quitted, and_then, turn_through, acted, acted_by, come_by, told_of}
-use Rattle.partitions.specs.Grant.{grant}
-use Rattle.desk.specs.Sizes.{sizes_asked}
-use Rattle.desk.specs.Desk.{Place, State, coming, place_come, ready, begun_in, begun_if, launch_answer, acted_at, after_event, after_events}
-use Rattle.desk.specs.Desk.{told}
-use Rattle.desk.specs.Job.{place_given, opening, start_of}
-use Rattle.desk.specs.Alone.{launched_alone, RunsAsAlone, LeftAsAlone, IsAsAlone, IsPlaceOf}
-use Rattle.desk.specs.Halting.{HaltsAfter}
+use Rattle.applications.specs.Alone.{end_told}
 use Rattle.desk.proofs.Events.{Pairs, acted-pairs, event-pairs, pairs_kept, pairs_within, pair_at}
 
 -- The desk seen from one application is that application alone.

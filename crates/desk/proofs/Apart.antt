@@ -1,10 +1,6 @@
-use Rattle.std.proofs.Common.{◌≡◌, ◌≢◌, ℕ, Option, Some, None, Result, Ok, Err, List, [], ◌∷◌, slice_get, slice_set}
-use Rattle.std.proofs.Common.{refl, ap, zero, suc}
-use Rattle.mac_words.specs.declared.code.OsErr.{OsErr}
-use Rattle.desk.specs.declared.act.Act.{Act}
-use Rattle.desk.specs.Phase.{Live, Running}
-use Rattle.desk.specs.Desk.{Place, State, coming, place_come, acted_in, acted_at, launch_answer, launched_by}
-use Rattle.desk.specs.Desk.{launched_in, launched_at}
+use Rattle.desk.proofs.Cited.{◌≡◌, ◌≢◌, ℕ, Option, Some, None, Result, Ok, Err, List, [], ◌∷◌, slice_get, slice_set, refl, ap, zero, suc}
+use Rattle.desk.proofs.Cited.{OsErr, Act, Live, Running, Place, State, coming, place_come, acted_in, acted_at, launch_answer, launched_by}
+use Rattle.desk.proofs.Cited.{launched_in, launched_at}
 
 -- Applications have nothing to do with one another.
 

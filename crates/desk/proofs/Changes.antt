@@ -1,29 +1,11 @@
 -- What a launch makes of the desk.
-use Rattle.std.proofs.Common.{◌≡◌, ℕ, Option, Some, None, option_map, Result, Ok, Err, List, ◌++◌, length, map}
-use Rattle.std.specs.Prelude.{IsOk, OnOk}
-use Rattle.std.proofs.Common.{true, false, slice_get, slice_set, slice_index_or, IfSome, ◌<◌, refl, sym, ◌∙◌, ap, subst}
-use Rattle.std.specs.Borrow.{Bor}
-use Rattle.std.specs.Slice.{IsItemAt}
-use Rattle.std.specs.Option.{ok_or}
-use Rattle.std.proofs.lemmas.Option.{slice_get-map, slice_get_read, slice_get_past}
-use Rattle.memory_windows.specs.declared.Window.{Window}
-use Rattle.std.proofs.lemmas.List.Elements.{All-contains}
-use Rattle.memory_windows.specs.Windows.{put_in}
-use Rattle.memory_windows.specs.Outside.{IsOutside}
-use Rattle.mac_words.specs.declared.code.OsErr.{OsErr}
-use Rattle.res_calls.specs.Files.{Resources}
-use Rattle.heap_calls.specs.declared.refusal.Refusal.{Refusal}
-use Rattle.heap_calls.specs.declared.refusal.Refusal.TheVariants.{Code}
-use Rattle.partitions.specs.Grant.{grant}
-use Rattle.script_text.specs.DeskLog.{launch_of, refusal_of}
-use Rattle.desk.specs.Phase.{Phase, Waiting, Running, Ended, begun, waits}
-use Rattle.desk.specs.Sizes.{Sizes, sizes_asked}
-use Rattle.desk.specs.Ready.{IsReady}
-use Rattle.desk.specs.Desk.{Place, State}
-use Rattle.desk.specs.Free.{IsFree}
+use Rattle.desk.proofs.Cited.{◌≡◌, ℕ, Option, Some, None, option_map, Result, Ok, Err, List, ◌++◌, length, map, IsOk, OnOk, true, false}
+use Rattle.desk.proofs.Cited.{slice_get, slice_set, slice_index_or, IfSome, ◌<◌, refl, sym, ◌∙◌, ap, subst, Bor, IsItemAt, ok_or}
+use Rattle.desk.proofs.Cited.{slice_get-map, slice_get_read, slice_get_past, Window, All-contains, put_in, IsOutside, OsErr, Resources}
+use Rattle.desk.proofs.Cited.{Refusal, Code, grant, launch_of, refusal_of, Phase, Waiting, Running, Ended, begun, waits, Sizes, sizes_asked}
+use Rattle.desk.proofs.Cited.{IsReady, Place, State, IsFree, launch_reply, reply_at, size_granted, begun_in, begun_with, begun_if, ready}
+use Rattle.desk.proofs.Cited.{launched_by, launched_in, launched_at}
 use Rattle.desk.proofs.Holding.{contains-put_in}
-use Rattle.desk.specs.Desk.{launch_reply, reply_at, size_granted, begun_in, begun_with, begun_if, ready, launched_by, launched_in}
-use Rattle.desk.specs.Desk.{launched_at}
 
 -- a state by its parts
 stands : (s : State) (m : ℕ) (ws : List Window) (ps : List Place) (text : List ℕ) → m ≡ s.memory → ws ≡ s.windows

@@ -1,24 +1,10 @@
-use Rattle.std.proofs.Common.{◌≡◌, ◌∙◌, ◌≤◌, ◌+◌, ◌++◌, arith, ℕ, Bool, true, false, refl, sym, ap, cond}
-use Rattle.std.proofs.Common.{List, Option, Some, None}
-use Rattle.memory_windows.specs.declared.Window.{Window}
-use Rattle.mac_words.specs.declared.code.OsErr.{OsErr}
-use Rattle.block_store.specs.Block.{Block, sizes, fresh}
-use Rattle.block_store.specs.Rest.{Site}
-use Rattle.script_text.specs.declared.script.Line.{Line}
-use Rattle.script_text.specs.Transcript.{launch_line, end_line}
-use Rattle.res_calls.specs.Files.{Resources}
+use Rattle.desk.proofs.Cited.{◌≡◌, ◌∙◌, ◌≤◌, ◌+◌, ◌++◌, arith, ℕ, Bool, true, false, refl, sym, ap, cond, List, Option, Some, None, Window}
+use Rattle.desk.proofs.Cited.{OsErr, Block, sizes, fresh, Site, Line, launch_line, end_line, Resources, Blocks, launched_with, nowhere}
+use Rattle.desk.proofs.Cited.{last_code, is_fatal, Course, step, lines_told, Ending, ended_by, ending_of, stops, quits, moved}
+use Rattle.desk.proofs.Cited.{course_elsewhere, Came, exit_as, exit_of, end_by, end_if, has_ended, Exit, Quits, Stops, step-elsewhere}
+use Rattle.desk.proofs.Cited.{launched-elsewhere, sizes-fresh, end-elsewhere, ending-told, Live, GoesOn, Ends, begun, leaves, ends, called}
+use Rattle.desk.proofs.Cited.{after_course}
 use Rattle.applications.specs.Trying as application
-use Rattle.applications.specs.Trying.{Blocks, launched_with, nowhere, last_code, is_fatal}
-use Rattle.applications.specs.Step.{Course, step}
-use Rattle.applications.specs.Application.{lines_told}
-use Rattle.applications.specs.Alone.{Ending, ended_by, ending_of, stops, quits}
-use Rattle.applications.specs.Elsewhere.{moved, course_elsewhere}
-use Rattle.applications.specs.Replies.{Came, exit_as, exit_of, end_by, end_if, has_ended}
-use Rattle.applications.specs.declared.quitting.Exit.{Exit}
-use Rattle.applications.specs.declared.quitting.Exit.TheVariants.{Quits, Stops}
-use Rattle.applications.proofs.Elsewhere.{step-elsewhere, launched-elsewhere, sizes-fresh}
-use Rattle.applications.proofs.Quits.{end-elsewhere, ending-told}
-use Rattle.desk.specs.Phase.{Live, GoesOn, Ends, begun, leaves, ends, called, after_course}
 
 -- What the code's application comes to, which lies in its partition, by the one of the definitions, which lies nowhere.
 

@@ -1,17 +1,10 @@
-use Rattle.std.proofs.Common.{◌≡◌, ℕ, ◌+◌, Bool, true, false, Option, Some, None, Result, Ok, Err, List, [], ◌∷◌}
-use Rattle.std.proofs.Common.{length, slice_get, slice_set, refl, subst, cond, zero, suc, drop, inl, inr}
-use Rattle.mac_words.specs.declared.code.OsErr.{OsErr}
-use Rattle.script_text.specs.declared.job.Event.{Event}
+use Rattle.desk.proofs.Cited.{◌≡◌, ℕ, ◌+◌, Bool, true, false, Option, Some, None, Result, Ok, Err, List, [], ◌∷◌, length, slice_get}
+use Rattle.desk.proofs.Cited.{slice_set, refl, subst, cond, zero, suc, drop, inl, inr, OsErr, Event, Act, Step, Turn, Quit, App, Line, Live}
+use Rattle.desk.proofs.Cited.{Phase, Waiting, Running, Ended, Next, GoesOn, Ends, come_by, stepped, Goes, WithinTurn, WithinAct}
+use Rattle.desk.proofs.Cited.{WithinPhase, WithinOf, WithinAt, WithinTurns, WithinRounds, WithinEvent, HaltsAfter, Place, State, coming}
+use Rattle.desk.proofs.Cited.{place_come, acted_in, acted_at, launch_answer, launched_by, launched_in, each_turned, round, any_runs, rounds}
+use Rattle.desk.proofs.Cited.{longest, after_event, after_events}
 use Rattle.script_text.specs.declared.job.Event.TheVariants as event
-use Rattle.desk.specs.declared.act.Act.{Act}
-use Rattle.desk.specs.declared.act.Act.TheVariants.{Step, Turn, Quit}
-use Rattle.desk.specs.declared.job.App.{App}
-use Rattle.script_text.specs.declared.script.Line.{Line}
-use Rattle.desk.specs.Phase.{Live, Phase, Waiting, Running, Ended, Next, GoesOn, Ends, come_by, stepped}
-use Rattle.desk.specs.Halting.{Goes, WithinTurn, WithinAct, WithinPhase, WithinOf, WithinAt, WithinTurns, WithinRounds}
-use Rattle.desk.specs.Halting.{WithinEvent, HaltsAfter}
-use Rattle.desk.specs.Desk.{Place, State, coming, place_come, acted_in, acted_at, launch_answer, launched_by}
-use Rattle.desk.specs.Desk.{launched_in, each_turned, round, any_runs, rounds, longest, after_event, after_events}
 
 -- What acts and launches keep of each application at its place, events keep.
 

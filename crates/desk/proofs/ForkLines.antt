@@ -1,16 +1,7 @@
-use Rattle.std.proofs.Common.{◌≡◌, ◌≢◌, ℕ, ◌+◌, ◌<◌, ◌++◌, Bool, true, cond, List, [], length, map, drop, slice_index_or, sym, ◌∙◌}
-use Rattle.std.proofs.Common.{append_assoc, ap, arith}
-use Rattle.std.proofs.lemmas.List.{nil_from_length, length-append}
-use Rattle.std.proofs.lemmas.List.{at_drop_more}
-use Rattle.std.specs.List.{flat_map}
+use Rattle.desk.proofs.Cited.{◌≡◌, ◌≢◌, ℕ, ◌+◌, ◌<◌, ◌++◌, Bool, true, cond, List, [], length, map, drop, slice_index_or, sym, ◌∙◌}
+use Rattle.desk.proofs.Cited.{append_assoc, ap, arith, nil_from_length, length-append, at_drop_more, flat_map, view_file, File, Extends}
+use Rattle.desk.proofs.Cited.{fork_of, AppOutcome, fork_told, forks_told, forks_of, told_seen}
 use Rattle.res_calls.specs.declared.files.File.{File as StoredFile}
-use Rattle.res_calls.specs.View.{view_file}
-use Rattle.res_calls.specs.Files.{File}
-use Rattle.applications.specs.Replies.{Extends}
-use Rattle.script_text.specs.DeskLog.{fork_of}
-use Rattle.desk.specs.declared.outcome.AppOutcome.{AppOutcome}
-use Rattle.desk.specs.Outcome.{fork_told, forks_told, forks_of}
-use Rattle.desk.specs.View.{told_seen}
 
 -- The lines of forks that were written: what is written so far, followed by the rest, is the whole.
 

@@ -1,24 +1,9 @@
 -- Places of the memory that are in no partition.
-use Rattle.std.proofs.Common.{◌≡◌, ℕ, ◌+◌, ◌<◌, suc, List, [], ◌∷◌, Option, Some, None, Result, Ok, Err, IfOk, IfSome, refl}
-use Rattle.std.proofs.Common.{length, take, drop, slice_index_or, sym, ◌∙◌, subst, arith}
-use Rattle.std.proofs.lemmas.List.{at_drop_more}
-use Rattle.std.proofs.lemmas.List.Elements.{All-contains}
-use Rattle.std.specs.List.{Contains}
-use Rattle.memory_windows.specs.declared.Window.{Window}
-use Rattle.memory_windows.specs.Outside.{IsOutside, IsOutsideAll}
-use Rattle.memory_windows.proofs.Listed.{All-without_window}
-use Rattle.block_store.specs.Rest.{Site}
-use Rattle.fork_format.specs.Content.{Content}
-use Rattle.script_text.specs.declared.job.Event.{Event}
-use Rattle.raw_region.specs.Memory.{Whole}
-use Rattle.raw_zone.specs.Making.{LiesIn}
-use Rattle.desk.specs.declared.job.Job.{Job}
+use Rattle.desk.proofs.Cited.{◌≡◌, ℕ, ◌+◌, ◌<◌, suc, List, [], ◌∷◌, Option, Some, None, Result, Ok, Err, IfOk, IfSome, refl, length, take}
+use Rattle.desk.proofs.Cited.{drop, slice_index_or, sym, ◌∙◌, subst, arith, at_drop_more, All-contains, Contains, Window, IsOutside}
+use Rattle.desk.proofs.Cited.{IsOutsideAll, All-without_window, Site, Content, Event, Whole, LiesIn, Job, State, after_event, IsFree}
+use Rattle.desk.proofs.Cited.{StaysFree, FreeThrough, IsNeverGranted, closed, opening, system_of}
 use Rattle.desk.specs.declared.outcome.Outcome.{Outcome}
-use Rattle.desk.specs.Desk.{State, after_event}
-use Rattle.desk.specs.Free.{IsFree, StaysFree, FreeThrough, IsNeverGranted}
-use Rattle.desk.specs.Held.{closed}
-use Rattle.desk.specs.Job.{opening}
-use Rattle.desk.specs.Whole.{system_of}
 
 -- a place that is in none of these windows
 module _ (place : ℕ) where

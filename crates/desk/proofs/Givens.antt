@@ -1,20 +1,8 @@
-use Rattle.std.proofs.Common.{◌≡◌, ℕ, Bool, Option, Some, None, Result, Ok, Err, List, [], ◌∷◌, IfOk, IfSome, map}
-use Rattle.std.proofs.Common.{refl, sym, subst, inl, inr, zero, suc, slice_get}
-use Rattle.mac_words.specs.declared.code.OsErr.{OsErr}
-use Rattle.fork_format.specs.Content.{Content}
-use Rattle.script_text.specs.Script.{ScriptParts}
-use Rattle.script_text.specs.declared.job.Event.{Event}
-use Rattle.res_calls.specs.Files.{Resources}
-use Rattle.desk.specs.declared.job.App.{App}
-use Rattle.desk.specs.declared.job.Job.{Job}
+use Rattle.desk.proofs.Cited.{◌≡◌, ℕ, Bool, Option, Some, None, Result, Ok, Err, List, [], ◌∷◌, IfOk, IfSome, map, refl, sym, subst, inl}
+use Rattle.desk.proofs.Cited.{inr, zero, suc, slice_get, OsErr, Content, ScriptParts, Event, Resources, App, Job, Launched, AppResult}
+use Rattle.desk.proofs.Cited.{Outcome, Place, after_events, told, Halt, IsLeft, halted, opening, start_of, launched_alone, IsPlaceOf}
+use Rattle.desk.proofs.Cited.{outcome_seen, Law, OfLaunched, OfEach, OfEachApp, EachLaunched, system_of, start_with}
 use Rattle.desk.specs.declared.outcome.Outcome as declared
-use Rattle.desk.specs.Outcome.{Launched, AppResult, Outcome}
-use Rattle.desk.specs.Desk.{Place, after_events, told}
-use Rattle.desk.specs.Halting.{Halt, IsLeft, halted}
-use Rattle.desk.specs.Job.{opening, start_of}
-use Rattle.desk.specs.Alone.{launched_alone, IsPlaceOf}
-use Rattle.desk.specs.View.{outcome_seen}
-use Rattle.desk.specs.Whole.{Law, OfLaunched, OfEach, OfEachApp, EachLaunched, system_of, start_with}
 use Rattle.desk.proofs.Events.{Pairs}
 use Rattle.desk.proofs.Alone.{all_alone, after_alone, told-alone}
 

@@ -1,27 +1,14 @@
-use Rattle.std.proofs.Common.{◌≡◌, ◌∙◌, ◌+◌, ◌-◌, ◌<◌, inl, inr, ℕ, Bool, true, false, Option, Some, None, List, [], ◌∷◌}
-use Rattle.std.proofs.Common.{length, map, drop, slice_get, slice_set, slice_index_or, refl, sym, ap, subst, arith, zero, suc}
-use Rattle.std.proofs.Common.{◌++◌, ◌≤◌, ◌≢◌, append-nil, option_map, IfSome}
-use Rattle.std.proofs.lemmas.List.{map-set, at_drop_more}
-use Rattle.std.specs.List.{flat_map}
-use Rattle.script_text.specs.DeskLog.{end_of}
-use Rattle.std.specs.Prelude.{Result, Ok, Err, IsOk, is_ok, OnOk, OnErr}
-use Rattle.memory_windows.specs.declared.Window.{Window}
-use Rattle.script_text.specs.Script.{ScriptParts}
-use Rattle.script_text.specs.declared.script.Line.{Line}
-use Rattle.script_text.specs.declared.job.Event.{Event}
+use Rattle.desk.proofs.Cited.{◌≡◌, ◌∙◌, ◌+◌, ◌-◌, ◌<◌, inl, inr, ℕ, Bool, true, false, Option, Some, None, List, [], ◌∷◌, length, map, drop}
+use Rattle.desk.proofs.Cited.{slice_get, slice_set, slice_index_or, refl, sym, ap, subst, arith, zero, suc, ◌++◌, ◌≤◌, ◌≢◌, append-nil}
+use Rattle.desk.proofs.Cited.{option_map, IfSome, map-set, at_drop_more, flat_map, end_of, IsOk, is_ok, OnOk, OnErr, Window, ScriptParts}
+use Rattle.desk.proofs.Cited.{Line, Event, nowhere, moved, is_wait, Act, Step, Turn, Quit, AppResult, Launched, Outcome, forks_of}
+use Rattle.desk.proofs.Cited.{outcome_told, Phase, Waiting, Running, Ended, Live, Next, GoesOn, Ends, Left, leaves, stepped, told_of, Place}
+use Rattle.desk.proofs.Cited.{State, acted_at, acted_in, after_event, after_events, coming, end_told, left_by, outcome_of, places_acted}
+use Rattle.desk.proofs.Cited.{round, told, windows_after, Goes, WithinTurn, WithinAct, WithinPhase, WithinPlace, WithinOf, WithinPlaces}
+use Rattle.desk.proofs.Cited.{WithinAt, WithinTurns, WithinRounds, WithinEvent, WroteForks, HaltsAfter, IsLeft, halted}
+use Rattle.std.specs.Prelude.{Result, Ok, Err}
 use Rattle.applications.specs.Trying as application
-use Rattle.applications.specs.Trying.{nowhere}
-use Rattle.applications.specs.Elsewhere.{moved}
-use Rattle.applications.specs.Step.{is_wait}
-use Rattle.desk.specs.declared.act.Act.{Act}
-use Rattle.desk.specs.declared.act.Act.TheVariants.{Step, Turn, Quit}
-use Rattle.desk.specs.Outcome.{AppResult, Launched, Outcome, forks_of, outcome_told}
-use Rattle.desk.specs.Phase.{Phase, Waiting, Running, Ended, Live, Next, GoesOn, Ends, Left, leaves, stepped, told_of}
-use Rattle.desk.specs.Desk.{Place, State, acted_at, acted_in, after_event, after_events, coming, end_told, left_by, outcome_of}
-use Rattle.desk.specs.Desk.{places_acted, round, told, windows_after}
-use Rattle.desk.specs.Halting.{Goes, WithinTurn, WithinAct, WithinPhase, WithinPlace, WithinOf, WithinPlaces, WithinAt}
 use Rattle.desk.proofs.Places.{seen_at}
-use Rattle.desk.specs.Halting.{WithinTurns, WithinRounds, WithinEvent, WroteForks, HaltsAfter, IsLeft, halted}
 
 -- What holds within an act, a round or events.
 

@@ -1,26 +1,11 @@
 -- Who holds which window, as applications are launched and end.
-use Rattle.std.proofs.Common.{◌≡◌, ℕ, ◌+◌, ◌<◌, ◌≤◌, zero, suc, Bool, true, false, cond, List, [], ◌∷◌}
-use Rattle.std.proofs.Common.{length, map, drop, Option, Some, None, option_map}
-use Rattle.std.proofs.Common.{slice_get, slice_set, IfSome, refl, sym, ◌∙◌, ap, subst, arith}
-use Rattle.std.specs.List.{Contains}
-use Rattle.memory_windows.specs.declared.Window.{Window}
-use Rattle.memory_windows.specs.Windows.{put_in, taken_out}
-use Rattle.memory_windows.proofs.Ordered.{contains-counted, times-put_in, times-taken_out, length-taken_out, one-itself, none-counted}
-use Rattle.memory_windows.proofs.Listed.{length-with_window}
-use Rattle.partitions.proofs.Order.{given_back}
-use Rattle.script_text.specs.Script.{ScriptParts}
-use Rattle.script_text.specs.declared.script.Line.{Line}
-use Rattle.applications.specs.Step.{Course, step, is_wait}
-use Rattle.applications.specs.Alone.{ended_by}
-use Rattle.fork_format.specs.Content.{Content}
-use Rattle.desk.specs.declared.act.Act.{Act}
-use Rattle.desk.specs.declared.act.Act.TheVariants.{Step, Turn, Quit}
-use Rattle.desk.specs.declared.job.App.{App}
-use Rattle.desk.specs.Phase.{Live, Phase, Waiting, Running, Ended, Left, Next, GoesOn, Ends, come_by, called, step_of}
-use Rattle.desk.specs.Phase.{stepped, turn_through, and_then, acted, acted_by, window_of, waits, ends, after_course}
-use Rattle.desk.specs.Desk.{Place, windows_after, places_acted, left_by}
-use Rattle.desk.specs.Job.{place_given}
-use Rattle.desk.specs.Held.{holders, one_of, sum, some_of, IsHeld, left_window, opened, closed}
+use Rattle.desk.proofs.Cited.{◌≡◌, ℕ, ◌+◌, ◌<◌, ◌≤◌, zero, suc, Bool, true, false, cond, List, [], ◌∷◌, length, map, drop, Option, Some}
+use Rattle.desk.proofs.Cited.{None, option_map, slice_get, slice_set, IfSome, refl, sym, ◌∙◌, ap, subst, arith, Contains, Window, put_in}
+use Rattle.desk.proofs.Cited.{taken_out, contains-counted, times-put_in, times-taken_out, length-taken_out, one-itself, none-counted}
+use Rattle.desk.proofs.Cited.{length-with_window, given_back, ScriptParts, Line, Course, step, is_wait, ended_by, Content, Act, Step, Turn}
+use Rattle.desk.proofs.Cited.{Quit, App, Live, Phase, Waiting, Running, Ended, Left, Next, GoesOn, Ends, come_by, called, step_of, stepped}
+use Rattle.desk.proofs.Cited.{turn_through, and_then, acted, acted_by, window_of, waits, ends, after_course, Place, windows_after}
+use Rattle.desk.proofs.Cited.{places_acted, left_by, place_given, holders, one_of, sum, some_of, IsHeld, left_window, opened, closed}
 
 after-closed : (o : Option Left) (ws : List Window) → windows_after o ws ≡ closed (left_window o) ws
 after-closed None ws = refl

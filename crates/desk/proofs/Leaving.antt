@@ -1,20 +1,9 @@
 -- Where zones lie, as applications are launched, end and leave.
-use Rattle.std.proofs.Common.{◌≡◌, ℕ, ◌<◌, ◌⊎◌, inl, inr, zero, suc, List, [], ◌∷◌, ◌++◌, length, map, remove}
-use Rattle.std.proofs.Common.{Option, Some, None, IfSome, slice_get, slice_set, slice_index_or, refl, sym, ◌∙◌, ap}
-use Rattle.std.proofs.Common.{subst, true, arith}
+use Rattle.desk.proofs.Cited.{◌≡◌, ℕ, ◌<◌, ◌⊎◌, inl, inr, zero, suc, List, [], ◌∷◌, ◌++◌, length, map, remove, Option, Some, None, IfSome}
+use Rattle.desk.proofs.Cited.{slice_get, slice_set, slice_index_or, refl, sym, ◌∙◌, ap, subst, true, arith, Contains, Window, put_in, Site}
+use Rattle.desk.proofs.Cited.{Content, Act, App, Live, Running, waits, window_of, Place, windows_after, places_acted, left_by, place_given}
+use Rattle.desk.proofs.Cited.{Lot, holders, IsHeld, MadeOf, AllMade, Fewer, AreHoused, closed}
 use Rattle.std.proofs.lemmas.List.{append-nil}
-use Rattle.std.specs.List.{Contains}
-use Rattle.memory_windows.specs.declared.Window.{Window}
-use Rattle.memory_windows.specs.Windows.{put_in}
-use Rattle.block_store.specs.Rest.{Site}
-use Rattle.fork_format.specs.Content.{Content}
-use Rattle.desk.specs.declared.act.Act.{Act}
-use Rattle.desk.specs.declared.job.App.{App}
-use Rattle.desk.specs.Phase.{Live, Running, waits, window_of}
-use Rattle.desk.specs.Desk.{Place, windows_after, places_acted, left_by}
-use Rattle.desk.specs.Job.{place_given}
-use Rattle.desk.specs.Live.{Lot}
-use Rattle.desk.specs.Held.{holders, IsHeld, MadeOf, AllMade, Fewer, AreHoused, closed}
 use Rattle.desk.proofs.Holding.{acted_held, started_held, first_held, first_in, none_held, given_held}
 
 module _ (M : Window → Site → Type 0) where

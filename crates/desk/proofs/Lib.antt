@@ -1,3 +1,4 @@
+mod Cited
 pub mod Alone
 pub mod Apart
 pub mod Changes

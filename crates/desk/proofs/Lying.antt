@@ -1,24 +1,9 @@
 -- What lies in the memory as the applications leave, one after the other.
-use Rattle.std.proofs.Common.{◌≡◌, ℕ, List, [], ◌∷◌, ◌++◌, Option, Some, None, option_map, Result, Ok, Err, IfSome, IfOk}
-use Rattle.std.proofs.Common.{refl, sym, ◌∙◌, ap, subst, append_assoc}
+use Rattle.desk.proofs.Cited.{◌≡◌, ℕ, List, [], ◌∷◌, ◌++◌, Option, Some, None, option_map, Result, Ok, Err, IfSome, IfOk, refl, sym, ◌∙◌}
+use Rattle.desk.proofs.Cited.{ap, subst, append_assoc, All-contains, Contains, Window, IsApart, InOrder, Misses, All-without_window}
+use Rattle.desk.proofs.Cited.{apart-taken_out, Block, Slot, Content, Job, Phase, Waiting, Running, Ended, window_of, Place, after_events}
+use Rattle.desk.proofs.Cited.{opening, closed, OpenZone, Lying, IsHeapOf, LiesOf, LiesAt, AllLie, LieAfter, LieAtEnd, system_of}
 use Rattle.std.proofs.lemmas.List.{append-nil}
-use Rattle.std.proofs.lemmas.List.Elements.{All-contains}
-use Rattle.std.specs.List.{Contains}
-use Rattle.memory_windows.specs.declared.Window.{Window}
-use Rattle.memory_windows.specs.Windows.{IsApart, InOrder, Misses}
-use Rattle.memory_windows.proofs.Listed.{All-without_window}
-use Rattle.memory_windows.proofs.Ordered.{apart-taken_out}
-use Rattle.block_store.specs.Block.{Block}
-use Rattle.block_store.specs.Slot.{Slot}
-use Rattle.fork_format.specs.Content.{Content}
-use Rattle.desk.specs.declared.job.Job.{Job}
-use Rattle.desk.specs.Phase.{Phase, Waiting, Running, Ended, window_of}
-use Rattle.desk.specs.Desk.{Place, after_events}
-use Rattle.desk.specs.Job.{opening}
-use Rattle.desk.specs.Held.{closed}
-use Rattle.desk.specs.declared.partition.OpenZone.{OpenZone}
-use Rattle.desk.specs.Lying.{Lying, IsHeapOf, LiesOf, LiesAt, AllLie, LieAfter, LieAtEnd}
-use Rattle.desk.specs.Whole.{system_of}
 
 -- the windows of those who left meet no window that is out
 abbrev pub AllClear : List Window → List Place → Type 0

@@ -1,20 +1,10 @@
-use Rattle.std.proofs.Common.{inl, inr, [], ◌∷◌, ◌≡◌, ℕ, ◌<◌, ◌≤◌, List, length, map, ◌⊎◌, Option, IfSome}
-use Rattle.std.proofs.Common.{true, zero, suc, subst, Some, None, option_map, slice_get, slice_set, slice_index_or, refl, sym}
-use Rattle.std.proofs.Common.{◌∙◌, ap, IfOk, Result, ◌++◌, ◌+◌, take, get_or}
-use Rattle.std.proofs.lemmas.List.{map-set, map-append, map_more}
-use Rattle.std.proofs.Math.Seq.{map-set_same}
-use Rattle.std.proofs.lemmas.Option.{slice_get-map, slice_get_read, slice_get_past, get_or_from_slice_get}
-use Rattle.std.proofs.lemmas.Result.{IfOk-weaker}
-use Rattle.desk.specs.declared.act.Act.{Act}
+use Rattle.desk.proofs.Cited.{inl, inr, [], ◌∷◌, ◌≡◌, ℕ, ◌<◌, ◌≤◌, List, length, map, ◌⊎◌, Option, IfSome, true, zero, suc, subst, Some}
+use Rattle.desk.proofs.Cited.{None, option_map, slice_get, slice_set, slice_index_or, refl, sym, ◌∙◌, ap, IfOk, Result, ◌++◌, ◌+◌, take}
+use Rattle.desk.proofs.Cited.{get_or, map-set, map-append, map_more, map-set_same, slice_get-map, slice_get_read, slice_get_past}
+use Rattle.desk.proofs.Cited.{get_or_from_slice_get, IfOk-weaker, Act, Phase, Left, Coming, window_of, waits, phase_seen, is_waiting, OsErr}
+use Rattle.desk.proofs.Cited.{Resources, Place, coming, place_come, places_acted, left_by, Fewer, holders, Lot}
 use Rattle.desk.specs.declared.phase.Phase as declared
 use Rattle.desk.specs.declared.phase.Phase.TheVariants as seen
-use Rattle.desk.specs.Phase.{Phase, Left, Coming, window_of, waits}
-use Rattle.desk.specs.View.{phase_seen, is_waiting}
-use Rattle.mac_words.specs.declared.code.OsErr.{OsErr}
-use Rattle.res_calls.specs.Files.{Resources}
-use Rattle.desk.specs.Desk.{Place, coming, place_come, places_acted, left_by}
-use Rattle.desk.specs.Held.{Fewer, holders}
-use Rattle.desk.specs.Live.{Lot}
 
 -- One place of a list changes: what is seen of the list, and of the lots.
 

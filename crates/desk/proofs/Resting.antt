@@ -1,18 +1,9 @@
-use Rattle.std.proofs.Common.{◌≡◌, ℕ, ◌+◌, ◌<◌, ◌≤◌, Bool, true, false, Option, Some, None, List}
-use Rattle.std.proofs.Common.{[], ◌∷◌, ◌++◌, map, length, drop, slice_get, slice_set, refl, sym, ◌∙◌, ap, subst, cond, arith}
-use Rattle.std.proofs.Common.{append_assoc, zero, suc, max}
-use Rattle.std.specs.List.{list_any}
-use Rattle.std.proofs.Math.Nat.{le-max_left, le-max_right}
-use Rattle.std.proofs.lemmas.Option.{slice_get_within}
-use Rattle.script_text.specs.Script.{ScriptParts}
-use Rattle.script_text.specs.declared.script.Line.{Line}
-use Rattle.applications.specs.Step.{Course, step, is_wait}
-use Rattle.applications.specs.Alone.{ended_by}
-use Rattle.desk.specs.declared.act.Act.TheVariants.{Turn}
-use Rattle.desk.specs.Phase.{Live, Phase, Waiting, Running, Ended, Next, GoesOn, Ends, ends, after_course, step_of, stepped}
-use Rattle.desk.specs.Phase.{called, and_then, turn_through, turned, come_by, acted_by, runs}
-use Rattle.desk.specs.Desk.{Place, State, coming, place_come, acted_in, acted_at, each_turned, round, any_runs, rounds}
-use Rattle.desk.specs.Desk.{longest_or, longest, rested}
+use Rattle.desk.proofs.Cited.{◌≡◌, ℕ, ◌+◌, ◌<◌, ◌≤◌, Bool, true, false, Option, Some, None, List, [], ◌∷◌, ◌++◌, map, length, drop}
+use Rattle.desk.proofs.Cited.{slice_get, slice_set, refl, sym, ◌∙◌, ap, subst, cond, arith, append_assoc, zero, suc, max, list_any}
+use Rattle.desk.proofs.Cited.{le-max_left, le-max_right, slice_get_within, ScriptParts, Line, Course, step, is_wait, ended_by, Turn, Live}
+use Rattle.desk.proofs.Cited.{Phase, Waiting, Running, Ended, Next, GoesOn, Ends, ends, after_course, step_of, stepped, called, and_then}
+use Rattle.desk.proofs.Cited.{turn_through, turned, come_by, acted_by, runs, Place, State, coming, place_come, acted_in, acted_at}
+use Rattle.desk.proofs.Cited.{each_turned, round, any_runs, rounds, longest_or, longest, rested}
 
 -- Rounds come to an end: each takes a step of each application that runs, and none has more steps than its script has
 -- lines, and the one behind the last.

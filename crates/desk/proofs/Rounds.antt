@@ -1,12 +1,6 @@
-use Rattle.std.proofs.Common.{◌≡◌, ℕ, ◌+◌, ◌-◌, ◌<◌, Bool, true, false, List, length, drop, slice_index_or, suc, max}
-use Rattle.std.proofs.Common.{◌∙◌, ap, cond, arith}
-use Rattle.std.proofs.lemmas.List.{at_drop_more}
-use Rattle.script_text.specs.declared.job.Event.{Event}
-use Rattle.desk.specs.declared.act.Act.TheVariants.{Turn}
-use Rattle.desk.specs.Seated.{Placed}
-use Rattle.desk.specs.View.{seen}
-use Rattle.desk.specs.Desk.{State, acted_at, each_turned, round, rounds, any_runs, longest_or}
-use Rattle.desk.specs.Desk.{after_event, after_events}
+use Rattle.desk.proofs.Cited.{◌≡◌, ℕ, ◌+◌, ◌-◌, ◌<◌, Bool, true, false, List, length, drop, slice_index_or, suc, max, ◌∙◌, ap, cond, arith}
+use Rattle.desk.proofs.Cited.{at_drop_more, Event, Turn, Placed, seen, State, acted_at, each_turned, round, rounds, any_runs, longest_or}
+use Rattle.desk.proofs.Cited.{after_event, after_events}
 
 -- Loops over applications, rounds and events: what is done so far, followed by the rest, is the whole.
 

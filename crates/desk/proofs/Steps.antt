@@ -1,27 +1,12 @@
-use Rattle.std.proofs.Common.{◌≡◌, ◌∙◌, ◌+◌, ◌<◌, ◌≤◌, ◌⊎◌, inl, inr, ℕ, Bool, true, false, cond, Option, Some, None, List, [], ◌∷◌}
-use Rattle.std.proofs.Common.{Result, ◌++◌, length, map, drop, slice_get, slice_set, refl, sym, ap, subst, arith, zero, suc, append-nil}
-use Rattle.std.proofs.lemmas.Option.{slice_get_within}
-use Rattle.mac_words.specs.declared.code.OsErr.{OsErr}
-use Rattle.fork_format.specs.Content.{Content}
-use Rattle.script_text.specs.Script.{ScriptParts}
-use Rattle.script_text.specs.declared.script.Line.{Line}
-use Rattle.script_text.specs.declared.job.Event.{Event}
+use Rattle.desk.proofs.Cited.{◌≡◌, ◌∙◌, ◌+◌, ◌<◌, ◌≤◌, ◌⊎◌, inl, inr, ℕ, Bool, true, false, cond, Option, Some, None, List, [], ◌∷◌, Result}
+use Rattle.desk.proofs.Cited.{◌++◌, length, map, drop, slice_get, slice_set, refl, sym, ap, subst, arith, zero, suc, append-nil}
+use Rattle.desk.proofs.Cited.{slice_get_within, OsErr, Content, ScriptParts, Line, Event, Resources, Course, step, is_wait, ended_by, Act}
+use Rattle.desk.proofs.Cited.{Step, Turn, Quit, App, Outcome, steps_of, steps_shown, Phase, Waiting, Running, Ended, Live, Next, GoesOn}
+use Rattle.desk.proofs.Cited.{Ends, stepped, step_of, called, ends, after_course, and_then, turn_through, turned, come_by, acted_by}
+use Rattle.desk.proofs.Cited.{told_of, Place, State, coming, place_come, acted_in, acted_at, each_turned, round, told, end_told, longest}
+use Rattle.desk.proofs.Cited.{after_event, Halt, Goes, WithinTurn, WithinPhase, WithinOf, WithinAt, WithinTurns, WithinRounds, WithinEvent}
+use Rattle.desk.proofs.Cited.{HaltsAfter, IsLeft, halted, IsAsAlone, IsPlaceOf, opening, start_of}
 use Rattle.script_text.specs.declared.job.Event.TheVariants as event
-use Rattle.res_calls.specs.Files.{Resources}
-use Rattle.applications.specs.Step.{Course, step, is_wait}
-use Rattle.applications.specs.Alone.{ended_by}
-use Rattle.desk.specs.declared.act.Act.{Act}
-use Rattle.desk.specs.declared.act.Act.TheVariants.{Step, Turn, Quit}
-use Rattle.desk.specs.declared.job.App.{App}
-use Rattle.desk.specs.Outcome.{Outcome, steps_of, steps_shown}
-use Rattle.desk.specs.Phase.{Phase, Waiting, Running, Ended, Live, Next, GoesOn, Ends, stepped, step_of, called, ends}
-use Rattle.desk.specs.Phase.{after_course, and_then, turn_through, turned, come_by, acted_by, told_of}
-use Rattle.desk.specs.Desk.{Place, State, coming, place_come, acted_in, acted_at, each_turned, round, told, end_told}
-use Rattle.desk.specs.Desk.{longest, after_event}
-use Rattle.desk.specs.Halting.{Halt, Goes, WithinTurn, WithinPhase, WithinOf, WithinAt, WithinTurns, WithinRounds, WithinEvent}
-use Rattle.desk.specs.Halting.{HaltsAfter, IsLeft, halted}
-use Rattle.desk.specs.Alone.{IsAsAlone, IsPlaceOf}
-use Rattle.desk.specs.Job.{opening, start_of}
 use Rattle.desk.proofs.Halting.{same_place, at_begun}
 use Rattle.desk.proofs.Events.{Pairs}
 use Rattle.desk.proofs.Alone.{act_alone, event_alone, given-alone}

@@ -1,8 +1,5 @@
 -- What a watch is told: the reports so far, and one more.
-use Rattle.std.proofs.Common.{◌≡◌, ℕ, ◌+◌, ◌++◌, Option, List, sym, ◌∙◌, ap, suc, arith}
-use Rattle.std.specs.Io.KnownBytes.{append_known}
-use Rattle.mac_words.proofs.Appending.{known-append}
-use Rattle.applications.specs.Reports.{report, reports}
+use Rattle.desk.proofs.Cited.{◌≡◌, ℕ, ◌+◌, ◌++◌, Option, List, sym, ◌∙◌, ap, suc, arith, append_known, known-append, report, reports}
 
 -- one more is told
 pub told_more : (h now next : Option (List ℕ)) (i n : ℕ) → now ≡ append_known h (reports i n)

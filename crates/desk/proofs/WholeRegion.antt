@@ -1,21 +1,10 @@
 -- A zone that fills a region, cut from it and joined again.
-use Rattle.std.proofs.Common.{◌≡◌, ◌∙◌, ◌+◌, ◌++◌, ℕ, Bool, false, List, [], length, Result, Ok, Err, IfOk, ap, subst, sym, arith}
-use Rattle.std.proofs.lemmas.List.{nil_from_length, drop_all, append-nil}
-use Rattle.std.specs.List.{Contains}
-use Rattle.memory_windows.specs.declared.Window.{Window}
-use Rattle.memory_windows.specs.Windows.{with_window, without_window, window, put_in, taken_out}
-use Rattle.memory_windows.specs.Writes.{written}
-use Rattle.memory_windows.proofs.Ordered.{contains-counted, length-taken_out, one-itself}
-use Rattle.block_store.specs.Block.{Block}
-use Rattle.block_store.specs.Slot.{Slot}
+use Rattle.desk.proofs.Cited.{◌≡◌, ◌∙◌, ◌+◌, ◌++◌, ℕ, Bool, false, List, [], length, Result, Ok, Err, IfOk, ap, subst, sym, arith}
+use Rattle.desk.proofs.Cited.{nil_from_length, drop_all, Contains, Window, with_window, without_window, window, put_in, taken_out, written}
+use Rattle.desk.proofs.Cited.{contains-counted, length-taken_out, one-itself, Block, Slot, IsStored, LaysOut, ScriptParts, Resources}
+use Rattle.desk.proofs.Cited.{own_resources, heap_alone, script_heap, LieAs, IsZone}
+use Rattle.std.proofs.lemmas.List.{append-nil}
 use Rattle.heap_calls.specs.State.{State as Heap}
-use Rattle.heap_calls.specs.Stored.{IsStored}
-use Rattle.zone_bytes.specs.Laid.{LaysOut}
-use Rattle.script_text.specs.Script.{ScriptParts}
-use Rattle.res_calls.specs.Files.{Resources}
-use Rattle.applications.specs.Trying.{own_resources}
-use Rattle.applications.specs.Alone.{heap_alone, script_heap}
-use Rattle.desk.specs.Lying.{LieAs, IsZone}
 
 alone_out : (w : Window) → taken_out w (put_in w []) ≡ []
 alone_out w =

@@ -1,8 +1,6 @@
-use Rattle.std.proofs.Common.{◌≡◌, ℕ, ◌+◌, ◌-◌, ◌*◌, ◌/◌, ◌%◌, ◌<◌, ◌≤◌, Bool, true, false, refl, ◌∙◌, ap, arith}
-use Rattle.std.specs.Prelude.{if◌then◌else◌}
-use Rattle.fork_commands.specs.declared.dates.DayIn.{DayIn}
-use Rattle.fork_commands.specs.Dates.{is_leap, days_in_year, days_in_month, day_in, year_of, month_of, moment, days_of}
-use Rattle.fork_commands.specs.Dates.{moment_at, days_to, seconds_to, IsMoment}
+use Rattle.fork_commands.proofs.Cited.{◌≡◌, ℕ, ◌+◌, ◌-◌, ◌*◌, ◌/◌, ◌%◌, ◌<◌, ◌≤◌, Bool, true, false, refl, ◌∙◌, ap, arith, if◌then◌else◌}
+use Rattle.fork_commands.proofs.Cited.{DayIn, is_leap, days_in_year, days_in_month, day_in, year_of, month_of, moment, days_of, moment_at}
+use Rattle.fork_commands.proofs.Cited.{days_to, seconds_to, IsMoment}
 use Rattle.fork_commands.proofs.Counting.{IsDayIn, is_day_in}
 
 -- The dates of the calendar.

@@ -1,16 +1,8 @@
-use Rattle.std.proofs.Common.{◌≡◌, ◌≢◌, ◌↔◌, ℕ, IsTrue, Result, Ok, Err, List, [], refl, sym, ap}
-use Rattle.mac_words.specs.declared.code.TheConstants.OsErr.{END_OF_FILE, MAP_READ}
-use Rattle.fork_format.specs.declared.fault.ForkFault.{ForkFault}
+use Rattle.fork_commands.proofs.Cited.{◌≡◌, ◌≢◌, ◌↔◌, ℕ, IsTrue, Result, Ok, Err, List, [], refl, sym, ap, END_OF_FILE, MAP_READ, ForkFault}
+use Rattle.fork_commands.proofs.Cited.{read_code, Content, Spells, IsUnspelled, WorkFault, of_code, Stops, canon, fits, content_or_fault}
+use Rattle.fork_commands.proofs.Cited.{content_of_fork, fork_in, content_in, canonical}
 use Rattle.fork_format.specs.declared.fault.ForkFault.TheVariants as fork_fault
-use Rattle.fork_format.specs.Code.{read_code}
-use Rattle.fork_format.specs.Content.{Content}
-use Rattle.fork_format.specs.Fork.{Spells, IsUnspelled}
 use Rattle.fork_format.proofs.Codes.{spelled as has_content, refused as has_code}
-use Rattle.fork_commands.specs.declared.fault.WorkFault.{WorkFault}
-use Rattle.fork_commands.specs.Faults.{of_code, Stops}
-use Rattle.fork_format.specs.Canonical.{canon, fits}
-use Rattle.fork_commands.specs.Reading.{content_or_fault, content_of_fork, fork_in, content_in}
-use Rattle.fork_commands.specs.Works.{canonical}
 
 -- The content of a fork.
 

@@ -1,8 +1,5 @@
-use Rattle.std.proofs.Common.{◌≡◌, ℕ, ◌+◌, ◌-◌, ◌<◌, ◌≤◌, Bool, true, false, refl, sym, ◌∙◌, ap, arith, suc, zero}
-use Rattle.std.proofs.lemmas.Bool.{ltb-true, ltb-false}
-use Rattle.std.specs.Prelude.{nat_lt, if◌then◌else◌}
-use Rattle.fork_commands.specs.declared.dates.DayIn.{DayIn}
-use Rattle.fork_commands.specs.Dates.{day_in, days_of}
+use Rattle.fork_commands.proofs.Cited.{◌≡◌, ℕ, ◌+◌, ◌-◌, ◌<◌, ◌≤◌, Bool, true, false, refl, sym, ◌∙◌, ap, arith, suc, zero, ltb-true}
+use Rattle.fork_commands.proofs.Cited.{ltb-false, nat_lt, if◌then◌else◌, DayIn, day_in, days_of}
 
 -- Years, and months, that are passed one after another.
 

@@ -1,7 +1,4 @@
-use Rattle.std.proofs.Common.{◌≡◌, refl}
-use Rattle.std.specs.Prelude.{codes}
-use Rattle.std.specs.Fmt.{digits}
-use Rattle.fork_commands.specs.Dates.{day_in, moment, moment_text}
+use Rattle.fork_commands.proofs.Cited.{◌≡◌, refl, codes, digits, day_in, moment, moment_text}
 
 -- Worked dates, as Python's datetime reckons them.
 

@@ -1,18 +1,6 @@
-use Rattle.std.proofs.Common.{◌≡◌, true, false, Option, Some, None, Ok, Err, refl, ap, sym, ◌∙◌}
-use Rattle.std.specs.Prelude.{is_some}
-use Rattle.byteorder.specs.Endian.{big_number}
-use Rattle.mac_words.specs.declared.code.TheConstants.OsErr.{RES_NOT_FOUND}
-use Rattle.fork_format.specs.Content.{Ref, Content}
-use Rattle.fork_edits.specs.declared.renaming.RenameFault.{RenameFault}
-use Rattle.fork_edits.specs.Resources.{found}
-use Rattle.fork_edits.specs.Removing.{without_resource}
-use Rattle.fork_edits.specs.Renaming.{Renaming, with_renamed, refusal}
-use Rattle.fork_commands.specs.declared.editing.Naming.{Naming}
-use Rattle.fork_commands.specs.declared.editing.Edit.TheVariants.{Remove, Rename}
-use Rattle.fork_commands.specs.declared.fault.FileFault.{FileFault}
-use Rattle.fork_commands.specs.declared.fault.FileFault.TheVariants.{Code}
-use Rattle.fork_commands.specs.declared.work.ResourceKey.{ResourceKey}
-use Rattle.fork_commands.specs.Editing.{edited, rename_fault, view_naming}
+use Rattle.fork_commands.proofs.Cited.{◌≡◌, true, false, Option, Some, None, Ok, Err, refl, ap, sym, ◌∙◌, is_some, big_number}
+use Rattle.fork_commands.proofs.Cited.{RES_NOT_FOUND, Ref, Content, RenameFault, found, without_resource, Renaming, with_renamed, refusal}
+use Rattle.fork_commands.proofs.Cited.{Naming, Remove, Rename, FileFault, Code, ResourceKey, edited, rename_fault, view_naming}
 
 -- Edits of one resource of a content.
 

@@ -1,3 +1,4 @@
+mod Cited
 pub mod Contents
 pub mod Pairs
 pub mod Wrappers

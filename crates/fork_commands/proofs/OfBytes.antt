@@ -1,16 +1,9 @@
-use Rattle.std.proofs.Common.{◌≡◌, ℕ, zero, suc, ◌+◌, Bool, true, false, cond, List, [], ◌∷◌, map, drop, replicate, arith}
-use Rattle.std.proofs.Common.{Option, Some, None, Ok, Err, refl}
-use Rattle.std.specs.Prelude.{◌==◌, nat_le, ◌&&◌, filter, length, IfSome}
-use Rattle.std.specs.List.{flat_map, AllByRecursion}
-use Rattle.fork_format.specs.Content.{Ref, Group, Content, is_of, distinct}
-use Rattle.fork_format.specs.Fork.{number, part, ref_at, ref_places, group_at, type_places, content_of, area_of, name_at, name_place}
-use Rattle.fork_format.specs.Fork.{map_start, data_start, is_fork, Spells}
-use Rattle.rez_text.specs.Bytes.{AreBytes, HasBytes, IsOfBytes}
-use Rattle.mac_words.specs.declared.code.TheConstants.OsErr.{END_OF_FILE, MAP_READ}
-use Rattle.fork_commands.specs.declared.fault.FileFault.TheVariants.{Code}
-use Rattle.fork_commands.specs.Reading.{content_or_fault, content_of_fork}
-use Rattle.plain_laws.proofs.Bytes.{bytes-take, bytes-drop}
-use Rattle.plain_laws.proofs.Elements.{each-append}
+use Rattle.fork_commands.proofs.Cited.{◌≡◌, ℕ, zero, suc, ◌+◌, Bool, true, false, cond, List, [], ◌∷◌, map, drop, replicate, arith, Option}
+use Rattle.fork_commands.proofs.Cited.{Some, None, Ok, Err, refl, ◌==◌, nat_le, ◌&&◌, filter, IfSome, flat_map, AllByRecursion, Ref, Group}
+use Rattle.fork_commands.proofs.Cited.{Content, is_of, distinct, number, part, ref_at, ref_places, group_at, type_places, content_of}
+use Rattle.fork_commands.proofs.Cited.{area_of, name_at, name_place, map_start, data_start, is_fork, Spells, AreBytes, HasBytes, IsOfBytes}
+use Rattle.fork_commands.proofs.Cited.{END_OF_FILE, MAP_READ, Code, content_or_fault, content_of_fork, bytes-take, bytes-drop, each-append}
+use Rattle.std.specs.Prelude.{length}
 
 -- The content of a fork of bytes is of bytes.
 

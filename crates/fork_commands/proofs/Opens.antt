@@ -1,19 +1,11 @@
-use Rattle.std.proofs.Common.{◌≡◌, ℕ, Bool, true, false, cond, List, Some, None, Result, Ok, Err, refl, ap}
-use Rattle.bin_hex.specs.BinHex.{decoded}
-use Rattle.bin_hex.specs.File.{File}
-use Rattle.bin_hex.specs.declared.fault.Damage.{Damage}
-use Rattle.fork_format.specs.Fork.{is_fork}
-use Rattle.fork_wrappers.specs.Unwrapped.{wrapping_of, unwrapped, fork_in as fork_wrapped}
-use Rattle.fork_wrappers.specs.declared.fault.WrapFault.{WrapFault}
-use Rattle.fork_wrappers.specs.declared.wrapping.Wrapping.{Wrapping}
+use Rattle.fork_commands.proofs.Cited.{◌≡◌, ℕ, Bool, true, false, cond, List, Some, None, Result, Ok, Err, refl, ap, decoded, File, Damage}
+use Rattle.fork_commands.proofs.Cited.{is_fork, wrapping_of, unwrapped, WrapFault, Wrapping, FileFault, WorkFault, HostMemory, made_then}
+use Rattle.fork_commands.proofs.Cited.{Stops, fork_found, fork_within, fork_in, content_of_fork, content_in, is_unwrapped, is_encoded}
+use Rattle.fork_commands.proofs.Cited.{opened, decoded_or_fault, container_of}
+use Rattle.fork_wrappers.specs.Unwrapped.{fork_in as fork_wrapped}
 use Rattle.fork_wrappers.specs.declared.wrapping.Wrapping.TheVariants as wrapping
-use Rattle.fork_commands.specs.declared.fault.FileFault.{FileFault}
 use Rattle.fork_commands.specs.declared.fault.FileFault.TheVariants as fault
-use Rattle.fork_commands.specs.declared.fault.WorkFault.{WorkFault}
-use Rattle.fork_commands.specs.declared.fault.WorkFault.TheVariants.{File as FileAt, HostMemory}
-use Rattle.fork_commands.specs.Faults.{made_then, Stops}
-use Rattle.fork_commands.specs.Reading.{fork_found, fork_within, fork_in, content_of_fork, content_in}
-use Rattle.fork_commands.specs.Opening.{is_unwrapped, is_encoded, opened, decoded_or_fault, container_of}
+use Rattle.fork_commands.specs.declared.fault.WorkFault.TheVariants.{File as FileAt}
 use Rattle.fork_commands.specs.declared.opening.Container.TheVariants as container
 
 -- What the bytes of a file stand for.

@@ -1,41 +1,16 @@
-use Rattle.std.proofs.Common.{◌≡◌, ◌∷◌, ◌∙◌, ℕ, ℤ, Bool, true, false, List, [], None, Some, Result, Ok, Err, IfOk, IfErr, refl, sym, ap}
-use Rattle.std.proofs.Common.{subst, map, length, arith}
-use Rattle.std.specs.Prelude.{not, ◌==◌, if◌then◌else◌}
-use Rattle.std.proofs.lemmas.Bool.{ne_eqb}
-use Rattle.std.proofs.lemmas.Bool.Decides.{Decides-int_eq}
-use Rattle.std.specs.Ordering.{int_eq}
-use Rattle.fork_edits.proofs.Keeping.{set_found}
-use Rattle.mac_roman.specs.declared.charset.Charset.{Charset}
-use Rattle.byteorder.specs.Endian.{big_number}
-use Rattle.fork_format.specs.Content.{Ref, Content}
+use Rattle.fork_commands.proofs.Cited.{◌≡◌, ◌∷◌, ◌∙◌, ℕ, ℤ, Bool, true, false, List, [], None, Some, Result, Ok, Err, IfOk, IfErr, refl}
+use Rattle.fork_commands.proofs.Cited.{sym, ap, subst, map, length, arith, not, ◌==◌, if◌then◌else◌, ne_eqb, Decides-int_eq, int_eq}
+use Rattle.fork_commands.proofs.Cited.{set_found, Charset, big_number, Ref, Content, RenameFault, Change, with_resource, Difference, Order}
+use Rattle.fork_commands.proofs.Cited.{differences, found_differences, or_order, same_content, view_difference, Renaming, with_renamed}
+use Rattle.fork_commands.proofs.Cited.{refusal, IsDifference, WorkFault, HostMemory, Diff, DiffText, First, Second, PairFault, Setting}
+use Rattle.fork_commands.proofs.Cited.{FileFault, Packaging, AsRead, SourceForm, made_then, Stops, packed, then_packed, fork_in, content_in}
+use Rattle.fork_commands.proofs.Cited.{canonical, resource_at, Names, Made, Bytes, Gives, at, of_bytes, setting_change, with_setting}
+use Rattle.fork_commands.proofs.Cited.{fork_set, set_in, good_fork_in, put_into, difference_lines, compared, combined, StopsPair}
+use Rattle.fork_commands.proofs.Cited.{stopped_at, bytes_alone, stated_naming, with_stated, stated_set, set_by, set_from, source_stated}
+use Rattle.fork_commands.proofs.Cited.{stated_in, merged_or_fault, forks_merged, of_both, text_of, texts_compared, Place, merged}
 use Rattle.fork_edits.specs.declared.differences.Difference.{Difference as StoredDifference}
-use Rattle.fork_edits.specs.declared.renaming.RenameFault.{RenameFault}
-use Rattle.fork_edits.specs.Setting.{Change, with_resource}
-use Rattle.fork_edits.specs.Differences.{Difference, Order, differences, found_differences, or_order, same_content}
-use Rattle.fork_edits.specs.View.{view_difference}
-use Rattle.fork_edits.specs.Renaming.{Renaming, with_renamed, refusal}
-use Rattle.text_diff.specs.Difference.{IsDifference}
-use Rattle.fork_commands.specs.declared.fault.WorkFault.{WorkFault}
-use Rattle.fork_commands.specs.declared.fault.WorkFault.TheVariants.{File, HostMemory}
-use Rattle.fork_commands.specs.declared.pair.PairWork.TheVariants.{Diff, DiffText}
-use Rattle.fork_commands.specs.declared.pair.Place.TheVariants.{First, Second}
-use Rattle.fork_commands.specs.declared.pair.PairFault.{PairFault}
+use Rattle.fork_commands.specs.declared.fault.WorkFault.TheVariants.{File}
 use Rattle.fork_commands.specs.declared.pair.PairFault.TheVariants as pair_fault
-use Rattle.fork_commands.specs.declared.pair.Setting.{Setting}
-use Rattle.fork_commands.specs.declared.fault.FileFault.{FileFault}
-use Rattle.fork_commands.specs.declared.packaging.Packaging.{Packaging}
-use Rattle.fork_commands.specs.declared.packaging.Packaging.TheVariants.{AsRead}
-use Rattle.fork_commands.specs.declared.source_form.SourceForm.{SourceForm}
-use Rattle.fork_commands.specs.Faults.{made_then, Stops}
-use Rattle.fork_commands.specs.Packaging.{packed, then_packed}
-use Rattle.fork_commands.specs.Reading.{fork_in, content_in}
-use Rattle.fork_commands.specs.Works.{canonical, resource_at}
-use Rattle.fork_commands.specs.Pairs.{Names, Made, Bytes, Gives, at, of_bytes, setting_change, with_setting, fork_set, set_in}
-use Rattle.fork_commands.specs.Pairs.{good_fork_in, put_into, difference_lines, compared, combined, StopsPair, stopped_at}
-use Rattle.fork_commands.specs.Pairs.{bytes_alone, stated_naming, with_stated, stated_set, set_by, set_from, source_stated, stated_in}
-use Rattle.fork_commands.specs.Pairs.{merged_or_fault, forks_merged, of_both, text_of, texts_compared}
-use Rattle.fork_commands.specs.declared.pair.Place.{Place}
-use Rattle.fork_edits.specs.Merging.{merged}
 
 -- a content with a resource set
 pub set_there : (s : Setting) (bytes : List ℕ) (gets : Change) (c d : Content) → gets ≡ setting_change s bytes

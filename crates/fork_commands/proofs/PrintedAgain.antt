@@ -1,18 +1,7 @@
-use Rattle.std.proofs.Common.{◌≡◌, ◌∙◌, ℕ, List, Result, Ok, Err, refl, sym, ap, subst}
-use Rattle.fork_format.specs.Content.{Content}
-use Rattle.rez_statements.specs.Types.{Declared}
-use Rattle.rez_templates.specs.Templates.{with_templates}
-use Rattle.rez_text.proofs.Again.{same_again}
-use Rattle.rez_text.specs.Bytes.{AreBytes}
-use Rattle.rez_text.specs.Reading.{read}
-use Rattle.rez_typed.proofs.TypedAgain.{typed_same_again}
-use Rattle.fork_commands.specs.declared.fault.FileFault.{FileFault}
-use Rattle.fork_commands.specs.declared.source_form.SourceForm.{SourceForm}
-use Rattle.fork_commands.specs.declared.source_form.SourceForm.TheVariants.{Typed, Data}
-use Rattle.fork_commands.specs.declared.selecting.Selection.{Selection}
-use Rattle.fork_commands.specs.Faults.{made_then}
-use Rattle.fork_commands.specs.Reading.{content_of_fork, fork_in, content_in}
-use Rattle.fork_commands.specs.Sources.{source_with, selected, selected_source, printed, StatesSelected}
+use Rattle.fork_commands.proofs.Cited.{◌≡◌, ◌∙◌, ℕ, List, Result, Ok, Err, refl, sym, ap, subst, Content, Declared, with_templates}
+use Rattle.fork_commands.proofs.Cited.{same_again, AreBytes, read, typed_same_again, FileFault, SourceForm, Typed, Data, Selection}
+use Rattle.fork_commands.proofs.Cited.{made_then, content_of_fork, fork_in, content_in, source_with, selected, selected_source, printed}
+use Rattle.fork_commands.proofs.Cited.{StatesSelected}
 use Rattle.fork_commands.proofs.Selected.{IsRead, is_read, selected_read}
 
 -- What is printed of a fork is read again.

@@ -1,24 +1,13 @@
-use Rattle.std.proofs.Common.{◌≡◌, ℕ, Bool, true, false, cond, List, Some, None, Result, Ok, Err, refl, ap, sym, subst, ◌∙◌}
-use Rattle.bin_hex.specs.BinHex.{decoded}
-use Rattle.bin_hex.specs.File.{File, AreBytes}
-use Rattle.bin_hex.specs.Putting.{with_resource_fork, with_fork}
-use Rattle.bin_hex.specs.declared.fault.Damage.{Damage}
-use Rattle.bin_hex.specs.declared.fault.PutFault.{PutFault}
+use Rattle.fork_commands.proofs.Cited.{◌≡◌, ℕ, Bool, true, false, cond, List, Some, None, Result, Ok, Err, refl, ap, sym, subst, ◌∙◌}
+use Rattle.fork_commands.proofs.Cited.{decoded, File, with_resource_fork, with_fork, Damage, PutFault, file_is_read, put_read, is_fork}
+use Rattle.fork_commands.proofs.Cited.{rewrapped, wrapping_of, unwrapped, RewrapFault, Wrapping, found_rewrapped, Unfit, AsRead}
+use Rattle.fork_commands.proofs.Cited.{is_unwrapped, is_encoded, opened, decoded_or_fault, packed, wrapped_or_fault, put_or_fault}
+use Rattle.fork_commands.proofs.Cited.{fork_found, fork_in}
+use Rattle.bin_hex.specs.File.{AreBytes}
 use Rattle.bin_hex.specs.declared.fault.PutFault.TheVariants as put_fault
-use Rattle.bin_hex.proofs.PutAgain.{file_is_read, put_read}
-use Rattle.fork_format.specs.Fork.{is_fork}
-use Rattle.fork_wrappers.specs.Rewrapped.{rewrapped}
-use Rattle.fork_wrappers.specs.Unwrapped.{wrapping_of, unwrapped, fork_in as fork_wrapped}
-use Rattle.fork_wrappers.specs.declared.fault.RewrapFault.{RewrapFault}
+use Rattle.fork_wrappers.specs.Unwrapped.{fork_in as fork_wrapped}
 use Rattle.fork_wrappers.specs.declared.fault.RewrapFault.TheVariants as rewrap_fault
-use Rattle.fork_wrappers.specs.declared.wrapping.Wrapping.{Wrapping}
 use Rattle.fork_wrappers.specs.declared.wrapping.Wrapping.TheVariants as wrapping
-use Rattle.fork_wrappers.proofs.Rewraps.{found_rewrapped}
-use Rattle.fork_commands.specs.declared.fault.FileFault.TheVariants.{Unfit}
-use Rattle.fork_commands.specs.declared.packaging.Packaging.TheVariants.{AsRead}
-use Rattle.fork_commands.specs.Opening.{is_unwrapped, is_encoded, opened, decoded_or_fault}
-use Rattle.fork_commands.specs.Packaging.{packed, wrapped_or_fault, put_or_fault}
-use Rattle.fork_commands.specs.Reading.{fork_found, fork_in}
 use Rattle.fork_commands.proofs.Opens.{encoded_there, plain_there, plain_fork, decoded_fork, bare_fork, has_encoded}
 use Rattle.fork_commands.proofs.Wrappers.{packed_encoded, packed_wrapped}
 

@@ -1,21 +1,9 @@
-use Rattle.std.proofs.Common.{◌≡◌, ℕ, Bool, true, false, cond, List, [], ◌∷◌, map, Ok, Err, refl, ap, subst, arith}
-use Rattle.std.specs.Prelude.{◌==◌, not, filter, replicate}
-use Rattle.std.specs.List.{list_all, AllByRecursion}
-use Rattle.std.proofs.lemmas.Bool.{and_parts}
-use Rattle.fork_format.specs.Content.{Ref, Group, Content, IsRef, IsGroup, IsContent}
-use Rattle.mac_words.specs.declared.code.TheConstants.OsErr.{RES_NOT_FOUND}
-use Rattle.fork_commands.specs.declared.fault.FileFault.TheVariants.{Code}
-use Rattle.fork_format.specs.Canonical.{are_distinct, clear, clear_ref, clear_group, has_refs}
-use Rattle.fork_format.proofs.Bools.{and_both}
-use Rattle.fork_format.proofs.Clear.{spelled_clear}
-use Rattle.fork_format.proofs.Spelled.{spelled_types, spelled_references}
-use Rattle.fork_rules.proofs.Bounds.{spelled_content}
-use Rattle.rez_text.specs.Bytes.{AreBytes, HasBytes, IsOfBytes}
-use Rattle.fork_commands.specs.declared.selecting.Selection.{Selection}
-use Rattle.fork_commands.specs.declared.selecting.Selection.TheVariants.{All, OfType, One}
-use Rattle.fork_commands.specs.Reading.{content_of_fork}
-use Rattle.fork_commands.specs.Sources.{is_selected, selected_group, selected_groups, alone, selected}
-use Rattle.plain_laws.proofs.Bytes.{byte-at}
+use Rattle.fork_commands.proofs.Cited.{◌≡◌, ℕ, Bool, true, false, cond, List, [], ◌∷◌, map, Ok, Err, refl, ap, subst, arith, ◌==◌, not}
+use Rattle.fork_commands.proofs.Cited.{filter, list_all, AllByRecursion, and_parts, Ref, Group, Content, IsRef, IsGroup, IsContent}
+use Rattle.fork_commands.proofs.Cited.{RES_NOT_FOUND, Code, are_distinct, clear, clear_ref, clear_group, has_refs, and_both, spelled_clear}
+use Rattle.fork_commands.proofs.Cited.{spelled_types, spelled_references, spelled_content, AreBytes, HasBytes, IsOfBytes, Selection, All}
+use Rattle.fork_commands.proofs.Cited.{OfType, One, content_of_fork, is_selected, selected_group, selected_groups, alone, selected, byte-at}
+use Rattle.std.specs.Prelude.{replicate}
 use Rattle.fork_commands.proofs.OfBytes.{of_bytes, spelled_by, zeros}
 
 -- What is selected of a content that was read is as good as the content: it can be printed and read again.

@@ -1,32 +1,12 @@
-use Rattle.std.specs.declared.alloc.Global.{Global}
-use Rattle.std.proofs.Common.{◌≡◌, ◌∙◌, ℕ, Bool, true, false, cond, List, [], Result, Ok, Err, Vec, refl, sym, ap, subst}
-use Rattle.std.specs.Str.{IsUtf8, is_utf8}
-use Rattle.std.proofs.lemmas.Str.{is_utf8-from_IsUtf8, IsUtf8-from_is_utf8}
-use Rattle.mac_roman.specs.Roman.{from_roman}
-use Rattle.fork_format.specs.Content.{Content}
-use Rattle.fork_format.specs.Fork.{Spells}
-use Rattle.fork_format.specs.Canonical.{clear}
-use Rattle.fork_format.proofs.Clear.{clear_clear}
-use Rattle.rez_statements.specs.Types.{Declared}
-use Rattle.rez_text.specs.declared.fault.FaultKind.{FaultKind}
-use Rattle.rez_text.specs.declared.fault.FileName.{FileName}
-use Rattle.rez_text.specs.Reading.{read, ReadFault, Wrong, Lacking}
-use Rattle.rez_text.specs.View.{names_of}
-use Rattle.rez_text.proofs.Enough.{enough}
-use Rattle.fork_commands.specs.declared.assembling.AssemblyFault.{AssemblyFault}
+use Rattle.fork_commands.proofs.Cited.{Global, ◌≡◌, ◌∙◌, ℕ, Bool, true, false, cond, List, [], Result, Ok, Err, Vec, refl, sym, ap, subst}
+use Rattle.fork_commands.proofs.Cited.{IsUtf8, is_utf8, is_utf8-from_IsUtf8, IsUtf8-from_is_utf8, from_roman, Content, Spells, clear}
+use Rattle.fork_commands.proofs.Cited.{clear_clear, Declared, FaultKind, FileName, read, ReadFault, Wrong, Lacking, names_of, enough}
+use Rattle.fork_commands.proofs.Cited.{AssemblyFault, FileFault, Source, WorkFault, HostMemory, SourceForm, Selection, made_then, Stops}
+use Rattle.fork_commands.proofs.Cited.{content_in, source_with, selected_groups, alone, some_source, selected_source, printed, Faulty}
+use Rattle.fork_commands.proofs.Cited.{Lacks, content_stated, fork_or_fault, assembled, of_work, file_name, HasEnough, HoldsStated}
+use Rattle.fork_commands.proofs.Cited.{StopsAssembly, canonical}
 use Rattle.fork_commands.specs.declared.assembling.AssemblyFault.TheVariants as assembly_fault
-use Rattle.fork_commands.specs.declared.fault.FileFault.{FileFault}
-use Rattle.fork_commands.specs.declared.fault.FileFault.TheVariants.{Source}
-use Rattle.fork_commands.specs.declared.fault.WorkFault.{WorkFault}
-use Rattle.fork_commands.specs.declared.fault.WorkFault.TheVariants.{File, HostMemory}
-use Rattle.fork_commands.specs.declared.source_form.SourceForm.{SourceForm}
-use Rattle.fork_commands.specs.declared.selecting.Selection.{Selection}
-use Rattle.fork_commands.specs.Faults.{made_then, Stops}
-use Rattle.fork_commands.specs.Reading.{content_in}
-use Rattle.fork_commands.specs.Sources.{source_with, selected_groups, alone, some_source, selected_source, printed}
-use Rattle.fork_commands.specs.Sources.{Faulty, Lacks, content_stated, fork_or_fault, assembled, of_work, file_name, HasEnough, HoldsStated}
-use Rattle.fork_commands.specs.Sources.{StopsAssembly}
-use Rattle.fork_commands.specs.Works.{canonical}
+use Rattle.fork_commands.specs.declared.fault.WorkFault.TheVariants.{File}
 
 -- What is printed, and what is made of a source.
 

@@ -1,23 +1,9 @@
 -- The state of a file, by the fork that is found in it.
-use Rattle.std.proofs.Common.{◌≡◌, ◌∙◌, ℕ, Bool, true, false, List, [], ◌∷◌, ◌++◌, Some, None, Result, Ok, Err, length, refl, sym, ap}
-use Rattle.std.proofs.Common.{arith}
-use Rattle.std.proofs.lemmas.Bool.{ne_eqb}
-use Rattle.std.specs.Prelude.{◌==◌, is_ok, codes}
-use Rattle.mac_words.specs.declared.code.OsErr.{OsErr}
-use Rattle.fork_format.specs.Code.{content_or_code}
-use Rattle.fork_format.specs.Content.{Content}
-use Rattle.fork_format.specs.Fork.{is_fork, content_of}
-use Rattle.fork_rules.specs.declared.rules.Broken.{Broken}
-use Rattle.fork_rules.specs.Breaking.{broken}
-use Rattle.fork_rules.specs.Texts.{form_text, whole_text, why_text}
-use Rattle.fork_rules.proofs.Keeping.{kept, keeps}
-use Rattle.fork_commands.specs.declared.fault.FileFault.{FileFault}
-use Rattle.fork_commands.specs.declared.opening.Container.{Container}
-use Rattle.fork_commands.specs.Opening.{container_of}
-use Rattle.fork_commands.specs.Reading.{content_or_fault, fork_in, content_of_fork}
-use Rattle.fork_commands.specs.Faults.{made_then}
-use Rattle.fork_commands.specs.States.{form_word, rule_of, judged_words, fork_words, fault_words, found_words, is_bare}
-use Rattle.fork_commands.specs.States.{state_words, has_content}
+use Rattle.fork_commands.proofs.Cited.{◌≡◌, ◌∙◌, ℕ, Bool, true, false, List, [], ◌∷◌, ◌++◌, Some, None, Result, Ok, Err, length, refl, sym}
+use Rattle.fork_commands.proofs.Cited.{ap, arith, ne_eqb, ◌==◌, is_ok, codes, OsErr, content_or_code, Content, is_fork, content_of, Broken}
+use Rattle.fork_commands.proofs.Cited.{broken, form_text, whole_text, why_text, kept, keeps, FileFault, Container, container_of}
+use Rattle.fork_commands.proofs.Cited.{content_or_fault, fork_in, content_of_fork, made_then, form_word, rule_of, judged_words, fork_words}
+use Rattle.fork_commands.proofs.Cited.{fault_words, found_words, is_bare, state_words, has_content}
 
 -- the word for a fork, by the content that was read
 pub word_of_content : (c : Content) (fork text new : List ℕ) → c ≡ content_of fork → new ≡ text ++ form_word c fork

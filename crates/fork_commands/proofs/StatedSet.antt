@@ -1,14 +1,6 @@
-use Rattle.std.proofs.Common.{◌≡◌, ◌∙◌, ℕ, Some, refl, ap}
-use Rattle.std.specs.Prelude.{option_map}
-use Rattle.byteorder.specs.Endian.{big_number}
-use Rattle.fork_format.specs.Content.{Ref, Content}
-use Rattle.fork_edits.specs.Renaming.{renamed}
-use Rattle.fork_edits.specs.Resources.{found, is_at, others, rows}
-use Rattle.fork_edits.specs.Setting.{resource_set, with_resource}
-use Rattle.fork_edits.proofs.Keeping.{set_found, set_others}
-use Rattle.fork_edits.proofs.Moving.{renamed_found, renamed_others}
-use Rattle.fork_commands.specs.declared.pair.Setting.{Setting}
-use Rattle.fork_commands.specs.Pairs.{bytes_alone, stated_naming, with_stated}
+use Rattle.fork_commands.proofs.Cited.{◌≡◌, ◌∙◌, ℕ, Some, refl, ap, option_map, big_number, Ref, Content, renamed, found, is_at, others}
+use Rattle.fork_commands.proofs.Cited.{rows, resource_set, with_resource, set_found, set_others, renamed_found, renamed_others, Setting}
+use Rattle.fork_commands.proofs.Cited.{bytes_alone, stated_naming, with_stated}
 use Rattle.fork_commands.proofs.Pairs.{not_refused}
 
 -- A resource was set to one that is stated.

@@ -1,15 +1,7 @@
-use Rattle.std.proofs.Common.{◌≡◌, ℕ, List, Option, Some, None, Ok, Err, refl, sym, ap, ◌∙◌}
-use Rattle.bin_hex.specs.File.{File}
-use Rattle.fork_wrappers.specs.Info.{Info, info_of, data_fork_in}
-use Rattle.fork_wrappers.specs.declared.fault.WrapFault.{WrapFault}
-use Rattle.fork_commands.specs.declared.fault.FileFault.{FileFault}
-use Rattle.fork_commands.specs.declared.fault.FileFault.TheVariants.{Wrapper}
+use Rattle.fork_commands.proofs.Cited.{◌≡◌, ℕ, List, Option, Some, None, Ok, Err, refl, sym, ap, ◌∙◌, File, Info, info_of, data_fork_in}
+use Rattle.fork_commands.proofs.Cited.{WrapFault, FileFault, Wrapper, ToWrite, decoded_info, info_lines, info_within, info_text, opened}
+use Rattle.fork_commands.proofs.Cited.{data_found, data_in, part_files, parted, fork_in}
 use Rattle.fork_commands.specs.declared.opening.Container.TheVariants as container
-use Rattle.fork_commands.specs.Extracting.{ToWrite}
-use Rattle.fork_commands.specs.Info.{decoded_info, info_lines, info_within, info_text}
-use Rattle.fork_commands.specs.Opening.{opened}
-use Rattle.fork_commands.specs.Parts.{data_found, data_in, part_files, parted}
-use Rattle.fork_commands.specs.Reading.{fork_in}
 
 -- What is known of a file that was opened.
 

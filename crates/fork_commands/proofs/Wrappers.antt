@@ -1,17 +1,8 @@
-use Rattle.std.proofs.Common.{◌≡◌, ℕ, true, false, cond, List, Result, Ok, Err, refl, ap, sym, subst, ◌∙◌}
-use Rattle.bin_hex.specs.Putting.{with_resource_fork, Prevents}
-use Rattle.bin_hex.specs.declared.fault.PutFault.{PutFault}
+use Rattle.fork_commands.proofs.Cited.{◌≡◌, ℕ, true, false, cond, List, Result, Ok, Err, refl, ap, sym, subst, ◌∙◌, with_resource_fork}
+use Rattle.fork_commands.proofs.Cited.{Prevents, PutFault, RewrapFault, rewrapped, Refuses, FileFault, Unfit, WorkFault, Stops, is_encoded}
+use Rattle.fork_commands.proofs.Cited.{Bare, AsRead, packed, of_rewrap, of_put, wrapped_or_fault, put_or_fault, recognized}
 use Rattle.bin_hex.specs.declared.fault.PutFault.TheVariants as put_fault
-use Rattle.fork_wrappers.specs.declared.fault.RewrapFault.{RewrapFault}
 use Rattle.fork_wrappers.specs.declared.fault.RewrapFault.TheVariants as fault
-use Rattle.fork_wrappers.specs.Rewrapped.{rewrapped, Refuses}
-use Rattle.fork_commands.specs.declared.fault.FileFault.{FileFault}
-use Rattle.fork_commands.specs.declared.fault.FileFault.TheVariants.{Unfit}
-use Rattle.fork_commands.specs.declared.fault.WorkFault.{WorkFault}
-use Rattle.fork_commands.specs.Faults.{Stops}
-use Rattle.fork_commands.specs.Opening.{is_encoded}
-use Rattle.fork_commands.specs.declared.packaging.Packaging.TheVariants.{Bare, AsRead}
-use Rattle.fork_commands.specs.Packaging.{packed, of_rewrap, of_put, wrapped_or_fault, put_or_fault, recognized}
 
 -- How a fork that was made is written.
 

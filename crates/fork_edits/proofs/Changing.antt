@@ -1,13 +1,6 @@
-use Rattle.std.proofs.Common.{◌≡◌, ℕ, ◌+◌, ◌<◌, Bool, true, false, cond, List, [], ◌∷◌, ◌++◌, length, Some, None}
-use Rattle.std.proofs.Common.{refl, sym, ◌∙◌, ap, arith, suc, zero, map, get_or}
-use Rattle.std.proofs.Math.ListN.{set}
-use Rattle.std.specs.Prelude.{◌==◌, ◌||◌}
-use Rattle.std.specs.List.{list_any, position, position_from}
-use Rattle.std.proofs.lemmas.List.Quantifiers.{position-Some}
-use Rattle.std.proofs.lemmas.Iterator.Adapters.{position_from-zero}
-use Rattle.fork_format.specs.Content.{Group, is_of}
-use Rattle.fork_format.specs.Place.{put}
-use Rattle.fork_edits.specs.Setting.{first_changed}
+use Rattle.fork_edits.proofs.Cited.{◌≡◌, ℕ, ◌+◌, ◌<◌, Bool, true, false, cond, List, [], ◌∷◌, ◌++◌, length, Some, None, refl, sym, ◌∙◌, ap}
+use Rattle.fork_edits.proofs.Cited.{arith, suc, zero, map, get_or, set, ◌==◌, ◌||◌, list_any, position, position_from, position-Some}
+use Rattle.fork_edits.proofs.Cited.{position_from-zero, Group, is_of, put, first_changed}
 
 -- The first item that passes a test, changed in its place; items are seen by a view.
 

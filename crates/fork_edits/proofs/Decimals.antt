@@ -1,15 +1,9 @@
 -- Numbers that are written in decimal are read again.
-use Rattle.std.proofs.Common.{◌≡◌, ℕ, ◌+◌, ◌-◌, ◌*◌, ◌/◌, ◌%◌, ◌<◌, ◌≤◌, ◌^◌, Bool, true, false, cond, List, [], ◌∷◌, ◌++◌}
-use Rattle.std.proofs.Common.{length, decimal, Some, None, refl, ◌∙◌, ap, arith, suc}
-use Rattle.std.specs.Prelude.{FitsSigned, ℤ, pos, negsuc, ◌==◌, ◌&&◌, nat_le, option_map, slice_index}
-use Rattle.std.specs.Fmt.{signed_decimal}
-use Rattle.std.specs.Int.{w16}
-use Rattle.std.proofs.lemmas.Bool.{and_right}
-use Rattle.std.proofs.lemmas.Bool.Decides.{nat_tests}
-use Rattle.std.proofs.lemmas.Fmt.{decimal_by_steps, decimal_nonempty}
-use Rattle.fork_edits.specs.Attributes.{number_from, digits_read, number_read, attrs_read}
-use Rattle.fork_edits.specs.Numbers.{number_after, number_within, below_zero, id_read}
-use Rattle.fork_edits.specs.Types.{is_between}
+use Rattle.fork_edits.proofs.Cited.{◌≡◌, ℕ, ◌+◌, ◌-◌, ◌*◌, ◌/◌, ◌%◌, ◌<◌, ◌≤◌, ◌^◌, Bool, true, false, cond, List, [], ◌∷◌, ◌++◌, length}
+use Rattle.fork_edits.proofs.Cited.{decimal, Some, None, refl, ◌∙◌, ap, arith, suc, FitsSigned, ℤ, pos, negsuc, ◌==◌, ◌&&◌, nat_le}
+use Rattle.fork_edits.proofs.Cited.{option_map, slice_index, signed_decimal, w16, and_right, nat_tests, decimal_by_steps, decimal_nonempty}
+use Rattle.fork_edits.proofs.Cited.{number_from, digits_read, number_read, attrs_read, number_after, number_within, below_zero, id_read}
+use Rattle.fork_edits.proofs.Cited.{is_between}
 use Rattle.fork_edits.proofs.Naming.{IsDigits, digits-decimal}
 
 -- digits that stand for a number, with more of them

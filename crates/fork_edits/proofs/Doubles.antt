@@ -1,18 +1,8 @@
-use Rattle.std.proofs.Common.{◌≡◌, ◌≢◌, ℕ, ◌+◌, ◌<◌, ◌^◌, Bool, true, false, cond, List, [], ◌∷◌, ◌++◌, map, length, Option, Some, None}
-use Rattle.std.proofs.Common.{refl, sym, ◌∙◌, ap, drop, get_or}
-use Rattle.std.specs.Prelude.{FitsSigned, option_map, is_some}
-use Rattle.std.specs.Int.{w16}
-use Rattle.std.specs.List.{find}
-use Rattle.std.specs.Str.{str_to_ascii_lowercase}
-use Rattle.std.proofs.lemmas.Bool.{eq-eqb}
-use Rattle.std.proofs.lemmas.Bool.Decides.{Decides-int_eq}
-use Rattle.mac_words.proofs.Plain.{rest-next}
+use Rattle.fork_edits.proofs.Cited.{◌≡◌, ◌≢◌, ℕ, ◌+◌, ◌<◌, ◌^◌, Bool, true, false, cond, List, [], ◌∷◌, ◌++◌, map, length, Option, Some}
+use Rattle.fork_edits.proofs.Cited.{None, refl, sym, ◌∙◌, ap, drop, get_or, FitsSigned, option_map, is_some, w16, find}
+use Rattle.fork_edits.proofs.Cited.{str_to_ascii_lowercase, eq-eqb, Decides-int_eq, rest-next, Row, others, is_same, fixed_name, twin}
+use Rattle.fork_edits.proofs.Cited.{view_row}
 use Rattle.fork_edits.specs.declared.resources.Row.{Row as StoredRow}
-use Rattle.fork_edits.specs.Resources.{Row, others}
-use Rattle.fork_edits.specs.Differences.{is_same}
-use Rattle.fork_edits.specs.FixedNames.{fixed_name}
-use Rattle.fork_edits.specs.Twins.{twin}
-use Rattle.fork_edits.specs.View.{view_row}
 use Rattle.fork_edits.proofs.Fixing.{fixed_apart}
 
 -- Resources of one type and ID, of which the files would have one name.

@@ -1,17 +1,9 @@
 -- What was extracted from a fork is packed again.
-use Rattle.std.proofs.Common.{◌≡◌, ℕ, ◌+◌, ◌<◌, ◌^◌, Bool, true, false, List, [], ◌∷◌, map, length, refl, sym, ◌∙◌, ap, arith}
-use Rattle.std.specs.Prelude.{Ok, is_some}
-use Rattle.std.specs.List.{AllByRecursion}
-use Rattle.plain_laws.proofs.Elements.{each-append}
-use Rattle.fork_format.specs.Canonical.{canon}
-use Rattle.fork_format.specs.Content.{Ref, Group, Content, IsRef, IsGroup}
-use Rattle.fork_edits.specs.Contents.{Entry, Listed, entry, listed, contents_text}
-use Rattle.fork_edits.specs.Filed.{Filed, filed_fixed, filed_numbered, numbered_from, filed_by, filed}
-use Rattle.fork_edits.specs.Listing.{contents_read}
-use Rattle.fork_edits.specs.Merging.{with_rows}
-use Rattle.fork_edits.specs.Packing.{packed_rows, packed_content, named_files, HasFiles, HasByteName, IsListable}
-use Rattle.fork_edits.specs.Resources.{Row, row, group_rows, rows}
-use Rattle.fork_edits.specs.Twins.{twin}
+use Rattle.fork_edits.proofs.Cited.{◌≡◌, ℕ, ◌+◌, ◌<◌, ◌^◌, Bool, true, false, List, [], ◌∷◌, map, length, refl, sym, ◌∙◌, ap, arith, Ok}
+use Rattle.fork_edits.proofs.Cited.{is_some, AllByRecursion, each-append, canon, Ref, Group, Content, IsRef, IsGroup, Entry, Listed, entry}
+use Rattle.fork_edits.proofs.Cited.{listed, contents_text, Filed, filed_fixed, filed_numbered, numbered_from, filed_by, filed}
+use Rattle.fork_edits.proofs.Cited.{contents_read, with_rows, packed_rows, packed_content, named_files, HasFiles, HasByteName, IsListable}
+use Rattle.fork_edits.proofs.Cited.{Row, row, group_rows, rows, twin}
 use Rattle.fork_edits.proofs.Filing.{IsFile, fixed_file, numbered_file}
 use Rattle.fork_edits.proofs.Relisting.{IsEntry, list_again}
 use Rattle.fork_edits.proofs.Repacking.{packed_again}

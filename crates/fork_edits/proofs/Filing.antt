@@ -1,21 +1,10 @@
 -- The names of the files of resources are read again.
-use Rattle.std.proofs.Common.{◌≡◌, ℕ, ◌/◌, ◌%◌, ◌<◌, ◌≤◌, ◌^◌, Bool, true, false, cond, List, [], ◌∷◌, ◌++◌}
-use Rattle.std.proofs.Common.{length, decimal, take, Option, Some, None, refl, arith, zero, suc}
-use Rattle.std.specs.Prelude.{FitsSigned, ℤ, pos, negsuc, ◌==◌, not, bytes_eq, IfSome}
-use Rattle.std.specs.Fmt.{signed_decimal}
-use Rattle.std.specs.Int.{w16}
-use Rattle.std.specs.List.{AllByRecursion, flat_map, list_all}
-use Rattle.std.proofs.lemmas.Bool.{and_right}
-use Rattle.std.proofs.lemmas.Bool.Decides.{nat_tests}
-use Rattle.std.proofs.lemmas.List.{length-append}
-use Rattle.plain_laws.proofs.Elements.{each-append}
-use Rattle.byteorder.specs.Endian.{big_bytes}
-use Rattle.mac_words.specs.Digits.{upper_digit}
-use Rattle.fork_edits.specs.FileNames.{is_plain_byte, safe_byte, name_part, place_text, file_name}
-use Rattle.fork_edits.specs.FixedNames.{is_capital, is_small, letter, fixed_byte, case_after, fixed_bytes, fixed_name}
-use Rattle.fork_edits.specs.Listing.{is_file_byte, file_read}
-use Rattle.fork_edits.specs.Resources.{Row}
-use Rattle.fork_edits.specs.Texts.{hex_byte}
+use Rattle.fork_edits.proofs.Cited.{◌≡◌, ℕ, ◌/◌, ◌%◌, ◌<◌, ◌≤◌, ◌^◌, Bool, true, false, cond, List, [], ◌∷◌, ◌++◌, length, decimal, take}
+use Rattle.fork_edits.proofs.Cited.{Option, Some, None, refl, arith, zero, suc, FitsSigned, ℤ, pos, negsuc, ◌==◌, not, bytes_eq, IfSome}
+use Rattle.fork_edits.proofs.Cited.{signed_decimal, w16, AllByRecursion, flat_map, list_all, and_right, nat_tests, length-append}
+use Rattle.fork_edits.proofs.Cited.{each-append, big_bytes, upper_digit, is_plain_byte, safe_byte, name_part, place_text, file_name}
+use Rattle.fork_edits.proofs.Cited.{is_capital, is_small, letter, fixed_byte, case_after, fixed_bytes, fixed_name, is_file_byte, file_read}
+use Rattle.fork_edits.proofs.Cited.{Row, hex_byte}
 use Rattle.fork_edits.proofs.Naming.{IsDigits, digits-decimal, digits-place}
 use Rattle.fork_edits.proofs.Quoting.{IsByte}
 use Rattle.fork_edits.proofs.Wording.{IsGraph}

@@ -1,9 +1,5 @@
-use Rattle.std.proofs.Common.{◌≡◌, ℕ, Bool, true, false, cond, List, [], ◌∷◌, ◌++◌, map, Option, Some, None, refl, ap, sym}
-use Rattle.std.proofs.Common.{◌∙◌}
-use Rattle.std.specs.Prelude.{ℤ, option_map, is_some, ◌&&◌, ◌==◌}
-use Rattle.std.specs.List.{find}
-use Rattle.fork_format.specs.Content.{Ref}
-use Rattle.fork_edits.specs.Resources.{Row, row, has_id, is_at}
+use Rattle.fork_edits.proofs.Cited.{◌≡◌, ℕ, Bool, true, false, cond, List, [], ◌∷◌, ◌++◌, map, Option, Some, None, refl, ap, sym, ◌∙◌, ℤ}
+use Rattle.fork_edits.proofs.Cited.{option_map, is_some, ◌&&◌, ◌==◌, find, Ref, Row, row, has_id, is_at}
 
 -- A search through lists that stand one behind the other.
 

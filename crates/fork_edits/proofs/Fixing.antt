@@ -1,24 +1,10 @@
-use Rattle.std.proofs.Common.{◌≡◌, ℕ, ◌+◌, ◌-◌, ◌*◌, ◌/◌, ◌%◌, ◌<◌, ◌≤◌, ◌^◌, Bool, true, false, cond, List, [], ◌∷◌, ◌++◌}
-use Rattle.std.proofs.Common.{length, refl, sym, ◌∙◌, ap, arith, suc, append_assoc, codes, decimal, drop, ◌⊎◌, inl, inr}
-use Rattle.std.specs.Prelude.{FitsSigned, ℤ, pos, negsuc, ◌==◌, ◌||◌, not, nat_lt, nat_le}
-use Rattle.std.specs.Char.{to_ascii_lowercase}
-use Rattle.std.specs.Fmt.{signed_decimal}
-use Rattle.std.specs.Int.{w16, w64}
-use Rattle.std.specs.Int.Signed.{mag}
-use Rattle.std.specs.List.{AllByRecursion}
-use Rattle.std.specs.Str.{str_to_ascii_lowercase}
-use Rattle.std.proofs.lemmas.Bool.{and_parts, leb-true}
-use Rattle.std.proofs.lemmas.Bool.Decides.{nat_tests}
-use Rattle.std.proofs.Math.Facts.{sfits_widen}
-use Rattle.std.proofs.lemmas.Fmt.{signed_decimal_injective}
-use Rattle.std.proofs.lemmas.List.{map-append, append_cancel_right}
-use Rattle.byteorder.specs.Endian.{big_bytes, big_number}
-use Rattle.byteorder.specs.Numbers.{big_number-reads_back}
-use Rattle.mac_words.specs.Digits.{upper_digit}
-use Rattle.fork_edits.specs.Texts.{hex_byte}
-use Rattle.fork_edits.specs.Types.{is_between}
-use Rattle.fork_edits.specs.FixedNames.{is_capital, is_small, letter, fixed_byte, case_after, fixed_bytes, fixed_name}
-use Rattle.fork_edits.specs.FileNames.{is_plain_byte, safe_byte}
+use Rattle.fork_edits.proofs.Cited.{◌≡◌, ℕ, ◌+◌, ◌-◌, ◌*◌, ◌/◌, ◌%◌, ◌<◌, ◌≤◌, ◌^◌, Bool, true, false, cond, List, [], ◌∷◌, ◌++◌, length}
+use Rattle.fork_edits.proofs.Cited.{refl, sym, ◌∙◌, ap, arith, suc, append_assoc, codes, decimal, drop, ◌⊎◌, inl, inr, FitsSigned, ℤ, pos}
+use Rattle.fork_edits.proofs.Cited.{negsuc, ◌==◌, ◌||◌, not, nat_lt, nat_le, to_ascii_lowercase, signed_decimal, w16, w64, mag}
+use Rattle.fork_edits.proofs.Cited.{AllByRecursion, str_to_ascii_lowercase, and_parts, leb-true, nat_tests, sfits_widen}
+use Rattle.fork_edits.proofs.Cited.{signed_decimal_injective, map-append, append_cancel_right, big_bytes, big_number, big_number-reads_back}
+use Rattle.fork_edits.proofs.Cited.{upper_digit, hex_byte, is_between, is_capital, is_small, letter, fixed_byte, case_after, fixed_bytes}
+use Rattle.fork_edits.proofs.Cited.{fixed_name, is_plain_byte, safe_byte}
 use Rattle.fork_edits.proofs.Naming.{IsDigits, digits-decimal, digit-lower}
 
 -- Bytes that are written so that they may stand in the name of a file are told apart, also in lower case.

@@ -1,18 +1,8 @@
 -- The files of a content in a folder: no two have one name, so each keeps its bytes.
-use Rattle.std.proofs.Common.{◌≡◌, ◌≢◌, ℕ, ◌+◌, ◌<◌, ◌^◌, Bool, true, false, cond, List, [], ◌∷◌, map, length, Some, None, refl, sym, ◌∙◌}
-use Rattle.std.proofs.Common.{ap, arith}
-use Rattle.std.specs.Prelude.{bytes_eq, is_some}
-use Rattle.std.specs.List.{AllByRecursion, find}
-use Rattle.std.specs.Str.{str_to_ascii_lowercase}
-use Rattle.std.proofs.lemmas.Bool.{eq-eqb}
-use Rattle.std.proofs.lemmas.Bool.Decides.{Decides-int_eq}
-use Rattle.std.proofs.lemmas.Slice.Eq.{bytes_eq-Decides}
-use Rattle.fork_format.specs.Content.{Content}
-use Rattle.fork_edits.specs.Differences.{is_same}
-use Rattle.fork_edits.specs.Filed.{Filed, filed_fixed, filed_numbered, numbered_from, filed_by, filed, HasNoName, AreApart}
-use Rattle.fork_edits.specs.Packing.{file_bytes, HasFiles, IsListable}
-use Rattle.fork_edits.specs.Resources.{Row, rows}
-use Rattle.fork_edits.specs.Twins.{twin}
+use Rattle.fork_edits.proofs.Cited.{◌≡◌, ◌≢◌, ℕ, ◌+◌, ◌<◌, ◌^◌, Bool, true, false, cond, List, [], ◌∷◌, map, length, Some, None, refl, sym}
+use Rattle.fork_edits.proofs.Cited.{◌∙◌, ap, arith, bytes_eq, is_some, AllByRecursion, find, str_to_ascii_lowercase, eq-eqb, Decides-int_eq}
+use Rattle.fork_edits.proofs.Cited.{bytes_eq-Decides, Content, is_same, Filed, filed_fixed, filed_numbered, numbered_from, filed_by, filed}
+use Rattle.fork_edits.proofs.Cited.{HasNoName, AreApart, file_bytes, HasFiles, IsListable, Row, rows, twin}
 use Rattle.fork_edits.proofs.Doubles.{seen_none}
 use Rattle.fork_edits.proofs.Extracting.{IsStated, rows_stated}
 use Rattle.fork_edits.proofs.Fixing.{fixed_apart}

@@ -1,22 +1,10 @@
-use Rattle.std.proofs.Common.{◌≡◌, ℕ, ◌+◌, ◌<◌, Bool, true, false, cond, List, [], ◌∷◌, ◌++◌, map, length, Option, Some, None, refl, sym}
-use Rattle.std.proofs.Common.{◌∙◌, ap, append_assoc, append-nil, drop, get_or, arith}
-use Rattle.std.specs.Prelude.{ℤ, option_map, is_some, unwrap_or, ◌&&◌, ◌==◌, not}
-use Rattle.std.specs.List.{find, filter, list_all}
-use Rattle.std.specs.Ordering.{int_eq}
-use Rattle.std.proofs.lemmas.Bool.{eqb-true, and_parts}
-use Rattle.std.proofs.lemmas.Bool.Decides.{nat_tests, Decides-int_eq}
-use Rattle.std.proofs.lemmas.List.{map-append}
-use Rattle.std.proofs.lemmas.List.Elements.{filter-append}
-use Rattle.mac_words.proofs.Plain.{rest-next}
-use Rattle.fork_format.specs.Canonical.{are_distinct}
-use Rattle.fork_format.specs.Content.{Ref, Group, Content, distinct, joined}
-use Rattle.fork_format.specs.Place.{put}
-use Rattle.fork_format.proofs.Joining.{joined-push}
+use Rattle.fork_edits.proofs.Cited.{◌≡◌, ℕ, ◌+◌, ◌<◌, Bool, true, false, cond, List, [], ◌∷◌, ◌++◌, map, length, Option, Some, None, refl}
+use Rattle.fork_edits.proofs.Cited.{sym, ◌∙◌, ap, append_assoc, append-nil, drop, get_or, arith, ℤ, option_map, is_some, unwrap_or, ◌&&◌}
+use Rattle.fork_edits.proofs.Cited.{◌==◌, not, find, filter, list_all, int_eq, eqb-true, and_parts, nat_tests, Decides-int_eq, map-append}
+use Rattle.fork_edits.proofs.Cited.{filter-append, rest-next, are_distinct, Ref, Group, Content, distinct, joined, put, joined-push, Row}
+use Rattle.fork_edits.proofs.Cited.{row, group_rows, rows, is_at, found, others, is_same, alone, unmatched, replaced_by, both, row_group}
+use Rattle.fork_edits.proofs.Cited.{with_rows, with_both, or_other, clash, view_row}
 use Rattle.fork_edits.specs.declared.resources.Row.{Row as StoredRow}
-use Rattle.fork_edits.specs.Resources.{Row, row, group_rows, rows, is_at, found, others}
-use Rattle.fork_edits.specs.Differences.{is_same, alone, unmatched}
-use Rattle.fork_edits.specs.Merging.{replaced_by, both, row_group, with_rows, with_both, or_other, clash}
-use Rattle.fork_edits.specs.View.{view_row}
 use Rattle.fork_edits.proofs.Finding.{find_append}
 use Rattle.fork_edits.proofs.Keeping.{all_others}
 use Rattle.fork_edits.proofs.Pairing.{all_alone, first_taken}

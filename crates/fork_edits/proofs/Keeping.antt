@@ -1,15 +1,8 @@
-use Rattle.std.proofs.Common.{◌≡◌, ℕ, Bool, true, false, cond, List, [], ◌∷◌, ◌++◌, map, Option, Some, None, refl, sym, ap}
-use Rattle.std.proofs.Common.{◌∙◌, append_assoc}
-use Rattle.std.specs.Prelude.{ℤ, option_map, is_some, unwrap_or, ◌&&◌, ◌||◌, ◌==◌}
-use Rattle.std.specs.List.{find, list_any}
-use Rattle.std.proofs.lemmas.Bool.{eqb-true, eq-eqb}
-use Rattle.std.proofs.lemmas.Bool.Decides.{Decides-int_eq}
-use Rattle.std.proofs.lemmas.List.{map-append}
-use Rattle.fork_format.specs.Content.{Ref, Group, Content}
-use Rattle.fork_format.specs.Place.{put}
-use Rattle.fork_edits.specs.Resources.{Row, row, group_rows, rows, has_id, is_at, found, others}
-use Rattle.fork_edits.specs.Setting.{Change, changed, blank, first_changed, row_changed, has_resource, replaced}
-use Rattle.fork_edits.specs.Setting.{one_group, added, groups_with, with_resource, resource_set}
+use Rattle.fork_edits.proofs.Cited.{◌≡◌, ℕ, Bool, true, false, cond, List, [], ◌∷◌, ◌++◌, map, Option, Some, None, refl, sym, ap, ◌∙◌}
+use Rattle.fork_edits.proofs.Cited.{append_assoc, ℤ, option_map, is_some, unwrap_or, ◌&&◌, ◌||◌, ◌==◌, find, list_any, eqb-true, eq-eqb}
+use Rattle.fork_edits.proofs.Cited.{Decides-int_eq, map-append, Ref, Group, Content, put, Row, row, group_rows, rows, has_id, is_at, found}
+use Rattle.fork_edits.proofs.Cited.{others, Change, changed, blank, first_changed, row_changed, has_resource, replaced, one_group, added}
+use Rattle.fork_edits.proofs.Cited.{groups_with, with_resource, resource_set}
 use Rattle.fork_edits.proofs.Finding.{find_append}
 
 -- What setting a resource changes, and what it leaves, of all resources in their order.

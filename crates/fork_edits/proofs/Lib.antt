@@ -1,3 +1,4 @@
+mod Cited
 pub mod Changing
 pub mod Doubles
 pub mod Finding

@@ -1,12 +1,8 @@
 -- A line that can't be read ends the reading of a list.
-use Rattle.std.proofs.Common.{◌≡◌, ℕ, ◌+◌, ◌<◌, List, ◌∷◌, Result, map, length, drop, get_or, sym, ap, subst, ◌∙◌}
-use Rattle.std.specs.Borrow.{Bor}
-use Rattle.std.proofs.lemmas.List.{drop_more}
-use Rattle.fork_edits.specs.declared.entries.LineFault.{LineFault}
-use Rattle.fork_edits.specs.declared.entries.LineStop.{LineStop}
+use Rattle.fork_edits.proofs.Cited.{◌≡◌, ℕ, ◌+◌, ◌<◌, List, ◌∷◌, Result, map, length, drop, get_or, sym, ap, subst, ◌∙◌, Bor, drop_more}
+use Rattle.fork_edits.proofs.Cited.{LineFault, LineStop, Listed, Draft, at_line, line_read, lines_read, without_return, stopped_at}
+use Rattle.fork_edits.proofs.Cited.{StopsLine, StopsList}
 use Rattle.fork_edits.specs.declared.entries.LineStop.TheVariants as stop
-use Rattle.fork_edits.specs.Contents.{Listed}
-use Rattle.fork_edits.specs.Listing.{Draft, at_line, line_read, lines_read, without_return, stopped_at, StopsLine, StopsList}
 
 line_stops : (why : LineStop) (n : ℕ) (line : List ℕ) (d : Draft) (lines : List (List ℕ)) (total : Result Listed (ℕ × LineFault))
     → StopsLine why (line_read (without_return line) d) → lines_read n d (line ∷ lines) ≡ total

@@ -1,25 +1,12 @@
 -- What bytes spell can be listed.
-use Rattle.std.proofs.Common.{◌≡◌, ℕ, ◌+◌, ◌<◌, ◌≤◌, ◌^◌, Bool, true, false, cond, List, [], ◌∷◌, ◌++◌, map, length, Option, Some, None}
-use Rattle.std.proofs.Common.{drop, replicate, refl, sym, ◌∙◌, ap, subst, arith, zero, suc, append_assoc, append-nil, lit<}
-use Rattle.std.specs.Prelude.{IfSome, IsTrue, ◌==◌, ◌&&◌, nat_le, slice_index, bit_and, sum_by}
-use Rattle.std.specs.List.{AllByRecursion, list_all}
-use Rattle.std.proofs.Math.Facts.{sfits_to_z}
-use Rattle.std.proofs.lemmas.Bool.{leb-true}
-use Rattle.std.proofs.lemmas.List.{length-append, length-take}
-use Rattle.std.proofs.lemmas.List.Sums.{sum_by-cons}
-use Rattle.std.proofs.lemmas.Nat.{and_le_r}
-use Rattle.plain_laws.proofs.Elements.{each-append}
-use Rattle.byteorder.specs.Numbers.{big_from-lt}
-use Rattle.fork_format.specs.Content.{Ref, Group, Content, refs_of, joined, IsRef, IsGroup}
-use Rattle.fork_format.specs.Fork.{number, part, offsets, data_start, map_start, type_places, ref_count, ref_places, name_place, name_at}
-use Rattle.fork_format.specs.Fork.{ref_at, group_at, area_of, content_of, parts_fit, types_fit, refs_fit, all_refs, all_data, is_fork}
-use Rattle.fork_format.specs.Fork.{Spells}
-use Rattle.fork_format.specs.Limits.{most_data, most_references}
-use Rattle.fork_format.specs.Place.{put}
-use Rattle.fork_format.proofs.Joining.{joined-push}
-use Rattle.fork_format.proofs.Spelled.{spelled_types, spelled_references, area_whole}
-use Rattle.fork_edits.specs.Packing.{HasByteName, IsListable}
-use Rattle.fork_edits.specs.Resources.{row, group_rows, rows}
+use Rattle.fork_edits.proofs.Cited.{◌≡◌, ℕ, ◌+◌, ◌<◌, ◌≤◌, ◌^◌, Bool, true, false, cond, List, [], ◌∷◌, ◌++◌, map, length, Option, Some}
+use Rattle.fork_edits.proofs.Cited.{None, drop, replicate, refl, sym, ◌∙◌, ap, subst, arith, zero, suc, append_assoc, append-nil, lit<}
+use Rattle.fork_edits.proofs.Cited.{IfSome, IsTrue, ◌==◌, ◌&&◌, nat_le, slice_index, bit_and, sum_by, AllByRecursion, list_all, sfits_to_z}
+use Rattle.fork_edits.proofs.Cited.{leb-true, length-append, length-take, sum_by-cons, and_le_r, each-append, big_from-lt, Ref, Group}
+use Rattle.fork_edits.proofs.Cited.{Content, refs_of, joined, IsRef, IsGroup, number, part, offsets, data_start, map_start, type_places}
+use Rattle.fork_edits.proofs.Cited.{ref_count, ref_places, name_place, name_at, ref_at, group_at, area_of, content_of, parts_fit, types_fit}
+use Rattle.fork_edits.proofs.Cited.{refs_fit, all_refs, all_data, is_fork, Spells, most_data, most_references, put, joined-push}
+use Rattle.fork_edits.proofs.Cited.{spelled_types, spelled_references, area_whole, HasByteName, IsListable, row, group_rows, rows}
 use Rattle.fork_edits.proofs.Filing.{first_bytes}
 use Rattle.fork_edits.proofs.Quoting.{IsByte}
 

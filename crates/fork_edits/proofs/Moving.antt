@@ -1,14 +1,7 @@
-use Rattle.std.proofs.Common.{◌≡◌, ℕ, Bool, true, false, cond, List, [], ◌∷◌, Option, Some, None, refl, ap, ◌∙◌}
-use Rattle.std.specs.Prelude.{ℤ, option_map, is_some, unwrap_or, ◌&&◌, ◌||◌, ◌==◌, not}
-use Rattle.std.specs.List.{find, list_all}
-use Rattle.std.specs.Ordering.{int_eq}
-use Rattle.std.proofs.lemmas.Bool.Decides.{Decides-int_eq}
-use Rattle.std.proofs.lemmas.Bool.{and_parts}
-use Rattle.fork_format.specs.Content.{Content}
-use Rattle.fork_edits.specs.Resources.{Row, rows, is_at, found, others}
-use Rattle.fork_edits.specs.Setting.{first_changed}
-use Rattle.fork_edits.specs.declared.renaming.RenameFault.TheVariants.{NotFound, Taken}
-use Rattle.fork_edits.specs.Renaming.{Renaming, renamed, row_renamed, with_renamed, is_taken, refusal}
+use Rattle.fork_edits.proofs.Cited.{◌≡◌, ℕ, Bool, true, false, cond, List, [], ◌∷◌, Option, Some, None, refl, ap, ◌∙◌, ℤ, option_map}
+use Rattle.fork_edits.proofs.Cited.{is_some, unwrap_or, ◌&&◌, ◌||◌, ◌==◌, not, find, list_all, int_eq, Decides-int_eq, and_parts, Content}
+use Rattle.fork_edits.proofs.Cited.{Row, rows, is_at, found, others, first_changed, NotFound, Taken, Renaming, renamed, row_renamed}
+use Rattle.fork_edits.proofs.Cited.{with_renamed, is_taken, refusal}
 use Rattle.fork_edits.proofs.Keeping.{changed_rows}
 
 -- The first item that passes a test, changed so that it passes another, which no item before it passes.

@@ -1,13 +1,7 @@
-use Rattle.std.proofs.Common.{◌≡◌, ℕ, ◌+◌, ◌-◌, ◌*◌, ◌/◌, ◌%◌, ◌<◌, ◌≤◌, ◌^◌, Bool, true, false, cond, List, [], ◌∷◌, ◌++◌}
-use Rattle.std.proofs.Common.{length, lit≤}
-use Rattle.std.proofs.Common.{replicate, decimal, codes, refl, sym, ◌∙◌, ap, arith, suc, zero, append_assoc}
-use Rattle.std.specs.Prelude.{◌==◌}
-use Rattle.std.specs.Char.{to_ascii_lowercase}
-use Rattle.std.specs.Str.{str_to_ascii_lowercase}
-use Rattle.std.proofs.lemmas.Bool.Decides.{nat_tests}
-use Rattle.std.proofs.lemmas.Fmt.{decimal_by_steps}
-use Rattle.fork_edits.specs.Resources.{Row}
-use Rattle.fork_edits.specs.FileNames.{place_text, resource_part, file_name}
+use Rattle.fork_edits.proofs.Cited.{◌≡◌, ℕ, ◌+◌, ◌-◌, ◌*◌, ◌/◌, ◌%◌, ◌<◌, ◌≤◌, ◌^◌, Bool, true, false, cond, List, [], ◌∷◌, ◌++◌, length}
+use Rattle.fork_edits.proofs.Cited.{lit≤, replicate, decimal, codes, refl, sym, ◌∙◌, ap, arith, suc, zero, append_assoc, ◌==◌}
+use Rattle.fork_edits.proofs.Cited.{to_ascii_lowercase, str_to_ascii_lowercase, nat_tests, decimal_by_steps, Row, place_text, resource_part}
+use Rattle.fork_edits.proofs.Cited.{file_name}
 
 -- The numbers in the names of files tell the names apart.
 

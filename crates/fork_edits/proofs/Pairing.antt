@@ -1,16 +1,8 @@
-use Rattle.std.proofs.Common.{◌≡◌, ℕ, Bool, true, false, cond, List, [], ◌∷◌, ◌++◌, map, Some, refl, sym, ap}
-use Rattle.std.proofs.Common.{◌∙◌, ◌+◌, ◌<◌, append_assoc, drop, get_or, length}
-use Rattle.std.specs.Prelude.{◌&&◌, ◌==◌}
-use Rattle.std.specs.List.{find}
-use Rattle.std.specs.Ordering.{int_eq}
-use Rattle.std.proofs.lemmas.Bool.{eqb-true, eq-eqb}
-use Rattle.std.proofs.lemmas.Bool.Decides.{Decides-int_eq}
-use Rattle.std.proofs.lemmas.List.{map-append}
-use Rattle.mac_words.proofs.Plain.{rest-next}
+use Rattle.fork_edits.proofs.Cited.{◌≡◌, ℕ, Bool, true, false, cond, List, [], ◌∷◌, ◌++◌, map, Some, refl, sym, ap, ◌∙◌, ◌+◌, ◌<◌}
+use Rattle.fork_edits.proofs.Cited.{append_assoc, drop, get_or, length, ◌&&◌, ◌==◌, find, int_eq, eqb-true, eq-eqb, Decides-int_eq}
+use Rattle.fork_edits.proofs.Cited.{map-append, rest-next, Row, others, view_row, Difference, Added, is_same, compared, matched, paired}
+use Rattle.fork_edits.proofs.Cited.{alone, unmatched}
 use Rattle.fork_edits.specs.declared.resources.Row.{Row as StoredRow}
-use Rattle.fork_edits.specs.Resources.{Row, others}
-use Rattle.fork_edits.specs.View.{view_row}
-use Rattle.fork_edits.specs.Differences.{Difference, Added, is_same, compared, matched, paired, alone, unmatched}
 
 -- The differences of resources, told in two walks.
 

@@ -1,11 +1,5 @@
-use Rattle.std.proofs.Common.{◌≡◌, ◌∙◌, ℕ, ◌<◌, ◌≤◌, true, List, length, refl, ap, arith}
-use Rattle.std.specs.Prelude.{Ok, nat_le}
-use Rattle.std.specs.List.{AllByRecursion}
-use Rattle.std.proofs.lemmas.Bool.Decides.{nat_tests}
-use Rattle.mac_roman.proofs.PlainText.{taken}
-use Rattle.fork_edits.specs.Types.{type_read}
-use Rattle.fork_edits.specs.RomanNames.{short_name, name_or_fault, name_read}
-use Rattle.fork_edits.specs.RomanTypes.{some_type, type_or_fault, type_text_read}
+use Rattle.fork_edits.proofs.Cited.{◌≡◌, ◌∙◌, ℕ, ◌<◌, ◌≤◌, true, List, length, refl, ap, arith, Ok, nat_le, AllByRecursion, nat_tests}
+use Rattle.fork_edits.proofs.Cited.{taken, type_read, short_name, name_or_fault, name_read, some_type, type_or_fault, type_text_read}
 
 -- Names and types of ASCII.
 

@@ -1,18 +1,8 @@
-use Rattle.std.proofs.Common.{◌≡◌, ℕ, Bool, true, false, cond, List, [], ◌∷◌, ◌++◌, map, length, Option, Some, None, refl, sym, ap}
-use Rattle.std.proofs.Common.{◌∙◌, Ordering, Less, Equal, Greater, append-nil, drop}
-use Rattle.std.specs.Prelude.{ℤ, MatchOption, option_map, option_to_list, ◌&&◌, ◌==◌}
-use Rattle.std.specs.List.{find, filter}
-use Rattle.std.specs.Ordering.{nat_cmp, int_cmp, int_eq, is_eq, ordering_then}
-use Rattle.std.proofs.lemmas.Bool.{eqb-true}
-use Rattle.std.proofs.lemmas.Bool.Decides.{Decides-int_eq}
-use Rattle.std.proofs.lemmas.List.Elements.{filter-append}
-use Rattle.fork_format.proofs.Placing.{is_eq-nat_cmp}
+use Rattle.fork_edits.proofs.Cited.{◌≡◌, ℕ, Bool, true, false, cond, List, [], ◌∷◌, ◌++◌, map, length, Option, Some, None, refl, sym, ap}
+use Rattle.fork_edits.proofs.Cited.{◌∙◌, Ordering, Less, Equal, Greater, append-nil, drop, ℤ, MatchOption, option_map, option_to_list, ◌&&◌}
+use Rattle.fork_edits.proofs.Cited.{◌==◌, find, filter, nat_cmp, int_cmp, int_eq, is_eq, ordering_then, eqb-true, Decides-int_eq}
+use Rattle.fork_edits.proofs.Cited.{filter-append, is_eq-nat_cmp, Queue, Row, is_at, others, is_same, view_row, key_cmp, same_key, queued}
 use Rattle.fork_edits.specs.declared.resources.Row.{Row as StoredRow}
-use Rattle.fork_edits.specs.declared.waiting.Queue.{Queue}
-use Rattle.fork_edits.specs.Resources.{Row, is_at, others}
-use Rattle.fork_edits.specs.Differences.{is_same}
-use Rattle.fork_edits.specs.View.{view_row}
-use Rattle.fork_edits.specs.Waiting.{key_cmp, same_key, queued}
 
 -- Resources that wait in queues by type and ID.
 

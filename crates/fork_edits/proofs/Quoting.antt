@@ -1,20 +1,12 @@
 -- Types, bytes in hexadecimal digits, and names in quotes, are read again.
-use Rattle.std.proofs.Common.{◌≡◌, ℕ, ◌*◌, ◌/◌, ◌%◌, ◌<◌, ◌≤◌, Bool, true, false, cond, List, [], ◌∷◌, ◌++◌}
-use Rattle.std.proofs.Common.{length, Some, refl, sym, ◌∙◌, ap, arith, suc, append_assoc, append-nil, subst}
-use Rattle.std.specs.Prelude.{◌==◌, ◌||◌, not, nat_le}
-use Rattle.std.specs.List.{AllByRecursion, flat_map, list_all}
-use Rattle.std.proofs.lemmas.Bool.{and_parts, and_right, leb-true}
-use Rattle.std.proofs.lemmas.Bool.Decides.{nat_tests}
-use Rattle.std.proofs.lemmas.Str.{encode_ascii}
-use Rattle.plain_laws.proofs.Elements.{each-append}
-use Rattle.mac_words.specs.Digits.{upper_digit}
-use Rattle.mac_roman.specs.declared.charset.Charset.TheVariants.{Ascii}
-use Rattle.mac_roman.specs.Charset.{is_printable, character}
+use Rattle.fork_edits.proofs.Cited.{◌≡◌, ℕ, ◌*◌, ◌/◌, ◌%◌, ◌<◌, ◌≤◌, Bool, true, false, cond, List, [], ◌∷◌, ◌++◌, length, Some, refl, sym}
+use Rattle.fork_edits.proofs.Cited.{◌∙◌, ap, arith, suc, append_assoc, append-nil, subst, ◌==◌, ◌||◌, not, nat_le, AllByRecursion, flat_map}
+use Rattle.fork_edits.proofs.Cited.{list_all, and_parts, and_right, leb-true, nat_tests, encode_ascii, each-append, upper_digit, Ascii}
+use Rattle.fork_edits.proofs.Cited.{is_printable, character, Draft, type_length, entry_read, with_entry, line_read, quoted_from}
+use Rattle.fork_edits.proofs.Cited.{quoted_read, hex_byte, is_clear, four_text, char_text, name_text, byte_value, bytes_spelled}
+use Rattle.fork_edits.proofs.Cited.{digit_value, type_read}
 use Rattle.fork_edits.specs.declared.quoted.Within.TheVariants as within
-use Rattle.fork_edits.specs.Listing.{Draft, type_length, entry_read, with_entry, line_read}
-use Rattle.fork_edits.specs.Quoted.{quoted_from, quoted_read, short_name}
-use Rattle.fork_edits.specs.Texts.{hex_byte, is_clear, four_text, char_text, name_text}
-use Rattle.fork_edits.specs.Types.{byte_value, bytes_spelled, digit_value, type_read}
+use Rattle.fork_edits.specs.Quoted.{short_name}
 use Rattle.fork_edits.proofs.Wording.{IsPrint, IsGraph, printed, word_first}
 
 abbrev pub IsByte : ℕ → Type 0

@@ -1,24 +1,14 @@
 -- The list of a content is read again.
-use Rattle.std.proofs.Common.{◌≡◌, ℕ, ◌+◌, ◌<◌, ◌≤◌, ◌^◌, Bool, true, false, cond, List, [], ◌∷◌, ◌++◌}
-use Rattle.std.proofs.Common.{length, decimal, replicate, Option, Some, None, Result, Ok, refl, sym, ◌∙◌, ap, arith, append_assoc}
-use Rattle.std.proofs.Common.{append-nil, take, drop, subst, ◌*◌, suc}
-use Rattle.std.specs.Prelude.{FitsSigned, ℤ, pos, negsuc, ◌==◌, IfSome, unwrap_or, option_map}
-use Rattle.std.specs.Fmt.{signed_decimal}
-use Rattle.std.specs.Int.{w16}
-use Rattle.std.specs.List.{AllByRecursion, flat_map, list_all, slice_split}
-use Rattle.std.proofs.lemmas.Bool.{and_parts, eqb-true}
-use Rattle.plain_laws.proofs.Elements.{each-append}
-use Rattle.byteorder.specs.Endian.{big_bytes, big_number}
-use Rattle.mac_roman.specs.declared.charset.Charset.TheVariants.{Ascii}
-use Rattle.fork_format.proofs.Standing.{kind_again}
-use Rattle.fork_edits.specs.declared.entries.LineFault.{LineFault}
-use Rattle.fork_edits.specs.Attributes.{attrs_read}
-use Rattle.fork_edits.specs.Contents.{Entry, Listed, name_field, entry_line, attrs_line, area_line, listed_text}
-use Rattle.fork_edits.specs.Listing.{word, after_word, type_length, fields_after, entry_in, entry_of, entry_read, file_read, name_read}
-use Rattle.fork_edits.specs.Listing.{Draft, at_line, line_read, said, lines_read, no_draft, is_newline, with_entry, contents_read}
-use Rattle.fork_edits.specs.Numbers.{id_read}
-use Rattle.fork_edits.specs.Quoted.{quoted_read}
-use Rattle.fork_edits.specs.Texts.{hex_byte, char_text, type_text, name_text}
+use Rattle.fork_edits.proofs.Cited.{◌≡◌, ℕ, ◌+◌, ◌<◌, ◌≤◌, ◌^◌, Bool, true, false, cond, List, [], ◌∷◌, ◌++◌, length, decimal, replicate}
+use Rattle.fork_edits.proofs.Cited.{Option, Some, None, Result, refl, sym, ◌∙◌, ap, arith, append_assoc, append-nil, take, drop, subst, ◌*◌}
+use Rattle.fork_edits.proofs.Cited.{suc, FitsSigned, ℤ, pos, negsuc, ◌==◌, IfSome, unwrap_or, option_map, signed_decimal, w16}
+use Rattle.fork_edits.proofs.Cited.{AllByRecursion, flat_map, list_all, slice_split, and_parts, eqb-true, each-append, big_bytes}
+use Rattle.fork_edits.proofs.Cited.{big_number, Ascii, kind_again, LineFault, attrs_read, Entry, Listed, name_field, entry_line, attrs_line}
+use Rattle.fork_edits.proofs.Cited.{area_line, listed_text, word, after_word, type_length, fields_after, entry_in, entry_of, entry_read}
+use Rattle.fork_edits.proofs.Cited.{file_read, Draft, at_line, line_read, said, lines_read, no_draft, is_newline, with_entry, contents_read}
+use Rattle.fork_edits.proofs.Cited.{id_read, quoted_read, hex_byte, char_text, type_text, name_text}
+use Rattle.std.proofs.Common.{Ok}
+use Rattle.fork_edits.specs.Listing.{name_read}
 use Rattle.fork_edits.proofs.Decimals.{within_decimal, attrs_decimal, id_decimal}
 use Rattle.fork_edits.proofs.Filing.{IsFile, four_bytes}
 use Rattle.fork_edits.proofs.Naming.{digits-decimal}

@@ -1,15 +1,7 @@
 -- Resources that were taken out of a content, packed again.
-use Rattle.std.proofs.Common.{◌≡◌, ℕ, Bool, true, false, cond, List, [], ◌∷◌, ◌++◌, map, length, refl, sym, ◌∙◌, ap, append_assoc}
-use Rattle.std.proofs.Common.{append-nil, arith}
-use Rattle.std.specs.Prelude.{◌==◌, not, nat_le}
-use Rattle.std.specs.List.{list_all}
-use Rattle.std.proofs.lemmas.Bool.{and_parts, eq-eqb}
-use Rattle.std.proofs.lemmas.Bool.Decides.{nat_tests}
-use Rattle.fork_format.specs.Canonical.{are_distinct, has_refs}
-use Rattle.fork_format.specs.Content.{Ref, Group}
-use Rattle.fork_format.specs.Place.{put}
-use Rattle.fork_edits.specs.Resources.{Row, row, group_rows, rows}
-use Rattle.fork_edits.specs.Merging.{row_group, with_rows}
+use Rattle.fork_edits.proofs.Cited.{◌≡◌, ℕ, Bool, true, false, cond, List, [], ◌∷◌, ◌++◌, map, length, refl, sym, ◌∙◌, ap, append_assoc}
+use Rattle.fork_edits.proofs.Cited.{append-nil, arith, ◌==◌, not, nat_le, list_all, and_parts, eq-eqb, nat_tests, are_distinct, has_refs}
+use Rattle.fork_edits.proofs.Cited.{Ref, Group, put, Row, row, group_rows, rows, row_group, with_rows}
 
 abbrev group : ℕ → List Ref → Group
 group kind refs = record { kind = kind; refs = refs }

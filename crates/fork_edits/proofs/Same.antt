@@ -1,13 +1,7 @@
-use Rattle.std.proofs.Common.{◌≡◌, ℕ, Bool, true, false, cond, List, [], ◌∷◌, Option, Some, None, refl, sym, ◌∙◌, ap, map}
-use Rattle.std.proofs.Common.{Decides}
-use Rattle.std.specs.Prelude.{◌↔◌, bytes_eq}
-use Rattle.std.specs.Cmp.Lexicographic.{pointwise}
-use Rattle.std.proofs.lemmas.Bool.{false≢true}
-use Rattle.std.proofs.lemmas.Bool.Decides.{Decides-eqb, Decides-int_eq, Decides-and}
-use Rattle.std.proofs.lemmas.Slice.Eq.{slice_eq-Decides, bytes_eq-Decides}
-use Rattle.fork_format.specs.Content.{Ref, Group, Content}
-use Rattle.fork_edits.specs.Differences.{Difference, same_name, same_ref, same_group, same_content, or_order}
-use Rattle.fork_edits.specs.Differences.{found_differences, differences}
+use Rattle.fork_edits.proofs.Cited.{◌≡◌, ℕ, Bool, true, false, cond, List, [], ◌∷◌, Option, Some, None, refl, sym, ◌∙◌, ap, map, Decides}
+use Rattle.fork_edits.proofs.Cited.{◌↔◌, bytes_eq, pointwise, false≢true, Decides-eqb, Decides-int_eq, Decides-and, slice_eq-Decides}
+use Rattle.fork_edits.proofs.Cited.{bytes_eq-Decides, Ref, Group, Content, Difference, same_name, same_ref, same_group, same_content}
+use Rattle.fork_edits.proofs.Cited.{or_order, found_differences, differences}
 
 -- What the tests of names, resources, groups and contents decide: whether the two are equal.
 

@@ -1,10 +1,8 @@
 -- Bytes that pairs of hexadecimal digits spell, one pair after another.
-use Rattle.std.proofs.Common.{◌≡◌, ◌<◌, ℕ, ◌+◌, ◌*◌, Option, Some, None, List, [], ◌∷◌, ◌++◌, length, take, drop, set, get_or, refl, sym}
-use Rattle.std.proofs.Common.{ap, ◌∙◌, arith, append_assoc, append-nil}
-use Rattle.std.specs.Prelude.{option_map}
-use Rattle.std.proofs.lemmas.List.{drop_more, take_more_set}
-use Rattle.std.proofs.Math.Seq.{take-length, drop-length}
-use Rattle.fork_edits.specs.Types.{before, byte_value, bytes_spelled}
+use Rattle.fork_edits.proofs.Cited.{◌≡◌, ◌<◌, ℕ, ◌+◌, ◌*◌, Option, Some, None, List, [], ◌∷◌, ◌++◌, length, take, drop, get_or, refl, sym}
+use Rattle.fork_edits.proofs.Cited.{ap, ◌∙◌, arith, append_assoc, append-nil, option_map, drop_more, take_more_set, take-length}
+use Rattle.fork_edits.proofs.Cited.{drop-length, before, byte_value, bytes_spelled}
+use Rattle.std.proofs.Common.{set}
 
 -- the next pair of digits
 pair_next : (text : List ℕ) (i : ℕ) → 2 * i + 1 < length text → drop (2 * i) text

@@ -1,16 +1,8 @@
-use Rattle.std.proofs.Common.{◌≡◌, ℕ, ◌<◌, ◌≤◌, Bool, true, false, cond, List, [], ◌∷◌, ◌++◌, map, length, Option, Some, None}
-use Rattle.std.proofs.Common.{refl, sym, ◌∙◌, ap, arith, suc, zero, get_or, drop}
-use Rattle.std.proofs.Math.ListN.{set}
-use Rattle.std.specs.Prelude.{ℤ, nat_le, option_map, is_some, ◌&&◌, ◌||◌, ◌==◌}
-use Rattle.std.specs.List.{find, filter, list_all, list_any, position, remove}
-use Rattle.std.proofs.lemmas.Bool.{eqb-true}
-use Rattle.std.proofs.lemmas.Bool.Decides.{nat_tests}
-use Rattle.std.proofs.lemmas.List.Quantifiers.{position-Some}
-use Rattle.fork_format.specs.Canonical.{has_refs}
-use Rattle.fork_format.specs.Content.{Ref, Group, Content}
-use Rattle.fork_edits.specs.Resources.{Row, row, group_rows, rows, has_id, is_at, found, others}
-use Rattle.fork_edits.specs.Setting.{has_resource}
-use Rattle.fork_edits.specs.Removing.{first_replaced, group_with, group_without, groups_without, without_resource}
+use Rattle.fork_edits.proofs.Cited.{◌≡◌, ℕ, ◌<◌, ◌≤◌, Bool, true, false, cond, List, [], ◌∷◌, ◌++◌, map, length, Option, Some, None, refl}
+use Rattle.fork_edits.proofs.Cited.{sym, ◌∙◌, ap, arith, suc, zero, get_or, drop, set, ℤ, nat_le, option_map, is_some, ◌&&◌, ◌||◌, ◌==◌}
+use Rattle.fork_edits.proofs.Cited.{find, filter, list_all, list_any, position, remove, eqb-true, nat_tests, position-Some, has_refs, Ref}
+use Rattle.fork_edits.proofs.Cited.{Group, Content, Row, row, group_rows, rows, has_id, is_at, found, others, has_resource, first_replaced}
+use Rattle.fork_edits.proofs.Cited.{group_with, group_without, groups_without, without_resource}
 use Rattle.fork_edits.proofs.Keeping.{passes_in, found_in}
 use Rattle.fork_edits.proofs.Queues.{none_found, rest_left}
 

@@ -1,19 +1,8 @@
-use Rattle.std.proofs.Common.{◌≡◌, List, [], ◌∷◌, refl, Some, None, codes, replicate}
-use Rattle.std.specs.Prelude.{ℤ, pos, true, false, Ok, Err}
-use Rattle.fork_format.specs.Content.{Ref, Content}
-use Rattle.fork_edits.specs.Types.{type_read}
-use Rattle.mac_roman.specs.declared.charset.Charset.TheVariants.{Ascii, Utf8}
-use Rattle.fork_edits.specs.Texts.{type_text, name_text}
-use Rattle.fork_edits.specs.Attributes.{attrs_read}
-use Rattle.fork_edits.specs.Resources.{row, found}
-use Rattle.fork_edits.specs.Setting.{Change, with_resource}
-use Rattle.fork_edits.specs.Removing.{without_resource}
-use Rattle.fork_edits.specs.Merging.{merged}
-use Rattle.fork_edits.specs.Twins.{twin}
-use Rattle.fork_edits.specs.FixedNames.{fixed_bytes}
-use Rattle.fork_edits.specs.Renaming.{Renaming, with_renamed, refusal}
-use Rattle.fork_edits.specs.declared.renaming.RenameFault.TheVariants.{NotFound, Taken}
-use Rattle.fork_edits.specs.Differences.{Removed, Changed, Added, Order, differences}
+use Rattle.fork_edits.proofs.Cited.{◌≡◌, List, [], ◌∷◌, refl, Some, None, codes, replicate, ℤ, pos, Ok, Err, Ref, Content, type_read, Ascii}
+use Rattle.fork_edits.proofs.Cited.{Utf8, type_text, name_text, attrs_read, row, found, Change, with_resource, without_resource, merged}
+use Rattle.fork_edits.proofs.Cited.{twin, fixed_bytes, Renaming, with_renamed, refusal, NotFound, Taken, Removed, Changed, Added, Order}
+use Rattle.fork_edits.proofs.Cited.{differences}
+use Rattle.std.specs.Prelude.{true, false}
 
 -- types as people write them
 quoted : type_read (codes "'STR '") ≡ Some (codes "STR ")

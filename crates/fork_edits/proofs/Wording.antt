@@ -1,12 +1,7 @@
 -- Lines of printed characters, and the words of a line, are found again.
-use Rattle.std.proofs.Common.{◌≡◌, ℕ, ◌+◌, ◌-◌, ◌≤◌, false, List, [], ◌∷◌, ◌++◌, length, take, drop, refl, ◌∙◌, ap, arith, zero, suc}
-use Rattle.std.specs.Prelude.{◌==◌, nat_le, slice_index}
-use Rattle.std.specs.List.{AllByRecursion, slice_split, onto_first}
-use Rattle.std.proofs.lemmas.Bool.{and_right}
-use Rattle.std.proofs.lemmas.Bool.Decides.{nat_tests}
-use Rattle.std.proofs.lemmas.List.Splits.{slice_split-cons_no}
-use Rattle.std.proofs.lemmas.List.{take_all}
-use Rattle.fork_edits.specs.Listing.{word_length, word, after_word, is_newline, without_return}
+use Rattle.fork_edits.proofs.Cited.{◌≡◌, ℕ, ◌+◌, ◌-◌, ◌≤◌, false, List, [], ◌∷◌, ◌++◌, length, take, drop, refl, ◌∙◌, ap, arith, zero, suc}
+use Rattle.fork_edits.proofs.Cited.{◌==◌, nat_le, slice_index, AllByRecursion, slice_split, onto_first, and_right, nat_tests}
+use Rattle.fork_edits.proofs.Cited.{slice_split-cons_no, take_all, word_length, word, after_word, is_newline, without_return}
 use Rattle.fork_edits.proofs.Naming.{IsDigits}
 
 -- a printable character of ASCII; one that is no blank

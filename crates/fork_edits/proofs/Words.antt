@@ -1,7 +1,6 @@
-use Rattle.std.proofs.Common.{◌≡◌, ℕ, ◌+◌, ◌<◌, List, length, drop, get_or, Option, Some, None, ◌∙◌, ap, sym, refl}
-use Rattle.std.specs.Prelude.{bit_or, is_some, unwrap_or, cond}
-use Rattle.mac_words.proofs.Plain.{rest-next}
-use Rattle.fork_edits.specs.Attributes.{word_value, words_value}
+use Rattle.fork_edits.proofs.Cited.{◌≡◌, ℕ, ◌+◌, ◌<◌, List, length, drop, get_or, Option, Some, None, ◌∙◌, ap, sym, refl, bit_or, is_some}
+use Rattle.fork_edits.proofs.Cited.{unwrap_or, rest-next, word_value, words_value}
+use Rattle.std.specs.Prelude.{cond}
 
 -- Words that are read one after another.
 

@@ -1,16 +1,8 @@
-use Rattle.std.proofs.Common.{◌≡◌, ℕ, ◌+◌, ◌<◌, ◌≤◌, ◌^◌, true, false, cond, List, [], ◌∷◌, ◌++◌, length, map, refl}
-use Rattle.std.proofs.Common.{◌∙◌, ap, arith, Option, Some, None, lit<, ◌⊎◌, inl, inr, ◌≢◌}
-use Rattle.std.specs.Prelude.{ℤ, IfSome, FitsSigned, ◌==◌}
-use Rattle.std.specs.List.{flat_map}
-use Rattle.std.specs.Int.{cast_signed, cast_unsigned, w16}
-use Rattle.std.proofs.lemmas.Int.{to_z-of_z}
-use Rattle.std.proofs.Math.Facts.{Fits-of_z}
-use Rattle.std.proofs.lemmas.Bool.Decides.{eqb_tells}
-use Rattle.byteorder.specs.Endian.{big_bytes, big_number}
-use Rattle.fork_format.specs.Content.{Ref}
-use Rattle.fork_format.specs.Fork.{number, part, offsets, kept, data_start, name_list, name_place, name_at}
-use Rattle.fork_format.specs.Fork.{datum_place, datum_at, ref_at}
-use Rattle.fork_format.specs.Canonical.{datum, name, name_offset, name_or_none, reference, references, clear_ref}
+use Rattle.fork_format.proofs.Cited.{◌≡◌, ℕ, ◌+◌, ◌<◌, ◌≤◌, ◌^◌, true, false, cond, List, [], ◌∷◌, ◌++◌, length, map, refl, ◌∙◌, ap, arith}
+use Rattle.fork_format.proofs.Cited.{Option, Some, None, lit<, ◌⊎◌, inl, inr, ◌≢◌, ℤ, IfSome, FitsSigned, ◌==◌, flat_map, cast_signed}
+use Rattle.fork_format.proofs.Cited.{cast_unsigned, w16, to_z-of_z, Fits-of_z, eqb_tells, big_bytes, big_number, Ref, number, part, offsets}
+use Rattle.fork_format.proofs.Cited.{kept, data_start, name_list, name_place, name_at, datum_place, datum_at, ref_at, datum, name}
+use Rattle.fork_format.proofs.Cited.{name_offset, name_or_none, reference, references, clear_ref}
 use Rattle.fork_format.proofs.Standing.{StandsAt, stands_first, stands_second, stands_same, stands_drop}
 use Rattle.fork_format.proofs.Standing.{number-stands, part-stands}
 

@@ -1,16 +1,8 @@
-use Rattle.std.proofs.Common.{◌≡◌, ℕ, Bool, true, false, not, List, [], ◌∷◌, map, refl, sym, ◌∙◌, ap}
-use Rattle.std.specs.Prelude.{◌==◌, ◌↔◌, IsTrue, IsSorted, IsPermutation}
-use Rattle.std.specs.List.{IsDistinct, AllByRecursion, list_all}
-use Rattle.std.specs.List.Sorted.{IsStrictlyIncreasing}
-use Rattle.std.specs.Ordering.{nat_cmp, is_eq}
-use Rattle.std.proofs.Math.Dec.{eqb}
-use Rattle.std.proofs.lemmas.List.Sorted.{IsPermutation-sym, IsNonDecreasingBy-from_sort}
-use Rattle.std.proofs.lemmas.Map.Keys.{IsDistinct-IsPermutation, IsDistinct-from_sorted}
-use Rattle.std.proofs.lemmas.Map.Keys.{IsStrictlyIncreasing-from_distinct, sorted_from_strictly_increasing}
-use Rattle.fork_format.specs.Content.{Group, joined}
-use Rattle.fork_format.specs.Canonical.{are_distinct}
-use Rattle.fork_format.specs.Fork.{kind_in, group_at}
-use Rattle.std.proofs.lemmas.Bool.{and_parts}
+use Rattle.fork_format.proofs.Cited.{◌≡◌, ℕ, Bool, true, false, not, List, [], ◌∷◌, map, refl, sym, ◌∙◌, ap, ◌==◌, ◌↔◌, IsTrue, IsSorted}
+use Rattle.fork_format.proofs.Cited.{IsPermutation, IsDistinct, AllByRecursion, list_all, IsStrictlyIncreasing, nat_cmp, is_eq, eqb}
+use Rattle.fork_format.proofs.Cited.{IsPermutation-sym, IsNonDecreasingBy-from_sort, IsDistinct-IsPermutation, IsDistinct-from_sorted}
+use Rattle.fork_format.proofs.Cited.{IsStrictlyIncreasing-from_distinct, sorted_from_strictly_increasing, Group, joined, are_distinct}
+use Rattle.fork_format.proofs.Cited.{kind_in, group_at, and_parts}
 use Rattle.fork_format.proofs.Bools.{and_both, not_same, flips}
 use Rattle.fork_format.proofs.Placing.{is_eq-nat_cmp}
 use Rattle.fork_format.proofs.Whole.{joined-same}

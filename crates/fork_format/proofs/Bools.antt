@@ -1,6 +1,5 @@
-use Rattle.std.proofs.Common.{◌≡◌, ℕ, Bool, true, false, not, ◌&&◌, refl, sym, ap, ◌⊎◌, inl, inr, ◌≢◌, arith}
-use Rattle.std.specs.Prelude.{◌==◌}
-use Rattle.std.proofs.lemmas.Bool.Decides.{eqb_tells, nat_tests}
+use Rattle.fork_format.proofs.Cited.{◌≡◌, ℕ, Bool, true, false, not, ◌&&◌, refl, sym, ap, ◌⊎◌, inl, inr, ◌≢◌, arith, ◌==◌, eqb_tells}
+use Rattle.fork_format.proofs.Cited.{nat_tests}
 
 pub and_both : (a b : Bool) → a ≡ true → b ≡ true → (a && b) ≡ true
 and_both true b p q = q

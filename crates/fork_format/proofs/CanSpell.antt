@@ -1,21 +1,14 @@
-use Rattle.std.proofs.Common.{◌≡◌, ℕ, ◌+◌, ◌*◌, ◌%◌, ◌<◌, ◌≤◌, ◌^◌, true, List, [], ◌∷◌, ◌++◌, length, map, refl, ◌∙◌}
-use Rattle.std.proofs.Common.{ap, subst, arith, Option, Some, None, length-append, ◌⊎◌, inl, inr}
-use Rattle.std.specs.Prelude.{nat_le, IfSome}
-use Rattle.std.specs.List.{flat_map, list_all, AllByRecursion}
-use Rattle.std.proofs.lemmas.Bool.{leb-true, and_parts}
-use Rattle.byteorder.specs.Endian.{big_bytes}
-use Rattle.fork_format.specs.Content.{Ref, Group, Content, refs_of, IsRef, IsGroup, IsContent}
-use Rattle.fork_format.specs.Canonical.{datum, name, fits, has_refs, all_within, starts, name_start, name_starts}
-use Rattle.fork_format.specs.Canonical.{name_or_none, refs_offset, names_offset, names_of, data_of, lists, types}
-use Rattle.fork_format.specs.Canonical.{references}
+use Rattle.fork_format.proofs.Cited.{◌≡◌, ℕ, ◌+◌, ◌*◌, ◌%◌, ◌<◌, ◌≤◌, ◌^◌, true, List, [], ◌∷◌, ◌++◌, length, map, refl, ◌∙◌, ap, subst}
+use Rattle.fork_format.proofs.Cited.{arith, Option, Some, None, length-append, ◌⊎◌, inl, inr, nat_le, IfSome, flat_map, list_all}
+use Rattle.fork_format.proofs.Cited.{AllByRecursion, leb-true, and_parts, big_bytes, Ref, Group, Content, refs_of, IsRef, IsGroup}
+use Rattle.fork_format.proofs.Cited.{IsContent, datum, name, fits, has_refs, all_within, starts, name_start, name_starts, name_or_none}
+use Rattle.fork_format.proofs.Cited.{refs_offset, names_offset, names_of, data_of, lists, types, references, Spells, canon, clear}
+use Rattle.fork_format.proofs.Cited.{most_data}
 use Rattle.fork_format.proofs.Again.{AreLow}
 use Rattle.fork_format.proofs.Groups.{AreLowGroups, length-references}
 use Rattle.fork_format.proofs.Whole.{CanSpell, length-types}
 use Rattle.fork_format.proofs.Lying.{spells_again}
-use Rattle.fork_format.specs.Fork.{Spells}
-use Rattle.fork_format.specs.Canonical.{canon, clear}
 use Rattle.fork_format.proofs.Extending.{FitsByParts, fits-tells}
-use Rattle.fork_format.specs.Limits.{most_data}
 
 all_two : (xs ys : List Ref) → AllByRecursion IsRef xs → AllByRecursion IsRef ys → AllByRecursion IsRef (xs ++ ys)
 all_two [] ys p q = q

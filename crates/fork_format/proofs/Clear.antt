@@ -1,12 +1,6 @@
-use Rattle.std.proofs.Common.{◌≡◌, ℕ, ◌+◌, Bool, true, false, cond, List, [], ◌∷◌, ◌++◌, map, refl, ◌∙◌, ap, subst}
-use Rattle.std.specs.Prelude.{filter}
-use Rattle.std.specs.List.{flat_map}
-use Rattle.std.proofs.lemmas.Nat.{and_assoc}
-use Rattle.std.proofs.lemmas.List.{map-append}
-use Rattle.fork_format.specs.Content.{Ref, Group, Content, is_of, distinct, joined}
-use Rattle.fork_format.specs.Fork.{number, kept, map_kept, ref_at, ref_places, group_at, type_places, content_of, Spells}
-use Rattle.fork_format.specs.Fork.{map_start}
-use Rattle.fork_format.specs.Canonical.{clear_ref, clear_group, clear}
+use Rattle.fork_format.proofs.Cited.{◌≡◌, ℕ, ◌+◌, Bool, true, false, cond, List, [], ◌∷◌, ◌++◌, map, refl, ◌∙◌, ap, subst, filter, flat_map}
+use Rattle.fork_format.proofs.Cited.{and_assoc, map-append, Ref, Group, Content, is_of, distinct, joined, number, kept, map_kept, ref_at}
+use Rattle.fork_format.proofs.Cited.{ref_places, group_at, type_places, content_of, Spells, map_start, clear_ref, clear_group, clear}
 
 -- What bytes spell has none of the bits that a reader clears.
 

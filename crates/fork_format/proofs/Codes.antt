@@ -1,13 +1,7 @@
-use Rattle.std.proofs.Common.{◌≡◌, ◌≢◌, ◌↔◌, ℕ, Bool, true, false, Some, Result, Ok, Err, List, [], ◌∷◌, length, refl, ap}
-use Rattle.std.proofs.Common.{◌∙◌, arith}
-use Rattle.std.proofs.lemmas.Bool.{ne_eqb}
-use Rattle.mac_words.specs.declared.code.OsErr.{OsErr}
-use Rattle.mac_words.specs.declared.code.TheConstants.OsErr.{MAP_READ}
-use Rattle.fork_format.specs.declared.fault.ForkFault.{ForkFault}
-use Rattle.fork_format.specs.declared.fault.ForkFault.TheVariants.{Empty, BadMap, HostMemory}
-use Rattle.fork_format.specs.Code.{read_code, content_or_code}
-use Rattle.fork_format.specs.Content.{Content}
-use Rattle.fork_format.specs.Fork.{is_fork, content_of, Spells, IsUnspelled}
+use Rattle.fork_format.proofs.Cited.{◌≡◌, ◌≢◌, ℕ, Bool, true, false, Some, Result, Ok, Err, List, [], ◌∷◌, length, refl, ap, ◌∙◌, arith}
+use Rattle.fork_format.proofs.Cited.{ne_eqb, OsErr, MAP_READ, ForkFault, Empty, BadMap, HostMemory, read_code, content_or_code, Content}
+use Rattle.fork_format.proofs.Cited.{is_fork, content_of, Spells, IsUnspelled}
+use Rattle.std.proofs.Common.{◌↔◌}
 
 -- The content of a fork, or the result code for which it can't be read.
 

@@ -1,19 +1,11 @@
-use Rattle.std.proofs.Common.{◌≡◌, ℕ, ◌+◌, ◌*◌, ◌<◌, ◌≤◌, Bool, true, false, cond, ◌&&◌, List, [], ◌∷◌, ◌++◌, length}
-use Rattle.std.proofs.Common.{map, refl, sym, ◌∙◌, ap, arith, Option, Some, None, ◌⊎◌, inl, inr, ◌≢◌, length-append}
-use Rattle.std.specs.Prelude.{nat_le, is_some, IsSome}
-use Rattle.std.specs.List.{flat_map, list_all}
-use Rattle.std.proofs.lemmas.Bool.{le-leb, leb-true, and_parts}
-use Rattle.fork_format.specs.Content.{Ref, Group, Content, refs_of}
-use Rattle.fork_format.specs.Canonical.{datum, name, fits, has_refs, are_distinct, all_within, starts, list_starts}
-use Rattle.fork_format.specs.Canonical.{data_starts, name_start, name_starts, refs_offset, names_offset, data_of}
-use Rattle.fork_format.specs.Canonical.{names_of}
-use Rattle.fork_format.specs.Extent.{is_low, is_name_low, next, behind, no_starts, refs_end, is_short, are_short}
-use Rattle.fork_format.specs.Extent.{AreExtents}
+use Rattle.fork_format.proofs.Cited.{◌≡◌, ℕ, ◌+◌, ◌*◌, ◌<◌, ◌≤◌, Bool, true, false, cond, ◌&&◌, List, [], ◌∷◌, ◌++◌, length, map, refl, sym}
+use Rattle.fork_format.proofs.Cited.{◌∙◌, ap, arith, Option, Some, None, ◌⊎◌, inl, inr, ◌≢◌, length-append, nat_le, is_some, IsSome}
+use Rattle.fork_format.proofs.Cited.{flat_map, list_all, le-leb, leb-true, and_parts, Ref, Group, Content, refs_of, datum, name, fits}
+use Rattle.fork_format.proofs.Cited.{has_refs, are_distinct, all_within, starts, list_starts, data_starts, name_start, name_starts}
+use Rattle.fork_format.proofs.Cited.{refs_offset, names_offset, data_of, names_of, is_low, is_name_low, next, behind, no_starts, refs_end}
+use Rattle.fork_format.proofs.Cited.{is_short, are_short, AreExtents, Extents, Starts, most_data}
 use Rattle.fork_format.proofs.Groups.{flat_map-two}
-use Rattle.fork_format.specs.declared.fit.Extents.{Extents}
-use Rattle.fork_format.specs.declared.fit.Starts.{Starts}
 use Rattle.fork_format.proofs.Bools.{and_both}
-use Rattle.fork_format.specs.Limits.{most_data}
 
 -- what is behind a group has no end, so the whole has none
 refs_end-behind : (at : ℕ) (g : Group) (groups : List Group) → refs_end (at + 12 * length g.refs) groups ≡ None

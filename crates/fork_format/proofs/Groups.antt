@@ -1,11 +1,7 @@
-use Rattle.std.proofs.Common.{◌≡◌, ℕ, ◌+◌, ◌-◌, ◌*◌, ◌<◌, ◌≤◌, ◌^◌, List, [], ◌∷◌, ◌++◌, length, map, refl, sym, ◌∙◌}
-use Rattle.std.proofs.Common.{ap, subst, arith, append_assoc, length-append}
-use Rattle.std.specs.List.{flat_map}
-use Rattle.byteorder.specs.Endian.{big_bytes}
-use Rattle.fork_format.specs.Content.{Ref, Group, refs_of}
-use Rattle.fork_format.specs.Fork.{number, offsets, data_start, name_list, type_list, ref_at, ref_places, ref_count}
-use Rattle.fork_format.specs.Fork.{group_at}
-use Rattle.fork_format.specs.Canonical.{datum, name, reference, references, types, clear_ref, clear_group}
+use Rattle.fork_format.proofs.Cited.{◌≡◌, ℕ, ◌+◌, ◌-◌, ◌*◌, ◌<◌, ◌≤◌, ◌^◌, List, [], ◌∷◌, ◌++◌, length, map, refl, sym, ◌∙◌, ap, subst}
+use Rattle.fork_format.proofs.Cited.{arith, append_assoc, length-append, flat_map, big_bytes, Ref, Group, refs_of, number, offsets}
+use Rattle.fork_format.proofs.Cited.{data_start, name_list, type_list, ref_at, ref_places, ref_count, group_at, datum, name, reference}
+use Rattle.fork_format.proofs.Cited.{references, types, clear_ref, clear_group}
 use Rattle.fork_format.proofs.Standing.{StandsAt, stands_first, stands_second, stands_same, number-stands}
 use Rattle.fork_format.proofs.Again.{AreLow, refs_again}
 

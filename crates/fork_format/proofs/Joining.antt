@@ -1,15 +1,6 @@
-use Rattle.std.proofs.Common.{◌≡◌, ℕ, ◌+◌, ◌*◌, Bool, true, false, cond, not, ◌||◌, List, [], ◌∷◌, ◌++◌, map, refl}
-use Rattle.std.proofs.Common.{sym, ◌∙◌, ap, ◌⊎◌, inl, inr, ◌≢◌, append_assoc}
-use Rattle.std.specs.Prelude.{filter, ◌==◌}
-use Rattle.std.specs.List.{flat_map, list_all, list_any}
-use Rattle.std.proofs.lemmas.List.{append-nil, map_push}
-use Rattle.std.proofs.lemmas.Bool.Decides.{eqb_tells}
-use Rattle.std.proofs.lemmas.Bool.{and_parts}
-use Rattle.std.proofs.lemmas.List.Elements.{filter-append}
-use Rattle.fork_format.specs.Content.{Ref, Group, distinct, joined, is_of}
-use Rattle.fork_format.specs.Canonical.{are_distinct}
-use Rattle.fork_format.specs.Place.{put}
-use Rattle.fork_format.specs.Fork.{offsets}
+use Rattle.fork_format.proofs.Cited.{◌≡◌, ℕ, ◌+◌, ◌*◌, Bool, true, false, cond, not, ◌||◌, List, [], ◌∷◌, ◌++◌, map, refl, sym, ◌∙◌, ap}
+use Rattle.fork_format.proofs.Cited.{◌⊎◌, inl, inr, ◌≢◌, append_assoc, filter, ◌==◌, flat_map, list_all, list_any, append-nil, map_push}
+use Rattle.fork_format.proofs.Cited.{eqb_tells, and_parts, filter-append, Ref, Group, distinct, joined, is_of, are_distinct, put, offsets}
 use Rattle.fork_format.proofs.Loops.{offsets-push}
 use Rattle.fork_format.proofs.Bools.{not_same}
 

@@ -1,3 +1,4 @@
+mod Cited
 pub mod Bools
 pub mod Vectors
 pub mod Loops

@@ -1,12 +1,6 @@
-use Rattle.std.proofs.Common.{◌≡◌, ℕ, ◌+◌, ◌*◌, ◌-◌, ◌<◌, ◌≤◌, Bool, true, false, ◌&&◌, cond, List, [], ◌∷◌, Option}
-use Rattle.std.proofs.Common.{Some, None, refl, sym, ◌∙◌, ap, arith, suc, zero, add_assoc, sum_by, map, ◌++◌}
-use Rattle.std.proofs.Common.{append_assoc}
-use Rattle.std.specs.List.{list_all}
-use Rattle.std.specs.Option.{option_map}
-use Rattle.std.proofs.lemmas.List.{map_push}
-use Rattle.std.proofs.lemmas.List.Sums.{sum_by-cons}
-use Rattle.fork_format.specs.Fork.{offsets}
-use Rattle.fork_format.specs.Layout.{sizes_if}
+use Rattle.fork_format.proofs.Cited.{◌≡◌, ℕ, ◌+◌, ◌*◌, ◌-◌, ◌<◌, ◌≤◌, Bool, true, false, ◌&&◌, cond, List, [], ◌∷◌, Option, Some, None}
+use Rattle.fork_format.proofs.Cited.{refl, sym, ◌∙◌, ap, arith, suc, zero, add_assoc, sum_by, map, ◌++◌, append_assoc, list_all, option_map}
+use Rattle.fork_format.proofs.Cited.{map_push, sum_by-cons, offsets, sizes_if}
 
 -- what is counted already, added to what is still to come
 abbrev pub counted : ℕ → Option ℕ → Option ℕ

@@ -1,26 +1,17 @@
-use Rattle.std.proofs.Common.{◌≡◌, ℕ, ◌+◌, ◌*◌, ◌≤◌, Bool, true, false, cond, ◌&&◌, List, [], ◌∷◌}
-use Rattle.std.proofs.Common.{length, subst, refl, sym, ◌∙◌, ap, arith, Option, Some, None, lit<, ◌⊎◌, inl, inr, ◌≢◌}
-use Rattle.std.proofs.Common.{length-append, sum_by}
-use Rattle.std.specs.Prelude.{nat_le, ◌==◌, IfSome}
-use Rattle.std.specs.List.{flat_map, list_all}
-use Rattle.std.proofs.lemmas.List.Sums.{sum_by-cons}
-use Rattle.std.proofs.lemmas.Bool.Decides.{eqb_tells}
-use Rattle.std.proofs.lemmas.Bool.{le-leb}
-use Rattle.byteorder.specs.Endian.{big_bytes, big_number}
-use Rattle.fork_format.specs.Content.{Ref, Group, Content, refs_of}
-use Rattle.fork_format.specs.Fork.{number, offsets, data_start, data_end, map_start, map_end, name_list, type_list}
-use Rattle.fork_format.specs.Fork.{name_place, name_fits, datum_place, datum_fits, ref_fits, ref_size, refs_fit}
-use Rattle.fork_format.specs.Fork.{types_fit, parts_fit, type_count, all_refs, all_data, ref_places, ref_count}
-use Rattle.fork_format.specs.Fork.{type_size, type_places, is_fork, Spells}
-use Rattle.fork_format.specs.Canonical.{datum, name, name_offset, name_or_none, reference, references, types}
+use Rattle.fork_format.proofs.Cited.{◌≡◌, ℕ, ◌+◌, ◌*◌, ◌≤◌, Bool, true, false, cond, ◌&&◌, List, [], ◌∷◌, length, subst, refl, sym, ◌∙◌, ap}
+use Rattle.fork_format.proofs.Cited.{arith, Option, Some, None, lit<, ◌⊎◌, inl, inr, ◌≢◌, length-append, sum_by, nat_le, ◌==◌, IfSome}
+use Rattle.fork_format.proofs.Cited.{flat_map, list_all, sum_by-cons, eqb_tells, le-leb, big_bytes, big_number, Ref, Group, Content}
+use Rattle.fork_format.proofs.Cited.{refs_of, number, offsets, data_start, data_end, map_start, map_end, name_list, type_list, name_place}
+use Rattle.fork_format.proofs.Cited.{name_fits, datum_place, datum_fits, ref_fits, ref_size, refs_fit, types_fit, parts_fit, type_count}
+use Rattle.fork_format.proofs.Cited.{all_refs, all_data, ref_places, ref_count, type_size, type_places, is_fork, Spells, datum, name}
+use Rattle.fork_format.proofs.Cited.{name_offset, name_or_none, reference, references, types, canon, refs_offset, names_offset, data_of}
+use Rattle.fork_format.proofs.Cited.{clear, most_data}
 use Rattle.fork_format.proofs.Standing.{StandsAt, stands_first, stands_second, stands_same, stands_drop}
 use Rattle.fork_format.proofs.Standing.{number-stands, stands_inside}
 use Rattle.fork_format.proofs.Again.{AreLow, IsSized, ReferenceStands, reference_stands}
 use Rattle.fork_format.proofs.Groups.{AreLowGroups, GroupStands, group_stands, flat_map-two}
 use Rattle.fork_format.proofs.Whole.{CanSpell, CanonStands, canon_stands, ListsStand, lists_stand, content_again}
-use Rattle.fork_format.specs.Canonical.{canon, refs_offset, names_offset, data_of, clear}
 use Rattle.fork_format.proofs.Bools.{and_both}
-use Rattle.fork_format.specs.Limits.{most_data}
 
 and_three : (a b d : Bool) → a ≡ true → b ≡ true → d ≡ true → (a && b && d) ≡ true
 and_three a b d p q r = and_both (a && b) d (and_both a b p q) r

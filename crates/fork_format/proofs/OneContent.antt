@@ -1,6 +1,4 @@
-use Rattle.std.proofs.Common.{◌≡◌, ℕ, true, false, List, sym, ◌∙◌}
-use Rattle.fork_format.specs.Content.{Content}
-use Rattle.fork_format.specs.Fork.{Spells, is_fork}
+use Rattle.fork_format.proofs.Cited.{◌≡◌, ℕ, true, false, List, sym, ◌∙◌, Content, Spells, is_fork}
 
 -- bytes spell at most one content
 pub one_content : (bytes : List ℕ) (c d : Content) → Spells bytes c → Spells bytes d → c ≡ d

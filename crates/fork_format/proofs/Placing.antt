@@ -1,14 +1,9 @@
-use Rattle.std.proofs.Common.{◌≡◌, ℕ, ◌<◌, Bool, true, false, cond, List, [], ◌∷◌, ◌++◌, length, refl, sym, ◌∙◌, ap}
-use Rattle.std.proofs.Common.{Option, Some, None, suc, zero, ◌⊎◌, inl, inr, ◌≢◌, set, get_or, map, arith}
-use Rattle.std.specs.Prelude.{◌==◌, option_map}
-use Rattle.std.specs.Ordering.{nat_cmp, is_eq}
-use Rattle.std.proofs.lemmas.List.{append-nil, map-set, map_push}
-use Rattle.std.proofs.lemmas.Bool.Decides.{eqb_tells, nat_tests}
-use Rattle.byteorder.specs.Endian.{big_number}
-use Rattle.fork_format.specs.Content.{Ref, Group}
-use Rattle.fork_format.specs.View.{view_ref, view_group}
+use Rattle.fork_format.proofs.Cited.{◌≡◌, ℕ, ◌<◌, Bool, true, false, cond, List, [], ◌∷◌, ◌++◌, length, refl, sym, ◌∙◌, ap, Option, Some}
+use Rattle.fork_format.proofs.Cited.{None, suc, zero, ◌⊎◌, inl, inr, ◌≢◌, set, get_or, map, arith, ◌==◌, nat_cmp, is_eq, append-nil}
+use Rattle.fork_format.proofs.Cited.{map-set, map_push, eqb_tells, nat_tests, big_number, Ref, Group, view_ref, view_group, put, empty}
+use Rattle.fork_format.proofs.Cited.{opened, place}
+use Rattle.std.specs.Prelude.{option_map}
 use Rattle.fork_format.specs.declared.content.Group.{Group as StoredGroup}
-use Rattle.fork_format.specs.Place.{put, empty, opened, place}
 use Rattle.fork_format.proofs.Bools.{same_self}
 
 -- an answer that is Some is none of None

@@ -1,16 +1,9 @@
-use Rattle.std.proofs.Common.{◌≡◌, ℕ, ◌+◌, ◌*◌, ◌%◌, ◌≤◌, Bool, true, false, cond, Some, None, List, [], ◌∷◌, ◌++◌}
-use Rattle.std.proofs.Common.{length, refl, ◌∙◌, ap, append_assoc, arith, length-append, ◌<◌, get_or, map, drop, sym}
-use Rattle.std.proofs.lemmas.List.{length-map}
+use Rattle.fork_format.proofs.Cited.{◌≡◌, ℕ, ◌+◌, ◌*◌, ◌%◌, ◌≤◌, Bool, true, false, cond, Some, None, List, [], ◌∷◌, ◌++◌, length, refl}
+use Rattle.fork_format.proofs.Cited.{◌∙◌, ap, append_assoc, arith, length-append, ◌<◌, get_or, map, drop, sym, length-map, view_ref}
+use Rattle.fork_format.proofs.Cited.{view_group, IsSome, is_some, nat_le, leb-true, big_bytes, Ref, Group, refs_of, lists, types}
+use Rattle.fork_format.proofs.Cited.{references, names_of, refs_offset, is_low, next, behind, refs_end, Starts}
 use Rattle.fork_format.specs.declared.content.Group.{Group as StoredGroup}
-use Rattle.fork_format.specs.View.{view_ref, view_group}
 use Rattle.fork_format.proofs.Rest.{rest-map}
-use Rattle.std.specs.Prelude.{IsSome, is_some, nat_le}
-use Rattle.std.proofs.lemmas.Bool.{leb-true}
-use Rattle.byteorder.specs.Endian.{big_bytes}
-use Rattle.fork_format.specs.Content.{Ref, Group, refs_of}
-use Rattle.fork_format.specs.Canonical.{lists, types, references, names_of, refs_offset}
-use Rattle.fork_format.specs.Extent.{is_low, next, behind, refs_end}
-use Rattle.fork_format.specs.declared.fit.Starts.{Starts}
 use Rattle.fork_format.proofs.Groups.{length-references}
 use Rattle.fork_format.proofs.Whole.{length-types}
 

@@ -1,9 +1,5 @@
-use Rattle.std.proofs.Common.{◌≡◌, ◌<◌, ◌≤◌, ◌^◌, List, [], ◌∷◌, length, Option, Some, None, subst, sym}
-use Rattle.std.specs.Prelude.{IfSome}
-use Rattle.fork_format.specs.Content.{Ref, Group, IsRef, IsGroup, AreRefs, AreKinds, HaveRefs}
-use Rattle.std.specs.List.{AllByRecursion}
-use Rattle.fork_format.specs.declared.content.RefName.{RefName}
-use Rattle.fork_format.specs.View.{view_name}
+use Rattle.fork_format.proofs.Cited.{◌≡◌, ◌<◌, ◌≤◌, ◌^◌, List, [], ◌∷◌, length, Option, Some, None, subst, sym, IfSome, Ref, Group, IsRef}
+use Rattle.fork_format.proofs.Cited.{IsGroup, AreRefs, AreKinds, HaveRefs, AllByRecursion, RefName, view_name}
 
 -- What the types of stored values say of them.
 

@@ -1,12 +1,9 @@
-use Rattle.std.proofs.Common.{◌≡◌, ℕ, Bool, true, false, not, cond, ◌||◌, List, [], ◌∷◌, ◌++◌, length, map, refl, ◌≤◌, drop, replicate}
-use Rattle.std.proofs.Common.{sym, ◌∙◌, ap, suc, ◌+◌, arith}
-use Rattle.std.specs.Prelude.{◌==◌, filter, nat_le, ◌&&◌}
-use Rattle.std.specs.List.{flat_map, list_all, list_any}
-use Rattle.std.proofs.lemmas.Bool.{and_parts, le-leb, or_right, leb-true}
-use Rattle.std.proofs.lemmas.List.{length-take, length-drop}
-use Rattle.fork_format.specs.Content.{Ref, Group, Content, distinct, joined, is_of}
-use Rattle.fork_format.specs.Canonical.{has_refs, are_distinct}
-use Rattle.fork_format.specs.Fork.{Spells, group_at, ref_at, type_places, type_list, number, offsets, area_of, part, data_start, map_start}
+use Rattle.fork_format.proofs.Cited.{◌≡◌, ℕ, Bool, true, false, not, cond, ◌||◌, List, [], ◌∷◌, ◌++◌, length, map, refl, ◌≤◌, drop}
+use Rattle.fork_format.proofs.Cited.{replicate, sym, ◌∙◌, ap, suc, ◌+◌, arith, ◌==◌, filter, nat_le, flat_map, list_all, list_any}
+use Rattle.fork_format.proofs.Cited.{and_parts, le-leb, or_right, leb-true, length-take, length-drop, Ref, Group, Content, distinct, joined}
+use Rattle.fork_format.proofs.Cited.{is_of, has_refs, are_distinct, Spells, group_at, ref_at, type_places, type_list, number, offsets}
+use Rattle.fork_format.proofs.Cited.{area_of, part, data_start, map_start}
+use Rattle.std.specs.Prelude.{◌&&◌}
 use Rattle.fork_format.proofs.Bools.{same_self, and_both}
 use Rattle.fork_format.proofs.Joining.{all_others, distinct-distinct}
 

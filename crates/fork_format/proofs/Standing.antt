@@ -1,10 +1,6 @@
-use Rattle.std.proofs.Common.{◌≡◌, ℕ, ◌+◌, ◌<◌, ◌≤◌, ◌^◌, List, [], ◌++◌, length, take, drop, refl, sym, ◌∙◌, ap}
-use Rattle.std.proofs.Common.{append_assoc, length-append, arith}
-use Rattle.std.proofs.Math.Seq.{drop-append_seam, take-append_seam}
-use Rattle.std.proofs.lemmas.List.{append-nil}
-use Rattle.byteorder.specs.Numbers.{big_number-reads_back}
-use Rattle.byteorder.specs.Endian.{big_bytes, big_number}
-use Rattle.fork_format.specs.Fork.{number, part}
+use Rattle.fork_format.proofs.Cited.{◌≡◌, ℕ, ◌+◌, ◌<◌, ◌≤◌, ◌^◌, List, [], ◌++◌, length, take, drop, refl, sym, ◌∙◌, ap, append_assoc}
+use Rattle.fork_format.proofs.Cited.{length-append, arith, drop-append_seam, take-append_seam, append-nil, big_number-reads_back, big_bytes}
+use Rattle.fork_format.proofs.Cited.{big_number, number, part}
 
 -- xs stands in bytes at an offset
 pub record StandsAt (xs : List ℕ) (at : ℕ) (bytes : List ℕ) : Type 0 where

@@ -1,8 +1,6 @@
-use Rattle.std.proofs.Common.{◌≡◌, ℕ, true, false, List, [], ◌∷◌, ◌++◌, replicate, take, drop, refl, Some, None}
-use Rattle.std.specs.Prelude.{pos, ℤ, Option}
-use Rattle.fork_format.specs.Content.{Ref, Content}
-use Rattle.fork_format.specs.Fork.{is_fork, Spells}
-use Rattle.fork_format.specs.Canonical.{canon, fits}
+use Rattle.fork_format.proofs.Cited.{◌≡◌, ℕ, true, false, List, [], ◌∷◌, ◌++◌, replicate, take, drop, refl, Some, None, pos, ℤ, Ref}
+use Rattle.fork_format.proofs.Cited.{Content, is_fork, Spells, canon, fits}
+use Rattle.std.specs.Prelude.{Option}
 
 -- the forks that a document prints
 abbrev pub empty_fork : List ℕ

@@ -1,20 +1,13 @@
-use Rattle.std.proofs.Common.{◌≡◌, ℕ, ◌+◌, ◌*◌, ◌%◌, ◌<◌, ◌≤◌, ◌^◌, Bool, true, false, cond, not, ◌&&◌, List, [], ◌∷◌}
-use Rattle.std.proofs.Common.{◌++◌, length, map, replicate, refl, sym, ◌∙◌, ap, arith, lit<, length-append}
-use Rattle.std.specs.Prelude.{filter, nat_le, ◌==◌}
-use Rattle.std.specs.List.{flat_map, list_all}
-use Rattle.std.proofs.lemmas.List.{append-nil}
-use Rattle.std.proofs.lemmas.Bool.{le-leb, and_parts}
-use Rattle.byteorder.specs.Endian.{big_bytes}
-use Rattle.fork_format.specs.Content.{Group, Content, refs_of, distinct, joined, is_of}
-use Rattle.fork_format.specs.Fork.{number, part, offsets, data_start, map_start, name_list, type_list, type_count}
-use Rattle.fork_format.specs.Fork.{type_places, group_at, area_of, content_of, map_kept}
-use Rattle.fork_format.specs.Canonical.{types, clear_group, clear, canon, header, data_of, names_of, map_of}
-use Rattle.fork_format.specs.Canonical.{lists, refs_offset, names_offset, are_distinct, references}
+use Rattle.fork_format.proofs.Cited.{◌≡◌, ℕ, ◌+◌, ◌*◌, ◌%◌, ◌<◌, ◌≤◌, ◌^◌, Bool, true, false, cond, not, ◌&&◌, List, [], ◌∷◌, ◌++◌, length}
+use Rattle.fork_format.proofs.Cited.{map, replicate, refl, sym, ◌∙◌, ap, arith, lit<, length-append, filter, nat_le, ◌==◌, flat_map}
+use Rattle.fork_format.proofs.Cited.{list_all, append-nil, le-leb, and_parts, big_bytes, Group, Content, refs_of, distinct, joined, is_of}
+use Rattle.fork_format.proofs.Cited.{number, part, offsets, data_start, map_start, name_list, type_list, type_count, type_places, group_at}
+use Rattle.fork_format.proofs.Cited.{area_of, content_of, map_kept, types, clear_group, clear, canon, header, data_of, names_of, map_of}
+use Rattle.fork_format.proofs.Cited.{lists, refs_offset, names_offset, are_distinct, references, most_data}
 use Rattle.fork_format.proofs.Standing.{StandsAt, stands_whole, stands_first, stands_second, stands_same, number-stands}
 use Rattle.fork_format.proofs.Standing.{part-stands, stands_inside}
 use Rattle.fork_format.proofs.Groups.{AreLowGroups, groups_again, length-references}
 use Rattle.fork_format.proofs.Bools.{same_self, not_same}
-use Rattle.fork_format.specs.Limits.{most_data}
 
 pub filter-all : {A : Type 0} (p : A → Bool) (xs : List A) → list_all p xs ≡ true → filter p xs ≡ xs
 filter-all p [] h = refl

@@ -1,20 +1,9 @@
-use Rattle.std.proofs.Common.{◌≡◌, ℕ, ◌+◌, ◌-◌, ◌*◌, ◌%◌, ◌<◌, ◌≤◌, Bool, true, false, cond, not, List, [], ◌∷◌, ◌++◌, length}
-use Rattle.std.proofs.Common.{take, drop, refl, sym, ◌∙◌, ap, arith, zero, suc, lit<, get_or}
-use Rattle.std.specs.Prelude.{filter}
-use Rattle.std.specs.List.{flat_map}
-use Rattle.std.specs.Bool.{Decides}
-use Rattle.std.specs.Str.{bytes_eq}
-use Rattle.std.proofs.lemmas.List.{take-append-drop, drop-drop}
-use Rattle.std.proofs.Math.Seq.{take-add}
-use Rattle.std.proofs.lemmas.Slice.Eq.{slice_eq-Decides, bytes_eq-Decides}
-use Rattle.byteorder.specs.Endian.{big_number}
-use Rattle.byteorder.specs.Numbers.{big_from-take}
-use Rattle.fork_format.specs.Fork.{number, part, offsets, data_start, map_start, map_end, type_list, name_list}
-use Rattle.fork_format.specs.Fork.{type_count, type_places, ref_places}
-use Rattle.fork_rules.specs.declared.regions.Region.{Region}
+use Rattle.fork_rules.proofs.Cited.{◌≡◌, ℕ, ◌+◌, ◌-◌, ◌*◌, ◌%◌, ◌<◌, ◌≤◌, Bool, true, false, cond, not, List, [], ◌∷◌, ◌++◌, length, take}
+use Rattle.fork_rules.proofs.Cited.{drop, refl, sym, ◌∙◌, ap, arith, zero, suc, lit<, get_or, filter, flat_map, Decides, bytes_eq}
+use Rattle.fork_rules.proofs.Cited.{take-append-drop, drop-drop, take-add, slice_eq-Decides, bytes_eq-Decides, big_number, big_from-take}
+use Rattle.fork_rules.proofs.Cited.{number, part, offsets, data_start, map_start, map_end, type_list, name_list, type_count, type_places}
+use Rattle.fork_rules.proofs.Cited.{ref_places, Region, REGIONS, all_places, column, bytes_of, differs, differences}
 use Rattle.fork_rules.specs.declared.regions.Region.TheVariants as region
-use Rattle.fork_rules.specs.declared.regions.TheConstants.{REGIONS}
-use Rattle.fork_rules.specs.Regions.{all_places, column, bytes_of, differs, differences}
 
 -- Two forks that are alike in every region are equal, if the regions of the second follow one another.
 

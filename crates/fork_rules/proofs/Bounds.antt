@@ -1,19 +1,9 @@
-use Rattle.std.proofs.Common.{◌≡◌, ℕ, ◌+◌, ◌<◌, ◌≤◌, ◌^◌, Bool, true, false, cond, List, [], ◌∷◌, ◌++◌, length, map, drop}
-use Rattle.std.proofs.Common.{Option, Some, None, refl, arith, rules}
-use Rattle.std.specs.Prelude.{slice_index, filter, nat_lt, IfSome}
-use Rattle.std.specs.List.{flat_map, list_all, AllByRecursion}
-use Rattle.std.specs.Int.{w16}
-use Rattle.std.proofs.Math.Facts.{sfits_to_z}
-use Rattle.std.proofs.lemmas.Bool.{and_parts, ltb-true}
-use Rattle.std.proofs.lemmas.Bool.Decides.{Decides-ltb}
-use Rattle.std.proofs.lemmas.List.{get_or-drop, length-take}
-use Rattle.std.proofs.lemmas.Nat.{and_le_l, and_le_r}
-use Rattle.byteorder.specs.Numbers.{big_from-lt}
-use Rattle.fork_format.specs.Content.{Ref, Group, IsRef, IsGroup, AreRefs, IsContent, is_of, distinct}
-use Rattle.fork_format.specs.Fork.{number, ref_at, ref_places, group_at, type_places, content_of, name_at, name_place}
-use Rattle.fork_format.specs.Fork.{map_start}
-use Rattle.fork_format.proofs.Spelled.{distinct-all, area_whole}
-use Rattle.fork_format.proofs.Bools.{and_both}
+use Rattle.fork_rules.proofs.Cited.{◌≡◌, ℕ, ◌+◌, ◌<◌, ◌≤◌, ◌^◌, Bool, true, false, cond, List, [], ◌∷◌, ◌++◌, length, map, drop, Option}
+use Rattle.fork_rules.proofs.Cited.{Some, None, refl, arith, rules, slice_index, filter, nat_lt, IfSome, flat_map, list_all, AllByRecursion}
+use Rattle.fork_rules.proofs.Cited.{w16, sfits_to_z, and_parts, ltb-true, Decides-ltb, get_or-drop, length-take, and_le_l, and_le_r}
+use Rattle.fork_rules.proofs.Cited.{big_from-lt, Ref, Group, IsRef, IsGroup, AreRefs, IsContent, is_of, distinct, number, ref_at}
+use Rattle.fork_rules.proofs.Cited.{ref_places, group_at, type_places, content_of, name_at, name_place, map_start, distinct-all, area_whole}
+use Rattle.fork_rules.proofs.Cited.{and_both}
 
 -- The content that bytes spell keeps the limits of its parts.
 

@@ -1,9 +1,5 @@
-use Rattle.std.proofs.Common.{◌≡◌, ℕ, ◌+◌, ◌-◌, ◌*◌, List, [], ◌∷◌, length, drop, ◌∙◌, ap, arith}
-use Rattle.std.proofs.lemmas.List.{take_rest}
-use Rattle.std.specs.Prelude.{slice_index}
-use Rattle.byteorder.specs.Endian.{big_number}
-use Rattle.fork_format.specs.Fork.{part}
-use Rattle.fork_rules.specs.Regions.{column}
+use Rattle.fork_rules.proofs.Cited.{◌≡◌, ℕ, ◌+◌, ◌-◌, ◌*◌, List, [], ◌∷◌, length, drop, ◌∙◌, ap, arith, take_rest, slice_index, big_number}
+use Rattle.fork_rules.proofs.Cited.{part, column}
 
 -- a field of one place
 pub one_place : (n n' d d' at at' : ℕ) (places bytes : List ℕ) → n ≡ n' → d ≡ d' → places ≡ at ∷ [] → at + d' ≡ at'

@@ -1,16 +1,8 @@
-use Rattle.std.proofs.Common.{◌≡◌, ℕ, ◌+◌, ◌*◌, true, List, [], ◌∷◌, ◌++◌, length, take, drop, refl, sym, ◌∙◌, ap, arith, zero, suc}
-use Rattle.std.proofs.Common.{length-append}
-use Rattle.std.specs.List.{flat_map}
-use Rattle.std.proofs.Math.Seq.{drop-append_seam}
-use Rattle.fork_format.specs.Content.{Group, Content, IsContent, refs_of}
-use Rattle.fork_format.specs.Canonical.{canon, fits, datum, name, references, types, refs_offset, data_of, header}
-use Rattle.fork_format.specs.Canonical.{map_of}
-use Rattle.fork_format.specs.Fork.{part, offsets, data_start, map_start, type_list, name_list, type_count, ref_places}
-use Rattle.fork_format.proofs.Standing.{StandsAt}
-use Rattle.fork_format.proofs.Groups.{AreLowGroups, GroupStands, group_stands}
-use Rattle.fork_format.proofs.Whole.{CanSpell, CanonStands, canon_stands, ListsStand, lists_stand}
-use Rattle.fork_format.proofs.CanSpell.{can_spell}
-use Rattle.fork_rules.specs.Regions.{all_places}
+use Rattle.fork_rules.proofs.Cited.{◌≡◌, ℕ, ◌+◌, ◌*◌, true, List, [], ◌∷◌, ◌++◌, length, take, drop, refl, sym, ◌∙◌, ap, arith, zero, suc}
+use Rattle.fork_rules.proofs.Cited.{length-append, flat_map, drop-append_seam, Group, Content, IsContent, refs_of, canon, fits, datum, name}
+use Rattle.fork_rules.proofs.Cited.{references, types, refs_offset, data_of, header, map_of, part, offsets, data_start, map_start}
+use Rattle.fork_rules.proofs.Cited.{type_list, name_list, type_count, ref_places, StandsAt, AreLowGroups, GroupStands, group_stands}
+use Rattle.fork_rules.proofs.Cited.{CanSpell, CanonStands, canon_stands, ListsStand, lists_stand, can_spell, all_places}
 use Rattle.fork_rules.proofs.Alike.{Follow}
 
 -- The regions of a canonical fork follow one another.

@@ -1,11 +1,5 @@
-use Rattle.std.proofs.Common.{◌≡◌, ℕ, Bool, true, false, cond, List, ◌++◌, Result, Ok, Err, refl, sym, ◌∙◌, ap}
-use Rattle.std.specs.Prelude.{OnOk, codes}
-use Rattle.std.specs.Result.{is_ok}
-use Rattle.fork_format.specs.Canonical.{canon, fits}
-use Rattle.fork_format.specs.Content.{Content}
-use Rattle.fork_rules.specs.declared.regions.Region.{Region}
-use Rattle.fork_rules.specs.Regions.{differences}
-use Rattle.fork_rules.specs.Texts.{accepted_text, form_text}
+use Rattle.fork_rules.proofs.Cited.{◌≡◌, ℕ, Bool, true, false, cond, List, ◌++◌, Result, Ok, Err, refl, sym, ◌∙◌, ap, OnOk, codes, is_ok}
+use Rattle.fork_rules.proofs.Cited.{canon, fits, Content, Region, differences, accepted_text, form_text}
 
 -- What a fork is, in words, by whether its content fits.
 

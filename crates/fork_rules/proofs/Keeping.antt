@@ -1,15 +1,9 @@
-use Rattle.std.proofs.Common.{◌≡◌, ℕ, ◌+◌, ◌*◌, Bool, true, false, not, ◌&&◌, cond, List, [], ◌∷◌, Option, Some, None, refl, sym}
-use Rattle.std.proofs.Common.{◌∙◌, ap, length}
-use Rattle.std.specs.Prelude.{nat_le}
-use Rattle.std.specs.List.{list_all}
-use Rattle.fork_format.specs.Fork.{is_fork, ref_fits, refs_fit, name_fits, name_place, datum_fits, datum_place, map_start}
-use Rattle.fork_format.specs.Fork.{map_end, data_end, type_list, type_count, type_places, ref_places, all_refs, all_data}
-use Rattle.fork_format.specs.Limits.{most_data, most_references}
-use Rattle.fork_rules.specs.declared.rules.Rule.{Rule}
+use Rattle.fork_rules.proofs.Cited.{◌≡◌, ℕ, ◌+◌, ◌*◌, Bool, true, false, not, ◌&&◌, cond, List, [], ◌∷◌, Option, Some, None, refl, sym, ◌∙◌}
+use Rattle.fork_rules.proofs.Cited.{ap, length, nat_le, list_all, is_fork, ref_fits, refs_fit, name_fits, name_place, datum_fits}
+use Rattle.fork_rules.proofs.Cited.{datum_place, map_start, map_end, data_end, type_list, type_count, type_places, ref_places, all_refs}
+use Rattle.fork_rules.proofs.Cited.{all_data, most_data, most_references, Rule, Broken, broken_at, first, first_of, broken_part}
+use Rattle.fork_rules.proofs.Cited.{broken_list, broken_reference, broken_type, broken_limit, broken}
 use Rattle.fork_rules.specs.declared.rules.Rule.TheVariants as rule
-use Rattle.fork_rules.specs.declared.rules.Broken.{Broken}
-use Rattle.fork_rules.specs.Breaking.{broken_at, first, first_of, broken_part, broken_list, broken_reference, broken_type}
-use Rattle.fork_rules.specs.Breaking.{broken_limit, broken}
 
 -- no rule is broken
 abbrev none : Option Broken → Bool

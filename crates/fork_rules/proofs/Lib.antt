@@ -1,3 +1,4 @@
+mod Cited
 pub mod Walking
 pub mod Keeping
 pub mod Listing

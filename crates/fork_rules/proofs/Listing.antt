@@ -1,11 +1,5 @@
-use Rattle.std.proofs.Common.{Bool, true, false, cond, length, drop, get_or, refl, ◌≡◌, ℕ, ◌+◌, ◌-◌, ◌<◌, ◌≤◌, List, [], ◌∷◌, ◌++◌}
-use Rattle.std.proofs.Common.{append_assoc, sym, ◌∙◌, ap, arith, zero}
-use Rattle.std.proofs.lemmas.List.{append-nil}
-use Rattle.std.specs.Prelude.{filter}
-use Rattle.std.specs.List.{flat_map}
-use Rattle.mac_words.proofs.Plain.{rest-next}
-use Rattle.fork_format.specs.Fork.{offsets}
-use Rattle.fork_format.proofs.Loops.{offsets-left}
+use Rattle.fork_rules.proofs.Cited.{Bool, true, false, cond, length, drop, get_or, refl, ◌≡◌, ℕ, ◌+◌, ◌-◌, ◌<◌, ◌≤◌, List, [], ◌∷◌, ◌++◌}
+use Rattle.fork_rules.proofs.Cited.{append_assoc, sym, ◌∙◌, ap, arith, zero, append-nil, filter, flat_map, rest-next, offsets, offsets-left}
 
 -- one offset more
 pub one_more : (front : List ℕ) (at step n k : ℕ) (total : List ℕ) → k < n

@@ -1,22 +1,10 @@
-use Rattle.std.proofs.Common.{◌≡◌, ℕ, ◌+◌, ◌*◌, ◌<◌, ◌≤◌, true, false, not, List, [], ◌∷◌, length, map, refl, ◌∙◌}
-use Rattle.std.proofs.Common.{ap, arith}
-use Rattle.std.specs.Prelude.{◌==◌, nat_le}
-use Rattle.std.specs.List.{list_all}
-use Rattle.std.proofs.Common.{length-append, ◌⊎◌, inl, inr, ◌≢◌}
-use Rattle.std.proofs.lemmas.Bool.{and_parts, le-leb, leb-true}
-use Rattle.std.proofs.lemmas.Bool.Decides.{eqb_tells}
-use Rattle.byteorder.specs.Endian.{big_bytes}
-use Rattle.fork_format.specs.Content.{Ref, Content, IsContent, refs_of}
-use Rattle.fork_format.specs.Canonical.{canon, fits, datum, name, reference, references, starts, all_within, are_distinct}
-use Rattle.fork_format.specs.Canonical.{refs_offset}
-use Rattle.fork_format.specs.Fork.{number, offsets, type_list, type_count}
-use Rattle.fork_format.proofs.Bools.{and_both}
-use Rattle.fork_format.proofs.Standing.{StandsAt, stands_first, stands_second, number-stands}
-use Rattle.fork_format.proofs.Again.{ReferenceStands, reference_stands}
-use Rattle.fork_format.proofs.Whole.{CanSpell, CanonStands, canon_stands, ListsStand, lists_stand}
-use Rattle.fork_format.proofs.CanSpell.{can_spell}
-use Rattle.fork_format.proofs.Extending.{FitsByParts, fits-tells}
-use Rattle.fork_rules.specs.Sharing.{datum_offsets, shares_data, do_rise, orders_data}
+use Rattle.fork_rules.proofs.Cited.{◌≡◌, ℕ, ◌+◌, ◌*◌, ◌<◌, ◌≤◌, true, false, not, List, [], ◌∷◌, length, map, refl, ◌∙◌, ap, arith, ◌==◌}
+use Rattle.fork_rules.proofs.Cited.{nat_le, list_all, length-append, ◌⊎◌, inl, inr, ◌≢◌, and_parts, le-leb, leb-true, eqb_tells, big_bytes}
+use Rattle.fork_rules.proofs.Cited.{Ref, Content, IsContent, refs_of, canon, fits, datum, name, reference, references, starts, all_within}
+use Rattle.fork_rules.proofs.Cited.{are_distinct, refs_offset, number, offsets, type_list, type_count, and_both, StandsAt, stands_first}
+use Rattle.fork_rules.proofs.Cited.{stands_second, number-stands, ReferenceStands, reference_stands, CanSpell, CanonStands, canon_stands}
+use Rattle.fork_rules.proofs.Cited.{ListsStand, lists_stand, can_spell, FitsByParts, fits-tells, datum_offsets, shares_data, do_rise}
+use Rattle.fork_rules.proofs.Cited.{orders_data}
 use Rattle.fork_rules.proofs.Alike.{Follow}
 use Rattle.fork_rules.proofs.Following.{follow}
 

@@ -1,8 +1,5 @@
-use Rattle.std.proofs.Common.{◌≡◌, ℕ, List, [], ◌++◌, true, None, Some, refl, ◌∙◌, ap, subst}
-use Rattle.fork_format.specs.Fork.{is_fork, content_of, IsUnspelled}
-use Rattle.fork_rules.specs.declared.rules.Broken.{Broken}
-use Rattle.fork_rules.specs.Breaking.{broken}
-use Rattle.fork_rules.specs.Texts.{damaged_text, form_text, whole_text, why_text}
+use Rattle.fork_rules.proofs.Cited.{◌≡◌, ℕ, List, [], ◌++◌, true, None, Some, refl, ◌∙◌, ap, subst, is_fork, content_of, IsUnspelled}
+use Rattle.fork_rules.proofs.Cited.{Broken, broken, damaged_text, form_text, whole_text, why_text}
 
 -- A fork spells a content, and has bytes.
 

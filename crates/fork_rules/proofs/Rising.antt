@@ -1,9 +1,5 @@
-use Rattle.std.proofs.Common.{◌≡◌, ℕ, ◌+◌, ◌-◌, ◌<◌, ◌≤◌, Bool, true, false, ◌&&◌, List, [], ◌∷◌, length, drop, refl, sym, ◌∙◌}
-use Rattle.std.proofs.Common.{ap, arith}
-use Rattle.std.specs.Prelude.{nat_le, slice_index}
-use Rattle.std.proofs.lemmas.Bool.{le-leb, leb-true}
-use Rattle.std.proofs.lemmas.List.{drop_more, length-drop}
-use Rattle.fork_rules.specs.Sharing.{do_rise}
+use Rattle.fork_rules.proofs.Cited.{◌≡◌, ℕ, ◌+◌, ◌-◌, ◌<◌, ◌≤◌, Bool, true, false, ◌&&◌, List, [], ◌∷◌, length, drop, refl, sym, ◌∙◌, ap}
+use Rattle.fork_rules.proofs.Cited.{arith, nat_le, slice_index, le-leb, leb-true, drop_more, length-drop, do_rise}
 
 -- a number and the next of a list
 two_more : (xs : List ℕ) (i : ℕ) → 1 ≤ i → i < length xs

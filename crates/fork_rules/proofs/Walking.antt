@@ -1,8 +1,5 @@
-use Rattle.std.proofs.Common.{◌≡◌, ℕ, ◌+◌, ◌-◌, ◌<◌, ◌≤◌, Option, Some, None, sym, ◌∙◌, ap, arith, zero}
-use Rattle.fork_format.specs.Fork.{offsets}
-use Rattle.fork_format.proofs.Loops.{offsets-left}
-use Rattle.fork_rules.specs.declared.rules.Broken.{Broken}
-use Rattle.fork_rules.specs.Breaking.{first, first_of}
+use Rattle.fork_rules.proofs.Cited.{◌≡◌, ℕ, ◌+◌, ◌-◌, ◌<◌, ◌≤◌, Option, Some, None, sym, ◌∙◌, ap, arith, zero, offsets, offsets-left}
+use Rattle.fork_rules.proofs.Cited.{Broken, first, first_of}
 
 -- what stands at the first of the offsets breaks no rule
 pub passes : (test : ℕ → Option Broken) (at step n k : ℕ) (total : Option Broken) → k < n → None ≡ test at

@@ -1,17 +1,8 @@
-use Rattle.std.proofs.Common.{◌≡◌, ℕ, List, [], ◌∷◌, ◌++◌, take, drop, set, replicate, true, false, refl, None}
-use Rattle.std.specs.Prelude.{pos, codes}
-use Rattle.std.specs.Fmt.{digits}
-use Rattle.mac_words.specs.declared.name.OsType.{OsType}
-use Rattle.fork_format.specs.Canonical.{canon}
-use Rattle.fork_format.specs.Fork.{is_fork, content_of}
-use Rattle.fork_format.proofs.Vectors.{empty_fork, hi_fork, note_fork}
-use Rattle.fork_rules.specs.declared.rules.ResourceKey.{ResourceKey}
+use Rattle.fork_rules.proofs.Cited.{◌≡◌, ℕ, List, [], ◌∷◌, ◌++◌, take, drop, set, replicate, true, false, refl, None, pos, codes, digits}
+use Rattle.fork_rules.proofs.Cited.{OsType, canon, is_fork, content_of, empty_fork, hi_fork, note_fork, ResourceKey, broken, broken_at}
+use Rattle.fork_rules.proofs.Cited.{differences, shares_data, orders_data, why_text}
 use Rattle.fork_rules.specs.declared.rules.Rule.TheVariants as rule
 use Rattle.fork_rules.specs.declared.regions.Region.TheVariants as region
-use Rattle.fork_rules.specs.Breaking.{broken, broken_at}
-use Rattle.fork_rules.specs.Regions.{differences}
-use Rattle.fork_rules.specs.Sharing.{shares_data, orders_data}
-use Rattle.fork_rules.specs.Texts.{why_text}
 
 -- forks, which break no rule
 whole : (broken empty_fork ≡ None) × (broken hi_fork ≡ None) × (broken note_fork ≡ None)

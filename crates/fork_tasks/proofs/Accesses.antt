@@ -1,14 +1,10 @@
 -- Accesses that are made one after the other, and what stops them.
-use Rattle.std.proofs.Common.{◌≡◌, ◌∷◌, ◌++◌, ℕ, List, [], Option, Some, None, Result, Err, IfErr, inl, inr, refl, sym, ap, subst}
-use Rattle.std.proofs.Common.{append_assoc, append-nil}
-use Rattle.fork_tasks.specs.Fault.{Message, Usage, CannotRead, Script, Fork, CannotWrite, HostMemory, NotLaunched, Dump, message_of}
-use Rattle.fork_tasks.specs.declared.fault.ToolFault.{ToolFault}
-use Rattle.fork_tasks.specs.declared.host.WriteError.{WriteError}
+use Rattle.fork_tasks.proofs.Cited.{◌≡◌, ◌∷◌, ◌++◌, ℕ, List, [], Option, Some, None, Result, Err, IfErr, inl, inr, refl, sym, ap, subst}
+use Rattle.fork_tasks.proofs.Cited.{append_assoc, append-nil, Message, Usage, CannotRead, Script, Fork, CannotWrite, HostMemory}
+use Rattle.fork_tasks.proofs.Cited.{NotLaunched, Dump, message_of, ToolFault, WriteError, FileFault, write_message, IsForkFault, Access}
+use Rattle.fork_tasks.proofs.Cited.{Failed, and_then, RefusesWrite, IsUnread, IsUnwritten, Stops, Ends}
 use Rattle.fork_tasks.specs.declared.host.WriteError.TheVariants as write_error
-use Rattle.fork_commands.specs.declared.fault.FileFault.{FileFault}
 pub use Rattle.fork_commands.proofs.Pairs.{also_err}
-use Rattle.fork_tasks.specs.Fault.{write_message, IsForkFault}
-use Rattle.fork_tasks.specs.Accesses.{Access, Failed, and_then, RefusesWrite, IsUnread, IsUnwritten, Stops, Ends}
 
 pub none : (a : Option (List Access)) → a ≡ and_then a []
 none None = refl

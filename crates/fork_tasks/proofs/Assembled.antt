@@ -1,22 +1,10 @@
 -- A source that was read, the files that it names, and the fork that it states.
-use Rattle.std.proofs.Common.{◌≡◌, ◌∷◌, ◌∙◌, ℕ, List, [], Option, Ok, Err, refl, sym, ap, subst, map}
-use Rattle.std.proofs.Common.{length}
-use Rattle.std.specs.Borrow.{Bor}
-use Rattle.rez_statements.specs.Types.{Declared}
-use Rattle.rez_text.specs.declared.fault.FileName.{FileName}
-use Rattle.fork_commands.specs.declared.fault.FileFault.{FileFault}
-use Rattle.fork_commands.specs.declared.packaging.Packaging.TheVariants.{AsRead}
-use Rattle.fork_commands.specs.Packaging.{packed}
-use Rattle.fork_commands.specs.Sources.{Faulty, Lacks, assembled}
-use Rattle.fork_tasks.specs.declared.assembling.Assembly.{Assembly}
-use Rattle.fork_tasks.specs.declared.delivering.Target.TheVariants.{NewFile}
-use Rattle.fork_tasks.specs.Accesses.{Access, Read, and_then, reads_at, StopsReading}
-use Rattle.fork_tasks.specs.Assembling.{path_from, lacked, paths_named, types_read, IsSourceFault, States, IsUnstated, Forks, IsUnforked}
-use Rattle.fork_tasks.specs.Assembling.{Puts, IsUnput, Places, IsUnplaced, Assembles, IsUnassembled, Unread, Refused, Unstated, Unfit}
-use Rattle.fork_tasks.specs.Assembling.{Unknown, Unforked, Unplaced, Unwritten}
-use Rattle.fork_tasks.specs.Declaring.{Knows, IsUnknown}
-use Rattle.fork_tasks.specs.Delivering.{Delivers, IsUndelivered}
-use Rattle.fork_tasks.specs.Fault.{Message, HostMemory, Fork, IsForkFault}
+use Rattle.fork_tasks.proofs.Cited.{◌≡◌, ◌∷◌, ◌∙◌, ℕ, List, [], Option, Ok, Err, refl, sym, ap, subst, map, length, Bor, Declared, FileName}
+use Rattle.fork_tasks.proofs.Cited.{FileFault, AsRead, packed, Faulty, Lacks, assembled, Assembly, NewFile, Access, Read, and_then}
+use Rattle.fork_tasks.proofs.Cited.{reads_at, StopsReading, path_from, lacked, paths_named, types_read, IsSourceFault, States, IsUnstated}
+use Rattle.fork_tasks.proofs.Cited.{Forks, IsUnforked, Puts, IsUnput, Places, IsUnplaced, Assembles, IsUnassembled, Unread, Refused}
+use Rattle.fork_tasks.proofs.Cited.{Unstated, Unfit, Unknown, Unforked, Unplaced, Unwritten, Knows, IsUnknown, Delivers, IsUndelivered}
+use Rattle.fork_tasks.proofs.Cited.{Message, HostMemory, Fork, IsForkFault}
 use Rattle.fork_tasks.proofs.Accesses.{none}
 use Rattle.fork_tasks.proofs.Packed.{none_read}
 

@@ -1,13 +1,8 @@
 -- Files of declarations, read one after another.
-use Rattle.std.proofs.Common.{◌≡◌, ◌∷◌, ◌++◌, ◌∙◌, ℕ, List, [], Option, Result, Ok, Err, refl, sym, ap, subst}
-use Rattle.std.proofs.Common.{append-nil, length}
-use Rattle.rez_statements.specs.Types.{Declared}
-use Rattle.fork_commands.specs.declared.fault.FileFault.{FileFault}
-use Rattle.fork_commands.specs.BuiltIn.{built_in, types_with}
-use Rattle.fork_commands.specs.Faults.{made_then}
-use Rattle.fork_tasks.specs.Accesses.{Access, Read, and_then}
-use Rattle.fork_tasks.specs.Declaring.{declared_by, Declares, IsUndeclared, Faulty, StopsDeclaring, Knows, IsUnknown, Undeclared}
-use Rattle.fork_tasks.specs.Fault.{Message, IsForkFault}
+use Rattle.fork_tasks.proofs.Cited.{◌≡◌, ◌∷◌, ◌++◌, ◌∙◌, ℕ, List, [], Option, Result, Ok, Err, refl, sym, ap, subst, append-nil, length}
+use Rattle.fork_tasks.proofs.Cited.{Declared, FileFault, built_in, types_with, made_then, Access, Read, and_then, declared_by, Declares}
+use Rattle.fork_tasks.proofs.Cited.{IsUndeclared, StopsDeclaring, Knows, IsUnknown, Undeclared, Message, IsForkFault}
+use Rattle.fork_tasks.specs.Declaring.{Faulty}
 use Rattle.fork_tasks.proofs.Packed.{Came, begun as none_came, further as came_further, all_came}
 
 -- Of the files at these paths all but the rest are read, and their types are known.

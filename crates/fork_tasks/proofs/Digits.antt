@@ -1,10 +1,5 @@
-use Rattle.std.proofs.Common.{◌≡◌, ℕ, ◌+◌, ◌*◌, ◌/◌, ◌%◌, ◌<◌, List, [], ◌∷◌, ◌++◌, length, take, set, get_or, refl}
-use Rattle.std.proofs.Common.{sym, ◌∙◌, ap, arith, add-one, append_assoc}
-use Rattle.std.proofs.Math.Seq.{take-suc}
-use Rattle.std.proofs.lemmas.Grind.{take-set_at}
-use Rattle.std.proofs.lemmas.List.{length-set}
-use Rattle.mac_words.specs.Digits.{lower_digit}
-use Rattle.script_text.specs.Transcript.{hex}
+use Rattle.fork_tasks.proofs.Cited.{◌≡◌, ℕ, ◌+◌, ◌*◌, ◌/◌, ◌%◌, ◌<◌, List, [], ◌∷◌, ◌++◌, length, take, set, get_or, refl, sym, ◌∙◌, ap}
+use Rattle.fork_tasks.proofs.Cited.{arith, add-one, append_assoc, take-suc, take-set_at, length-set, lower_digit, hex}
 
 -- Digits that are put two by two.
 

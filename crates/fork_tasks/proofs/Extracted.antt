@@ -1,15 +1,9 @@
 -- The resources of a fork that are written, a file each.
-use Rattle.std.proofs.Common.{◌≡◌, ◌<◌, ◌+◌, ◌∷◌, ◌++◌, ◌∙◌, ℕ, List, [], Option, Ok, drop, get_or, length, map, refl, sym, ap}
-use Rattle.std.proofs.Common.{subst, append_assoc, append-nil, arith}
-use Rattle.std.proofs.lemmas.Grind.{common_steps}
-use Rattle.fork_commands.specs.declared.extracting.ResourceFile.{ResourceFile}
-use Rattle.fork_commands.specs.Extracting.{ToWrite}
-use Rattle.fork_commands.specs.View.{view_file}
-use Rattle.fork_tasks.specs.declared.extracting.Extraction.{Extraction}
-use Rattle.fork_tasks.specs.Accesses.{Access, Read, Folder, Fails, RefusesFile, StopsAmong, and_then}
-use Rattle.fork_tasks.specs.Extracting.{to_write, write_in, writes_in, Extracts, IsUnextracted, Faulty, Unwritten}
-use Rattle.fork_tasks.specs.Fault.{Message, HostMemory, write_message, IsForkFault}
-use Rattle.fork_tasks.specs.declared.host.WriteError.{WriteError}
+use Rattle.fork_tasks.proofs.Cited.{◌≡◌, ◌<◌, ◌+◌, ◌∷◌, ◌++◌, ◌∙◌, ℕ, List, [], Option, Ok, drop, get_or, length, map, refl, sym, ap, subst}
+use Rattle.fork_tasks.proofs.Cited.{append_assoc, append-nil, arith, common_steps, ResourceFile, ToWrite, view_file, Extraction, Access}
+use Rattle.fork_tasks.proofs.Cited.{Read, Folder, Fails, RefusesFile, StopsAmong, and_then, to_write, write_in, writes_in, Extracts}
+use Rattle.fork_tasks.proofs.Cited.{IsUnextracted, Message, HostMemory, write_message, IsForkFault, WriteError}
+use Rattle.fork_tasks.specs.Extracting.{Faulty, Unwritten}
 use Rattle.fork_tasks.proofs.Accesses.{none, one_more, unwritten_so, unreported}
 use Rattle.fork_tasks.proofs.Writes.{Made, further, begun}
 

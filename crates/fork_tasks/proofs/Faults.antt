@@ -1,11 +1,8 @@
-use Rattle.std.proofs.Common.{◌≡◌, ℕ, List, Option, Result, refl, sym, subst}
-use Rattle.fork_commands.specs.declared.fault.FileFault.{FileFault}
-use Rattle.fork_commands.specs.declared.fault.WorkFault.{WorkFault}
-use Rattle.fork_commands.specs.declared.fault.WorkFault.TheVariants.{File, HostMemory as NoMemory}
+use Rattle.fork_tasks.proofs.Cited.{◌≡◌, ℕ, List, Option, Result, refl, sym, subst, FileFault, WorkFault, File, Message, Usage, CannotRead}
+use Rattle.fork_tasks.proofs.Cited.{Script, Fork, CannotWrite, HostMemory, NotLaunched, Dump, fork_message, Access, IsUnwritten}
+use Rattle.fork_tasks.proofs.Cited.{IsForkFault, IsQuiet}
+use Rattle.fork_commands.specs.declared.fault.WorkFault.TheVariants.{HostMemory as NoMemory}
 use Rattle.fork_commands.specs.Faults.{Stops}
-use Rattle.fork_tasks.specs.Fault.{Message, Usage, CannotRead, Script, Fork, CannotWrite, HostMemory, NotLaunched, Dump, fork_message}
-use Rattle.fork_tasks.specs.Accesses.{Access, IsUnwritten}
-use Rattle.fork_tasks.specs.Fault.{IsForkFault, IsQuiet}
 
 -- What a fault says stays so as it is passed on.
 

@@ -1,3 +1,4 @@
+mod Cited
 pub mod Accesses
 mod Assembled
 mod Declared

@@ -1,32 +1,13 @@
 -- Texts whose faulty lines are printed, one text after the other.
-use Rattle.std.proofs.Common.{◌≡◌, ◌∷◌, ◌++◌, ◌∙◌, ◌&&◌, ◌==◌, ◌<◌, ◌≤◌, ◌+◌, ℕ, Bool, true, false, List, [], Option, Result, Ok, Err, OnOk}
-use Rattle.std.proofs.Common.{refl, sym, ap, subst, append_assoc, append-nil, map, length, drop, get_or, arith}
-use Rattle.std.specs.Prelude.{codes, not}
-use Rattle.std.specs.Borrow.{Bor}
-use Rattle.std.specs.List.{list_all}
-use Rattle.std.specs.Io.KnownBytes.{append_known}
-use Rattle.std.proofs.Math.Bool.{and_assoc, and-true}
-use Rattle.std.proofs.lemmas.Grind.{common_steps}
-use Rattle.std.proofs.lemmas.List.{length-map}
-use Rattle.std.proofs.lemmas.List.Folds.{list_all-append}
-use Rattle.fork_format.proofs.Bools.{and_both}
-use Rattle.script_text.specs.declared.fault.FaultKind.{FaultKind}
-use Rattle.rez_statements.specs.Types.{Declared}
-use Rattle.lint.specs.Seen.{seen}
-use Rattle.lint.specs.declared.wrong.Fault.{Fault}
-use Rattle.fork_tasks.specs.declared.delivering.Target.TheVariants.{Printed}
-use Rattle.fork_tasks.specs.declared.ending.Ending.{Ending}
-use Rattle.fork_tasks.specs.declared.linting.Linting.{Linting}
-use Rattle.fork_tasks.specs.declared.linting.TextKind.{TextKind}
-use Rattle.fork_tasks.specs.Declaring.{Knows, IsUnknown}
-use Rattle.fork_tasks.specs.Accesses.{Access, Read, Failed, and_then}
-use Rattle.fork_tasks.specs.Delivering.{IsUndelivered}
-use Rattle.fork_tasks.specs.Ending.{ending_of}
-use Rattle.fork_tasks.specs.Fault.{Message}
-use Rattle.fork_tasks.specs.Linting.{Adds, AreLines, IsLinted, AreLinted, HasLinted, PrintsLines, LeavesLines, Undelivered, is_clean}
-use Rattle.fork_tasks.specs.Linting.{line_of, LinesOf, faulty_lines, kind_at, lines_by, Lints, IsUnlinted, Unprinted, paths_of}
-use Rattle.fork_tasks.specs.Linting.{types_read, KnowsFor, KnowsIf, needs_types}
-use Rattle.fork_tasks.specs.Surveying.{IsSeen, AreSeen, is_reading}
+use Rattle.fork_tasks.proofs.Cited.{◌≡◌, ◌∷◌, ◌++◌, ◌∙◌, ◌&&◌, ◌==◌, ◌<◌, ◌≤◌, ◌+◌, ℕ, Bool, true, false, List, [], Option, Result, Ok, Err}
+use Rattle.fork_tasks.proofs.Cited.{OnOk, refl, sym, ap, subst, append_assoc, append-nil, map, length, drop, get_or, arith, codes, not, Bor}
+use Rattle.fork_tasks.proofs.Cited.{list_all, append_known, and_assoc, and-true, common_steps, length-map, list_all-append, and_both}
+use Rattle.fork_tasks.proofs.Cited.{FaultKind, Declared, seen, Fault, Printed, Ending, Linting, TextKind, Knows, IsUnknown, Access, Read}
+use Rattle.fork_tasks.proofs.Cited.{Failed, and_then, IsUndelivered, ending_of, Message, Adds, AreLines, IsLinted, AreLinted, HasLinted}
+use Rattle.fork_tasks.proofs.Cited.{PrintsLines, LeavesLines, Undelivered, is_clean, LinesOf, faulty_lines, kind_at, lines_by, Lints}
+use Rattle.fork_tasks.proofs.Cited.{IsUnlinted, Unprinted, paths_of, KnowsFor, KnowsIf, needs_types, IsSeen, AreSeen, is_reading}
+use Rattle.fork_tasks.specs.Linting.{line_of}
+use Rattle.fork_tasks.specs.Linting.{types_read}
 use Rattle.fork_tasks.proofs.Accesses.{none, one_more}
 use Rattle.fork_tasks.proofs.Surveyed.{seen_reads, seen_step}
 

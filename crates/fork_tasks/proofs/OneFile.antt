@@ -1,13 +1,7 @@
 -- A file that was read, and what was made of it.
-use Rattle.std.proofs.Common.{◌≡◌, ◌∷◌, ℕ, List, [], Option, Ok, subst}
-use Rattle.fork_commands.specs.Works.{made}
-use Rattle.fork_tasks.specs.declared.converting.Conversion.{Conversion}
-use Rattle.fork_tasks.specs.declared.delivering.Target.{Target}
-use Rattle.fork_tasks.specs.declared.delivering.Target.TheVariants.{Printed, NewFile}
-use Rattle.fork_tasks.specs.Accesses.{Access, Read, and_then}
-use Rattle.fork_tasks.specs.Converting.{Converts, IsUnconverted, Unmade, Undelivered}
-use Rattle.fork_tasks.specs.Delivering.{Delivers, IsUndelivered}
-use Rattle.fork_tasks.specs.Fault.{Message, IsForkFault, IsQuiet}
+use Rattle.fork_tasks.proofs.Cited.{◌≡◌, ◌∷◌, ℕ, List, [], Option, Ok, subst, made, Conversion, Target, Printed, NewFile, Access, Read}
+use Rattle.fork_tasks.proofs.Cited.{and_then, Converts, IsUnconverted, Unmade, Delivers, IsUndelivered, Message, IsForkFault, IsQuiet}
+use Rattle.fork_tasks.specs.Converting.{Undelivered}
 use Rattle.fork_tasks.proofs.Faults.{loud_write}
 
 -- nothing is said of what was printed where bytes were not delivered

@@ -1,15 +1,9 @@
 -- Files that can't be opened.
-use Rattle.std.proofs.Common.{◌≡◌, ℕ, List, Option, Result, Ok, Err, refl, subst}
-use Rattle.fork_commands.specs.declared.fault.FileFault.{FileFault}
+use Rattle.fork_tasks.proofs.Cited.{◌≡◌, ℕ, List, Option, Result, Ok, Err, refl, subst, FileFault, opened, data_in, parted, fork_in}
+use Rattle.fork_tasks.proofs.Cited.{content_in, no_fork, Pieces, Resources, to_write, Message, Usage, CannotRead, Script, Fork, CannotWrite}
+use Rattle.fork_tasks.proofs.Cited.{HostMemory, NotLaunched, Dump, IsForkFault}
 use Rattle.fork_commands.specs.declared.fault.WorkFault.TheVariants.{File as FileAt}
-use Rattle.fork_commands.specs.Opening.{opened}
-use Rattle.fork_commands.specs.Parts.{data_in, parted}
-use Rattle.fork_commands.specs.Reading.{fork_in, content_in}
-use Rattle.fork_commands.proofs.Opens.{no_fork}
-use Rattle.fork_tasks.specs.declared.extracting.Pieces.{Pieces}
-use Rattle.fork_tasks.specs.declared.extracting.Pieces.TheVariants.{Resources, Forks}
-use Rattle.fork_tasks.specs.Extracting.{to_write}
-use Rattle.fork_tasks.specs.Fault.{Message, Usage, CannotRead, Script, Fork, CannotWrite, HostMemory, NotLaunched, Dump, IsForkFault}
+use Rattle.fork_tasks.specs.declared.extracting.Pieces.TheVariants.{Forks}
 
 no_content : (bytes : List ℕ) (fault : FileFault) → opened bytes ≡ Err fault → content_in bytes ≡ Err fault
 no_content bytes fault is =

@@ -1,12 +1,10 @@
 -- The list of a folder, and the files that it names, read one after the other.
-use Rattle.std.proofs.Common.{◌≡◌, ◌∷◌, ◌++◌, ◌∙◌, ℕ, suc, List, [], Option, Ok, refl, sym, ap, subst}
-use Rattle.std.proofs.Common.{append_assoc, append-nil, length, length-append, arith}
-use Rattle.fork_edits.specs.Contents.{Listed}
-use Rattle.fork_commands.specs.Packing.{listed_in, listed_paths, fork_of_files}
-use Rattle.fork_tasks.specs.declared.packing.Packing.{Packing}
-use Rattle.fork_tasks.specs.Accesses.{Access, Read, Write, and_then, reads_at, IsUnread, IsNextUnread, StopsReading, IsPartWritten}
-use Rattle.fork_tasks.specs.Fault.{Message, HostMemory, Usage, CannotRead, Script, Fork, CannotWrite, NotLaunched, Dump, IsForkFault}
-use Rattle.fork_tasks.specs.Packing.{list_path, reads_listed, Packs, IsUnpacked, ListFaulty, FileUnread, Unfit, Unwritten}
+use Rattle.fork_tasks.proofs.Cited.{◌≡◌, ◌∷◌, ◌++◌, ◌∙◌, ℕ, suc, List, [], Option, Ok, refl, sym, ap, subst, append_assoc, append-nil}
+use Rattle.fork_tasks.proofs.Cited.{length, length-append, arith, Listed, listed_in, listed_paths, fork_of_files, Packing, Access, Read}
+use Rattle.fork_tasks.proofs.Cited.{Write, and_then, reads_at, IsUnread, IsNextUnread, StopsReading, IsPartWritten, Message, HostMemory}
+use Rattle.fork_tasks.proofs.Cited.{Usage, CannotRead, Script, Fork, CannotWrite, NotLaunched, Dump, IsForkFault, list_path, reads_listed}
+use Rattle.fork_tasks.proofs.Cited.{Packs, IsUnpacked, ListFaulty, FileUnread}
+use Rattle.fork_tasks.specs.Packing.{Unfit, Unwritten}
 use Rattle.fork_tasks.proofs.Accesses.{none, one_more}
 
 -- Of these paths all but the rest are read.

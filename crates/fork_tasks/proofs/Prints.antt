@@ -1,7 +1,5 @@
-use Rattle.std.proofs.Common.{◌≡◌, ℕ, List, [], ◌++◌, Option, refl, sym, ◌∙◌, ap, append_assoc}
-use Rattle.std.specs.Io.KnownBytes.{append_known}
-use Rattle.mac_words.proofs.Appending.{known-nil, known-append}
-use Rattle.fork_tasks.specs.Printing.{PrintsBut, PrintsFront}
+use Rattle.fork_tasks.proofs.Cited.{◌≡◌, ℕ, List, [], ◌++◌, Option, refl, sym, ◌∙◌, ap, append_assoc, append_known, known-nil, known-append}
+use Rattle.fork_tasks.proofs.Cited.{PrintsBut, PrintsFront}
 
 -- Bytes that are printed one after the other.
 

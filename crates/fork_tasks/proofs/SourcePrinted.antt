@@ -1,14 +1,8 @@
 -- A fork that was read once the types of files are known, and what is printed of it.
-use Rattle.std.proofs.Common.{◌≡◌, ◌∷◌, ◌∙◌, ℕ, List, [], Option, Ok, map, subst}
-use Rattle.std.specs.Borrow.{Bor}
-use Rattle.rez_statements.specs.Types.{Declared}
-use Rattle.fork_tasks.specs.declared.delivering.Target.TheVariants.{Printed}
-use Rattle.fork_tasks.specs.declared.source_printing.Printing.{Printing}
-use Rattle.fork_tasks.specs.Accesses.{Access, Read, and_then, IsUnread}
-use Rattle.fork_tasks.specs.Declaring.{Knows, IsUnknown}
-use Rattle.fork_tasks.specs.Delivering.{Delivers, IsUndelivered}
-use Rattle.fork_tasks.specs.Fault.{Message, IsForkFault}
-use Rattle.fork_tasks.specs.SourcePrinting.{types_read, source_of, PrintsSource, IsSourceUnprinted, Unknown, Unread, Unmade, Unprinted}
+use Rattle.fork_tasks.proofs.Cited.{◌≡◌, ◌∷◌, ◌∙◌, ℕ, List, [], Option, Ok, map, subst, Bor, Declared, Printed, Printing, Access, Read}
+use Rattle.fork_tasks.proofs.Cited.{and_then, IsUnread, Knows, IsUnknown, Delivers, IsUndelivered, Message, IsForkFault, source_of}
+use Rattle.fork_tasks.proofs.Cited.{PrintsSource, IsSourceUnprinted}
+use Rattle.fork_tasks.specs.SourcePrinting.{types_read, Unknown, Unread, Unmade, Unprinted}
 
 -- the paths of the files of declarations, as they were handed on
 knows_so : (r : Printing) (paths : List (Bor (List ℕ))) (known : List Declared) (old new : Option (List Access))

@@ -1,17 +1,11 @@
 -- Files that are surveyed one after the other.
-use Rattle.std.proofs.Common.{◌≡◌, ◌∷◌, ◌++◌, ◌∙◌, ◌&&◌, ℕ, Bool, true, List, [], Option, inl, inr, refl, sym, ap, subst, append_assoc}
-use Rattle.std.proofs.Common.{append-nil, Result, Ok, Err, IfErr, OnOk}
-use Rattle.std.specs.List.{flat_map, list_all}
-use Rattle.std.proofs.Math.Bool.{and_assoc, and-true}
-use Rattle.std.proofs.lemmas.Grind.{flat_map-append}
-use Rattle.std.proofs.lemmas.List.Folds.{list_all-append}
-use Rattle.fork_format.proofs.Bools.{and_both}
-use Rattle.fork_tasks.specs.Accesses.{Access, Read, Listed, Folder, Write, Failed, and_then}
-use Rattle.fork_tasks.specs.declared.delivering.Target.TheVariants.{Printed}
-use Rattle.fork_tasks.specs.Delivering.{IsUndelivered}
-use Rattle.fork_tasks.specs.Fault.{Message}
-use Rattle.fork_tasks.specs.Surveying.{IsSeen, AreSeen, IsFolderSurveyed, IsSurveyed, AreSurveyed, line_of, is_good, is_reading, Went}
-use Rattle.fork_tasks.specs.Surveying.{OnlyReads, IsUnlisted, Undelivered}
+use Rattle.fork_tasks.proofs.Cited.{◌≡◌, ◌∷◌, ◌++◌, ◌∙◌, ◌&&◌, ℕ, Bool, true, List, [], Option, inl, inr, refl, sym, ap, subst}
+use Rattle.fork_tasks.proofs.Cited.{append_assoc, append-nil, Result, Ok, Err, IfErr, OnOk, flat_map, list_all, and_assoc, and-true}
+use Rattle.fork_tasks.proofs.Cited.{flat_map-append, list_all-append, and_both, Access, Read, Folder, Write, Failed, and_then, Printed}
+use Rattle.fork_tasks.proofs.Cited.{IsUndelivered, Message, IsSeen, AreSeen, IsFolderSurveyed, IsSurveyed, AreSurveyed, line_of, is_good}
+use Rattle.fork_tasks.proofs.Cited.{is_reading, Went, OnlyReads, IsUnlisted}
+use Rattle.fork_tasks.specs.Accesses.{Listed}
+use Rattle.fork_tasks.specs.Surveying.{Undelivered}
 use Rattle.fork_tasks.proofs.Accesses.{none, one_more}
 
 -- a file that is seen is read

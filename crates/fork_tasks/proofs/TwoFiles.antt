@@ -1,18 +1,11 @@
 -- Two files that were read, and what was made of them.
-use Rattle.std.proofs.Common.{◌≡◌, ◌∷◌, ◌∙◌, ℕ, Bool, List, [], Option, Result, refl, sym, ap, subst}
-use Rattle.fork_commands.specs.declared.fault.FileFault.{FileFault}
-use Rattle.fork_commands.specs.declared.pair.Place.{Place}
-use Rattle.fork_commands.specs.declared.pair.PairFault.{PairFault}
+use Rattle.fork_tasks.proofs.Cited.{◌≡◌, ◌∷◌, ◌∙◌, ℕ, Bool, List, [], Option, Result, refl, sym, ap, subst, FileFault, Place, PairFault}
+use Rattle.fork_tasks.proofs.Cited.{Gives, combined, StopsPair, Combination, Ending, Access, Read, and_then, IsUnread, IsPairFault}
+use Rattle.fork_tasks.proofs.Cited.{pair_message, names_of, reads_both, Combines, IsUncombined, SecondUnread, Delivers, IsUndelivered}
+use Rattle.fork_tasks.proofs.Cited.{ending_of, Message}
 use Rattle.fork_commands.specs.declared.pair.PairFault.TheVariants as pair_fault
-use Rattle.fork_commands.specs.Pairs.{Gives, combined, StopsPair}
-use Rattle.fork_tasks.specs.declared.combining.Combination.{Combination}
-use Rattle.fork_tasks.specs.declared.ending.Ending.{Ending}
-use Rattle.fork_tasks.specs.Accesses.{Access, Read, and_then, IsUnread}
-use Rattle.fork_tasks.specs.Combining.{IsPairFault, pair_message, names_of, reads_both, Combines, IsUncombined, SecondUnread, Unmade}
+use Rattle.fork_tasks.specs.Combining.{Unmade}
 use Rattle.fork_tasks.specs.Combining.{Undelivered}
-use Rattle.fork_tasks.specs.Delivering.{Delivers, IsUndelivered}
-use Rattle.fork_tasks.specs.Ending.{ending_of}
-use Rattle.fork_tasks.specs.Fault.{Message}
 use Rattle.fork_tasks.proofs.Accesses.{one_more}
 
 -- the fault of the bytes is reported with the path of the file

@@ -1,8 +1,6 @@
 -- Bytes that were read below a limit.
-use Rattle.std.proofs.Common.{◌≡◌, ◌≤◌, ◌<◌, ℕ, List, [], ◌++◌, length, take, Option, Some, None, IfSome, ap, ◌∙◌}
-use Rattle.std.proofs.Common.{arith}
-use Rattle.std.specs.Option.{option_map}
-use Rattle.std.proofs.lemmas.List.{length-take, take_all}
+use Rattle.fork_tasks.proofs.Cited.{◌≡◌, ◌≤◌, ◌<◌, ℕ, List, [], ◌++◌, length, take, Option, Some, None, IfSome, ap, ◌∙◌, arith, option_map}
+use Rattle.fork_tasks.proofs.Cited.{length-take, take_all}
 
 -- a front that is shorter than its limit is the whole
 take_whole : (n : ℕ) (xs : List ℕ) → length (take n xs) < n → take n xs ≡ xs

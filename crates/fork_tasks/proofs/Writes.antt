@@ -1,9 +1,6 @@
 -- Accesses that are made one after the other, up to one that fails.
-use Rattle.std.proofs.Common.{◌≡◌, ◌+◌, ◌∷◌, ◌++◌, ◌∙◌, ℕ, List, [], Option}
-use Rattle.std.proofs.Common.{refl, sym, ap, subst, append_assoc, append-nil}
-use Rattle.fork_tasks.specs.declared.host.WriteError.{WriteError}
-use Rattle.fork_tasks.specs.Fault.{write_message}
-use Rattle.fork_tasks.specs.Accesses.{Access, Write, Folder, Fails, RefusesWrite, RefusesFile, StopsAt, and_then}
+use Rattle.fork_tasks.proofs.Cited.{◌≡◌, ◌+◌, ◌∷◌, ◌++◌, ◌∙◌, ℕ, List, [], Option, refl, sym, ap, subst, append_assoc, append-nil}
+use Rattle.fork_tasks.proofs.Cited.{WriteError, write_message, Access, Write, Folder, Fails, RefusesWrite, RefusesFile, StopsAt, and_then}
 use Rattle.fork_tasks.proofs.Accesses.{none, one_more, unwritten_so}
 
 -- Of all these accesses those up to the rest were made.

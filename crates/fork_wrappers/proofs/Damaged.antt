@@ -1,11 +1,5 @@
-use Rattle.std.proofs.Common.{◌≡◌, ℕ, zero, suc, false, List, ◌∷◌, take, drop, set, refl, ap, arith}
-use Rattle.std.specs.Prelude.{nat_le}
-use Rattle.std.specs.List.{list_all}
-use Rattle.std.proofs.lemmas.Bool.{and_left, and_right}
-use Rattle.fork_format.specs.Content.{Content}
-use Rattle.fork_format.specs.Canonical.{canon}
-use Rattle.fork_format.specs.Fork.{number}
-use Rattle.fork_wrappers.specs.MacBinary.{is_first, is_old_header, is_header, is_printable, name}
+use Rattle.fork_wrappers.proofs.Cited.{◌≡◌, ℕ, zero, suc, false, List, ◌∷◌, take, drop, set, refl, ap, arith, nat_le, list_all, and_left}
+use Rattle.fork_wrappers.proofs.Cited.{and_right, Content, canon, number, is_first, is_old_header, is_header, is_printable, name}
 
 -- A canonical fork of which one byte was changed is no file of MacBinary I.
 

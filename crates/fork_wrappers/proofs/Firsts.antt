@@ -1,8 +1,5 @@
-use Rattle.std.proofs.Common.{◌≡◌, ℕ, ◌+◌, ◌-◌, ◌<◌, Bool, true, false, List, Option, Some, sym, ◌∙◌, ap}
-use Rattle.std.specs.Prelude.{◌==◌, if◌then◌else◌}
-use Rattle.fork_format.specs.Fork.{number, offsets}
-use Rattle.fork_format.proofs.Loops.{offsets-left}
-use Rattle.fork_wrappers.specs.Info.{first_with}
+use Rattle.fork_wrappers.proofs.Cited.{◌≡◌, ℕ, ◌+◌, ◌-◌, ◌<◌, Bool, true, false, List, Option, Some, sym, ◌∙◌, ap, ◌==◌, if◌then◌else◌}
+use Rattle.fork_wrappers.proofs.Cited.{number, offsets, offsets-left, first_with}
 
 -- The first of entries with an ID.
 

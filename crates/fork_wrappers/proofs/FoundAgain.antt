@@ -1,18 +1,9 @@
-use Rattle.std.proofs.Common.{◌≡◌, ℕ, zero, suc, ◌+◌, ◌*◌, ◌≤◌, Bool, true, false, not, ◌||◌, cond, List, [], ◌∷◌, ◌++◌}
-use Rattle.std.proofs.Common.{length, take, Option, Some, None, refl, sym, ◌∙◌, ap, arith}
-use Rattle.std.specs.Prelude.{◌==◌, nat_lt, filter, Result, Ok, Err}
-use Rattle.std.specs.List.{list_all}
-use Rattle.std.proofs.lemmas.Bool.{and_from, eq-eqb, cond-true, cond-false, le-ltb}
-use Rattle.std.proofs.lemmas.List.{length-take-le}
-use Rattle.std.proofs.lemmas.List.Elements.{filter-append}
-use Rattle.std.proofs.lemmas.List.Folds.{list_all-append}
-use Rattle.fork_format.specs.Fork.{number, offsets}
-use Rattle.fork_format.proofs.Standing.{stands_inside, number-stands}
-use Rattle.fork_wrappers.specs.Entries.{is_version_known, entry_count, entries_end, entry_places, entry_fits, entry_part}
-use Rattle.fork_wrappers.specs.Entries.{is_fork_entry, only_entry, fork_entry, fork_named, fork_in_entries}
-use Rattle.fork_wrappers.specs.Rewrapped.{span_of, fork_span, with_fork}
-use Rattle.fork_wrappers.specs.declared.new_entries.ForkSpan.{ForkSpan}
-use Rattle.fork_wrappers.specs.declared.fault.EntriesFault.{EntriesFault}
+use Rattle.fork_wrappers.proofs.Cited.{◌≡◌, ℕ, zero, suc, ◌+◌, ◌*◌, ◌≤◌, Bool, true, false, not, ◌||◌, cond, List, [], ◌∷◌, ◌++◌, length}
+use Rattle.fork_wrappers.proofs.Cited.{take, Option, Some, None, refl, sym, ◌∙◌, ap, arith, ◌==◌, nat_lt, filter, Result, Ok, Err, list_all}
+use Rattle.fork_wrappers.proofs.Cited.{and_from, eq-eqb, cond-true, cond-false, le-ltb, length-take-le, filter-append, list_all-append}
+use Rattle.fork_wrappers.proofs.Cited.{number, offsets, stands_inside, number-stands, is_version_known, entry_count, entries_end}
+use Rattle.fork_wrappers.proofs.Cited.{entry_places, entry_fits, entry_part, is_fork_entry, only_entry, fork_entry, fork_named}
+use Rattle.fork_wrappers.proofs.Cited.{fork_in_entries, span_of, fork_span, with_fork, ForkSpan, EntriesFault}
 use Rattle.fork_wrappers.proofs.NewEntries.{Roomy, laid, Entries, all_entries, own_entry}
 use Rattle.fork_wrappers.proofs.Stretches.{part_stands_at, same_number}
 use Rattle.fork_wrappers.proofs.Walking.{only_one}

@@ -1,9 +1,5 @@
-use Rattle.std.proofs.Common.{ℕ, suc, ◌-◌, ◌<◌, List, [], ◌∷◌, ◌++◌}
-use Rattle.std.proofs.Common.{take, drop, arith, rules, get_or}
-use Rattle.byteorder.specs.Endian.{big_bytes}
-use Rattle.fork_format.specs.Fork.{part}
-use Rattle.fork_wrappers.specs.Rewrapped.{AreBytes, new_fields}
-use Rattle.plain_laws.proofs.Bytes.{bytes-take, bytes-drop, bytes-append}
+use Rattle.fork_wrappers.proofs.Cited.{ℕ, suc, ◌-◌, ◌<◌, List, [], ◌∷◌, ◌++◌, take, drop, arith, rules, get_or, big_bytes, part, AreBytes}
+use Rattle.fork_wrappers.proofs.Cited.{new_fields, bytes-take, bytes-drop, bytes-append}
 
 -- The fields of a header are bytes.
 

@@ -1,8 +1,5 @@
-use Rattle.std.proofs.Common.{◌≡◌, ℕ, List, [], ◌∷◌, ◌++◌, replicate, take, drop, Some, None, refl}
-use Rattle.std.specs.Prelude.{codes, Ok, Err}
-use Rattle.checksums.specs.Checksum.{with_bits}
-use Rattle.fork_format.proofs.Vectors.{hi_fork}
-use Rattle.fork_wrappers.specs.Info.{info_of, bare_info, entry_date, data_fork_in}
+use Rattle.fork_wrappers.proofs.Cited.{◌≡◌, ℕ, List, [], ◌∷◌, ◌++◌, replicate, take, drop, Some, None, refl, codes, Ok, Err, with_bits}
+use Rattle.fork_wrappers.proofs.Cited.{hi_fork, info_of, bare_info, entry_date, data_fork_in}
 use Rattle.fork_wrappers.specs.declared.wrapping.Wrapping.TheVariants as wrapping
 use Rattle.fork_wrappers.specs.declared.fault.WrapFault.TheVariants as wrap_fault
 use Rattle.fork_wrappers.specs.declared.fault.EntriesFault.TheVariants as entries_fault

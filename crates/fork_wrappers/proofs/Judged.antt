@@ -1,14 +1,8 @@
-use Rattle.std.proofs.Common.{◌≡◌, ℕ, ◌≤◌, Bool, true, false, ◌&&◌, not, cond, List, length, refl}
-use Rattle.std.specs.Prelude.{◌==◌, nat_le, nat_lt, Result, Ok, Err, is_ok}
-use Rattle.std.specs.List.{list_all}
-use Rattle.std.proofs.lemmas.Bool.{and_parts, leb-true, ltb-false, not-false}
-use Rattle.fork_format.specs.Fork.{number, is_fork}
-use Rattle.fork_wrappers.specs.Entries.{is_apple_single, is_apple_double, is_version_known, entries_end, entry_places}
-use Rattle.fork_wrappers.specs.Entries.{entry_fits, fork_entry, fork_named, fork_in_entries}
-use Rattle.fork_wrappers.specs.MacBinary.{is_header, is_first, is_second, is_third}
-use Rattle.fork_wrappers.specs.Unwrapped.{wrapping_of, is_mac_binary, of_wrapper}
-use Rattle.fork_wrappers.specs.declared.fault.EntriesFault.{EntriesFault}
-use Rattle.fork_wrappers.specs.declared.fault.WrapFault.{WrapFault}
+use Rattle.fork_wrappers.proofs.Cited.{◌≡◌, ℕ, ◌≤◌, Bool, true, false, ◌&&◌, not, cond, List, length, refl, ◌==◌, nat_le, nat_lt, Result}
+use Rattle.fork_wrappers.proofs.Cited.{Ok, Err, is_ok, list_all, and_parts, leb-true, ltb-false, not-false, number, is_fork}
+use Rattle.fork_wrappers.proofs.Cited.{is_apple_single, is_apple_double, is_version_known, entries_end, entry_places, entry_fits}
+use Rattle.fork_wrappers.proofs.Cited.{fork_entry, fork_named, fork_in_entries, is_header, is_first, is_second, is_third, wrapping_of}
+use Rattle.fork_wrappers.proofs.Cited.{is_mac_binary, of_wrapper, EntriesFault, WrapFault}
 use Rattle.fork_wrappers.specs.declared.wrapping.Wrapping.TheVariants as wrapping
 use Rattle.fork_wrappers.proofs.Tests.{went_on}
 

@@ -1,22 +1,11 @@
-use Rattle.std.proofs.Common.{◌≡◌, ◌≢◌, ℕ, ◌+◌, ◌-◌, ◌++◌, ◌<◌, ◌≤◌, ◌^◌, true, not, List, [], ◌∷◌, length, take, drop, refl}
-use Rattle.std.proofs.Common.{sym, ◌∙◌, ap, subst, arith, inl, inr}
-use Rattle.std.specs.Prelude.{◌==◌, nat_lt, Result, Ok, Err}
-use Rattle.std.specs.List.{AllByRecursion}
-use Rattle.std.proofs.lemmas.Bool.{ltb-false}
-use Rattle.checksums.specs.Checksum.{checksum}
-use Rattle.fork_format.specs.Fork.{number, part}
-use Rattle.fork_wrappers.specs.Entries.{entry_count, entries_end, entry_places, fork_in_entries}
-use Rattle.fork_wrappers.specs.MacBinary.{padded, data_length, fork_length, data_place, fork_place, least_version}
-use Rattle.fork_wrappers.specs.MacBinary.{fork_behind, checked_fork}
-use Rattle.fork_wrappers.specs.Rewrapped.{fork_span, with_fork, among_entries, with_padded, behind_header, greatest_fork}
-use Rattle.fork_wrappers.specs.Rewrapped.{remade, rewrapped, IsKept, has_entries}
-use Rattle.fork_wrappers.specs.Unwrapped.{wrapping_of, is_mac_binary, of_wrapper, fork_in}
-use Rattle.fork_wrappers.specs.declared.fault.EntriesFault.{EntriesFault}
-use Rattle.fork_wrappers.specs.declared.fault.MacBinaryFault.{MacBinaryFault}
-use Rattle.fork_wrappers.specs.declared.fault.WrapFault.{WrapFault}
+use Rattle.fork_wrappers.proofs.Cited.{◌≡◌, ◌≢◌, ℕ, ◌+◌, ◌-◌, ◌++◌, ◌<◌, ◌≤◌, ◌^◌, true, not, List, [], ◌∷◌, length, take, drop, refl, sym}
+use Rattle.fork_wrappers.proofs.Cited.{◌∙◌, ap, subst, arith, inl, inr, ◌==◌, nat_lt, Result, Ok, Err, AllByRecursion, ltb-false, checksum}
+use Rattle.fork_wrappers.proofs.Cited.{number, part, entry_count, entries_end, entry_places, fork_in_entries, padded, data_length}
+use Rattle.fork_wrappers.proofs.Cited.{fork_length, data_place, fork_place, least_version, fork_behind, checked_fork, fork_span, with_fork}
+use Rattle.fork_wrappers.proofs.Cited.{among_entries, with_padded, behind_header, greatest_fork, remade, rewrapped, IsKept, has_entries}
+use Rattle.fork_wrappers.proofs.Cited.{wrapping_of, is_mac_binary, of_wrapper, fork_in, EntriesFault, MacBinaryFault, WrapFault, ForkSpan}
+use Rattle.fork_wrappers.proofs.Cited.{Wrapping}
 use Rattle.fork_wrappers.specs.declared.fault.WrapFault.TheVariants as fault
-use Rattle.fork_wrappers.specs.declared.new_entries.ForkSpan.{ForkSpan}
-use Rattle.fork_wrappers.specs.declared.wrapping.Wrapping.{Wrapping}
 use Rattle.fork_wrappers.specs.declared.wrapping.Wrapping.TheVariants as wrapping
 use Rattle.fork_wrappers.proofs.Judged.{IsListed, listed, mac_binary_long}
 use Rattle.fork_wrappers.proofs.NewEntries.{head_kept, new_count, new_rest, Entries, all_entries}

@@ -1,3 +1,4 @@
+mod Cited
 pub mod MadeEntries
 pub mod MadeHeaders
 pub mod Tests

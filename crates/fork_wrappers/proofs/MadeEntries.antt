@@ -1,16 +1,9 @@
-use Rattle.std.proofs.Common.{◌≡◌, ℕ, ◌+◌, ◌*◌, ◌<◌, ◌^◌, Bool, true, false, not, ◌&&◌, ◌||◌, cond, List, [], ◌∷◌, ◌++◌, length}
-use Rattle.std.proofs.Common.{take, drop, refl, ◌∙◌, ap, arith, append_assoc, length-append}
-use Rattle.std.specs.Prelude.{Ok, filter, ◌==◌, nat_lt, nat_le}
-use Rattle.std.specs.List.{list_all}
-use Rattle.std.proofs.Math.Seq.{drop-append_seam, drop-append-add}
-use Rattle.std.proofs.lemmas.Bool.{le-leb, and_right, cond-false, cond-true, le-ltb}
-use Rattle.std.proofs.lemmas.List.{take_all}
-use Rattle.byteorder.specs.Numbers.{big_number-reads_back}
-use Rattle.byteorder.specs.Endian.{big_bytes}
-use Rattle.fork_format.specs.Fork.{number, parts_fit, is_fork, offsets}
-use Rattle.fork_wrappers.specs.Entries.{fork_in_entries, only_entry, fork_named, entry_part, entry_fits, is_fork_entry}
-use Rattle.fork_wrappers.specs.Made.{header, entry, apple_file, apple_single, apple_double}
-use Rattle.fork_wrappers.specs.Unwrapped.{of_wrapper, fork_in, unwrapped}
+use Rattle.fork_wrappers.proofs.Cited.{◌≡◌, ℕ, ◌+◌, ◌*◌, ◌<◌, ◌^◌, Bool, true, false, not, ◌&&◌, ◌||◌, cond, List, [], ◌∷◌, ◌++◌, length}
+use Rattle.fork_wrappers.proofs.Cited.{take, drop, refl, ◌∙◌, ap, arith, append_assoc, length-append, Ok, filter, ◌==◌, nat_lt, nat_le}
+use Rattle.fork_wrappers.proofs.Cited.{list_all, drop-append_seam, drop-append-add, le-leb, and_right, cond-false, cond-true, le-ltb}
+use Rattle.fork_wrappers.proofs.Cited.{take_all, big_number-reads_back, big_bytes, number, parts_fit, is_fork, offsets, fork_in_entries}
+use Rattle.fork_wrappers.proofs.Cited.{only_entry, fork_named, entry_part, entry_fits, is_fork_entry, header, entry, apple_file}
+use Rattle.fork_wrappers.proofs.Cited.{apple_single, apple_double, of_wrapper, fork_in, unwrapped}
 use Rattle.fork_wrappers.specs.declared.fault.WrapFault.TheVariants as fault
 
 -- what the header and the two entries of a file say

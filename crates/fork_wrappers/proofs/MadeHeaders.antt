@@ -1,18 +1,9 @@
-use Rattle.std.proofs.Common.{◌≡◌, ℕ, ◌+◌, ◌-◌, ◌≤◌, not, List, ◌++◌}
-use Rattle.std.proofs.Common.{length, take, drop, replicate, sym, ◌∙◌, ap, arith, append_assoc, length-append}
-use Rattle.std.specs.Prelude.{Ok, ◌==◌, nat_lt}
-use Rattle.std.proofs.Math.Seq.{drop-append_seam, drop-append-add}
-use Rattle.std.proofs.lemmas.List.{drop-append-le, take-append-le, length-drop, length-replicate, take_all}
-use Rattle.std.proofs.lemmas.Bool.{and_right, cond-false, le-ltb}
-use Rattle.checksums.specs.Checksum.{checksum}
-use Rattle.byteorder.specs.Numbers.{big_from-append}
-use Rattle.byteorder.specs.Endian.{big_number}
-use Rattle.fork_format.specs.Fork.{number, part}
-use Rattle.fork_format.proofs.Bools.{same_self}
-use Rattle.fork_wrappers.specs.MacBinary.{padded, data_length, fork_length, secondary_length, least_version, data_place}
-use Rattle.fork_wrappers.specs.MacBinary.{fork_place, fork_behind, checked_fork}
-use Rattle.fork_wrappers.specs.Made.{mac_binary, TellsForks, IsChecked}
-use Rattle.fork_wrappers.specs.Unwrapped.{wrapping_of, of_wrapper, fork_in, unwrapped}
+use Rattle.fork_wrappers.proofs.Cited.{◌≡◌, ℕ, ◌+◌, ◌-◌, ◌≤◌, not, List, ◌++◌, length, take, drop, replicate, sym, ◌∙◌, ap, arith}
+use Rattle.fork_wrappers.proofs.Cited.{append_assoc, length-append, Ok, ◌==◌, nat_lt, drop-append_seam, drop-append-add, drop-append-le}
+use Rattle.fork_wrappers.proofs.Cited.{take-append-le, length-drop, length-replicate, take_all, and_right, cond-false, le-ltb, checksum}
+use Rattle.fork_wrappers.proofs.Cited.{big_from-append, big_number, number, part, same_self, padded, data_length, fork_length}
+use Rattle.fork_wrappers.proofs.Cited.{secondary_length, least_version, data_place, fork_place, fork_behind, checked_fork, mac_binary}
+use Rattle.fork_wrappers.proofs.Cited.{TellsForks, IsChecked, wrapping_of, of_wrapper, fork_in, unwrapped}
 use Rattle.fork_wrappers.specs.declared.wrapping.Wrapping.TheVariants as wrapping
 use Rattle.fork_wrappers.specs.declared.fault.WrapFault.TheVariants as fault
 

@@ -1,19 +1,11 @@
-use Rattle.std.proofs.Common.{◌≡◌, ℕ, zero, suc, ◌+◌, ◌-◌, ◌*◌, ◌<◌, ◌≤◌, Bool, true, false, ◌&&◌, ◌||◌, cond, List, [], ◌∷◌, ◌++◌}
-use Rattle.std.proofs.Common.{length, take, drop, refl, sym, ◌∙◌, ap, arith, length-append, ◌⊎◌, inl, inr}
-use Rattle.std.specs.Prelude.{◌==◌, nat_le}
-use Rattle.std.specs.List.{list_all, flat_map}
-use Rattle.std.proofs.Common.{append_assoc}
-use Rattle.std.proofs.Math.Seq.{drop-append_seam}
-use Rattle.std.proofs.lemmas.Bool.{and_parts, or_cases, leb-true, le-leb, eqb-true, cond-true, cond-false}
-use Rattle.std.proofs.lemmas.List.{append-nil, length-drop, length-take-le, take-append-drop}
-use Rattle.byteorder.specs.Endian.{big_bytes}
-use Rattle.fork_format.specs.Fork.{number, part, offsets}
-use Rattle.fork_format.proofs.Standing.{StandsAt, stands_whole, stands_first, stands_second, stands_same, stands_inside}
-use Rattle.fork_format.proofs.Standing.{number-stands, part-stands}
-use Rattle.fork_wrappers.specs.Entries.{entry_count, entries_end, entry_places, entry_fits, entry_part, is_fork_entry}
-use Rattle.fork_wrappers.specs.Rewrapped.{named_place, named_length, is_after_list, is_beside, is_clear, moved}
-use Rattle.fork_wrappers.specs.Rewrapped.{new_fork_entry, new_entry, added_entry, new_list, with_fork}
-use Rattle.fork_wrappers.specs.declared.new_entries.ForkSpan.{ForkSpan}
+use Rattle.fork_wrappers.proofs.Cited.{◌≡◌, ℕ, zero, suc, ◌+◌, ◌-◌, ◌*◌, ◌<◌, ◌≤◌, Bool, true, false, ◌&&◌, ◌||◌, cond, List, [], ◌∷◌, ◌++◌}
+use Rattle.fork_wrappers.proofs.Cited.{length, take, drop, refl, sym, ◌∙◌, ap, arith, length-append, ◌⊎◌, inl, inr, ◌==◌, nat_le, list_all}
+use Rattle.fork_wrappers.proofs.Cited.{flat_map, append_assoc, drop-append_seam, and_parts, or_cases, leb-true, le-leb, eqb-true, cond-true}
+use Rattle.fork_wrappers.proofs.Cited.{cond-false, append-nil, length-drop, length-take-le, take-append-drop, big_bytes, number, part}
+use Rattle.fork_wrappers.proofs.Cited.{offsets, StandsAt, stands_whole, stands_first, stands_second, stands_same, stands_inside}
+use Rattle.fork_wrappers.proofs.Cited.{number-stands, part-stands, entry_count, entries_end, entry_places, entry_fits, entry_part}
+use Rattle.fork_wrappers.proofs.Cited.{is_fork_entry, named_place, named_length, is_after_list, is_beside, is_clear, moved, new_fork_entry}
+use Rattle.fork_wrappers.proofs.Cited.{new_entry, added_entry, new_list, with_fork, ForkSpan}
 use Rattle.fork_wrappers.proofs.Stretches.{part_stands_at, same_number, same_part, length-part}
 
 -- AppleSingle and AppleDouble files with another fork.

@@ -1,23 +1,13 @@
-use Rattle.std.proofs.Common.{◌≡◌, ℕ, ◌+◌, ◌-◌, ◌<◌, ◌≤◌, ◌^◌, not, List, ◌++◌}
-use Rattle.std.proofs.Common.{length, take, drop, replicate, refl, sym, ◌∙◌, ap, subst, arith, length-append}
-use Rattle.std.specs.Prelude.{Ok, nat_lt}
-use Rattle.std.proofs.lemmas.Bool.{eq-eqb, and_right, cond-false, le-ltb}
-use Rattle.std.proofs.lemmas.List.{length-take, length-drop, length-take-le, length-replicate}
-use Rattle.std.proofs.Math.Seq.{drop-append_seam}
-use Rattle.byteorder.specs.Endian.{big_bytes}
-use Rattle.byteorder.specs.Numbers.{length-bytes_high_first}
-use Rattle.fork_format.specs.Fork.{number, part}
-use Rattle.fork_format.proofs.Standing.{StandsAt, stands_whole, stands_first, stands_second, stands_same, stands_inside}
-use Rattle.fork_format.proofs.Standing.{number-stands, part-stands}
-use Rattle.fork_wrappers.specs.MacBinary.{padded, data_length, fork_length, least_version, data_place}
-use Rattle.fork_wrappers.specs.MacBinary.{fork_place, fork_behind, checked_fork}
-use Rattle.fork_wrappers.specs.Rewrapped.{AreBytes, new_fields, new_checksum, new_front, with_padded}
-use Rattle.fork_wrappers.specs.declared.wrapping.Wrapping.{Wrapping}
+use Rattle.fork_wrappers.proofs.Cited.{◌≡◌, ℕ, ◌+◌, ◌-◌, ◌<◌, ◌≤◌, ◌^◌, not, List, ◌++◌, length, take, drop, replicate, refl, sym, ◌∙◌, ap}
+use Rattle.fork_wrappers.proofs.Cited.{subst, arith, length-append, Ok, nat_lt, eq-eqb, and_right, cond-false, le-ltb, length-take}
+use Rattle.fork_wrappers.proofs.Cited.{length-drop, length-take-le, length-replicate, drop-append_seam, big_bytes, length-bytes_high_first}
+use Rattle.fork_wrappers.proofs.Cited.{number, part, StandsAt, stands_whole, stands_first, stands_second, stands_same, stands_inside}
+use Rattle.fork_wrappers.proofs.Cited.{number-stands, part-stands, padded, data_length, fork_length, least_version, data_place, fork_place}
+use Rattle.fork_wrappers.proofs.Cited.{fork_behind, checked_fork, AreBytes, new_fields, new_checksum, new_front, with_padded, Wrapping}
+use Rattle.fork_wrappers.proofs.Cited.{checksum, checksum-small}
 use Rattle.fork_wrappers.specs.declared.wrapping.Wrapping.TheVariants as wrapping
 use Rattle.fork_wrappers.proofs.Stretches.{part_stands_at, same_number, same_part, length-part}
 use Rattle.fork_wrappers.proofs.HeldBytes.{fields_bytes}
-use Rattle.checksums.specs.Checksum.{checksum}
-use Rattle.checksums.proofs.Sums.{checksum-small}
 
 -- MacBinary files with another fork.
 

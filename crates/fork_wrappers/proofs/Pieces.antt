@@ -1,9 +1,5 @@
-use Rattle.std.proofs.Common.{◌≡◌, ℕ, ◌+◌, ◌-◌, ◌<◌, ◌≤◌, List, [], ◌∷◌, ◌++◌, replicate, sym, ◌∙◌, ap, arith}
-use Rattle.std.proofs.Common.{suc, zero, append_assoc}
-use Rattle.std.specs.List.{flat_map}
-use Rattle.std.proofs.lemmas.List.{append-nil}
-use Rattle.fork_format.specs.Fork.{offsets}
-use Rattle.fork_format.proofs.Loops.{offsets-left}
+use Rattle.fork_wrappers.proofs.Cited.{◌≡◌, ℕ, ◌+◌, ◌-◌, ◌<◌, ◌≤◌, List, [], ◌∷◌, ◌++◌, replicate, sym, ◌∙◌, ap, arith, suc, zero}
+use Rattle.fork_wrappers.proofs.Cited.{append_assoc, flat_map, append-nil, offsets, offsets-left}
 
 -- What is written piece by piece.
 

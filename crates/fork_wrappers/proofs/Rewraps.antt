@@ -1,28 +1,15 @@
-use Rattle.std.proofs.Common.{◌≡◌, ℕ, ◌+◌, ◌≤◌, Bool, true, false, not, cond, List, [], ◌∷◌, length, take, refl, sym, ◌∙◌, ap, subst, arith}
-use Rattle.std.proofs.Common.{rules, ◌⊎◌, inl, inr}
-use Rattle.std.specs.Prelude.{◌==◌, nat_le, nat_lt, bytes_eq, filter, Option, Some, None, Result, Ok, Err, is_ok}
-use Rattle.std.specs.List.{list_all}
-use Rattle.std.proofs.lemmas.Bool.{and_parts, leb-true, ltb-true, ltb-false, not-false, cond-true, cond-false}
-use Rattle.std.proofs.lemmas.Slice.Eq.{bytes_eq-Decides}
-use Rattle.checksums.specs.Checksum.{checksum}
-use Rattle.byteorder.specs.Endian.{big_bytes}
-use Rattle.fork_format.specs.Fork.{number}
-use Rattle.fork_wrappers.specs.Entries.{entry_count, entries_end, entry_places, entry_fits, is_fork_entry, fork_entry}
-use Rattle.fork_wrappers.specs.Entries.{fork_in_entries}
-use Rattle.fork_wrappers.specs.MacBinary.{least_version, fork_behind, checked_fork}
-use Rattle.fork_wrappers.specs.Rewrapped.{AreBytes, span_of, fork_span, are_clear, is_entries_file, with_fork}
-use Rattle.fork_wrappers.specs.Rewrapped.{among_entries, greatest_fork, new_fields, new_checksum, with_padded}
-use Rattle.fork_wrappers.specs.Rewrapped.{behind_header, remade, same_wrapping, recognized, placed, replaced}
-use Rattle.fork_wrappers.specs.Rewrapped.{rewrapped, Refuses}
-use Rattle.fork_wrappers.specs.Unwrapped.{wrapping_of, is_mac_binary, of_wrapper, fork_in, unwrapped}
-use Rattle.fork_wrappers.specs.declared.fault.EntriesFault.{EntriesFault}
-use Rattle.fork_wrappers.specs.declared.fault.MacBinaryFault.{MacBinaryFault}
-use Rattle.fork_wrappers.specs.declared.fault.RewrapFault.{RewrapFault}
+use Rattle.fork_wrappers.proofs.Cited.{◌≡◌, ℕ, ◌+◌, ◌≤◌, Bool, true, false, not, cond, List, [], ◌∷◌, length, take, refl, sym, ◌∙◌, ap}
+use Rattle.fork_wrappers.proofs.Cited.{subst, arith, rules, ◌⊎◌, inl, inr, ◌==◌, nat_le, nat_lt, bytes_eq, filter, Result, Ok, Err, is_ok}
+use Rattle.fork_wrappers.proofs.Cited.{list_all, and_parts, leb-true, ltb-true, ltb-false, not-false, cond-true, cond-false}
+use Rattle.fork_wrappers.proofs.Cited.{bytes_eq-Decides, checksum, big_bytes, number, entry_count, entries_end, entry_places, entry_fits}
+use Rattle.fork_wrappers.proofs.Cited.{is_fork_entry, fork_entry, fork_in_entries, least_version, fork_behind, checked_fork, AreBytes}
+use Rattle.fork_wrappers.proofs.Cited.{span_of, fork_span, are_clear, is_entries_file, with_fork, among_entries, greatest_fork, new_fields}
+use Rattle.fork_wrappers.proofs.Cited.{new_checksum, with_padded, behind_header, remade, same_wrapping, recognized, placed, replaced}
+use Rattle.fork_wrappers.proofs.Cited.{rewrapped, Refuses, wrapping_of, is_mac_binary, of_wrapper, fork_in, unwrapped, EntriesFault}
+use Rattle.fork_wrappers.proofs.Cited.{MacBinaryFault, RewrapFault, WrapFault, ForkSpan, Wrapping}
+use Rattle.std.specs.Prelude.{Option, Some, None}
 use Rattle.fork_wrappers.specs.declared.fault.RewrapFault.TheVariants as rewrap_fault
-use Rattle.fork_wrappers.specs.declared.fault.WrapFault.{WrapFault}
 use Rattle.fork_wrappers.specs.declared.fault.WrapFault.TheVariants as fault
-use Rattle.fork_wrappers.specs.declared.new_entries.ForkSpan.{ForkSpan}
-use Rattle.fork_wrappers.specs.declared.wrapping.Wrapping.{Wrapping}
 use Rattle.fork_wrappers.specs.declared.wrapping.Wrapping.TheVariants as wrapping
 use Rattle.fork_wrappers.proofs.FoundAgain.{found_again}
 use Rattle.fork_wrappers.proofs.Judged.{IsListed, listed, mac_binary_long}

@@ -1,10 +1,6 @@
-use Rattle.std.proofs.Common.{◌≡◌, ℕ, ◌+◌, ◌≤◌, List, ◌++◌, length, take, drop, sym, ◌∙◌, ap, arith}
-use Rattle.std.proofs.lemmas.List.{drop-append-le, take-append-le, take-append-drop, length-drop, length-take-le}
-use Rattle.std.proofs.Math.Seq.{drop-append-add}
-use Rattle.byteorder.specs.Numbers.{big_from-append}
-use Rattle.byteorder.specs.Endian.{big_number}
-use Rattle.fork_format.specs.Fork.{number, part}
-use Rattle.fork_format.proofs.Standing.{StandsAt}
+use Rattle.fork_wrappers.proofs.Cited.{◌≡◌, ℕ, ◌+◌, ◌≤◌, List, ◌++◌, length, take, drop, sym, ◌∙◌, ap, arith, drop-append-le}
+use Rattle.fork_wrappers.proofs.Cited.{take-append-le, take-append-drop, length-drop, length-take-le, drop-append-add, big_from-append}
+use Rattle.fork_wrappers.proofs.Cited.{big_number, number, part, StandsAt}
 
 -- Stretches of bytes that stand in a file, and in another one made of it.
 

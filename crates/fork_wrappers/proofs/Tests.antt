@@ -1,5 +1,4 @@
-use Rattle.std.proofs.Common.{◌≡◌, ℕ, Bool, true, false, cond, List, refl}
-use Rattle.std.specs.Prelude.{Result, Ok, Err}
+use Rattle.fork_wrappers.proofs.Cited.{◌≡◌, ℕ, Bool, true, false, cond, List, refl, Result, Ok, Err}
 
 -- a test that did not refuse
 pub went_on : {F : Type 0} (t : Bool) (why : F) (rest : Result (List ℕ) F) (made : List ℕ) → cond t (Err why) rest ≡ Ok made

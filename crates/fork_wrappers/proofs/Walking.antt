@@ -1,13 +1,6 @@
-use Rattle.std.proofs.Common.{◌≡◌, ℕ, ◌+◌, ◌-◌, ◌<◌, ◌≤◌, Bool, true, false, ◌&&◌, cond, List, [], ◌∷◌, ◌++◌, Option, Some, None}
-use Rattle.std.proofs.Common.{refl, sym, ◌∙◌, ap, arith, zero, append_assoc}
-use Rattle.std.specs.Prelude.{filter, Ok, Err}
-use Rattle.std.specs.List.{list_all}
-use Rattle.std.specs.Option.{option_to_list}
-use Rattle.std.proofs.lemmas.List.{append-nil}
-use Rattle.fork_format.specs.Fork.{offsets}
-use Rattle.fork_format.proofs.Loops.{offsets-left}
-use Rattle.fork_wrappers.specs.Entries.{only_entry}
-use Rattle.fork_wrappers.specs.declared.fault.EntriesFault.{EntriesFault}
+use Rattle.fork_wrappers.proofs.Cited.{◌≡◌, ℕ, ◌+◌, ◌-◌, ◌<◌, ◌≤◌, Bool, true, false, ◌&&◌, cond, List, [], ◌∷◌, ◌++◌, Option, Some, None}
+use Rattle.fork_wrappers.proofs.Cited.{refl, sym, ◌∙◌, ap, arith, zero, append_assoc, filter, Ok, Err, list_all, option_to_list, append-nil}
+use Rattle.fork_wrappers.proofs.Cited.{offsets, offsets-left, only_entry, EntriesFault}
 
 -- an entry that passes, before others
 pub passes : (test : ℕ → Bool) (at step n k : ℕ) (total : Bool) → k < n → test at ≡ true

@@ -1,11 +1,5 @@
-use Rattle.std.proofs.Common.{◌≡◌, ℕ, List, [], ◌∷◌, ◌++◌, replicate, take, drop, set, refl}
-use Rattle.std.specs.Prelude.{Ok, Err}
-use Rattle.checksums.specs.Checksum.{with_bits}
-use Rattle.fork_format.proofs.Vectors.{hi_fork}
-use Rattle.fork_wrappers.specs.MacBinary.{padded}
-use Rattle.fork_wrappers.specs.Made.{apple_double, mac_binary, TellsForks}
-use Rattle.fork_wrappers.specs.Rewrapped.{rewrapped}
-use Rattle.fork_wrappers.specs.Unwrapped.{wrapping_of, unwrapped}
+use Rattle.fork_wrappers.proofs.Cited.{◌≡◌, ℕ, List, [], ◌∷◌, ◌++◌, replicate, take, drop, set, refl, Ok, Err, with_bits, hi_fork, padded}
+use Rattle.fork_wrappers.proofs.Cited.{apple_double, mac_binary, TellsForks, rewrapped, wrapping_of, unwrapped}
 use Rattle.fork_wrappers.specs.declared.wrapping.Wrapping.TheVariants as wrapping
 use Rattle.fork_wrappers.specs.declared.fault.WrapFault.TheVariants as wrap_fault
 use Rattle.fork_wrappers.specs.declared.fault.EntriesFault.TheVariants as entries_fault

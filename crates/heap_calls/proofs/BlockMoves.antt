@@ -1,21 +1,9 @@
-use Rattle.std.proofs.Common.{◌≡◌, ℕ, ◌+◌, ◌≤◌, ◌<◌, Bool, true, false, List, ◌∷◌, ◌++◌, length, take, drop, refl, sym}
-use Rattle.std.proofs.Common.{◌∙◌, ap, cond, arith, Option, Result, Ok, Err, nat_le, inl, inr, ◌&&◌}
-use Rattle.std.proofs.lemmas.Bool.{le-leb, leb-true, leb-false}
-use Rattle.std.proofs.lemmas.List.{length-drop, length-take-le}
+use Rattle.heap_calls.proofs.Cited.{◌≡◌, ℕ, ◌+◌, ◌≤◌, ◌<◌, Bool, true, false, List, ◌∷◌, ◌++◌, length, take, drop, refl, sym, ◌∙◌, ap, cond}
+use Rattle.heap_calls.proofs.Cited.{arith, Option, Result, Ok, Err, nat_le, inl, inr, ◌&&◌, le-leb, leb-true, leb-false, length-drop}
+use Rattle.heap_calls.proofs.Cited.{length-take-le, OsErr, PROFILE, written, Block, content_of, with_content, Rest, IsRest, Spot}
+use Rattle.heap_calls.proofs.Cited.{rename_spot, State, Memory, Answer, Held, for_found, refused, silent, written_at, block_named}
+use Rattle.heap_calls.proofs.Cited.{block_move, moved_into, handle_number, pointer_number, memory_of, state_of, FindsHeld, Anchor, Log}
 use Rattle.std.specs.Prelude.{◌⊎◌}
-use Rattle.mac_words.specs.declared.code.OsErr.{OsErr}
-use Rattle.mac_words.specs.declared.code.TheConstants.OsErr.{PROFILE}
-use Rattle.memory_windows.specs.Writes.{written}
-use Rattle.block_store.specs.Block.{Block, content_of, with_content}
-use Rattle.block_store.specs.Rest.{Rest, IsRest}
-use Rattle.block_store.specs.Room.{Spot, rename_spot}
-use Rattle.heap_calls.specs.State.{State, Memory}
-use Rattle.heap_calls.specs.Answer.{Answer, Held, for_found, refused, silent, written_at}
-use Rattle.heap_calls.specs.Pointers.{block_named, block_move, moved_into}
-use Rattle.heap_calls.specs.Inner.Numbered.{handle_number, pointer_number, memory_of, state_of}
-use Rattle.heap_calls.specs.Inner.Pointing.{FindsHeld}
-use Rattle.heap_calls.specs.declared.anchor.Anchor.{Anchor}
-use Rattle.heap_calls.specs.declared.log.Log.{Log}
 use Rattle.heap_calls.proofs.Numbering.Answering.{held, on_held, refused_by, content_of-rename}
 use Rattle.heap_calls.proofs.Numbering.Changing.{written-done, written-outside}
 

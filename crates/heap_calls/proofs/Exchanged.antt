@@ -1,62 +1,24 @@
-use Rattle.std.proofs.Common.{◌≡◌, ℕ, ◌+◌, ◌-◌, ◌≤◌, Bool, true, false, List, [], ◌∷◌, ◌++◌, length, take, drop, refl, sym}
-use Rattle.std.proofs.Common.{◌∙◌, ap, cond, arith, Option, Some, None, Result, Ok, Err, nat_le, slice_get}
-use Rattle.std.proofs.Common.{◌<◌, ◌&&◌, ◌==◌, not, subst, replicate, inl, inr, is_some}
-use Rattle.std.proofs.Common.{◌||◌, append-nil}
-use Rattle.std.proofs.lemmas.Bool.{cond-true, cond-false, le-leb}
-use Rattle.std.proofs.lemmas.Bool.{or_parts}
-use Rattle.std.proofs.lemmas.List.{append_assoc, length-append, length-drop, length-take-le, take-append-le, take-take}
-use Rattle.std.proofs.lemmas.List.{drop-append-le, take_all}
-use Rattle.std.proofs.lemmas.Option.{none-some, same_Some}
-use Rattle.std.proofs.Math.Seq.{drop-append_seam}
-use Rattle.std.proofs.Math.Seq.{take-append_seam}
-use Rattle.std.specs.Option.{option_map}
-use Rattle.mac_words.specs.declared.code.OsErr.{OsErr}
-use Rattle.mac_words.specs.declared.code.TheConstants.OsErr.{PROFILE, WRONG_ZONE}
-use Rattle.mac_words.specs.declared.code.TheConstants.OsErr.{MEM_FULL}
-use Rattle.memory_windows.specs.Writes.{written}
-use Rattle.block_store.specs.Block.{Block, Free, Nonrelocatable, Masters, Relocatable, is_relocatable, content_of, with_content}
-use Rattle.block_store.specs.Block.{total, count, resized, resized_content}
-use Rattle.block_store.specs.Block.{size, tidy}
-use Rattle.block_store.specs.Inner.Stretch.{is_free}
-use Rattle.block_store.specs.Room.{Spot, spot, raised}
-use Rattle.block_store.specs.Room.{filled}
-use Rattle.block_store.proofs.Zone.Spots.{length-written}
-use Rattle.block_store.proofs.Zone.Tidy.{spot-passes}
-use Rattle.block_store.proofs.Zone.Tidy.{spot-is}
-use Rattle.block_store.proofs.Zone.Tidy.{has-tidy}
-use Rattle.heap_calls.specs.State.{State, Memory, Meaning, Handle, Pointer, Disposed}
-use Rattle.heap_calls.specs.Answer.{Held, for_found, handle_at, held_at, known_as, look_up, put, refused, silent}
-use Rattle.heap_calls.specs.Answer.{written_at}
-use Rattle.heap_calls.specs.Answer.{moving, searching}
-use Rattle.heap_calls.specs.Pointers.{block_named, named_block, block_move, moved_into}
-use Rattle.heap_calls.specs.Inner.Munging.{then_do, shifted}
-use Rattle.heap_calls.specs.Inner.Munging.{exchanged}
+use Rattle.heap_calls.proofs.Cited.{◌≡◌, ℕ, ◌+◌, ◌-◌, ◌≤◌, Bool, true, false, List, [], ◌∷◌, ◌++◌, length, take, drop, refl, sym, ◌∙◌, ap}
+use Rattle.heap_calls.proofs.Cited.{cond, arith, Option, Some, None, Result, Ok, Err, nat_le, slice_get, ◌<◌, ◌&&◌, ◌==◌, not, subst}
+use Rattle.heap_calls.proofs.Cited.{replicate, inl, inr, is_some, ◌||◌, append-nil, cond-true, cond-false, le-leb, or_parts, length-append}
+use Rattle.heap_calls.proofs.Cited.{length-drop, length-take-le, take-append-le, take-take, drop-append-le, take_all, none-some, same_Some}
+use Rattle.heap_calls.proofs.Cited.{drop-append_seam, take-append_seam, option_map, OsErr, PROFILE, WRONG_ZONE, MEM_FULL, written, Block}
+use Rattle.heap_calls.proofs.Cited.{Free, Nonrelocatable, Masters, Relocatable, is_relocatable, content_of, with_content, total, count}
+use Rattle.heap_calls.proofs.Cited.{resized, resized_content, size, tidy, is_free, Spot, spot, raised, filled, length-written, spot-passes}
+use Rattle.heap_calls.proofs.Cited.{spot-is, has-tidy, State, Memory, Meaning, Handle, Pointer, Disposed, Held, for_found, handle_at}
+use Rattle.heap_calls.proofs.Cited.{held_at, known_as, look_up, put, refused, silent, written_at, moving, searching, block_named}
+use Rattle.heap_calls.proofs.Cited.{named_block, block_move, moved_into, then_do, shifted, exchanged, doing_silently, heap_after, reply_of}
+use Rattle.heap_calls.proofs.Cited.{bytes_eq-Decides, bytes_eq, unwrap_or, length-resized, size-resized, is_relocatable-resized, SeesNoFree}
+use Rattle.heap_calls.proofs.Cited.{unless, total-append, total-le, Sought, no_room, seek_resized, seek_size, at_hand, around, size-new}
+use Rattle.heap_calls.proofs.Cited.{behind, Occurrence, IsSizeOf, drop_of_length-le, phys, padded, has, tidy-parted, is_relocatable-content}
+use Rattle.heap_calls.proofs.Cited.{Cut, Write, is_same, rewritten}
+use Rattle.std.proofs.lemmas.List.{append_assoc}
 use Rattle.heap_calls.specs.Rows as rows
-use Rattle.heap_calls.specs.Rows.{doing_silently, heap_after, reply_of}
 use Rattle.heap_calls.proofs.Exchanging.{at-same, relook, done_in, filling, fill-written, block-there}
 use Rattle.heap_calls.proofs.Finding.{behind-fits}
 use Rattle.heap_calls.proofs.Rows.Along.{Spared, is-spared}
 use Rattle.heap_calls.proofs.Same.Growing.{same-handle}
 use Rattle.heap_calls.proofs.Rows.Found.{look_up-within}
-use Rattle.std.proofs.lemmas.Slice.Eq.{bytes_eq-Decides}
-use Rattle.std.specs.Prelude.{bytes_eq}
-use Rattle.std.specs.Prelude.{unwrap_or}
-use Rattle.block_store.proofs.Content.Resizing.{length-resized}
-use Rattle.block_store.proofs.Content.Resizing.{size-resized, is_relocatable-resized}
-use Rattle.block_store.proofs.Zone.Keeping.{SeesNoFree, unless}
-use Rattle.block_store.proofs.Zone.Totals.{total-append, total-le}
-use Rattle.moves.specs.Seeking.{Sought, no_room, seek_resized, seek_size}
-use Rattle.moves.specs.Seeking.{at_hand, around}
-use Rattle.moves.proofs.Rows.{size-new}
-use Rattle.heap_calls.specs.Munging.{behind}
-use Rattle.heap_calls.specs.declared.munging.Occurrence.{Occurrence}
-use Rattle.heap_calls.specs.Inner.Filling.{IsSizeOf}
-use Rattle.std.proofs.Math.ListN.{drop_of_length-le}
-use Rattle.mac_words.specs.Size.{phys, padded}
-use Rattle.block_store.specs.Run.{has}
-use Rattle.block_store.proofs.Zone.Parted.{tidy-parted}
-use Rattle.block_store.proofs.Zone.Leading.{is_relocatable-content}
-use Rattle.moves.specs.Moves.{Cut, Write, is_same, rewritten}
 
 -- What a heap is left after bytes of a handle's block are moved, and others written in front of them.
 

@@ -1,27 +1,13 @@
-use Rattle.std.proofs.Common.{◌≡◌, ℕ, ◌+◌, ◌≤◌, ◌<◌, Bool, true, false, List, [], ◌∷◌, ◌++◌, length, refl, sym, ◌∙◌, ap, subst}
-use Rattle.std.proofs.Common.{cond, arith, Option, Some, None, Result, Ok, Err, nat_le, inl, inr}
-use Rattle.std.proofs.lemmas.Bool.{le-leb}
-use Rattle.std.specs.Option.{option_map, ok_or}
-use Rattle.std.specs.Prelude.{is_some, unwrap_or}
-use Rattle.mac_words.specs.declared.code.OsErr.{OsErr}
-use Rattle.mac_words.specs.declared.code.TheConstants.OsErr.{MEM_FULL, NIL_HANDLE, PROFILE}
-use Rattle.block_store.specs.Block.{Block, Free, Nonrelocatable, Masters, Relocatable, count, is_relocatable, content_of}
-use Rattle.block_store.specs.Block.{resized}
-use Rattle.block_store.specs.Room.{Spot, spot}
-use Rattle.block_store.proofs.Zone.Tidy.{spot-passes, spot-is}
-use Rattle.block_store.proofs.Zone.Totals.{total-append}
-use Rattle.moves.specs.Moves.{Move, Write, Did, did, rewritten}
-use Rattle.moves.specs.Seeking.{Sought, no_room, seek_resized, seek_size}
-use Rattle.moves.proofs.Conserved.{keeps, only-purgeable}
-use Rattle.moves.proofs.Paths.{did-append}
-use Rattle.moves.proofs.Rows.{size-new, size-weighs}
-use Rattle.heap_calls.specs.State.{State, Memory}
-use Rattle.heap_calls.specs.Answer.{Held, Known, held_at, handle_at, look_up, put, silent, searching, moving, refused}
-use Rattle.heap_calls.specs.Answer.{written_at}
+use Rattle.heap_calls.proofs.Cited.{◌≡◌, ℕ, ◌+◌, ◌≤◌, ◌<◌, Bool, true, false, List, [], ◌∷◌, ◌++◌, length, refl, sym, ◌∙◌, ap, subst, cond}
+use Rattle.heap_calls.proofs.Cited.{arith, Option, Some, None, Result, Ok, Err, nat_le, inl, inr, le-leb, option_map, ok_or, unwrap_or}
+use Rattle.heap_calls.proofs.Cited.{OsErr, MEM_FULL, NIL_HANDLE, PROFILE, Block, Free, Nonrelocatable, Masters, Relocatable, count}
+use Rattle.heap_calls.proofs.Cited.{is_relocatable, content_of, resized, Spot, spot, spot-passes, spot-is, total-append, Move, Write, Did}
+use Rattle.heap_calls.proofs.Cited.{did, rewritten, Sought, no_room, seek_resized, seek_size, keeps, only-purgeable, did-append, size-new}
+use Rattle.heap_calls.proofs.Cited.{size-weighs, State, Memory, Held, Known, held_at, handle_at, look_up, put, silent, searching, moving}
+use Rattle.heap_calls.proofs.Cited.{refused, written_at, IsSizeOf, doing_silently, heap_after, reply_of, work}
+use Rattle.std.specs.Prelude.{is_some}
 use Rattle.heap_calls.specs.Answer as answers
-use Rattle.heap_calls.specs.Inner.Filling.{IsSizeOf}
 use Rattle.heap_calls.specs.Rows as rows
-use Rattle.heap_calls.specs.Rows.{doing_silently, heap_after, reply_of, work}
 use Rattle.heap_calls.proofs.Promises.KnownChanges.{none-spot}
 use Rattle.heap_calls.proofs.Rows.Along.{Spared, is-spared}
 use Rattle.heap_calls.proofs.Rows.Standing.{sized-fits}

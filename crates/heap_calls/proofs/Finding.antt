@@ -1,16 +1,9 @@
-use Rattle.std.proofs.Common.{◌≡◌, ℕ, ◌+◌, ◌-◌, ◌≤◌, ◌==◌, Bool, true, false, List, [], ◌∷◌, ◌++◌, length, take, drop}
-use Rattle.std.proofs.Common.{refl, sym, ◌∙◌, ap, arith, cond, Option, Some, None, nat_le, replicate}
-use Rattle.std.proofs.lemmas.Bool.{and_parts, leb-true}
-use Rattle.std.proofs.lemmas.Option.{same_Some}
-use Rattle.std.proofs.lemmas.List.{length-drop, length-append, length-take, append_assoc, append-nil}
-use Rattle.std.proofs.lemmas.List.{take-append-le, take-take}
-use Rattle.std.proofs.Math.ListN.{drop_of_length-le}
-use Rattle.std.specs.Prelude.{min, bytes_eq}
-use Rattle.memory_windows.specs.Writes.{written}
-use Rattle.block_store.specs.Block.{resized_content}
-use Rattle.block_store.proofs.Content.Resizing.{length-resized}
-use Rattle.heap_calls.specs.Munging.{Target, Like, Many, occurrence, begins, first_from, found_at, found_in, behind, munged}
-use Rattle.heap_calls.specs.declared.munging.Occurrence.{Occurrence}
+use Rattle.heap_calls.proofs.Cited.{◌≡◌, ℕ, ◌+◌, ◌-◌, ◌≤◌, ◌==◌, Bool, true, false, List, [], ◌∷◌, ◌++◌, length, take, drop, refl, sym, ◌∙◌}
+use Rattle.heap_calls.proofs.Cited.{ap, arith, cond, Option, Some, None, nat_le, replicate, and_parts, leb-true, same_Some, length-drop}
+use Rattle.heap_calls.proofs.Cited.{length-append, length-take, take-append-le, take-take, drop_of_length-le, min, bytes_eq, written}
+use Rattle.heap_calls.proofs.Cited.{resized_content, length-resized, Target, Like, Many, occurrence, begins, first_from, found_at, found_in}
+use Rattle.heap_calls.proofs.Cited.{behind, munged, Occurrence}
+use Rattle.std.proofs.lemmas.List.{append_assoc, append-nil}
 
 -- What Munger finds in the bytes of a block.
 

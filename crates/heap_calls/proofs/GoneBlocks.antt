@@ -1,47 +1,19 @@
-use Rattle.std.proofs.Common.{◌≡◌, ℕ, ◌+◌, ◌-◌, ◌≤◌, ◌<◌, zero, suc, Bool, true, false, not, ◌&&◌, List, [], ◌∷◌}
-use Rattle.std.proofs.Common.{◌++◌, length, drop, slice_index_or, inl, inr, append_assoc, append-nil, refl, sym, ◌∙◌, ap, cond, arith}
-use Rattle.std.proofs.Common.{Option, Some, None, subst, is_some, map, ◌*◌}
-use Rattle.std.proofs.lemmas.Bool.{cond-true, cond-false}
-use Rattle.std.proofs.lemmas.Bool.Decides.{nat_tests}
-use Rattle.std.proofs.lemmas.List.{at_drop_more, length-map}
-use Rattle.std.proofs.lemmas.Option.{none-some}
-use Rattle.std.specs.Option.{option_map}
+use Rattle.heap_calls.proofs.Cited.{◌≡◌, ℕ, ◌+◌, ◌-◌, ◌≤◌, ◌<◌, zero, suc, Bool, true, false, not, ◌&&◌, List, [], ◌∷◌, ◌++◌, length, drop}
+use Rattle.heap_calls.proofs.Cited.{slice_index_or, inl, inr, append_assoc, append-nil, refl, sym, ◌∙◌, ap, cond, arith, Option, Some, None}
+use Rattle.heap_calls.proofs.Cited.{subst, is_some, map, ◌*◌, cond-true, cond-false, nat_tests, at_drop_more, length-map, none-some}
+use Rattle.heap_calls.proofs.Cited.{option_map, Block, Free, Nonrelocatable, Masters, Relocatable, size, sizes, is_purgeable, content_of}
+use Rattle.heap_calls.proofs.Cited.{rename, rename_block, tidy, IsEdge, Spot, spot_at, may_be_purged, put_at_base, room, spared, opened}
+use Rattle.heap_calls.proofs.Cited.{opened_block, seen, Flags, Sparing, Nothing, spot_at-below, spot_at-is, Apart, apart-tidied}
+use Rattle.heap_calls.proofs.Cited.{spot_at-parted, spot-end, total-append, is_purgeable-rename, Anchor, Rest, Log, State, Memory}
+use Rattle.heap_calls.proofs.Cited.{used_slots, all_slots, nothing, Gone, gone, room_gone, slot_gone, room_searches, base, base_searches}
+use Rattle.heap_calls.proofs.Cited.{is_some-map, Slot, rename_run_spot, count, is_masters, number_from, handle_number, pointer_number}
+use Rattle.heap_calls.proofs.Cited.{leads_to, name_of, memory_of, state_of, Agrees, IsNumberOf, gone_named, gone_from, from_spot}
+use Rattle.heap_calls.proofs.Cited.{blocks_from, base_gone, zone_slot_gone}
 use Rattle.std.specs.Prelude.{nat_lt}
-use Rattle.block_store.specs.Block.{Block, Free, Nonrelocatable, Masters, Relocatable, size, sizes, is_purgeable, content_of}
-use Rattle.block_store.specs.Block.{rename, rename_block, tidy}
-use Rattle.block_store.specs.Find.{IsEdge}
-use Rattle.block_store.specs.Room.{Spot, spot_at, may_be_purged, put_at_base, room}
-use Rattle.block_store.specs.Sparing.{spared, opened}
-use Rattle.block_store.specs.Inner.Stretch.{opened_block}
-use Rattle.block_store.specs.Seen.{seen}
-use Rattle.block_store.specs.declared.flags.Flags.{Flags}
 use Rattle.block_store.specs.declared.sparing.Seen.TheVariants as see
-use Rattle.block_store.specs.declared.sparing.Sparing.{Sparing}
-use Rattle.block_store.specs.declared.sparing.Sparing.TheVariants.{Nothing}
-use Rattle.block_store.proofs.Nonrelocatable.Placing.{spot_at-below}
-use Rattle.block_store.proofs.Zone.Aligned.{spot_at-is}
-use Rattle.block_store.proofs.Zone.Apart.{Apart, apart-tidied}
-use Rattle.block_store.proofs.Zone.Parted.{spot_at-parted, spot-end}
-use Rattle.block_store.proofs.Zone.Totals.{total-append}
-use Rattle.block_store.proofs.Renamed.Renaming.{is_purgeable-rename}
-use Rattle.heap_calls.specs.declared.anchor.Anchor.{Anchor}
-use Rattle.block_store.specs.Rest.{Rest}
-use Rattle.heap_calls.specs.declared.log.Log.{Log}
-use Rattle.heap_calls.specs.State.{State, Memory, used_slots, all_slots}
-use Rattle.heap_calls.specs.Answer.{nothing}
-use Rattle.heap_calls.specs.Gone.{Gone, gone, room_gone, slot_gone}
-use Rattle.heap_calls.specs.Searches.{room_searches}
-use Rattle.heap_calls.specs.Inner.Base.{base, base_searches}
-use Rattle.mac_words.proofs.Plain.{is_some-map}
-use Rattle.block_store.specs.Slot.{Slot}
-use Rattle.block_store.proofs.Renamed.Renaming.{rename_run_spot}
 use Rattle.heap_calls.proofs.NewBlocks.Basing.{base-rename, base_searches-rename}
 use Rattle.heap_calls.proofs.NewBlocks.NewSlots.{at_base, room-base, searches-base}
 use Rattle.heap_calls.proofs.NewBlocks.NewHandles.{base-is, base_searches-is, none-left, some-left}
-use Rattle.block_store.specs.Block.{count, is_masters}
-use Rattle.heap_calls.specs.Inner.Numbered.{number_from, handle_number, pointer_number, leads_to, name_of, memory_of, state_of, Agrees}
-use Rattle.heap_calls.specs.Inner.Telling.{IsNumberOf, gone_named, gone_from, from_spot, blocks_from, base_gone}
-use Rattle.heap_calls.specs.Inner.Telling.{zone_slot_gone}
 
 -- What a sink is told of blocks that are purged.
 

@@ -1,27 +1,11 @@
-use Rattle.std.proofs.Common.{◌≡◌, ℕ, ◌+◌, ◌-◌, ◌≤◌, ◌<◌, zero, suc, nat_le, Bool, true, false, List, [], ◌∷◌, ◌++◌}
-use Rattle.std.proofs.Common.{refl, sym, ◌∙◌, ap, cond, arith, subst, Option, Some, None, is_some}
-use Rattle.std.proofs.lemmas.Bool.{cond-true, cond-false, lt-leb}
+use Rattle.heap_calls.proofs.Cited.{◌≡◌, ℕ, ◌+◌, ◌-◌, ◌≤◌, ◌<◌, zero, suc, nat_le, Bool, true, false, List, [], ◌∷◌, ◌++◌, refl, sym, ◌∙◌}
+use Rattle.heap_calls.proofs.Cited.{ap, cond, arith, subst, Option, Some, None, is_some, cond-true, cond-false, lt-leb, IfSome, phys}
+use Rattle.heap_calls.proofs.Cited.{is_some-map, Block, size, is_mover, resized, is_relocatable, segments, Spot, spot, spot_at}
+use Rattle.heap_calls.proofs.Cited.{may_be_purged, count_of, room, least, growth, taken, grow_up, grow_mover, beyond, spared, opened}
+use Rattle.heap_calls.proofs.Cited.{purged, most_purges, opened_block, Sparing, Anchor, Gone, Tells, room_searches, resized_at, tries}
+use Rattle.heap_calls.proofs.Cited.{Stays, grown, growing, growing_searches, enough, FindsPurges, gone_named, gone_from, try_gone}
+use Rattle.heap_calls.proofs.Cited.{still_gone, grown_gone, fitted_gone, OpensNone}
 use Rattle.std.proofs.lemmas.List.{append-nil}
-use Rattle.std.specs.Option.{IfSome}
-use Rattle.mac_words.specs.Size.{phys}
-use Rattle.mac_words.proofs.Plain.{is_some-map}
-use Rattle.block_store.specs.Block.{Block, size, is_mover}
-use Rattle.block_store.specs.Block.{resized, is_relocatable}
-use Rattle.block_store.specs.Run.{segments}
-use Rattle.block_store.specs.Room.{Spot, spot, spot_at, may_be_purged, count_of, room, least}
-use Rattle.block_store.specs.Grow.{growth, taken, grow_up, grow_mover}
-use Rattle.block_store.specs.Compact.{beyond}
-use Rattle.block_store.specs.Sparing.{spared, opened, purged, most_purges}
-use Rattle.block_store.specs.Inner.Stretch.{opened_block}
-use Rattle.block_store.specs.declared.sparing.Sparing.{Sparing}
-use Rattle.heap_calls.specs.declared.anchor.Anchor.{Anchor}
-use Rattle.heap_calls.specs.Gone.{Gone, Tells}
-use Rattle.heap_calls.specs.Searches.{room_searches, resized_at}
-use Rattle.heap_calls.specs.Inner.Search.{tries}
-use Rattle.heap_calls.specs.Inner.Growing.{Stays, grown, growing, growing_searches}
-use Rattle.heap_calls.specs.Inner.GrowingInPlace.{enough, FindsPurges}
-use Rattle.heap_calls.specs.Inner.Telling.{gone_named, gone_from, try_gone, still_gone, grown_gone, fitted_gone}
-use Rattle.heap_calls.specs.Inner.Telling.{OpensNone}
 use Rattle.heap_calls.proofs.Sizes.Growth.{opened-stays}
 use Rattle.heap_calls.proofs.Sizes.GrowingInPlace.{Grows, first-beyond, spot_if}
 

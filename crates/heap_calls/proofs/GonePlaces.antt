@@ -1,57 +1,22 @@
-use Rattle.std.proofs.Common.{◌≡◌, ℕ, ◌-◌, ◌<◌, zero, suc, Bool, true, false, not, ◌&&◌, List, [], ◌∷◌, ◌++◌, length, map}
-use Rattle.std.proofs.Common.{refl, sym, ◌∙◌, ap, cond, Option, Some, Err, is_some, slice_get}
-use Rattle.std.specs.Option.{option_map}
-use Rattle.std.proofs.lemmas.Bool.{false≢true}
-use Rattle.std.proofs.lemmas.List.{map-id, length-map, length-replicate}
-use Rattle.mac_words.specs.Size.{phys, padded}
-use Rattle.mac_words.specs.declared.code.OsErr.{OsErr}
-use Rattle.mac_words.proofs.Plain.{is_some-map}
-use Rattle.block_store.specs.Block.{Block, Free, size, is_relocatable, is_purgeable, rename, rename_block}
-use Rattle.block_store.specs.Room.{Spot, rename_spot, filled, place, least, may_be_purged, purge, count_of, put_in_place, room}
-use Rattle.block_store.specs.Slot.{Slot}
-use Rattle.block_store.specs.Rest.{Rest}
-use Rattle.block_store.specs.Grow.{freed}
-use Rattle.block_store.specs.Run.{has}
-use Rattle.block_store.specs.Sparing.{spared, opened, purged, most_purges}
-use Rattle.block_store.specs.Inner.Stretch.{opened_block}
-use Rattle.block_store.specs.declared.sparing.Sparing.{Sparing}
+use Rattle.heap_calls.proofs.Cited.{◌≡◌, ℕ, ◌-◌, ◌<◌, zero, suc, Bool, true, false, not, ◌&&◌, List, [], ◌∷◌, ◌++◌, length, map, refl, sym}
+use Rattle.heap_calls.proofs.Cited.{◌∙◌, ap, cond, Option, Some, Err, is_some, slice_get, option_map, false≢true, map-id, length-map}
+use Rattle.heap_calls.proofs.Cited.{length-replicate, phys, padded, OsErr, is_some-map, Block, Free, size, is_relocatable, is_purgeable}
+use Rattle.heap_calls.proofs.Cited.{rename, rename_block, Spot, rename_spot, filled, place, least, may_be_purged, purge, count_of}
+use Rattle.heap_calls.proofs.Cited.{put_in_place, room, Slot, Rest, freed, has, spared, opened, purged, most_purges, opened_block, Sparing}
+use Rattle.heap_calls.proofs.Cited.{least-map, is_purgeable-rename, place-rename, purge-rename, freed-rename, Anchor, Log, State, Memory}
+use Rattle.heap_calls.proofs.Cited.{nothing, Gone, gone, gone_of, room_gone, found_gone, refill_gone, has_block, slot_of, fresh_block}
+use Rattle.heap_calls.proofs.Cited.{room_searches, handle_number, pointer_number, name_of, no_number, state_of, memory_of, placement}
+use Rattle.heap_calls.proofs.Cited.{placement_searches, tries, gone_named, gone_from, placement_gone, renewed_gone, ◌*◌, None, unwrap_or}
+use Rattle.heap_calls.proofs.Cited.{Relocatable, no_flags, count, is_masters, freed-absent, slotted, slotted_zone, slot_gone, ready_gone}
+use Rattle.heap_calls.proofs.Cited.{block_gone, made_gone, zone_slotted, Agrees, fresh_gone, after_slot_gone, new_gone}
 use Rattle.block_store.specs.declared.sparing.Sparing.TheVariants as sparing
-use Rattle.block_store.proofs.Plain.Trials.{least-map}
-use Rattle.block_store.proofs.Renamed.Renaming.{is_purgeable-rename, place-rename, purge-rename, freed-rename}
-use Rattle.heap_calls.specs.declared.anchor.Anchor.{Anchor}
 use Rattle.heap_calls.specs.declared.anchor.Anchor.TheVariants.{Handle}
-use Rattle.heap_calls.specs.declared.log.Log.{Log}
-use Rattle.heap_calls.specs.State.{State, Memory}
-use Rattle.heap_calls.specs.Answer.{nothing}
-use Rattle.heap_calls.specs.Gone.{Gone, gone, gone_of, room_gone, found_gone, refill_gone}
-use Rattle.heap_calls.specs.Inside.{has_block}
-use Rattle.heap_calls.specs.Inner.Given.{slot_of}
-use Rattle.heap_calls.specs.Inner.NewBlock.{fresh_block}
-use Rattle.heap_calls.specs.Searches.{room_searches}
-use Rattle.heap_calls.specs.Inner.Numbered.{handle_number, pointer_number, name_of, no_number, state_of, memory_of}
-use Rattle.heap_calls.specs.Inner.Search.{placement, placement_searches, tries}
-use Rattle.heap_calls.specs.Inner.Telling.{gone_named, gone_from, placement_gone, renewed_gone}
 use Rattle.heap_calls.proofs.NewBlocks.NewHandles.{tries-same}
 use Rattle.heap_calls.proofs.NewBlocks.NewSlots.{tries-map}
 use Rattle.heap_calls.proofs.Numbering.Answering.{handle_at-refused}
 use Rattle.heap_calls.proofs.Numbering.Looking.{count_of-rename}
 use Rattle.heap_calls.proofs.Numbering.Loosening.{handle_at-by}
 use Rattle.heap_calls.proofs.Numbering.Numbers.{Apart, is_relocatable-number}
-use Rattle.std.proofs.Common.{◌*◌, Some, None}
-use Rattle.std.specs.Prelude.{unwrap_or}
-use Rattle.std.proofs.lemmas.List.{length-replicate}
-use Rattle.mac_words.specs.Size.{phys, padded}
-use Rattle.block_store.specs.Block.{Relocatable, no_flags, count, is_masters}
-use Rattle.block_store.specs.Rest.{Rest}
-use Rattle.block_store.proofs.Zone.Absence.{freed-absent}
-use Rattle.heap_calls.specs.State.{State}
-use Rattle.heap_calls.specs.Answer.{nothing}
-use Rattle.heap_calls.specs.Slots.{slotted}
-use Rattle.heap_calls.specs.Slots.{slotted_zone}
-use Rattle.heap_calls.specs.Gone.{slot_gone, ready_gone, block_gone, made_gone}
-use Rattle.heap_calls.specs.Inner.NewSlot.{zone_slotted}
-use Rattle.heap_calls.specs.Inner.Numbered.{state_of, Agrees}
-use Rattle.heap_calls.specs.Inner.Telling.{fresh_gone, after_slot_gone, new_gone}
 use Rattle.heap_calls.proofs.GoneBlocks.{slot_gone-is}
 use Rattle.heap_calls.proofs.NewBlocks.NewHandles.{slotted-is}
 

@@ -1,12 +1,9 @@
-use Rattle.std.proofs.Common.{◌≡◌, ◌++◌, ◌⊎◌, ◌∙◌, Bool, true, IsTrue, List, Option, Some, [], Result, Ok, Err, OnOk, IsOk, false, inl, inr}
-use Rattle.std.proofs.Common.{refl, sym, ap, subst}
+use Rattle.heap_calls.proofs.Cited.{◌≡◌, ◌++◌, ◌⊎◌, ◌∙◌, Bool, true, List, Option, Some, [], Result, Ok, Err, OnOk, false, inl, inr, refl}
+use Rattle.heap_calls.proofs.Cited.{sym, ap, subst, Memory, CountedMemory, Gone, Tells, TellsNothing, IsIdle, Rests, Hears, Block, Rest}
+use Rattle.heap_calls.proofs.Cited.{IsRest, Halts, Stops}
+use Rattle.std.proofs.Common.{IsTrue, IsOk}
 use Rattle.std.proofs.lemmas.List.{append-nil}
-use Rattle.heap_calls.specs.State.{Memory, CountedMemory}
-use Rattle.heap_calls.specs.Gone.{Gone, Tells, TellsNothing, IsIdle, Rests, Hears}
-use Rattle.block_store.specs.Block.{Block}
-use Rattle.block_store.specs.Rest.{Rest, IsRest}
-use Rattle.heap_calls.specs.Inner.Halting.{Halts}
-use Rattle.heap_calls.specs.Left.{Step, Stops}
+use Rattle.heap_calls.specs.Left.{Step}
 
 -- What a sink hears, step by step.
 

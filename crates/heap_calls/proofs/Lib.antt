@@ -1,3 +1,4 @@
+mod Cited
 pub mod Numbering
 pub mod Filled
 pub mod ToldGone

@@ -1,47 +1,18 @@
-use Rattle.std.proofs.Common.{◌≡◌, ℕ, ◌+◌, ◌-◌, ◌*◌, zero, suc, Bool, true, false, List, [], ◌∷◌, ◌++◌, length, map}
-use Rattle.std.proofs.Common.{replicate, Option, Some, None, refl, sym, ◌∙◌, ap, cond, arith, is_some, inl, inr}
-use Rattle.std.specs.Option.{option_map}
-use Rattle.std.specs.Prelude.{unwrap_or}
-use Rattle.std.proofs.lemmas.Bool.{false_from_ne_true}
-use Rattle.std.proofs.lemmas.Bool.Decides.{nat_tests}
-use Rattle.std.proofs.lemmas.List.{length-map, length-replicate}
-use Rattle.mac_words.specs.Size.{phys, padded}
-use Rattle.mac_words.proofs.Plain.{is_some-map}
-use Rattle.block_store.specs.declared.flags.Flags.{Flags}
-use Rattle.block_store.specs.Block.{Block, Masters, Relocatable, size, count, is_masters, is_relocatable, rename, rename_block}
-use Rattle.block_store.specs.Block.{no_flags}
-use Rattle.block_store.specs.Run.{has}
-use Rattle.block_store.specs.Room.{place, least, filled, purge, count_of, put_in_place, put_at_base, room}
-use Rattle.block_store.specs.Slot.{Unused, Used, is_used}
-use Rattle.block_store.specs.Rest.{Rest, IsRest, KeepsSlots, with_slot, counted}
-use Rattle.block_store.specs.Sparing.{spared, opened}
-use Rattle.block_store.specs.declared.sparing.Sparing.{Sparing}
-use Rattle.block_store.specs.declared.sparing.Sparing.TheVariants.{Nothing}
-use Rattle.block_store.proofs.Plain.Options.{map-none}
-use Rattle.block_store.proofs.Plain.Trials.{least-map}
-use Rattle.moves.specs.Moves.{Put, did}
-use Rattle.moves.specs.Seeking.{Sought, no_room, seek, seek_slot, then_seek, if_fits, rename_sought}
-use Rattle.moves.proofs.Paths.{Along, along-if, along-then, along-seek, along-slot}
-use Rattle.moves.proofs.Renamed.{Names, PathNames}
-use Rattle.moves.proofs.Searches.{seek-rename, slot-rename, then-rename}
-use Rattle.heap_calls.specs.State.{State, Memory, Plain, Handle, used_slots, all_slots}
-use Rattle.heap_calls.specs.Answer.{nothing}
-use Rattle.heap_calls.specs.Moves.{place_moves, put_moves}
-use Rattle.heap_calls.specs.Rows.{Done, doing_silently, purges_made, reply_of, given, is_unused, made, new_handle}
-use Rattle.heap_calls.specs.Rows.{new_empty_handle}
-use Rattle.heap_calls.specs.Inside.{new_inside}
-use Rattle.heap_calls.specs.Searches.{room_searches}
-use Rattle.heap_calls.specs.declared.anchor.Anchor.{Anchor}
-use Rattle.heap_calls.specs.declared.log.Log.{Log}
-use Rattle.heap_calls.specs.Inner.Filling.{IsFilling}
-use Rattle.heap_calls.specs.Inner.Naming.{entered, number_of}
-use Rattle.heap_calls.specs.Inner.NewBlock.{fresh_block, HasNoRoom, IsPut, IsNewBlock, new_searches, place_searches, ready_count}
-use Rattle.heap_calls.specs.Inner.NewSlot.{HasMore, TakesSlot, zone_slotted, zone_searches}
-use Rattle.heap_calls.specs.Inner.Numbered.{state_of, memory_of, name_of, handle_number, pointer_number, Agrees}
-use Rattle.heap_calls.specs.Inner.Numbered.{KeepsNonrelocatable}
-use Rattle.heap_calls.specs.Inner.Packed.{Packs, content_moves, new_moves, placement_moves}
-use Rattle.heap_calls.specs.Inner.Search.{placement_searches, tries}
-use Rattle.heap_calls.specs.Inner.Telling.{new_gone, zone_slot_gone}
+use Rattle.heap_calls.proofs.Cited.{◌≡◌, ℕ, ◌+◌, ◌-◌, ◌*◌, zero, suc, Bool, true, false, List, [], ◌∷◌, ◌++◌, length, map, replicate}
+use Rattle.heap_calls.proofs.Cited.{Option, Some, None, refl, sym, ◌∙◌, ap, cond, arith, is_some, inl, inr, option_map, unwrap_or}
+use Rattle.heap_calls.proofs.Cited.{false_from_ne_true, nat_tests, length-map, length-replicate, phys, padded, is_some-map, Flags, Block}
+use Rattle.heap_calls.proofs.Cited.{Masters, Relocatable, size, count, is_masters, is_relocatable, rename, rename_block, no_flags, has}
+use Rattle.heap_calls.proofs.Cited.{place, least, filled, purge, count_of, put_in_place, put_at_base, room, Unused, Used, is_used, Rest}
+use Rattle.heap_calls.proofs.Cited.{IsRest, KeepsSlots, with_slot, counted, spared, opened, Sparing, Nothing, map-none, least-map, Put, did}
+use Rattle.heap_calls.proofs.Cited.{Sought, no_room, seek, seek_slot, then_seek, if_fits, rename_sought, Along, along-if, along-then}
+use Rattle.heap_calls.proofs.Cited.{along-seek, along-slot, Names, PathNames, seek-rename, slot-rename, then-rename, State, Memory, Plain}
+use Rattle.heap_calls.proofs.Cited.{Handle, used_slots, all_slots, nothing, place_moves, put_moves, Done, doing_silently, purges_made}
+use Rattle.heap_calls.proofs.Cited.{reply_of, is_unused, new_handle, new_empty_handle, new_inside, room_searches, Anchor, Log, IsFilling}
+use Rattle.heap_calls.proofs.Cited.{entered, number_of, fresh_block, HasNoRoom, IsPut, IsNewBlock, new_searches, place_searches}
+use Rattle.heap_calls.proofs.Cited.{ready_count, HasMore, TakesSlot, zone_slotted, zone_searches, state_of, memory_of, name_of}
+use Rattle.heap_calls.proofs.Cited.{handle_number, pointer_number, Agrees, KeepsNonrelocatable, Packs, content_moves, new_moves}
+use Rattle.heap_calls.proofs.Cited.{placement_moves, placement_searches, tries, new_gone, zone_slot_gone}
+use Rattle.heap_calls.specs.Rows.{given, made}
 use Rattle.heap_calls.proofs.GoneBlocks.{slot_gone-is}
 use Rattle.heap_calls.proofs.GonePlaces.{new_gone-is}
 use Rattle.heap_calls.proofs.NewBlocks.NewHandles.{names-more, agrees-more}

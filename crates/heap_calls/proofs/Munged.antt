@@ -1,29 +1,10 @@
-use Rattle.std.proofs.Common.{◌≡◌, ℕ, ◌+◌, ◌-◌, ◌≤◌, ◌<◌, Bool, List, [], ◌∷◌, ◌++◌, length, take, drop}
-use Rattle.std.proofs.Common.{refl, sym, ◌∙◌, ap, subst, arith, Option, Some, Result, Ok, Err}
-use Rattle.std.proofs.lemmas.List.{length-drop, take_all}
-use Rattle.mac_words.specs.declared.code.OsErr.{OsErr}
-use Rattle.memory_windows.specs.Writes.{written}
-use Rattle.block_store.specs.Block.{Block, count, is_relocatable, content_of, resized, size, sizes}
-use Rattle.block_store.specs.Rest.{counted}
-use Rattle.block_store.specs.Room.{spot}
-use Rattle.block_store.proofs.Content.Resizing.{length-resized}
-use Rattle.block_store.proofs.Plain.Counters.{counted-none}
-use Rattle.block_store.proofs.Zone.Tidy.{spot-passes, spot-is}
-use Rattle.block_store.proofs.Zone.Totals.{total-append}
-use Rattle.block_store.specs.declared.measures.TheConstants.{GREATEST_ZONE}
-use Rattle.moves.specs.Moves.{Cut, Write, Did, did}
-use Rattle.moves.specs.Seeking.{Sought, around}
-use Rattle.heap_calls.specs.State.{State, Memory}
-use Rattle.heap_calls.specs.Answer.{Held, look_up}
-use Rattle.heap_calls.specs.Inner.Filling.{IsSizeOf}
-use Rattle.heap_calls.specs.Inner.Given.{IsAnswer, KeepsNames}
-use Rattle.heap_calls.specs.Inner.Munging.{HasBytes, exchanged, shifted}
-use Rattle.heap_calls.specs.Munging.{behind}
+use Rattle.heap_calls.proofs.Cited.{◌≡◌, ℕ, ◌+◌, ◌-◌, ◌≤◌, ◌<◌, Bool, List, [], ◌∷◌, ◌++◌, length, take, drop, refl, sym, ◌∙◌, ap, subst}
+use Rattle.heap_calls.proofs.Cited.{arith, Option, Some, Result, Ok, Err, length-drop, take_all, OsErr, written, Block, count}
+use Rattle.heap_calls.proofs.Cited.{is_relocatable, content_of, resized, size, sizes, counted, spot, length-resized, counted-none}
+use Rattle.heap_calls.proofs.Cited.{spot-passes, spot-is, total-append, GREATEST_ZONE, Cut, Write, Did, did, Sought, around, State, Memory}
+use Rattle.heap_calls.proofs.Cited.{Held, look_up, IsSizeOf, IsAnswer, KeepsNames, HasBytes, exchanged, shifted, behind, doing_silently}
+use Rattle.heap_calls.proofs.Cited.{heap_after, munger, purges_made, purged_by, told_blocks, work, Occurrence, Refusal, Code, HostMemory}
 use Rattle.heap_calls.specs.Rows as rows
-use Rattle.heap_calls.specs.Rows.{doing_silently, heap_after, munger, purges_made, purged_by, told_blocks, work}
-use Rattle.heap_calls.specs.declared.munging.Occurrence.{Occurrence}
-use Rattle.heap_calls.specs.declared.refusal.Refusal.{Refusal}
-use Rattle.heap_calls.specs.declared.refusal.Refusal.TheVariants.{Code, HostMemory}
 use Rattle.heap_calls.proofs.Exchanged.{exchanged-grown, exchanged-cut, grown-held, shifted-is, left_with, cutting}
 use Rattle.heap_calls.proofs.Exchanged.{size-held}
 use Rattle.heap_calls.proofs.Exchanging.{done_in}

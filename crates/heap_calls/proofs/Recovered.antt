@@ -1,20 +1,7 @@
-use Rattle.std.proofs.Common.{◌≡◌, ℕ, ◌+◌, ◌≤◌, ◌<◌, ◌==◌, Bool, cond, List, length, drop, sym, ◌∙◌, ap, Option, Some, None}
-use Rattle.std.proofs.Common.{Result, Ok}
-use Rattle.std.proofs.lemmas.List.{drop_more, drop_all}
-use Rattle.std.specs.Option.{ok_or}
-use Rattle.mac_words.specs.declared.code.OsErr.{OsErr}
-use Rattle.mac_words.specs.declared.code.TheConstants.OsErr.{WRONG_ZONE}
-use Rattle.block_store.specs.Block.{Block}
-use Rattle.block_store.specs.Slot.{Slot}
-use Rattle.block_store.specs.Rest.{Rest}
-use Rattle.block_store.specs.declared.measures.TheConstants.{HEADER_SIZE}
-use Rattle.heap_calls.specs.State.{Meaning, Disposed, State, Memory}
-use Rattle.heap_calls.specs.Answer.{look_up, silent}
-use Rattle.heap_calls.specs.Pointers.{stands_at, handle_from, recover_handle}
-use Rattle.heap_calls.specs.Inner.Given.{FindsBlock}
-use Rattle.heap_calls.specs.Inner.Numbered.{handle_number, pointer_number, memory_of, state_of}
-use Rattle.heap_calls.specs.declared.anchor.Anchor.{Anchor}
-use Rattle.heap_calls.specs.declared.log.Log.{Log}
+use Rattle.heap_calls.proofs.Cited.{◌≡◌, ℕ, ◌+◌, ◌≤◌, ◌<◌, ◌==◌, Bool, cond, List, length, drop, sym, ◌∙◌, ap, Option, Some, None, Result}
+use Rattle.heap_calls.proofs.Cited.{Ok, drop_more, drop_all, ok_or, OsErr, WRONG_ZONE, Block, Slot, Rest, HEADER_SIZE, Meaning, Disposed}
+use Rattle.heap_calls.proofs.Cited.{State, Memory, look_up, silent, stands_at, handle_from, recover_handle, FindsBlock, handle_number}
+use Rattle.heap_calls.proofs.Cited.{pointer_number, memory_of, state_of, Anchor, Log}
 use Rattle.heap_calls.proofs.Numbering.Answering.{sizes-rename}
 
 -- The handle whose block's content stands at a place.

@@ -1,9 +1,5 @@
-use Rattle.std.proofs.Common.{◌≡◌, ℕ, ℤ, Option, List, Result, Ok, Err, ap, sym, ◌∙◌}
-use Rattle.mac_words.specs.declared.code.OsErr.{OsErr}
-use Rattle.block_store.specs.Block.{content_of}
-use Rattle.heap_calls.specs.State.{Memory}
-use Rattle.heap_calls.specs.Answer.{Held, look_up, for_found, show, silent, munger_nil, place_in}
-use Rattle.heap_calls.specs.Munging.{Target}
+use Rattle.heap_calls.proofs.Cited.{◌≡◌, ℕ, ℤ, Option, List, Result, Ok, Err, ap, sym, ◌∙◌, OsErr, content_of, Memory, Held, look_up}
+use Rattle.heap_calls.proofs.Cited.{for_found, show, silent, munger_nil, place_in, Target}
 
 -- Where Munger finds bytes, by the bytes of the block.
 

@@ -1,36 +1,16 @@
-use Rattle.std.proofs.Common.{◌≡◌, ℕ, Bool, true, false, List, [], ◌∷◌, ◌++◌, length, map, Option, Some, None, Result, Err}
-use Rattle.std.proofs.Common.{refl, sym, ◌∙◌, ap, subst, cond, is_some}
-use Rattle.std.proofs.lemmas.List.{length-map}
-use Rattle.std.specs.Option.{option_map}
-use Rattle.std.specs.Prelude.{unwrap_or}
-use Rattle.mac_words.specs.Size.{phys}
-use Rattle.mac_words.specs.declared.code.OsErr.{OsErr}
-use Rattle.mac_words.specs.declared.code.TheConstants.OsErr.{MEM_FULL}
-use Rattle.block_store.specs.Block.{Block, Free, Masters, size, rename, rename_block}
-use Rattle.block_store.specs.Room.{room, purge, put_at_base}
-use Rattle.block_store.specs.Rest.{Rest, counted}
+use Rattle.heap_calls.proofs.Cited.{◌≡◌, ℕ, Bool, true, false, List, [], ◌∷◌, ◌++◌, length, map, Option, Some, None, Result, Err, refl, sym}
+use Rattle.heap_calls.proofs.Cited.{◌∙◌, ap, subst, cond, is_some, length-map, option_map, unwrap_or, phys, OsErr, MEM_FULL, Block, Free}
+use Rattle.heap_calls.proofs.Cited.{Masters, size, rename, rename_block, room, purge, put_at_base, Rest, counted, counted-none, Move, Purge}
+use Rattle.heap_calls.proofs.Cited.{Base, Did, did, moved, one, rename_move, rename_did, Sought, no_room, sought, purges_for, seek}
+use Rattle.heap_calls.proofs.Cited.{rename_sought, Along, along-seek, Names, PathNames, did-rename, seek-rename, State, Memory, Meaning}
+use Rattle.heap_calls.proofs.Cited.{nothing, Done, work, doing_silently, purges_made, reply_of, changed, room_for, heap_after, purged_by}
+use Rattle.heap_calls.proofs.Cited.{told_blocks, reserve_mem, Anchor, Log, base, base_searches, IsBaseAt, IsMade, state_of, memory_of}
+use Rattle.heap_calls.proofs.Cited.{name_of, handle_number, pointer_number, Agrees, KeepsNonrelocatable, KeepsAllButPlaced, sized_reply}
+use Rattle.heap_calls.proofs.Cited.{base_gone}
 use Rattle.block_store.specs.declared.sparing.Sparing.TheVariants as sparing
-use Rattle.block_store.proofs.Plain.Counters.{counted-none}
 use Rattle.moves.specs.Moves as moves
-use Rattle.moves.specs.Moves.{Move, Purge, Base, Did, did, moved, one, rename_move, rename_did}
-use Rattle.moves.specs.Seeking.{Sought, no_room, sought, purges_for, seek, rename_sought}
-use Rattle.moves.proofs.Paths.{Along, along-seek}
-use Rattle.moves.proofs.Renamed.{Names, PathNames, did-rename}
-use Rattle.moves.proofs.Searches.{seek-rename}
-use Rattle.heap_calls.specs.State.{State, Memory, Meaning}
-use Rattle.heap_calls.specs.Answer.{nothing}
-use Rattle.heap_calls.specs.Rows.{Done, work, doing_silently, purges_made, reply_of, given, changed, refused}
-use Rattle.heap_calls.specs.Rows.{room_for, heap_after, purged_by, told_blocks}
-use Rattle.heap_calls.specs.Rows.{more_masters, reserve_mem}
-use Rattle.heap_calls.specs.declared.anchor.Anchor.{Anchor}
-use Rattle.heap_calls.specs.declared.log.Log.{Log}
-use Rattle.heap_calls.specs.Inner.Base.{base, base_searches, IsBaseAt}
-use Rattle.heap_calls.specs.Inner.NewSlot.{IsMade}
-use Rattle.heap_calls.specs.Inner.Numbered.{state_of, memory_of, name_of, handle_number, pointer_number, Agrees}
-use Rattle.heap_calls.specs.Inner.Numbered.{KeepsNonrelocatable}
-use Rattle.heap_calls.specs.Inner.Packed.{KeepsAllButPlaced}
-use Rattle.heap_calls.specs.Inner.Reaching.{sized_reply}
-use Rattle.heap_calls.specs.Inner.Telling.{base_gone}
+use Rattle.heap_calls.specs.Rows.{given, refused}
+use Rattle.heap_calls.specs.Rows.{more_masters}
 use Rattle.heap_calls.proofs.GoneBlocks.{base_gone-any}
 use Rattle.heap_calls.proofs.NewBlocks.NewHandles.{names-more, agrees-more}
 use Rattle.heap_calls.proofs.NewBlocks.NewSlots.{at_base, room-base, searches-base}

@@ -1,21 +1,9 @@
 -- What is said of a file, by whether its fork has a content.
-use Rattle.std.proofs.Common.{◌≡◌, ◌++◌, ◌∙◌, ℕ, Bool, true, false, not, List, Ok, Err, Option, inl, inr, refl, sym, ap, subst}
-use Rattle.std.specs.Prelude.{is_ok, codes}
-use Rattle.fork_format.specs.Content.{Content}
-use Rattle.fork_commands.specs.declared.fault.FileFault.{FileFault}
-use Rattle.fork_commands.specs.Info.{info_text}
-use Rattle.fork_commands.specs.Reading.{content_in}
-use Rattle.fork_commands.specs.States.{state_words, has_content}
-use Rattle.fork_tasks.specs.declared.listing.Spelling.{Spelling}
-use Rattle.fork_tasks.specs.declared.delivering.Target.TheVariants.{Printed}
-use Rattle.job_tasks.specs.declared.tasks.Work.{Work}
+use Rattle.job_tasks.proofs.Cited.{◌≡◌, ◌++◌, ◌∙◌, ℕ, Bool, true, false, not, List, Ok, Err, Option, inl, inr, refl, sym, ap, subst, is_ok}
+use Rattle.job_tasks.proofs.Cited.{codes, Content, FileFault, info_text, content_in, state_words, has_content, Spelling, Printed, Work}
+use Rattle.job_tasks.proofs.Cited.{Access, IsUndelivered, Message, Usage, CannotRead, Script, Fork, CannotWrite, HostMemory, NotLaunched}
+use Rattle.job_tasks.proofs.Cited.{Dump, listing, IsPrinted, IsFault, IsRefusal, described, IsDescription}
 use Rattle.job_tasks.specs.declared.tasks.Work.TheVariants as work
-use Rattle.fork_tasks.specs.Accesses.{Access}
-use Rattle.fork_tasks.specs.Delivering.{IsUndelivered}
-use Rattle.fork_tasks.specs.Fault.{Message, Usage, CannotRead, Script, Fork, CannotWrite, HostMemory, NotLaunched, Dump}
-use Rattle.fork_tasks.specs.Listing.{listing}
-use Rattle.job_tasks.specs.Tasks.{IsPrinted, IsFault, IsRefusal}
-use Rattle.job_tasks.specs.Work.{described, IsDescription}
 
 pub of_content : (spelling : Spelling) (bytes info : List ℕ) (c : Content) → info_text bytes ≡ Ok info
     → content_in bytes ≡ Ok c → IsDescription spelling bytes (listing spelling info c)

@@ -1,10 +1,6 @@
-use Rattle.std.proofs.Common.{◌≡◌, ℕ, List, refl, sym, subst}
-use Rattle.real_zone_view.specs.declared.dump.DumpView.{DumpView}
-use Rattle.real_zone_view.specs.declared.dump.ViewFault.{ViewFault}
+use Rattle.job_tasks.proofs.Cited.{◌≡◌, ℕ, List, refl, sym, subst, DumpView, ViewFault, dump_fault, Tells, Message, dump_message}
+use Rattle.job_tasks.proofs.Cited.{IsDumpFault}
 use Rattle.real_zone_view.specs.declared.dump.ViewFault.TheVariants as view
-use Rattle.real_zone_view.specs.Answers.{dump_fault, Tells}
-use Rattle.fork_tasks.specs.Fault.{Message}
-use Rattle.job_tasks.specs.Dumping.{dump_message, IsDumpFault}
 
 -- the fault of a dump is reported with the dump's path
 pub dump_stopped : (path : List ℕ) (asked : DumpView) (dump : List ℕ) (fault : ViewFault) (message : Message)

@@ -1,13 +1,9 @@
 -- Forks that were read for the lines of a job.
-use Rattle.std.proofs.Common.{◌≡◌, ◌∷◌, ◌∙◌, ℕ, List, [], Option, None, Result, Ok, Err, IfErr, sym, ap, subst}
-use Rattle.fork_commands.specs.Reading.{fork_in}
-use Rattle.fork_tasks.specs.Fault.{Message, Usage, CannotRead, Script, Fork, CannotWrite, HostMemory, NotLaunched, Dump, message_of}
-use Rattle.fork_tasks.specs.declared.fault.ToolFault.{ToolFault}
-use Rattle.fork_tasks.specs.Accesses.{Access, Stops, IsUnread, and_then, reads_at}
-use Rattle.job_tasks.specs.Gathering.{Found, source_of, fork_told, fork_at, script_at, app_of, app_at, Spoken, FoundApplication, GivenApp}
-use Rattle.job_tasks.specs.Gathering.{IsStop, Reads, IsGiven}
-use Rattle.fork_tasks.specs.Fault.{IsForkFault}
-use Rattle.fork_tasks.proofs.Accesses.{none, stops_from, unread_stops}
+use Rattle.job_tasks.proofs.Cited.{◌≡◌, ◌∷◌, ◌∙◌, ℕ, List, [], Option, None, Result, Ok, Err, IfErr, sym, ap, subst, fork_in, Message}
+use Rattle.job_tasks.proofs.Cited.{Usage, CannotRead, Script, Fork, CannotWrite, HostMemory, NotLaunched, Dump, message_of, ToolFault}
+use Rattle.job_tasks.proofs.Cited.{Access, Stops, IsUnread, and_then, reads_at, Found, source_of, fork_told, fork_at, script_at, app_of}
+use Rattle.job_tasks.proofs.Cited.{app_at, Spoken, FoundApplication, GivenApp, IsStop, Reads, IsGiven, IsForkFault, none, stops_from}
+use Rattle.job_tasks.proofs.Cited.{unread_stops}
 use Rattle.job_tasks.proofs.Stops.{stop_then, unread_given}
 
 -- a fork that was found, with its source

@@ -1,13 +1,9 @@
 -- The lines of a job, gathered one after the other.
-use Rattle.std.proofs.Common.{◌≡◌, ◌∷◌, ◌++◌, ◌∙◌, ℕ, List, [], Option, Result, Ok, Err, refl, sym, ap, subst}
-use Rattle.std.proofs.Common.{append_assoc, append-nil}
-use Rattle.script_text.specs.Job.{Input}
-use Rattle.fork_tasks.specs.declared.fault.ToolFault.{ToolFault}
-use Rattle.fork_tasks.specs.Fault.{message_of}
-use Rattle.fork_tasks.specs.Accesses.{Access, and_then, reads_at, Stops}
-use Rattle.job_tasks.specs.Gathering.{Given, nothing_given, with_input, with_inputs, given_then, paths_of, reads_of, ReadsOf, IsStop}
-use Rattle.job_tasks.specs.Gathering.{IsGiven}
-use Rattle.fork_tasks.proofs.Accesses.{none, one_more, ends_err, stops_from}
+use Rattle.job_tasks.proofs.Cited.{◌≡◌, ◌∷◌, ◌++◌, ◌∙◌, ℕ, List, [], Option, Result, Ok, Err, refl, sym, ap, subst, append_assoc}
+use Rattle.job_tasks.proofs.Cited.{append-nil, Input, ToolFault, message_of, Access, and_then, reads_at, Stops, nothing_given, with_input}
+use Rattle.job_tasks.proofs.Cited.{with_inputs, given_then, paths_of, reads_of, ReadsOf, IsStop, IsGiven, none, one_more, ends_err}
+use Rattle.job_tasks.proofs.Cited.{stops_from}
+use Rattle.job_tasks.specs.Gathering.{Given}
 use Rattle.job_tasks.proofs.Stops.{stop_then, stop_given}
 
 -- Of these lines all but the rest are gathered: with the texts so far, the whole is what the rest gives.

@@ -1,33 +1,13 @@
 -- A job is read and run, and then the zone of one of its applications is shown.
-use Rattle.std.proofs.Common.{◌≡◌, ◌∙◌, ◌∷◌, ◌<◌, ℕ, true, List, [], Option, Some, None, option_map, Result, Ok, refl, sym, ap}
-use Rattle.std.proofs.Common.{subst, length, map}
-use Rattle.std.proofs.Common.{slice_get, slice_index_or}
-use Rattle.std.specs.Prelude.{is_ok}
-use Rattle.std.specs.Borrow.{Bor}
-use Rattle.std.specs.Slice.{IsItemAt}
-use Rattle.std.proofs.lemmas.Option.{slice_get-map, slice_get_read, slice_get_past}
-use Rattle.mac_words.specs.declared.code.OsErr.{OsErr}
-use Rattle.fork_format.specs.Content.{Content}
-use Rattle.res_calls.specs.Files.{Resources}
-use Rattle.desk.specs.declared.job.App.{App}
-use Rattle.desk.specs.declared.job.Job.{Job}
-use Rattle.desk.specs.declared.outcome.AppOutcome.{AppOutcome}
+use Rattle.job_tasks.proofs.Cited.{◌≡◌, ◌∙◌, ◌∷◌, ◌<◌, ℕ, true, List, [], Option, Some, None, Result, Ok, refl, sym, ap, subst, length, map}
+use Rattle.job_tasks.proofs.Cited.{slice_get, slice_index_or, is_ok, Bor, IsItemAt, slice_get-map, slice_get_read, slice_get_past, OsErr}
+use Rattle.job_tasks.proofs.Cited.{Content, Resources, App, Job, AppOutcome, leaves_seen, told_seen, Launched, AppResult, Outcome, Law}
+use Rattle.job_tasks.proofs.Cited.{OfEachApp, start_with, has_started, Printed, JobZone, Access, Read, and_then, Stops, Delivers}
+use Rattle.job_tasks.proofs.Cited.{IsUndelivered, Message, nothing_given, with_inputs, reads_of, system_path, IsStop, Stated, Taken}
+use Rattle.job_tasks.proofs.Cited.{number_of, launched_of, launched_at, launched_with, launched_as, IsShown, IsZoneLeft, IsJobZone, Sees}
+use Rattle.job_tasks.proofs.Cited.{IsZoneFault, IsUnseen, Ungathered, NotThere, Shows, IsUnshown, Unprinted, stops_from}
+use Rattle.std.proofs.Common.{option_map}
 use Rattle.desk.specs.declared.outcome.Launched as leaving
-use Rattle.desk.specs.Live.{leaves_seen}
-use Rattle.desk.specs.View.{told_seen}
-use Rattle.desk.specs.Outcome.{Launched, AppResult, Outcome}
-use Rattle.desk.specs.Whole.{Law, OfEachApp, start_with}
-use Rattle.desk.proofs.Givens.{has_started}
-use Rattle.fork_tasks.specs.declared.delivering.Target.TheVariants.{Printed}
-use Rattle.job_tasks.specs.declared.job_zones.JobZone.{JobZone}
-use Rattle.fork_tasks.specs.Accesses.{Access, Read, and_then, Stops}
-use Rattle.fork_tasks.specs.Delivering.{Delivers, IsUndelivered}
-use Rattle.fork_tasks.specs.Fault.{Message}
-use Rattle.job_tasks.specs.Gathering.{nothing_given, with_inputs, reads_of, system_path, IsStop}
-use Rattle.job_tasks.specs.Running.{Stated, Taken}
-use Rattle.job_tasks.specs.JobZones.{number_of, launched_of, launched_at, launched_with, launched_as, IsShown, IsZoneLeft, IsJobZone, Sees}
-use Rattle.job_tasks.specs.JobZones.{IsZoneFault, IsUnseen, Ungathered, NotThere, Shows, IsUnshown, Unprinted}
-use Rattle.fork_tasks.proofs.Accesses.{stops_from}
 use Rattle.job_tasks.proofs.Jobs.{both_read, all_read}
 
 -- an application that was launched had resources with which it was launched

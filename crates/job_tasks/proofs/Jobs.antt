@@ -1,14 +1,9 @@
 -- A job is read, and then it is run.
-use Rattle.std.proofs.Common.{◌≡◌, ◌∷◌, ◌∙◌, ℕ, List, [], Option, ap, subst}
-use Rattle.fork_tasks.specs.Fault.{Message}
-use Rattle.fork_tasks.specs.Accesses.{Access, Read, and_then, Stops}
-use Rattle.job_tasks.specs.Gathering.{GivenSource, nothing_given, with_inputs, reads_of, system_path, IsStop}
-use Rattle.job_tasks.specs.Outputs.{sources_unless}
-use Rattle.desk.specs.declared.job.Job.{Job}
-use Rattle.job_tasks.specs.declared.running.Errand.{Errand}
-use Rattle.job_tasks.specs.Sizing.{IsSized, IsUnnamed}
-use Rattle.job_tasks.specs.Running.{Stated, Taken, reads_for, sources_for, Leaves, IsUnleft, Runs, IsStopped, Ungathered, Unnamed, Unleft}
-use Rattle.fork_tasks.proofs.Accesses.{one_more, stops_from}
+use Rattle.job_tasks.proofs.Cited.{◌≡◌, ◌∷◌, ◌∙◌, ℕ, List, [], Option, ap, subst, Message, Access, Read, and_then, Stops, GivenSource}
+use Rattle.job_tasks.proofs.Cited.{nothing_given, with_inputs, reads_of, system_path, IsStop, sources_unless, Job, Errand, IsSized}
+use Rattle.job_tasks.proofs.Cited.{IsUnnamed, Stated, Taken, reads_for, sources_for, Leaves, IsUnleft, Runs, IsStopped, Unnamed, Unleft}
+use Rattle.job_tasks.proofs.Cited.{one_more, stops_from}
+use Rattle.job_tasks.specs.Running.{Ungathered}
 
 -- the job's text was read, and then what its lines name
 pub both_read : (path : List ℕ) (stated : Stated) (texts : List (List (List ℕ))) (a b : Option (List Access))

@@ -1,9 +1,5 @@
 -- A fork as it is written.
-use Rattle.std.proofs.Common.{◌≡◌, ℕ, List, Some, Ok, Err, ap}
-use Rattle.fork_commands.specs.Packaging.{packed}
-use Rattle.fork_commands.specs.declared.fault.FileFault.{FileFault}
-use Rattle.fork_commands.specs.declared.packaging.Packaging.TheVariants.{AsRead}
-use Rattle.job_tasks.specs.Outputs.{file_or, kept}
+use Rattle.job_tasks.proofs.Cited.{◌≡◌, ℕ, List, Some, Ok, Err, ap, packed, FileFault, AsRead, file_or, kept}
 
 -- it is put into its file
 pub kept_made : (file fork made : List ℕ) → packed AsRead file fork ≡ Ok made → kept (Some file) fork ≡ made

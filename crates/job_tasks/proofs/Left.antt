@@ -1,16 +1,7 @@
 -- The files that a run leaves, one after the other.
-use Rattle.std.proofs.Common.{◌≡◌, ◌<◌, ◌+◌, ◌∷◌, ◌++◌, ℕ, List, [], Option, drop, get_or, length, map}
-use Rattle.std.proofs.Common.{arith}
-use Rattle.std.specs.List.{flat_map}
-use Rattle.std.proofs.lemmas.Grind.{common_steps}
-use Rattle.res_calls.specs.View.{view_file}
-use Rattle.res_calls.specs.declared.files.File.{File}
-use Rattle.desk.specs.declared.outcome.AppOutcome.{AppOutcome}
-use Rattle.desk.specs.Outcome.{AppResult}
-use Rattle.desk.specs.View.{told_seen}
-use Rattle.job_tasks.specs.Gathering.{GivenSource}
-use Rattle.job_tasks.specs.Outputs.{Written, source_at, forks_within, forks_left, all_forks_left}
-use Rattle.job_tasks.specs.Running.{write_of}
+use Rattle.job_tasks.proofs.Cited.{◌≡◌, ◌<◌, ◌+◌, ◌∷◌, ◌++◌, ℕ, List, [], Option, drop, get_or, length, map, arith, flat_map, common_steps}
+use Rattle.job_tasks.proofs.Cited.{view_file, File, AppOutcome, AppResult, told_seen, GivenSource, Written, source_at, forks_within}
+use Rattle.job_tasks.proofs.Cited.{forks_left, all_forks_left, write_of}
 
 -- the files of one application are written before those of the others, and so is the fork of one file
 pub of_app : (files : AppResult → List Written) (apps : List AppOutcome) (i : ℕ) (app : AppOutcome) → i < length apps

@@ -1,3 +1,4 @@
+mod Cited
 pub mod Forks
 pub mod Kept
 mod Inputs

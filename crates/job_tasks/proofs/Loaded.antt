@@ -1,9 +1,6 @@
 -- The forks that an application is given, one part after the other.
-use Rattle.std.proofs.Common.{◌≡◌, ◌∷◌, ◌∙◌, ℕ, List, Result, Ok, sym, ap, subst}
-use Rattle.fork_commands.specs.Reading.{fork_in}
-use Rattle.fork_tasks.specs.Fault.{Message, IsForkFault}
-use Rattle.job_tasks.specs.Gathering.{Found, fork_told, given_then, IsStop}
-use Rattle.job_tasks.specs.Loading.{AppFork, Given, path_of, with_found, with_part, with_parts}
+use Rattle.job_tasks.proofs.Cited.{◌≡◌, ◌∷◌, ◌∙◌, ℕ, List, Result, Ok, sym, ap, subst, fork_in, Message, IsForkFault, Found, fork_told}
+use Rattle.job_tasks.proofs.Cited.{given_then, IsStop, AppFork, Given, path_of, with_found, with_part, with_parts}
 use Rattle.job_tasks.proofs.Stops.{stop_then}
 use Rattle.job_tasks.proofs.Forks.{fork_stop}
 

@@ -1,13 +1,6 @@
-use Rattle.std.proofs.Common.{◌≡◌, ◌<◌, ◌≤◌, ◌^◌, ℕ, true, List, [], ◌∷◌, length, Option, None, Result, Ok, Err, refl}
-use Rattle.std.proofs.Common.{rules, arith}
-use Rattle.std.specs.List.{list_all}
-use Rattle.std.specs.Char.{is_ascii_digit}
-use Rattle.std.specs.Str.Parse.{ParsesUnsigned}
-use Rattle.std.proofs.lemmas.Str.Parse.{parse_digits}
-use Rattle.script_text.specs.Argument.{number_from}
-use Rattle.script_text.specs.Job.{greatest_memory}
-use Rattle.script_text.proofs.Numerals.{numerals}
-use Rattle.job_tasks.specs.Size.{within_limits, partition_size}
+use Rattle.job_tasks.proofs.Cited.{◌≡◌, ◌<◌, ◌≤◌, ◌^◌, ℕ, true, List, [], ◌∷◌, length, Option, None, Result, Ok, Err, refl, rules, arith}
+use Rattle.job_tasks.proofs.Cited.{list_all, is_ascii_digit, ParsesUnsigned, parse_digits, number_from, greatest_memory, numerals}
+use Rattle.job_tasks.proofs.Cited.{within_limits, partition_size}
 
 -- Texts of digits, as they are parsed.
 

@@ -1,12 +1,10 @@
 -- The lines of a job, one after the other.
-use Rattle.std.proofs.Common.{◌≡◌, ℕ, zero, suc, get_or, true, List, [], ◌∷◌, ◌++◌, length, map, refl, ap, ◌∙◌}
-use Rattle.std.specs.Prelude.{slice_set, ◌&&◌, nat_lt, not}
-use Rattle.std.proofs.lemmas.Bool.{and_parts}
-use Rattle.std.proofs.lemmas.List.Elements.{filter_map-append}
-use Rattle.script_text.specs.Job.{Input, System, App, File, app_name, app_names, given_names, file_names, has_name, may_follow}
-use Rattle.script_text.specs.JobFacts.{all_follow}
+use Rattle.job_tasks.proofs.Cited.{◌≡◌, ℕ, zero, suc, get_or, true, List, [], ◌∷◌, ◌++◌, length, map, refl, ap, ◌∙◌, slice_set, ◌&&◌}
+use Rattle.job_tasks.proofs.Cited.{nat_lt, and_parts, filter_map-append, Input, System, app_name, app_names, given_names, file_names}
+use Rattle.job_tasks.proofs.Cited.{has_name, may_follow, all_follow, GivenFile, GivenApp, owner_is_in, with_file}
+use Rattle.std.specs.Prelude.{not}
+use Rattle.script_text.specs.Job.{App, File}
 use Rattle.desk.specs.declared.job.App as desk
-use Rattle.job_tasks.specs.Gathering.{GivenFile, GivenApp, owner_is_in, with_file}
 
 -- those after it may follow it
 pub order_after : (above more : List Input) (i : Input) → all_follow above (i ∷ more) ≡ true

@@ -1,34 +1,15 @@
 -- A script is run with files.
-use Rattle.std.proofs.Common.{◌≡◌, ◌≤◌, ◌-◌, ◌∷◌, ◌∙◌, ℕ, suc, List, [], Option, Result, Ok, Err, inl, refl, sym, ap, subst, arith}
-use Rattle.std.proofs.Common.{take, drop, map, get_or}
-use Rattle.std.proofs.lemmas.Grind.{common_steps}
-use Rattle.std.proofs.lemmas.List.{length-map}
-use Rattle.std.specs.Prelude.{Some, None, codes, length, option_map}
-use Rattle.mac_words.specs.declared.code.OsErr.{OsErr}
-use Rattle.fork_format.specs.Code.{content_or_code}
-use Rattle.fork_format.specs.Content.{Content}
-use Rattle.res_calls.specs.Files.{Resources}
-use Rattle.script_text.specs.Script.{ScriptParts, script_of, spelled}
-use Rattle.desk.specs.declared.job.App.{App}
-use Rattle.desk.specs.declared.job.Job.{Job}
-use Rattle.desk.specs.Whole.{system_in, system_of, start_with}
-use Rattle.fork_commands.specs.Reading.{content_of_fork, content_or_fault}
-use Rattle.fork_commands.specs.declared.fault.FileFault.{FileFault}
-use Rattle.fork_commands.specs.declared.fault.FileFault.TheVariants.{Code}
-use Rattle.fork_tasks.specs.declared.delivering.Target.TheVariants.{Printed}
-use Rattle.job_tasks.specs.declared.playing.Playing.{Playing}
-use Rattle.job_tasks.specs.declared.playing.PlayWork.{PlayWork}
+use Rattle.job_tasks.proofs.Cited.{◌≡◌, ◌≤◌, ◌-◌, ◌∷◌, ◌∙◌, ℕ, suc, List, [], Option, Result, Ok, Err, inl, refl, sym, ap, subst, arith}
+use Rattle.job_tasks.proofs.Cited.{take, drop, map, get_or, common_steps, length-map, codes, option_map, OsErr, content_or_code, Content}
+use Rattle.job_tasks.proofs.Cited.{Resources, ScriptParts, script_of, spelled, App, Job, system_in, system_of, start_with, content_of_fork}
+use Rattle.job_tasks.proofs.Cited.{content_or_fault, FileFault, Code, Printed, Playing, PlayWork, Access, Folder, StopsAmong, IsUndelivered}
+use Rattle.job_tasks.proofs.Cited.{Message, Fork, HostMemory, IsQuiet, GivenSource, app_given, AppFork, Given, part_seen, path_of, own_path}
+use Rattle.job_tasks.proofs.Cited.{with_parts, sources_of, player_name, paths_read, IsTaken, IsUntaken, Misspelled, parts_of, Takes}
+use Rattle.job_tasks.proofs.Cited.{path_at_fault, IsLaunchFault, DoesPlay, IsPlayUndone, Plays, IsUnplayed, Unlaunched, Undone, none}
+use Rattle.job_tasks.proofs.Cited.{loud_write, quiet_silent, nothing}
+use Rattle.std.specs.Prelude.{Some, None, length}
 use Rattle.job_tasks.specs.declared.playing.PlayWork.TheVariants as work
-use Rattle.fork_tasks.specs.Accesses.{Access, Folder, StopsAmong}
-use Rattle.fork_tasks.specs.Delivering.{IsUndelivered}
-use Rattle.fork_tasks.specs.Fault.{Message, Fork, HostMemory, IsQuiet}
-use Rattle.job_tasks.specs.Gathering.{GivenSource, app_given}
-use Rattle.job_tasks.specs.Loading.{AppFork, Given, part_seen, path_of, own_path, system_path, nothing_given, with_parts, sources_of}
-use Rattle.job_tasks.specs.Playing.{player_name, paths_read, IsTaken, IsUntaken, Misspelled, parts_of, Takes, path_at_fault, IsLaunchFault}
-use Rattle.job_tasks.specs.Playing.{DoesPlay, IsPlayUndone, Plays, IsUnplayed, Unlaunched, Undone}
-use Rattle.fork_tasks.proofs.Accesses.{none}
-use Rattle.fork_tasks.proofs.Faults.{loud_write, quiet_silent}
-use Rattle.fork_tasks.proofs.Prints.{nothing}
+use Rattle.job_tasks.specs.Loading.{system_path, nothing_given}
 
 -- the first of what was read, and the others
 pub first_of : {A : Type 0} (f : A → List ℕ) (xs : List A) (x d : A) (text : List ℕ) → 1 ≤ length xs → x ≡ get_or xs 0 d

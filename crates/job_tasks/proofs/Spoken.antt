@@ -1,17 +1,10 @@
 -- The transcripts of a run, in words.
-use Rattle.std.proofs.Common.{◌≡◌, ◌<◌, ◌+◌, ◌∷◌, ◌++◌, ◌∙◌, ℕ, List, [], refl, sym, ap, length, map, take, drop, get_or, slice_get}
-use Rattle.std.proofs.Common.{Bor, Vec, append_assoc, arith}
-use Rattle.std.proofs.lemmas.Option.{slice_get-map, slice_get_read, slice_get_past}
-use Rattle.std.specs.Slice.{IsItemAt}
-use Rattle.std.specs.Global.{Global}
-use Rattle.std.proofs.lemmas.List.{drop_more, drop-set-lt, take_more_set, map-append}
-use Rattle.std.specs.Prelude.{Option, Some, None, option_map, slice_set}
-use Rattle.desk.specs.declared.job.Job.{Job}
-use Rattle.desk.specs.declared.outcome.AppOutcome.{AppOutcome}
-use Rattle.desk.specs.Outcome.{AppResult}
-use Rattle.desk.specs.View.{told_seen}
-use Rattle.desk.specs.Whole.{system_of}
-use Rattle.job_tasks.specs.Speaking.{app_in_words, apps_in_words}
+use Rattle.job_tasks.proofs.Cited.{◌≡◌, ◌<◌, ◌+◌, ◌∷◌, ◌++◌, ◌∙◌, ℕ, List, [], refl, sym, ap, length, map, take, drop, get_or, slice_get}
+use Rattle.job_tasks.proofs.Cited.{Vec, append_assoc, arith, slice_get-map, slice_get_read, slice_get_past, IsItemAt, Global, drop_more}
+use Rattle.job_tasks.proofs.Cited.{drop-set-lt, take_more_set, map-append, option_map, slice_set, Job, AppOutcome, AppResult, told_seen}
+use Rattle.job_tasks.proofs.Cited.{system_of, app_in_words, apps_in_words}
+use Rattle.std.proofs.Common.{Bor}
+use Rattle.std.specs.Prelude.{Option, Some, None}
 
 -- the applications, of which the first `i` are in words, with the others put into words
 abbrev pub from : Job → List (List ℕ) → ℕ → List AppOutcome → List AppResult

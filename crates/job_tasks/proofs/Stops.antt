@@ -1,14 +1,8 @@
 -- What stops the reading of the files that a job names.
-use Rattle.std.proofs.Common.{◌≡◌, ℕ, List, Option, Result, Err, sym, ap, subst}
-use Rattle.script_text.specs.declared.fault.FaultKind.{FaultKind}
+use Rattle.job_tasks.proofs.Cited.{◌≡◌, ℕ, List, Option, Result, Err, sym, ap, subst, FaultKind, FailsAt, Spelled, Message, Usage}
+use Rattle.job_tasks.proofs.Cited.{CannotRead, Script, Fork, CannotWrite, HostMemory, NotLaunched, Dump, message_of, ToolFault}
+use Rattle.job_tasks.proofs.Cited.{script_message, Access, IsUnread, Stops, IsStop, IsGiven, script_told, given_then}
 use Rattle.script_text.specs.declared.fault.FaultKind.TheVariants as kinds
-use Rattle.script_text.specs.Reading.{FailsAt}
-use Rattle.script_text.specs.Script.{Spelled}
-use Rattle.fork_tasks.specs.Fault.{Message, Usage, CannotRead, Script, Fork, CannotWrite, HostMemory, NotLaunched, Dump, message_of}
-use Rattle.fork_tasks.specs.declared.fault.ToolFault.{ToolFault}
-use Rattle.job_tasks.specs.Tasks.{script_message}
-use Rattle.fork_tasks.specs.Accesses.{Access, IsUnread, Stops}
-use Rattle.job_tasks.specs.Gathering.{IsStop, IsGiven, script_told, given_then}
 
 -- a script's fault stops the reading
 pub script_stop : (path text : List ℕ) (read : Result Spelled (ℕ × FaultKind)) (line : ℕ) (kind : FaultKind) (message : Message)

@@ -1,22 +1,13 @@
 -- The first faulty line is the reader's.
-use Rattle.std.proofs.Common.{◌≡◌, ℕ, ◌+◌, ◌≤◌, Bool, true, false, List, [], ◌∷◌, ◌++◌, Option, Some, None, Result, Ok, Err}
-use Rattle.std.proofs.Common.{refl, ap, ◌∙◌, ◌==◌, cond, map, length, arith, is_some}
-use Rattle.std.specs.Prelude.{bytes_eq, codes, nat_lt, not, find, ◌&&◌}
-use Rattle.std.specs.Option.{option_map, ok_or}
-use Rattle.std.specs.Str.Lines.{lines}
-use Rattle.script_text.specs.declared.fault.FaultKind.{FaultKind}
+use Rattle.lint.proofs.Cited.{◌≡◌, ℕ, ◌+◌, ◌≤◌, Bool, true, false, List, [], ◌∷◌, ◌++◌, Option, Some, None, Result, Ok, Err, refl, ap, ◌∙◌}
+use Rattle.lint.proofs.Cited.{◌==◌, cond, map, length, arith, is_some, bytes_eq, codes, nat_lt, not, find, ◌&&◌, option_map, ok_or, lines}
+use Rattle.lint.proofs.Cited.{FaultKind, CallWord, ◌>>=◌, after_blanks, Label, Value, Letters, arguments, meant, may_stand, word_spelled}
+use Rattle.lint.proofs.Cited.{Above, Begun, Statement, Makes, is_new, with_statement, call_at, grow_at, begin_at, at_line, end_at}
+use Rattle.lint.proofs.Cited.{with_token, with_text, read_at, read_from, longest_line, no_lines, sets_missing, first_missing, lesser}
+use Rattle.lint.proofs.Cited.{unfinished, unless_unfinished, after_all, script_of, put_named, noted, missing_lines, begun_lines}
+use Rattle.lint.proofs.Cited.{unfinished_at, faults_from, first, fault, FirstIsTheReaders, script_faults}
 use Rattle.script_text.specs.declared.fault.FaultKind.TheVariants as kinds
-use Rattle.script_text.specs.declared.word.CallWord.{CallWord}
-use Rattle.script_text.specs.Reading.{◌>>=◌}
-use Rattle.script_text.specs.Token.{after_blanks}
-use Rattle.script_text.specs.Argument.{Label, Value, Letters, arguments}
-use Rattle.script_text.specs.Call.{meant, may_stand, word_spelled, kinds as kinds_of}
-use Rattle.script_text.specs.Script.{Above, Begun, Statement, Makes, is_new, with_statement, call_at, grow_at, begin_at}
-use Rattle.script_text.specs.Script.{at_line, end_at, with_token, with_text, read_at, read_from, longest_line, no_lines}
-use Rattle.script_text.specs.Script.{sets_missing, first_missing, lesser, unfinished, unless_unfinished, after_all, script_of}
-use Rattle.script_text.specs.Named.{put_named}
-use Rattle.lint.specs.Faults.{noted, missing_lines, begun_lines, unfinished_at, faults_from, first, fault}
-use Rattle.lint.specs.Faults.{FirstIsTheReaders, script_faults}
+use Rattle.script_text.specs.Call.{kinds as kinds_of}
 
 -- the lines of statements are no more than n
 abbrev UpTo : ℕ → List Statement → Type 0

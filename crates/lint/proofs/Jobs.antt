@@ -1,16 +1,9 @@
 -- The faulty lines of a job.
-use Rattle.std.proofs.Common.{◌≡◌, ℕ, ◌+◌, Bool, true, false, List, [], ◌∷◌, ◌++◌, Option, Some, None, Result, Ok, Err, refl}
-use Rattle.std.proofs.Common.{sym, ap, ◌∙◌, map, length, arith, ◌==◌}
-use Rattle.std.proofs.lemmas.List.{append_assoc}
-use Rattle.std.specs.Str.Lines.{lines}
-use Rattle.script_text.specs.declared.fault.FaultKind.{FaultKind}
-use Rattle.script_text.specs.declared.fault.FaultKind.TheVariants.{BadArgument}
-use Rattle.script_text.specs.Job.{Above, Job, with_line, with_lines, with_memory, after_all, nothing, job_of}
-use Rattle.script_text.specs.Script.{at_line}
-use Rattle.lint.specs.Faults.{noted, first, fault, job_faults_from, or_of_whole, job_faults, FirstIsTheJobReaders}
-use Rattle.lint.specs.Reading.{after_line, line_fault, left_by, memory_stated}
-use Rattle.lint.specs.Seen.{seen}
-use Rattle.lint.specs.declared.wrong.Fault.{Fault}
+use Rattle.lint.proofs.Cited.{◌≡◌, ℕ, ◌+◌, Bool, true, false, List, [], ◌∷◌, ◌++◌, Option, Some, None, Result, Ok, Err, refl, sym, ap, ◌∙◌}
+use Rattle.lint.proofs.Cited.{map, length, arith, ◌==◌, append_assoc, lines, FaultKind, BadArgument, Job, with_line, with_lines}
+use Rattle.lint.proofs.Cited.{with_memory, nothing, job_of, at_line, noted, first, fault, job_faults_from, or_of_whole, job_faults}
+use Rattle.lint.proofs.Cited.{FirstIsTheJobReaders, after_line, line_fault, left_by, memory_stated, seen, Fault}
+use Rattle.script_text.specs.Job.{Above, after_all}
 
 -- a line and those after it, by what it leaves and its fault
 pub split_line : (n : ℕ) (above : Above) (line : List ℕ) (more : List (List ℕ))

@@ -1,3 +1,4 @@
+mod Cited
 mod Firsts
 mod Stepping
 mod Jobs

@@ -1,22 +1,9 @@
 -- Steps of the functions that judge lines.
-use Rattle.std.proofs.Common.{◌≡◌, ℕ, ◌+◌, true, false, List, [], ◌∷◌, ◌++◌, Option, Some, None, Result, Ok, Err, refl, sym, ap, subst}
-use Rattle.std.proofs.Common.{is_some, length, arith, ◌==◌}
-use Rattle.std.proofs.lemmas.Bool.{eqb-true}
-use Rattle.std.proofs.lemmas.List.{append_assoc}
-use Rattle.std.specs.Option.{ok_or, option_map}
-use Rattle.std.specs.Str.Lines.{lines}
-use Rattle.script_text.specs.declared.fault.FaultKind.{FaultKind}
-use Rattle.script_text.specs.declared.fault.FaultKind.TheVariants.{BadArgument}
-use Rattle.script_text.specs.Reading.{◌>>=◌, Fails, OnFault}
-use Rattle.script_text.specs.Script.{Above, Begun, read_at}
-use Rattle.lint.specs.Faults.{begun_lines, faults_from, unfinished_lines}
-use Rattle.script_text.specs.Argument.{Kind, Value, argument, value}
-use Rattle.script_text.specs.Token.{after_blanks, token_at}
-use Rattle.lint.specs.Judging.{kind_of, rest_after}
-use Rattle.lint.specs.Reading.{Halts, OnWrong, Says}
-use Rattle.lint.specs.declared.halt.Halt.{Halt}
+use Rattle.lint.proofs.Cited.{◌≡◌, ℕ, ◌+◌, true, false, List, [], ◌∷◌, ◌++◌, Option, Some, None, Result, Ok, Err, refl, sym, ap, subst}
+use Rattle.lint.proofs.Cited.{is_some, length, arith, ◌==◌, eqb-true, append_assoc, ok_or, option_map, lines, FaultKind, BadArgument, ◌>>=◌}
+use Rattle.lint.proofs.Cited.{Fails, OnFault, Above, Begun, read_at, begun_lines, faults_from, unfinished_lines, Kind, Value, argument}
+use Rattle.lint.proofs.Cited.{value, after_blanks, token_at, kind_of, rest_after, Halts, OnWrong, Says, Halt, Wrong}
 use Rattle.lint.specs.declared.halt.Halt.TheVariants as halt
-use Rattle.lint.specs.declared.wrong.Wrong.{Wrong}
 use Rattle.lint.specs.declared.wrong.Wrong.TheVariants as wrong
 
 -- what is wrong is never that the host is out of memory

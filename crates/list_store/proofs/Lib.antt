@@ -1,3 +1,4 @@
+mod Cited
 pub mod Zone
 pub mod Regroup
 pub mod Purged

@@ -1,12 +1,8 @@
-use Rattle.std.proofs.Common.{◌≡◌, ℕ, ◌+◌, ◌<◌, zero, suc, true, false, ◌==◌, List, [], ◌∷◌, length, refl, sym, ◌∙◌, ap}
-use Rattle.std.proofs.Common.{Bool, cond, arith, Some, count_by, slice_get, slice_set, replicate, ◌⊎◌, inl, inr}
-use Rattle.std.proofs.lemmas.List.Sums.{sum_by-cons}
-use Rattle.std.proofs.lemmas.Bool.{cond-true, cond-false, cases_eq, false_from_ne_true}
-use Rattle.std.proofs.lemmas.Bool.Decides.{Decides-eqb}
-use Rattle.block_store.specs.Slot.{NoSlot, Unused, Used, set_slot, is_used}
-use Rattle.list_store.specs.declared.slots.SlotEntry.{SlotEntry}
+use Rattle.list_store.proofs.Cited.{◌≡◌, ℕ, ◌+◌, ◌<◌, zero, suc, true, false, ◌==◌, List, [], ◌∷◌, length, refl, sym, ◌∙◌, ap, Bool, cond}
+use Rattle.list_store.proofs.Cited.{arith, Some, count_by, slice_get, slice_set, replicate, ◌⊎◌, inl, inr, sum_by-cons, cond-true}
+use Rattle.list_store.proofs.Cited.{cond-false, cases_eq, false_from_ne_true, Decides-eqb, NoSlot, Unused, Used, set_slot, is_used}
+use Rattle.list_store.proofs.Cited.{SlotEntry, slots_of, slot_of, slot_or_none, is_unused}
 use Rattle.list_store.specs.declared.slots.SlotEntry.TheVariants as slot_entry
-use Rattle.list_store.specs.Lists.{slots_of, slot_of, slot_or_none, is_unused}
 
 -- the table of slots with one changed
 pub slots_of-set : (slots : List SlotEntry) (i : ℕ) (e : SlotEntry) → i < length slots → (k : ℕ)

@@ -1,13 +1,7 @@
-use Rattle.std.proofs.Common.{◌≡◌, ℕ, ◌+◌, ◌-◌, ◌<◌, Bool, true, false, cond, List, [], ◌∷◌, ◌++◌, map, Some, None, refl, sym}
-use Rattle.std.proofs.Common.{◌∙◌, ap, append-nil, append_assoc, get_or, drop, length}
-use Rattle.std.specs.Prelude.{Result, Ok, Err, chars, encode_utf8_all, ◌&&◌}
-use Rattle.std.specs.List.{AllByRecursion}
-use Rattle.std.specs.Str.{IsUtf8, is_utf8, all_scalars}
-use Rattle.std.proofs.lemmas.List.{drop_more}
-use Rattle.std.proofs.lemmas.Str.{is_utf8-from_IsUtf8, IsUtf8-from_is_utf8, chars-encodes}
-use Rattle.std.proofs.lemmas.Bool.{agree_below_at}
-use Rattle.mac_roman.specs.Table.{char_of, byte_of}
-use Rattle.mac_roman.specs.Roman.{before, bytes_of, to_roman, from_roman}
+use Rattle.mac_roman.proofs.Cited.{◌≡◌, ℕ, ◌+◌, ◌-◌, ◌<◌, Bool, true, false, cond, List, [], ◌∷◌, ◌++◌, map, Some, None, refl, sym, ◌∙◌, ap}
+use Rattle.mac_roman.proofs.Cited.{append-nil, append_assoc, get_or, drop, length, Result, Ok, Err, chars, encode_utf8_all, ◌&&◌}
+use Rattle.mac_roman.proofs.Cited.{AllByRecursion, IsUtf8, is_utf8, all_scalars, drop_more, is_utf8-from_IsUtf8, IsUtf8-from_is_utf8}
+use Rattle.mac_roman.proofs.Cited.{chars-encodes, agree_below_at, char_of, byte_of, before, bytes_of, to_roman, from_roman}
 use Rattle.mac_roman.proofs.Lookups.{byte_again}
 
 -- Characters written byte by byte, and read again.

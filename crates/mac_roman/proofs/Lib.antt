@@ -1,3 +1,4 @@
+mod Cited
 pub mod Encoding
 pub mod Lookups
 pub mod PlainText

@@ -1,12 +1,7 @@
-use Rattle.std.proofs.Common.{◌≡◌, ℕ, ◌+◌, ◌-◌, ◌<◌, Bool, true, false, cond, List, [], ◌∷◌, length, Option, Some, None, refl, sym}
-use Rattle.std.proofs.Common.{◌∙◌, ap, arith, suc, zero, get_or}
-use Rattle.std.specs.Prelude.{◌==◌, ◌&&◌, not, nat_lt, option_map}
-use Rattle.std.specs.List.{list_all, position, position_from}
-use Rattle.std.proofs.lemmas.Bool.{eqb-true, eq-eqb, and_parts, not-true}
-use Rattle.std.proofs.lemmas.Bool.Decides.{nat_tests}
-use Rattle.std.proofs.lemmas.Iterator.Adapters.{position_from-zero}
-use Rattle.std.proofs.lemmas.List.Quantifiers.{position-Some}
-use Rattle.mac_roman.specs.Table.{high, char_of, byte_of}
+use Rattle.mac_roman.proofs.Cited.{◌≡◌, ℕ, ◌+◌, ◌-◌, ◌<◌, Bool, true, false, cond, List, [], ◌∷◌, length, Option, Some, None, refl, sym}
+use Rattle.mac_roman.proofs.Cited.{◌∙◌, ap, arith, suc, zero, get_or, ◌==◌, ◌&&◌, not, nat_lt, option_map, list_all, position}
+use Rattle.mac_roman.proofs.Cited.{position_from, eqb-true, eq-eqb, and_parts, not-true, nat_tests, position_from-zero, position-Some, high}
+use Rattle.mac_roman.proofs.Cited.{char_of, byte_of}
 
 -- The characters of Mac OS Roman, looked up by byte and by character.
 

@@ -1,12 +1,7 @@
-use Rattle.std.proofs.Common.{◌≡◌, ◌∙◌, ℕ, zero, suc, ◌<◌, true, List, [], ◌∷◌, ◌++◌, refl, ap, arith, lit<}
-use Rattle.std.specs.Prelude.{Some, Ok, nat_lt}
-use Rattle.std.specs.List.{AllByRecursion, flat_map}
-use Rattle.std.specs.Str.{IsAscii}
-use Rattle.std.proofs.lemmas.Bool.Decides.{nat_tests}
-use Rattle.std.proofs.lemmas.Str.{IsUtf8-from_ascii, chars-IsAscii}
-use Rattle.mac_roman.specs.Table.{byte_of}
-use Rattle.mac_roman.specs.Roman.{bytes_of, to_roman, from_roman}
-use Rattle.mac_roman.specs.Charset.{character}
+use Rattle.mac_roman.proofs.Cited.{◌≡◌, ◌∙◌, ℕ, zero, suc, ◌<◌, true, List, [], ◌∷◌, ◌++◌, refl, ap, arith, lit<, Ok, nat_lt}
+use Rattle.mac_roman.proofs.Cited.{AllByRecursion, flat_map, IsAscii, nat_tests, IsUtf8-from_ascii, chars-IsAscii, byte_of, bytes_of}
+use Rattle.mac_roman.proofs.Cited.{to_roman, from_roman, character}
+use Rattle.std.specs.Prelude.{Some}
 use Rattle.mac_roman.proofs.Encoding.{utf8_made}
 
 -- Text of ASCII, and text character by character.

@@ -1,7 +1,4 @@
-use Rattle.std.proofs.Common.{◌≡◌, [], ◌∷◌, refl, None}
-use Rattle.std.specs.Prelude.{Ok, Err}
-use Rattle.mac_roman.specs.Table.{char_of, byte_of}
-use Rattle.mac_roman.specs.Roman.{bytes_of, from_roman}
+use Rattle.mac_roman.proofs.Cited.{◌≡◌, [], ◌∷◌, refl, None, Ok, Err, char_of, byte_of, bytes_of, from_roman}
 
 -- Worked examples, checked on the definitions alone.
 

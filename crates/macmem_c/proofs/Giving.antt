@@ -1,14 +1,8 @@
 -- What is handed over to C of a script.
-use Rattle.std.proofs.Common.{◌≡◌, ℕ, ℤ, List, Result, Ok, Err, IfOk, IfErr, length, sym, subst, w32, SFits, to_z, of_z}
-use Rattle.std.proofs.lemmas.Int.{to_z-of_z}
-use Rattle.mac_words.specs.Codes.{noErr}
-use Rattle.script_text.specs.declared.fault.FaultKind.{FaultKind}
+use Rattle.macmem_c.proofs.Cited.{◌≡◌, ℕ, ℤ, List, Result, Ok, Err, IfOk, IfErr, length, sym, subst, w32, SFits, to_z, of_z, to_z-of_z}
+use Rattle.macmem_c.proofs.Cited.{noErr, FaultKind, ScriptFault, laid_over, Hands, Made, AtFault, NoMemory, IsUnread, TellsKind}
+use Rattle.macmem_c.proofs.Cited.{IsScriptFault, Fault}
 use Rattle.script_text.specs.declared.fault.FaultKind.TheVariants as kind
-use Rattle.script_text.specs.declared.fault.ScriptFault.{ScriptFault}
-use Rattle.macmem_c.specs.Delivered.{laid_over}
-use Rattle.macmem_c.specs.Handed.{Hands, Made, AtFault, NoMemory}
-use Rattle.macmem_c.specs.Replayed.{IsUnread, TellsKind, IsScriptFault}
-use Rattle.macmem_c.specs.declared.faults.Fault.{Fault}
 
 -- where a script was not run, C is told of its first faulty line, or the host is out of memory
 stopped : (Is : List ℕ → Type 0) (text : List ℕ) (k : FaultKind) (line : ℕ) (before after : List ℕ) (count now : ℕ) (old new : Fault)

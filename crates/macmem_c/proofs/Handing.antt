@@ -1,15 +1,7 @@
 -- What is handed over to C of what was made of a file.
-use Rattle.std.proofs.Common.{◌≡◌, ℕ, ℤ, List, Result, Ok, Err, IfOk, IfErr, length, sym, subst, w32, SFits, to_z, of_z}
-use Rattle.std.proofs.lemmas.Int.{to_z-of_z}
-use Rattle.mac_words.specs.Codes.{noErr}
-use Rattle.fork_commands.specs.declared.fault.FileFault.{FileFault}
-use Rattle.fork_commands.specs.declared.fault.WorkFault.{WorkFault}
-use Rattle.fork_commands.specs.declared.fault.WorkFault.TheVariants.{File, HostMemory}
-use Rattle.fork_commands.specs.Faults.{Stops}
-use Rattle.macmem_c.specs.Delivered.{laid_over}
-use Rattle.macmem_c.specs.Faults.{Tells}
-use Rattle.macmem_c.specs.Handed.{HandsOver, Made, AtFault, NoMemory}
-use Rattle.macmem_c.specs.declared.faults.Fault.{Fault}
+use Rattle.macmem_c.proofs.Cited.{◌≡◌, ℕ, ℤ, List, Result, Ok, Err, IfOk, IfErr, length, sym, subst, w32, SFits, to_z, of_z, to_z-of_z}
+use Rattle.macmem_c.proofs.Cited.{noErr, FileFault, WorkFault, File, HostMemory, Stops, laid_over, Tells, HandsOver, Made, AtFault}
+use Rattle.macmem_c.proofs.Cited.{NoMemory, Fault}
 
 -- What was made is handed over, or why nothing was.
 handed_so : {T V : Type 0} (items : V → List T) (made : Result V WorkFault) (wanted : Result (List T) FileFault)

@@ -1,6 +1,6 @@
 -- What C keeps of a zone, in the machine.
-use Rattle.std.proofs.Common.{◌≡◌, List, [], ◌∷◌, true, false, refl}
-use Rattle.std.specs.Prelude.{Option, Some, None, IsSome}
+use Rattle.macmem_c.proofs.Cited.{◌≡◌, List, [], ◌∷◌, true, false, refl, Option, None, IsSome, box_owns, ghosts, dict, owns_if}
+use Rattle.std.specs.Prelude.{Some}
 use seplogic.Ra.Ura.{Ura}
 use mir.Syntax.{Ty, Dict, tcons, tnil, dnil, impl}
 use mir.Raw.{raw as bare}
@@ -12,12 +12,9 @@ use denote.RawPtr.{Ptr}
 use denote.Param.{layout, arg}
 use denote.Exit.{no}
 use denote.Param.Laws.{Laws, arg_laws}
-use Rattle.std.specs.Box.Ownership.{box_owns}
 use Rattle.std.specs.contracts.alloc.Global as heap
 use Rattle.std.proofs.alloc.Global.TheLaws as heap_laws
-use Rattle.std.specs.contracts.impls.GlobalAllocator.TheImpl.{ghosts, dict}
 use Rattle.std_alloc.proofs.BoxSteps.Form as box
-use Rattle.macmem_c.specs.Keeping.{owns_if}
 use Rattle.macmem_c.specs.contracts.zone.Zone as zone
 use Rattle.macmem_c.proofs.zone.Zone.TheLaws as zone_laws
 use Rattle.macmem_c.specs.contracts.kept.Kept as kept

@@ -1,3 +1,4 @@
+mod Cited
 mod Pointing
 mod Keeps
 mod Handing

@@ -1,12 +1,8 @@
 -- Texts of faulty lines, a line for each.
-use Rattle.std.proofs.Common.{◌≡◌, ◌∷◌, ◌++◌, ◌∙◌, ◌<◌, ◌≤◌, ◌+◌, ℕ, List, [], refl, sym, ap, subst, append_assoc, append-nil}
-use Rattle.std.proofs.Common.{map, length, drop, get_or, arith}
-use Rattle.std.proofs.lemmas.Grind.{common_steps}
-use Rattle.script_text.specs.declared.fault.FaultKind.{FaultKind}
-use Rattle.lint.specs.Faults.{script_faults}
-use Rattle.lint.specs.Seen.{seen}
+use Rattle.macmem_c.proofs.Cited.{◌≡◌, ◌∷◌, ◌++◌, ◌∙◌, ◌<◌, ◌≤◌, ◌+◌, ℕ, List, [], refl, sym, ap, subst, append_assoc, append-nil, map}
+use Rattle.macmem_c.proofs.Cited.{length, drop, get_or, arith, common_steps, FaultKind, script_faults, seen, faulty_line, AreLines}
+use Rattle.macmem_c.proofs.Cited.{AreFaulty}
 use Rattle.lint.specs.declared.wrong.Fault.{Fault}
-use Rattle.macmem_c.specs.Described.{faulty_line, AreLines, AreFaulty}
 
 -- The text so far, with any lines of the faulty lines that are left, is the lines of all.
 abbrev pub GoesOn : List ℕ → List ℕ → List ℕ → Type 0

@@ -1,19 +1,7 @@
 -- What is made of the content of a file.
-use Rattle.std.proofs.Common.{◌≡◌, ◌∙◌, List, ℕ, Result, Ok, map, sym, ap, subst}
-use Rattle.std.specs.List.{flat_map}
-use Rattle.fork_format.specs.Content.{Content}
-use Rattle.fork_edits.specs.Resources.{rows}
+use Rattle.macmem_c.proofs.Cited.{◌≡◌, ◌∙◌, List, ℕ, Result, Ok, map, sym, ap, subst, flat_map, Content, rows, Stops, made_then, info_text}
+use Rattle.macmem_c.proofs.Cited.{opened, content_in, FileFault, WorkFault, File, HostMemory, listing, listed_line, row_as, listed, Row}
 use Rattle.fork_edits.specs.Resources as edits
-use Rattle.fork_commands.specs.Faults.{Stops, made_then}
-use Rattle.fork_commands.specs.Info.{info_text}
-use Rattle.fork_commands.specs.Opening.{opened}
-use Rattle.fork_commands.specs.Reading.{content_in}
-use Rattle.fork_commands.specs.declared.fault.FileFault.{FileFault}
-use Rattle.fork_commands.specs.declared.fault.WorkFault.{WorkFault}
-use Rattle.fork_commands.specs.declared.fault.WorkFault.TheVariants.{File, HostMemory}
-use Rattle.macmem_c.specs.Described.{listing, listed_line}
-use Rattle.macmem_c.specs.Listed.{row_as, listed}
-use Rattle.macmem_c.specs.declared.rows.Row.{Row}
 
 -- a fault in the place of a result is one in the place of what follows
 then_stops : {A B : Type 0} (f : WorkFault) (made : Result A FileFault) (next : A → Result B FileFault) → Stops f made

@@ -1,19 +1,9 @@
 -- What is handed over to C of what was made of two files.
-use Rattle.std.proofs.Common.{◌≡◌, ℕ, ℤ, Bool, List, Result, Ok, Err, IfOk, IfErr, length, sym, subst, w32, SFits, to_z, of_z}
-use Rattle.std.proofs.lemmas.Int.{to_z-of_z}
-use Rattle.mac_words.specs.Codes.{noErr}
-use Rattle.fork_commands.specs.declared.fault.FileFault.{FileFault}
-use Rattle.fork_commands.specs.declared.pair.PairOutput.{PairOutput}
-use Rattle.fork_commands.specs.declared.pair.PairFault.{PairFault}
+use Rattle.macmem_c.proofs.Cited.{◌≡◌, ℕ, ℤ, Bool, List, Result, Ok, Err, IfOk, IfErr, length, sym, subst, w32, SFits, to_z, of_z}
+use Rattle.macmem_c.proofs.Cited.{to_z-of_z, noErr, FileFault, PairOutput, PairFault, Place, Names, Gives, StopsPair, laid_over, TellsPair}
+use Rattle.macmem_c.proofs.Cited.{Hands, Made, AtFault, NoMemory, IsPaired, IsCombined, IsUnpaired, Combines, Fault}
 use Rattle.fork_commands.specs.declared.pair.PairFault.TheVariants.{File, HostMemory}
-use Rattle.fork_commands.specs.declared.pair.Place.{Place}
 use Rattle.fork_commands.specs.Pairs as pairs
-use Rattle.fork_commands.specs.Pairs.{Names, Gives, StopsPair}
-use Rattle.macmem_c.specs.Delivered.{laid_over}
-use Rattle.macmem_c.specs.Faults.{TellsPair}
-use Rattle.macmem_c.specs.Handed.{Hands, Made, AtFault, NoMemory}
-use Rattle.macmem_c.specs.Paired.{IsPaired, IsCombined, IsUnpaired, Combines}
-use Rattle.macmem_c.specs.declared.faults.Fault.{Fault}
 
 -- What is handed over where something was made, and where it was not.
 abbrev Handed : ℤ → List ℕ → List ℕ → ℕ → Bool → Fault → Fault → PairOutput → Type 0

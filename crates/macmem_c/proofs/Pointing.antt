@@ -1,5 +1,5 @@
 -- A struct of a pointer and an allocator in the machine: its value, and what its two fields own.
-use Rattle.std.proofs.Common.{◌≡◌, List, [], ◌∷◌, ◌++◌, refl, subst}
+use Rattle.macmem_c.proofs.Cited.{◌≡◌, List, [], ◌∷◌, ◌++◌, refl, subst, Ghosts, Al, handle_tells, Good, and_tt}
 use lib.Dec.{lit<}
 use seplogic.Ra.Ura.{Ura}
 use mir.Syntax.{Sym, Lifetime, ty_struct, ty_ptr, impl, tcons, tnil, dnil}
@@ -13,10 +13,6 @@ use denote.Steps.{nothing}
 use denote.Param.{layout}
 use denote.Param.Laws.{Laws}
 use denote.Struct.Struct.{Shape, Struct, within}
-use Rattle.core.specs.declared.alloc.Allocator.{Ghosts}
-use Rattle.core.proofs.alloc.Calls.{Al, handle_tells}
-use Rattle.core.proofs.cell.Inside.{Good}
-use Rattle.std_alloc.proofs.ResultValues.{and_tt}
 
 -- the machine value of the struct
 abbrev pub pointing : Ptr → Val → Val

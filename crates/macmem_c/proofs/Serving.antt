@@ -1,23 +1,11 @@
 -- What C gets of a call on a zone, from what the method answers.
-use Rattle.std.proofs.Common.{◌≡◌, ◌∙◌, ℕ, ℤ, false, Option, Some, None, Result, Ok, Err, inl, inr, refl, sym, ap, subst, IsTrue, List}
-use Rattle.std.proofs.Common.{w32, SFits, to_z, of_z}
-use Rattle.std.proofs.lemmas.Int.{to_z-of_z}
-use Rattle.std.specs.Prelude.{◌≢◌, ◌⊎◌}
-use Rattle.std.proofs.lemmas.Bool.{false≢true}
-use Rattle.mac_words.specs.Told.{Told}
-use Rattle.mac_words.specs.declared.code.OsErr.{OsErr}
-use Rattle.mac_words.specs.declared.code.TheConstants.OsErr.{NO_ERR}
-use Rattle.heap_calls.specs.State.{Memory, CountedMemory}
-use Rattle.heap_calls.specs.Asked.{Asked, told_as, telling}
-use Rattle.heap_calls.specs.Table.{served, done}
-use Rattle.heap_calls.specs.Gone.{Gone}
-use Rattle.heap_calls.specs.Left.{Step, Stops, DidNothing, DidAStep}
-use Rattle.heap_calls.specs.Inner.Given.{IsAnswer}
-use Rattle.heap_calls.specs.declared.refusal.Refusal.{Refusal}
-use Rattle.heap_calls.specs.declared.refusal.Refusal.TheVariants.{Code, HostMemory}
-use Rattle.applications.specs.Trying.{code_told}
-use Rattle.macmem_c.specs.Codes.{host_memory, code_of, code_in, number_of, number_in}
-use Rattle.macmem_c.specs.Called.{Serves, number_or, number_after}
+use Rattle.macmem_c.proofs.Cited.{◌≡◌, ◌∙◌, ℕ, ℤ, false, Some, Result, Ok, Err, inl, inr, refl, sym, ap, subst, IsTrue, List, w32, SFits}
+use Rattle.macmem_c.proofs.Cited.{to_z, of_z, to_z-of_z, ◌≢◌, ◌⊎◌, false≢true, Told, OsErr, NO_ERR, Memory, CountedMemory, Asked, told_as}
+use Rattle.macmem_c.proofs.Cited.{telling, served, done, Gone, Step, DidNothing, DidAStep, IsAnswer, Refusal, Code, code_told, host_memory}
+use Rattle.macmem_c.proofs.Cited.{code_of, code_in, number_of, number_in, Serves, number_or, number_after}
+use Rattle.std.proofs.Common.{Option, None}
+use Rattle.heap_calls.specs.Left.{Stops}
+use Rattle.heap_calls.specs.declared.refusal.Refusal.TheVariants.{HostMemory}
 
 -- A reply of this kind has no code of its own.
 abbrev pub Codeless : {T : Type 0} → (T → Told) → Type 0

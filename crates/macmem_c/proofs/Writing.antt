@@ -1,10 +1,6 @@
 -- What is handed over to C where no bytes are at fault.
-use Rattle.std.proofs.Common.{◌≡◌, ℕ, ℤ, List, Result, Ok, Err, IfOk, IfErr, length, sym, subst, w32, SFits, to_z, of_z}
-use Rattle.std.proofs.lemmas.Int.{to_z-of_z}
-use Rattle.mac_words.specs.Codes.{noErr}
-use Rattle.macmem_c.specs.Codes.{host_memory}
-use Rattle.macmem_c.specs.Delivered.{laid_over}
-use Rattle.macmem_c.specs.Handed.{Writes, Written, Unwritten}
+use Rattle.macmem_c.proofs.Cited.{◌≡◌, ℕ, ℤ, List, Result, Ok, Err, IfOk, IfErr, length, sym, subst, w32, SFits, to_z, of_z, to_z-of_z}
+use Rattle.macmem_c.proofs.Cited.{noErr, host_memory, laid_over, Writes, Written, Unwritten}
 
 -- What was made is handed over, or nothing is.
 written_so : {V E : Type 0} (items : V → List ℕ) (Is : List ℕ → Type 0) (made : Result V E) (before after : List ℕ)

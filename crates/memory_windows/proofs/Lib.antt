@@ -1,3 +1,4 @@
+mod Cited
 pub mod Listed
 pub mod Ordered
 pub mod Outside

@@ -1,17 +1,12 @@
 -- For callers: what holds of the windows once one is put in or taken out.
-use Rattle.std.proofs.Common.{◌≡◌, ℕ, ◌+◌, ◌<◌, ◌≤◌, ◌⊎◌, inl, inr, suc, Bool, true, false, ◌&&◌, not, List, [], ◌∷◌}
-use Rattle.std.proofs.Common.{◌++◌, length, take, drop, get_or, refl, sym, ap, ◌∙◌, subst, arith, All}
-use Rattle.std.proofs.Common.{take-append-drop, length-append}
-use Rattle.std.proofs.lemmas.List.{length-take-le, length-drop, drop_more, take_at, drop_at, append_assoc}
-use Rattle.std.proofs.lemmas.List.{length_push, get_or_append_left, get_or-take, get_or_at}
-use Rattle.std.proofs.lemmas.List.Elements.{All-append, All-cons, All-take, All-drop, Contains-append_left}
-use Rattle.std.proofs.lemmas.List.Elements.{Contains-append_right, Contains-append_cases}
-use Rattle.std.proofs.lemmas.List.Sums.{prefix_len-le-length, prefix_len_stops, prefix_len_passes, position_or_len_is}
-use Rattle.std.proofs.lemmas.Bool.{and_parts, eqb-true, eq-eqb, leb-true, not-false}
-use Rattle.std.proofs.Math.Dec.{eqb, leb}
-use Rattle.std.specs.List.{remove, prefix_len, position_or_len, Contains}
-use Rattle.memory_windows.specs.Windows.{window, with_window, without_window}
-use Rattle.memory_windows.specs.declared.Window.{Window}
+use Rattle.memory_windows.proofs.Cited.{◌≡◌, ℕ, ◌+◌, ◌<◌, ◌≤◌, ◌⊎◌, inl, inr, suc, Bool, true, false, ◌&&◌, not, List, [], ◌∷◌, ◌++◌}
+use Rattle.memory_windows.proofs.Cited.{length, take, drop, get_or, refl, sym, ap, ◌∙◌, subst, arith, All, take-append-drop, length-append}
+use Rattle.memory_windows.proofs.Cited.{length-take-le, length-drop, drop_more, take_at, drop_at, length_push, get_or_append_left}
+use Rattle.memory_windows.proofs.Cited.{get_or-take, get_or_at, All-append, All-cons, All-take, All-drop, Contains-append_left}
+use Rattle.memory_windows.proofs.Cited.{Contains-append_right, Contains-append_cases, prefix_len-le-length, prefix_len_stops}
+use Rattle.memory_windows.proofs.Cited.{prefix_len_passes, position_or_len_is, and_parts, eqb-true, eq-eqb, leb-true, not-false, eqb, leb}
+use Rattle.memory_windows.proofs.Cited.{remove, prefix_len, position_or_len, Contains, window, with_window, without_window, Window}
+use Rattle.std.proofs.lemmas.List.{append_assoc}
 
 module _ (at n : ℕ) (ws : List Window) where
   abbrev test : Window → Bool

@@ -1,13 +1,8 @@
 -- For callers: windows in order of place as one is put in or taken out, and how often each stands among them.
-use Rattle.std.proofs.Common.{◌≡◌, ℕ, ◌+◌, ◌<◌, ◌≤◌, ◌⊎◌, inl, inr, cond, ◌&&◌, zero, suc, Bool, true, false, not}
-use Rattle.std.proofs.Common.{List, [], ◌∷◌, length, get_or, refl, sym, ap, ◌∙◌, subst, arith}
-use Rattle.std.proofs.lemmas.Bool.{and_parts, eqb-true, eq-eqb, leb-true, leb-false}
-use Rattle.std.proofs.Math.Dec.{eqb}
-use Rattle.std.proofs.lemmas.List.Elements.{All-cons, All-nil, All-head, All-tail}
-use Rattle.std.specs.List.{Contains, insert, remove, prefix_len, position_or_len}
-use Rattle.memory_windows.specs.Windows.{InOrder, IsApart, window, ends_by, is_window, Misses, put_in, taken_out}
-use Rattle.memory_windows.specs.declared.Window.{Window}
-use Rattle.memory_windows.specs.Counted.{one, times}
+use Rattle.memory_windows.proofs.Cited.{◌≡◌, ℕ, ◌+◌, ◌<◌, ◌≤◌, ◌⊎◌, inl, inr, cond, ◌&&◌, zero, suc, Bool, true, false, not, List, [], ◌∷◌}
+use Rattle.memory_windows.proofs.Cited.{length, get_or, refl, sym, ap, ◌∙◌, subst, arith, and_parts, eqb-true, eq-eqb, leb-true, leb-false}
+use Rattle.memory_windows.proofs.Cited.{eqb, All-cons, All-nil, All-head, All-tail, Contains, insert, remove, prefix_len, position_or_len}
+use Rattle.memory_windows.proofs.Cited.{InOrder, IsApart, window, ends_by, is_window, Misses, put_in, taken_out, Window, one, times}
 
 up : (k : ℕ) → 1 + k ≡ suc k
 up k = omega arith

@@ -1,9 +1,6 @@
 -- A byte outside what is written over is as it was.
-use Rattle.std.proofs.Common.{◌≡◌, ℕ, ◌+◌, ◌≤◌, inl, inr, zero, suc, List, [], ◌∷◌, Option, Some, None, length}
-use Rattle.std.proofs.Common.{slice_get, refl, sym, ◌∙◌, ap, arith}
-use Rattle.memory_windows.specs.declared.Window.{Window}
-use Rattle.memory_windows.specs.Outside.{IsOutside}
-use Rattle.memory_windows.specs.Writes.{written, piece}
+use Rattle.memory_windows.proofs.Cited.{◌≡◌, ℕ, ◌+◌, ◌≤◌, inl, inr, zero, suc, List, [], ◌∷◌, Option, Some, None, length, slice_get, refl}
+use Rattle.memory_windows.proofs.Cited.{sym, ◌∙◌, ap, arith, Window, IsOutside, written, piece}
 use Rattle.memory_windows.proofs.Pieces.{piece-written_below, piece-written_above}
 
 abbrev first_of : List ℕ → Option ℕ

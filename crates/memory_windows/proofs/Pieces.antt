@@ -1,10 +1,8 @@
 -- For callers: pieces of a list that was written over from a place on.
-use Rattle.std.proofs.Common.{◌≡◌, ℕ, ◌+◌, ◌-◌, ◌≤◌, List, ◌++◌, length, take, drop, sym, ap, ◌∙◌, arith}
-use Rattle.std.proofs.Common.{append_assoc, length-append}
-use Rattle.std.proofs.lemmas.List.{length-take-le, length-drop, take-append-le, take_at, drop_at, drop-append-le}
-use Rattle.std.proofs.lemmas.List.{drop-drop, take-take, drop-take, take-append-drop}
-use Rattle.std.proofs.Math.Seq.{take-append-add}
-use Rattle.memory_windows.specs.Writes.{written, piece}
+use Rattle.memory_windows.proofs.Cited.{◌≡◌, ℕ, ◌+◌, ◌-◌, ◌≤◌, List, ◌++◌, length, take, drop, sym, ap, ◌∙◌, arith, append_assoc}
+use Rattle.memory_windows.proofs.Cited.{length-append, length-take-le, length-drop, take-append-le, take_at, drop_at, drop-append-le}
+use Rattle.memory_windows.proofs.Cited.{drop-drop, take-take, drop-take, take-append-add, written, piece}
+use Rattle.std.proofs.lemmas.List.{take-append-drop}
 
 module _ (at : ℕ) (ys xs : List ℕ) where
   pub length-written : at + length ys ≤ length xs → length (written at ys xs) ≡ length xs

@@ -1,8 +1,6 @@
 -- For callers: a stretch that is written is its first part written, and the rest, in either order.
-use Rattle.std.proofs.Common.{◌≡◌, ℕ, ◌+◌, ◌≤◌, List, ◌++◌, length, take, drop, refl, sym, ap, ◌∙◌, arith}
-use Rattle.std.proofs.Common.{append_assoc, length-append}
-use Rattle.std.proofs.lemmas.List.{length-take-le, drop_at}
-use Rattle.memory_windows.specs.Writes.{written}
+use Rattle.memory_windows.proofs.Cited.{◌≡◌, ℕ, ◌+◌, ◌≤◌, List, ◌++◌, length, take, drop, refl, sym, ap, ◌∙◌, arith, append_assoc}
+use Rattle.memory_windows.proofs.Cited.{length-append, length-take-le, drop_at, written}
 use Rattle.memory_windows.proofs.Pieces.{take-written_below, written-written}
 
 module _ (at : ℕ) (A B xs : List ℕ) (fits : at + length A + length B ≤ length xs) where

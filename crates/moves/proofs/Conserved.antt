@@ -1,26 +1,13 @@
-use Rattle.std.proofs.Common.{◌≡◌, ℕ, ◌+◌, ◌-◌, ◌≤◌, zero, suc, Bool, true, false, List, [], ◌∷◌, ◌++◌, refl, ap}
-use Rattle.std.proofs.Common.{cond, arith, Option, Some, None}
-use Rattle.std.specs.Option.{option_map, option_or}
-use Rattle.std.specs.Prelude.{unwrap_or, option_and_then}
-use Rattle.std.proofs.lemmas.Option.{option_and_then_some}
-use Rattle.memory_windows.specs.Writes.{written}
-use Rattle.block_store.specs.Block.{Block, Free, Nonrelocatable, Masters, Relocatable, size, total, count, free, free_sum}
-use Rattle.block_store.specs.Block.{is_relocatable, content_of, with_content}
-use Rattle.block_store.specs.Run.{in_run, has_free, segments, joined, movers}
-use Rattle.block_store.specs.Room.{Spot, spot, filled, may_be_purged, lowest_purged, purge, put_in_place, put_at_base}
-use Rattle.block_store.specs.Grow.{growth, taken, grow_up, move_away, grow_last, grow_mover, freed}
-use Rattle.block_store.specs.Compact.{beyond}
-use Rattle.block_store.proofs.Zone.Alike.{OneRun, one-run}
-use Rattle.block_store.proofs.Zone.Keeping.{tidied, freely, purged-le, filled-is, freed-is, put-le, based-le, taken-le, moved-le}
-use Rattle.block_store.proofs.Zone.Keeping.{unless, unless-le}
-use Rattle.block_store.proofs.Zone.Surviving.{movers-all, put-all, based-all, taken-all, moved-all, whole}
-use Rattle.block_store.proofs.Zone.Tidy.{spot-is, spot-passes}
-use Rattle.block_store.proofs.Zone.Totals.{total-append, total-le}
-use Rattle.block_store.proofs.Zone.Views.{map-some}
-use Rattle.block_store.proofs.Zone.Zones.{joined-segments, joined-is}
-use Rattle.block_store.proofs.Regroup.RunLists.{segments-loose}
-use Rattle.moves.specs.Moves.{Move, Search, Purge, Put, Base, Grow, Extend, Push, Cut, Drop, Write, is_same, pushed}
-use Rattle.moves.specs.Moves.{run_above, rewritten, lowest_gone, gone_above, one, did}
+use Rattle.moves.proofs.Cited.{◌≡◌, ℕ, ◌+◌, ◌-◌, ◌≤◌, zero, suc, Bool, true, false, List, [], ◌∷◌, ◌++◌, refl, ap, cond, arith, Option}
+use Rattle.moves.proofs.Cited.{Some, None, option_map, option_or, unwrap_or, option_and_then, option_and_then_some, written, Block, Free}
+use Rattle.moves.proofs.Cited.{Nonrelocatable, Masters, Relocatable, size, total, count, free, free_sum, is_relocatable, content_of}
+use Rattle.moves.proofs.Cited.{with_content, in_run, has_free, segments, joined, movers, Spot, spot, filled, may_be_purged, lowest_purged}
+use Rattle.moves.proofs.Cited.{purge, put_in_place, put_at_base, growth, taken, grow_up, move_away, grow_last, grow_mover, freed, beyond}
+use Rattle.moves.proofs.Cited.{OneRun, one-run, tidied, freely, purged-le, filled-is, freed-is, put-le, based-le, taken-le, moved-le}
+use Rattle.moves.proofs.Cited.{unless, unless-le, movers-all, put-all, based-all, taken-all, moved-all, whole, spot-is, spot-passes}
+use Rattle.moves.proofs.Cited.{total-append, total-le, map-some, joined-segments, joined-is, segments-loose, Move, Search, Purge, Put, Base}
+use Rattle.moves.proofs.Cited.{Grow, Extend, Push, Cut, Drop, Write, is_same, pushed, run_above, rewritten, lowest_gone, gone_above, one}
+use Rattle.moves.proofs.Cited.{did}
 use Rattle.moves.proofs.Paths.{Along}
 
 -- What a path leaves and what it purges come to what there was and what it puts, by any measure that sees no Free block.

@@ -1,3 +1,4 @@
+mod Cited
 pub mod Paths
 pub mod Refused
 pub mod Conserved

@@ -1,10 +1,6 @@
-use Rattle.std.proofs.Common.{◌≡◌, ℕ, ◌+◌, Bool, true, false, List, [], ◌∷◌, ◌++◌, refl, sym, ◌∙◌, ap, cond, arith}
-use Rattle.std.proofs.Common.{is_some}
-use Rattle.std.proofs.Common.{append_assoc}
-use Rattle.block_store.specs.Block.{Block, Masters}
-use Rattle.block_store.specs.Room.{purge}
-use Rattle.moves.specs.Moves.{Move, Search, Purge, Base, Did, untouched, and_then, moved, one, did}
-use Rattle.moves.specs.Seeking.{Sought, no_room, sought, purges_for, seek, seek_slot, then_seek, around}
+use Rattle.moves.proofs.Cited.{◌≡◌, ℕ, ◌+◌, Bool, true, false, List, [], ◌∷◌, ◌++◌, refl, sym, ◌∙◌, ap, cond, arith, is_some, append_assoc}
+use Rattle.moves.proofs.Cited.{Block, Masters, purge, Move, Search, Purge, Base, Did, untouched, and_then, moved, one, did, Sought, no_room}
+use Rattle.moves.proofs.Cited.{sought, purges_for, seek, seek_slot, then_seek, around}
 
 -- A path and then another does what the two do; what is known of each move of a path.
 

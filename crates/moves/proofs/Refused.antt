@@ -1,13 +1,7 @@
-use Rattle.std.proofs.Common.{◌≡◌, ℕ, ◌+◌, Bool, true, false, List, [], ◌∷◌, ◌++◌, refl, sym, subst, cond, is_some}
-use Rattle.std.proofs.Common.{nat_le}
-use Rattle.mac_words.specs.Size.{phys}
-use Rattle.block_store.specs.Block.{Block, Masters, size, is_mover, resized}
-use Rattle.block_store.specs.Run.{has_free, segments}
-use Rattle.block_store.specs.Room.{Spot, purge}
-use Rattle.block_store.specs.Grow.{growth, grow_up}
-use Rattle.moves.specs.Moves.{Move, Purge, Base, Grow, Extend, Push, Cut, did, untouched, moved, run_above}
-use Rattle.moves.specs.Seeking.{Sought, no_room, at_hand, sought, purges_for, seek, if_fits, seek_slot, seek_in_place}
-use Rattle.moves.specs.Seeking.{seek_resized, seek_size, around}
+use Rattle.moves.proofs.Cited.{◌≡◌, ℕ, ◌+◌, Bool, true, false, List, [], ◌∷◌, ◌++◌, refl, sym, subst, cond, is_some, nat_le, phys, Block}
+use Rattle.moves.proofs.Cited.{Masters, size, is_mover, resized, has_free, segments, Spot, purge, growth, grow_up, Move, Purge, Base, Grow}
+use Rattle.moves.proofs.Cited.{Extend, Push, Cut, did, untouched, moved, run_above, Sought, no_room, at_hand, sought, purges_for, seek}
+use Rattle.moves.proofs.Cited.{if_fits, seek_slot, seek_in_place, seek_resized, seek_size, around}
 
 -- Where no room is found a path only searches, and so many times wherever it begins.
 

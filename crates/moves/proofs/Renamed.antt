@@ -1,25 +1,15 @@
-use Rattle.std.proofs.Common.{◌≡◌, ℕ, ◌-◌, zero, suc, Bool, true, false, ◌&&◌, List, [], ◌∷◌, ◌++◌, refl, sym}
-use Rattle.std.proofs.Common.{◌∙◌, ap, cond, map, filter, Option, Some, None, is_some}
-use Rattle.std.proofs.lemmas.List.{map-append}
-use Rattle.std.specs.Option.{option_map}
-use Rattle.std.specs.Prelude.{unwrap_or, option_and_then}
-use Rattle.mac_words.proofs.Plain.{is_some-map}
-use Rattle.memory_windows.specs.Writes.{written}
-use Rattle.block_store.specs.Block.{Block, Free, Nonrelocatable, Masters, Relocatable, size, free_of, free_sum, free, is_mover}
-use Rattle.block_store.specs.Block.{is_room, is_relocatable, content_of, with_content, tidy, rename, rename_block}
-use Rattle.block_store.specs.Run.{RunSpot, run_spot, change_run, has, has_free, high, low, movers, others, segments, joined}
-use Rattle.block_store.specs.Room.{Spot, spot, rename_spot, filled, place, may_be_purged}
-use Rattle.block_store.specs.Grow.{growth, grow_up}
-use Rattle.block_store.specs.Rest.{lowered_in_run}
-use Rattle.block_store.proofs.Renamed.Renaming.{size-rename, free_of-rename, free-rename, total-rename, filter-rename}
-use Rattle.block_store.proofs.Renamed.Renaming.{is_mover-rename, is_room-rename, is_purgeable-rename, tidy-rename}
-use Rattle.block_store.proofs.Renamed.Renaming.{spot-rename, filled-rename, segments-rename, joined-rename, rename_stretch}
-use Rattle.block_store.proofs.Renamed.Renaming.{rename_run_spot, run_spot-rename, change_run-rename, has_free-rename}
-use Rattle.block_store.proofs.Renamed.Renaming.{place-rename, put_in_place-rename, purge-rename, freed-rename, has-rename}
-use Rattle.block_store.proofs.Renamed.Renaming.{others-rename, grow_up-rename, grow_mover-rename}
-use Rattle.moves.specs.Moves.{Move, Search, Purge, Put, Base, Grow, Extend, Push, Cut, Drop, Write, is_same, run_above, pushed}
-use Rattle.moves.specs.Moves.{rewritten, moved, lowest_gone, gone_above, gone_by, lowered_in, place_lowers, last_lowers}
-use Rattle.moves.specs.Moves.{growth_lowers, lowered_by, searches_by, and_then, one, did, rename_move, rename_did}
+use Rattle.moves.proofs.Cited.{◌≡◌, ℕ, ◌-◌, zero, suc, Bool, true, false, ◌&&◌, List, [], ◌∷◌, ◌++◌, refl, sym, ◌∙◌, ap, cond, map, filter}
+use Rattle.moves.proofs.Cited.{Option, Some, None, is_some, map-append, option_map, unwrap_or, option_and_then, is_some-map, written, Block}
+use Rattle.moves.proofs.Cited.{Free, Nonrelocatable, Masters, Relocatable, size, free_of, free_sum, free, is_mover, is_room, is_relocatable}
+use Rattle.moves.proofs.Cited.{content_of, with_content, tidy, rename, rename_block, RunSpot, run_spot, change_run, has, has_free, high}
+use Rattle.moves.proofs.Cited.{low, movers, others, segments, joined, Spot, spot, rename_spot, filled, place, may_be_purged, growth}
+use Rattle.moves.proofs.Cited.{grow_up, lowered_in_run, size-rename, free_of-rename, free-rename, total-rename, filter-rename}
+use Rattle.moves.proofs.Cited.{is_mover-rename, is_room-rename, is_purgeable-rename, tidy-rename, spot-rename, filled-rename}
+use Rattle.moves.proofs.Cited.{segments-rename, joined-rename, rename_stretch, rename_run_spot, run_spot-rename, change_run-rename}
+use Rattle.moves.proofs.Cited.{has_free-rename, place-rename, put_in_place-rename, purge-rename, freed-rename, has-rename, others-rename}
+use Rattle.moves.proofs.Cited.{grow_up-rename, grow_mover-rename, Move, Search, Purge, Put, Base, Grow, Extend, Push, Cut, Drop, Write}
+use Rattle.moves.proofs.Cited.{is_same, run_above, pushed, rewritten, moved, lowest_gone, gone_above, gone_by, lowered_in, place_lowers}
+use Rattle.moves.proofs.Cited.{last_lowers, growth_lowers, lowered_by, searches_by, and_then, one, did, rename_move, rename_did}
 
 -- Neither a path nor what it does sees the names of blocks, where two blocks that it tells apart have two names.
 

@@ -1,21 +1,9 @@
-use Rattle.std.proofs.Common.{◌≡◌, ℕ, ◌+◌, ◌≤◌, Bool, true, false, List, [], ◌∷◌, refl, sym, ◌∙◌, ap, subst, cond}
-use Rattle.std.proofs.Common.{arith}
-use Rattle.std.proofs.Common.{is_some, nat_le, Option, Some, None}
-use Rattle.std.specs.Option.{option_map}
-use Rattle.std.specs.Prelude.{unwrap_or, option_and_then}
-use Rattle.std.proofs.lemmas.Bool.{cond-true, leb-true, leb-false}
-use Rattle.std.proofs.lemmas.Option.{same_Some}
-use Rattle.block_store.specs.Block.{Block, Free, size, total, free_sum, count, is_mover}
-use Rattle.block_store.specs.Run.{in_run, has_free, segments}
-use Rattle.block_store.specs.Room.{Spot, spot, filled, purge, may_be_purged}
-use Rattle.block_store.specs.Grow.{growth, grow_up, grow_mover}
-use Rattle.block_store.proofs.Zone.Keeping.{purged-le, counts-free, unless, unless-free, filled-is, moved-le}
-use Rattle.block_store.proofs.Zone.Surviving.{whole}
-use Rattle.block_store.proofs.Zone.Tidy.{spot-is, spot-passes}
-use Rattle.block_store.proofs.Zone.Totals.{total-append}
-use Rattle.block_store.proofs.Regroup.Parts.{mover-in}
-use Rattle.moves.specs.Moves.{Move, Search, Purge, Grow, Extend, Push, Cut, is_same, run_above, pushed, did}
-use Rattle.moves.specs.Seeking.{Sought, at_hand, sought, purges_for, seek, seek_resized}
+use Rattle.moves.proofs.Cited.{◌≡◌, ℕ, ◌+◌, ◌≤◌, Bool, true, false, List, [], ◌∷◌, refl, sym, ◌∙◌, ap, subst, cond, arith, is_some, nat_le}
+use Rattle.moves.proofs.Cited.{Option, Some, None, option_map, unwrap_or, option_and_then, cond-true, leb-true, leb-false, same_Some, Block}
+use Rattle.moves.proofs.Cited.{Free, size, total, free_sum, count, is_mover, in_run, has_free, segments, Spot, spot, filled, purge}
+use Rattle.moves.proofs.Cited.{may_be_purged, growth, grow_up, grow_mover, purged-le, counts-free, unless, unless-free, filled-is, moved-le}
+use Rattle.moves.proofs.Cited.{whole, spot-is, spot-passes, total-append, mover-in, Move, Search, Purge, Grow, Extend, Push, Cut, is_same}
+use Rattle.moves.proofs.Cited.{run_above, pushed, did, Sought, at_hand, sought, purges_for, seek, seek_resized}
 use Rattle.moves.proofs.Paths.{Along, along-sought}
 use Rattle.moves.proofs.Conserved.{AsNew, Weighs, PathWeighs, same-free, purged-is, gone-light, extended, pushes}
 use Rattle.moves.proofs.Steady.{Stays, PathStays}

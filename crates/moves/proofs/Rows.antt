@@ -1,22 +1,10 @@
-use Rattle.std.proofs.Common.{◌≡◌, ℕ, ◌+◌, ◌≤◌, Bool, true, false, List, [], ◌∷◌, ◌++◌, append-nil, refl, sym, ◌∙◌, ap}
-use Rattle.std.proofs.Common.{subst, cond, arith, is_some, nat_le, Option, Some, None}
-use Rattle.std.specs.Prelude.{unwrap_or}
-use Rattle.mac_words.specs.Size.{phys}
-use Rattle.block_store.specs.Block.{Block, Free, size, total, count, is_mover, is_relocatable, resized}
-use Rattle.block_store.specs.Run.{has_free, segments}
-use Rattle.block_store.specs.Room.{Spot, spot, filled, place, put_in_place, purge, count_of}
-use Rattle.block_store.specs.Grow.{growth, grow_up, freed}
-use Rattle.block_store.specs.Compact.{beyond}
-use Rattle.block_store.proofs.Plain.Trials.{least_or_last-le}
-use Rattle.block_store.proofs.Zone.Tidy.{spot-is}
-use Rattle.block_store.proofs.Zone.Totals.{total-append}
-use Rattle.block_store.proofs.Zone.Zones.{joined-segments, joined-is}
-use Rattle.block_store.proofs.Zone.Keeping.{unless, filled-is, freed-is}
-use Rattle.block_store.proofs.Zone.Views.{map-some}
-use Rattle.moves.specs.Moves.{Move, Search, Purge, Put, Grow, Extend, Push, Cut, Drop, is_same, moved, run_above}
-use Rattle.moves.specs.Moves.{lowest_gone}
-use Rattle.moves.specs.Moves.{gone_above, gone_by, did}
-use Rattle.moves.specs.Seeking.{Sought, no_room, at_hand, sought, purges_for, seek, seek_resized, seek_size, around}
+use Rattle.moves.proofs.Cited.{◌≡◌, ℕ, ◌+◌, ◌≤◌, Bool, true, false, List, [], ◌∷◌, ◌++◌, append-nil, refl, sym, ◌∙◌, ap, subst, cond, arith}
+use Rattle.moves.proofs.Cited.{is_some, nat_le, Option, Some, None, unwrap_or, phys, Block, Free, size, total, count, is_mover}
+use Rattle.moves.proofs.Cited.{is_relocatable, resized, has_free, segments, Spot, spot, filled, place, put_in_place, purge, count_of}
+use Rattle.moves.proofs.Cited.{growth, grow_up, freed, beyond, least_or_last-le, spot-is, total-append, joined-segments, joined-is, unless}
+use Rattle.moves.proofs.Cited.{filled-is, freed-is, map-some, Move, Search, Purge, Put, Grow, Extend, Push, Cut, Drop, is_same, moved}
+use Rattle.moves.proofs.Cited.{run_above, lowest_gone, gone_above, gone_by, did, Sought, no_room, at_hand, sought, purges_for, seek}
+use Rattle.moves.proofs.Cited.{seek_resized, seek_size, around}
 use Rattle.moves.proofs.Paths.{Along, along-if, along-seek}
 use Rattle.moves.proofs.Conserved.{Weighs, PathWeighs, PutsNone, put_by, put_on, purged-is, keeps}
 use Rattle.moves.proofs.Resized.{Alone, fewest, in_place, by_way, resized-along, resized-weighs, resized-new}

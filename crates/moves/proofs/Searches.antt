@@ -1,19 +1,10 @@
-use Rattle.std.proofs.Common.{◌≡◌, ℕ, Bool, true, false, List, [], ◌∷◌, ◌++◌, refl, sym, ◌∙◌, ap, cond, map}
-use Rattle.std.proofs.Common.{is_some, nat_le}
-use Rattle.std.proofs.lemmas.List.{map-append}
-use Rattle.mac_words.specs.Size.{phys}
-use Rattle.mac_words.proofs.Plain.{is_some-map}
-use Rattle.block_store.specs.Block.{Block, Masters, size, is_mover, resized, rename, rename_block}
-use Rattle.block_store.specs.Run.{has_free, segments}
-use Rattle.block_store.specs.Room.{Spot, rename_spot, may_be_purged, purge, count_of}
-use Rattle.block_store.specs.Grow.{growth, grow_up}
-use Rattle.block_store.specs.Compact.{least_or_last}
-use Rattle.block_store.proofs.Renamed.Renaming.{size-rename, total-rename, is_mover-rename, is_purgeable-rename, purge-rename}
-use Rattle.block_store.proofs.Renamed.Renaming.{segments-rename, has_free-rename, grow_up-rename}
-use Rattle.block_store.proofs.Renamed.GrowRenaming.{resized-rename}
-use Rattle.moves.specs.Moves.{Move, Purge, Put, Base, Grow, Extend, Push, Cut, Did, did, moved, rename_move}
-use Rattle.moves.specs.Seeking.{Sought, no_room, at_hand, sought, purges_for, seek, if_fits, seek_slot, then_seek}
-use Rattle.moves.specs.Seeking.{seek_in_place, seek_resized, seek_size, rename_sought}
+use Rattle.moves.proofs.Cited.{◌≡◌, ℕ, Bool, true, false, List, [], ◌∷◌, ◌++◌, refl, sym, ◌∙◌, ap, cond, map, is_some, nat_le, map-append}
+use Rattle.moves.proofs.Cited.{phys, is_some-map, Block, Masters, size, is_mover, resized, rename, rename_block, has_free, segments, Spot}
+use Rattle.moves.proofs.Cited.{rename_spot, may_be_purged, purge, count_of, growth, grow_up, least_or_last, size-rename, total-rename}
+use Rattle.moves.proofs.Cited.{is_mover-rename, is_purgeable-rename, purge-rename, segments-rename, has_free-rename, grow_up-rename}
+use Rattle.moves.proofs.Cited.{resized-rename, Move, Purge, Put, Base, Grow, Extend, Push, Cut, Did, did, moved, rename_move, Sought}
+use Rattle.moves.proofs.Cited.{no_room, at_hand, sought, purges_for, seek, if_fits, seek_slot, then_seek, seek_in_place, seek_resized}
+use Rattle.moves.proofs.Cited.{seek_size, rename_sought}
 use Rattle.moves.proofs.Renamed.{Apart, Names, PathNames, growth-rename, moved-rename, did-rename}
 
 -- No search sees the names of blocks.

@@ -1,26 +1,12 @@
-use Rattle.std.proofs.Common.{◌≡◌, ℕ, ◌+◌, ◌-◌, ◌≤◌, Bool, true, false, List, [], ◌∷◌, ◌++◌, refl, sym, ◌∙◌, ap, arith}
-use Rattle.std.proofs.Common.{cond, Option, Some, None}
-use Rattle.std.specs.Option.{option_map}
-use Rattle.std.specs.Prelude.{unwrap_or, option_and_then}
-use Rattle.std.proofs.lemmas.Bool.{cond-false}
-use Rattle.std.proofs.lemmas.Option.{option_and_then_some}
-use Rattle.memory_windows.specs.Writes.{written}
-use Rattle.block_store.specs.Block.{Block, Free, size, sizes, total, free, free_sum, count, is_mover, is_relocatable}
-use Rattle.block_store.specs.Block.{content_of, with_content}
-use Rattle.block_store.specs.Run.{in_run, segments, joined, movers}
-use Rattle.block_store.specs.Room.{Spot, spot, filled, put_in_place, put_at_base}
-use Rattle.block_store.specs.Grow.{growth, grow_up, grow_mover}
-use Rattle.block_store.specs.Compact.{beyond}
-use Rattle.block_store.proofs.Zone.Alike.{OneRun, one-run, Alike, stands, locks, unlocked-run, sizes-free, sizes-movers}
-use Rattle.block_store.proofs.Zone.Alike.{alike-then, alike-append, alike-cons, alike-heads, alike-refl, alike-purged}
-use Rattle.block_store.proofs.Zone.Alike.{alike-put, alike-based, alike-moved, alike-grown_up, alike-filled, alike-freed}
-use Rattle.block_store.proofs.Zone.Keeping.{purged-le, filtered, freely}
-use Rattle.block_store.proofs.Zone.Tidy.{spot-is}
-use Rattle.block_store.proofs.Zone.Totals.{total-append}
-use Rattle.block_store.proofs.Zone.Zones.{joined-segments, joined-is}
-use Rattle.block_store.proofs.Regroup.RunLists.{segments-loose}
-use Rattle.moves.specs.Moves.{Move, Search, Purge, Put, Base, Grow, Extend, Push, Cut, Drop, Write, is_same, pushed}
-use Rattle.moves.specs.Moves.{run_above, rewritten, one, did}
+use Rattle.moves.proofs.Cited.{◌≡◌, ℕ, ◌+◌, ◌-◌, ◌≤◌, Bool, true, false, List, [], ◌∷◌, ◌++◌, refl, sym, ◌∙◌, ap, arith, cond, Option, Some}
+use Rattle.moves.proofs.Cited.{None, option_map, unwrap_or, option_and_then, cond-false, option_and_then_some, written, Block, Free, size}
+use Rattle.moves.proofs.Cited.{sizes, total, free, free_sum, count, is_mover, is_relocatable, content_of, with_content, in_run, segments}
+use Rattle.moves.proofs.Cited.{joined, movers, Spot, spot, filled, put_in_place, put_at_base, growth, grow_up, grow_mover, beyond, OneRun}
+use Rattle.moves.proofs.Cited.{one-run, Alike, stands, locks, unlocked-run, sizes-free, sizes-movers, alike-then, alike-append, alike-cons}
+use Rattle.moves.proofs.Cited.{alike-heads, alike-refl, alike-purged, alike-put, alike-based, alike-moved, alike-grown_up, alike-filled}
+use Rattle.moves.proofs.Cited.{alike-freed, purged-le, filtered, freely, spot-is, total-append, joined-segments, joined-is, segments-loose}
+use Rattle.moves.proofs.Cited.{Move, Search, Purge, Put, Base, Grow, Extend, Push, Cut, Drop, Write, is_same, pushed, run_above, rewritten}
+use Rattle.moves.proofs.Cited.{one, did}
 use Rattle.moves.proofs.Conserved.{same-free}
 use Rattle.moves.proofs.Paths.{Along}
 

@@ -1,11 +1,6 @@
-use Rattle.std.proofs.Common.{◌≡◌, ℕ, ◌+◌, ◌≤◌, Bool, true, false, not, List, [], ◌∷◌, length, refl, ap, cond, arith}
-use Rattle.std.proofs.lemmas.Bool.{cond-true, and_parts}
-use Rattle.std.proofs.lemmas.Slice.Eq.{bytes_eq-Decides}
-use Rattle.std.specs.Prelude.{bytes_eq}
-use Rattle.block_store.specs.Block.{Block, total, is_relocatable, is_purgeable, content_of}
-use Rattle.block_store.specs.Room.{may_be_purged}
-use Rattle.moves.specs.Bytes.{bytes_in}
-use Rattle.moves.specs.Moves.{Move, did}
+use Rattle.moves.proofs.Cited.{◌≡◌, ℕ, ◌+◌, ◌≤◌, Bool, true, false, not, List, [], ◌∷◌, length, refl, ap, cond, arith, cond-true, and_parts}
+use Rattle.moves.proofs.Cited.{bytes_eq-Decides, bytes_eq, Block, total, is_relocatable, is_purgeable, content_of, may_be_purged, bytes_in}
+use Rattle.moves.proofs.Cited.{Move, did}
 use Rattle.moves.proofs.Conserved.{put_on, PathWeighs, conserved, only-purgeable}
 
 -- What a path purges of a handle is what goes: the handle's block, where it has none afterwards, and else nothing.

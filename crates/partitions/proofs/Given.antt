@@ -1,15 +1,8 @@
 -- What a granted window is.
-use Rattle.std.proofs.Common.{◌≡◌, ℕ, ◌+◌, ◌-◌, ◌%◌, ◌≤◌, ◌⊎◌, inl, inr, Bool, true, false, cond, List, [], ◌∷◌}
-use Rattle.std.proofs.Common.{Option, Some, None, IfSome, refl, sym, subst, arith, All}
-use Rattle.std.proofs.lemmas.Bool.{leb-true}
-use Rattle.std.proofs.lemmas.List.Elements.{All-weaker}
-use Rattle.std.proofs.lemmas.Option.{IfSome_then}
-use Rattle.std.specs.List.{AllByRecursion, find}
-use Rattle.std.specs.Option.{option_map, option_or}
-use Rattle.memory_windows.specs.declared.Window.{Window}
-use Rattle.memory_windows.specs.Windows.{InOrder, IsApart, window}
-use Rattle.partitions.specs.Grant.{holes, has_room, lower_end, largest, at_least, grant_of, grant}
-use Rattle.partitions.specs.Granted.{HoldsZone}
+use Rattle.partitions.proofs.Cited.{◌≡◌, ℕ, ◌+◌, ◌-◌, ◌%◌, ◌≤◌, ◌⊎◌, inl, inr, Bool, true, false, cond, List, [], ◌∷◌, Option, Some, None}
+use Rattle.partitions.proofs.Cited.{IfSome, refl, sym, subst, arith, All, leb-true, All-weaker, IfSome_then, AllByRecursion, find}
+use Rattle.partitions.proofs.Cited.{option_map, option_or, Window, InOrder, IsApart, window, holes, has_room, lower_end, largest, at_least}
+use Rattle.partitions.proofs.Cited.{grant_of, grant, HoldsZone}
 use Rattle.partitions.proofs.Holes.{IsHole, are_holes, found, greatest, none_found}
 
 pub record IsGiven (memory minimum : ℕ) (ws : List Window) (w : Window) : Type 0 where

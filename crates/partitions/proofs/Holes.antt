@@ -1,15 +1,8 @@
 -- What the holes of a memory are, and what is found among them.
-use Rattle.std.proofs.Common.{◌≡◌, ℕ, ◌+◌, ◌-◌, ◌%◌, ◌≤◌, inl, Bool, true, false, cond, List, [], ◌∷◌}
-use Rattle.std.proofs.Common.{Option, Some, None, IfSome, refl, arith, All}
-use Rattle.std.proofs.Math.Dec.{ltb}
-use Rattle.std.proofs.lemmas.Bool.{leb-true, leb-false, le-ltb}
-use Rattle.std.proofs.lemmas.List.Elements.{All-cons, All-nil, All-head, All-tail}
-use Rattle.std.specs.List.{AllByRecursion, find}
-use Rattle.memory_windows.specs.declared.Window.{Window}
-use Rattle.memory_windows.specs.Windows.{InOrder, IsApart, Misses, window}
-use Rattle.memory_windows.proofs.Ordered.{apart-above, order-ends}
-use Rattle.partitions.specs.Grant.{holes, has_room, larger_hole, largest}
-use Rattle.partitions.specs.Granted.{HoldsZone}
+use Rattle.partitions.proofs.Cited.{◌≡◌, ℕ, ◌+◌, ◌-◌, ◌%◌, ◌≤◌, inl, Bool, true, false, cond, List, [], ◌∷◌, Option, Some, None, IfSome}
+use Rattle.partitions.proofs.Cited.{refl, arith, All, ltb, leb-true, leb-false, le-ltb, All-cons, All-nil, All-head, All-tail}
+use Rattle.partitions.proofs.Cited.{AllByRecursion, find, Window, InOrder, IsApart, Misses, window, apart-above, order-ends, holes}
+use Rattle.partitions.proofs.Cited.{has_room, larger_hole, largest, HoldsZone}
 
 -- bytes of the memory from a place on that are in no window
 pub record IsHole (memory from : ℕ) (ws : List Window) (hole : Window) : Type 0 where

@@ -1,10 +1,6 @@
 -- The largest of holes, found one after another.
-use Rattle.std.proofs.Common.{◌≡◌, ℕ, ◌+◌, ◌-◌, ◌<◌, ◌≤◌, List, [], ◌∷◌, refl, sym, ap, ◌∙◌, arith}
-use Rattle.std.proofs.Common.{zero, suc, ◌⊎◌, inl, inr}
-use Rattle.std.proofs.lemmas.Bool.{cases_lt, le-ltb, lt-ltb}
-use Rattle.memory_windows.specs.declared.Window.{Window}
-use Rattle.memory_windows.specs.Windows.{window}
-use Rattle.partitions.specs.Grant.{holes, larger_hole, largest}
+use Rattle.partitions.proofs.Cited.{◌≡◌, ℕ, ◌+◌, ◌-◌, ◌<◌, ◌≤◌, List, [], ◌∷◌, refl, sym, ap, ◌∙◌, arith, zero, suc, ◌⊎◌, inl, inr}
+use Rattle.partitions.proofs.Cited.{cases_lt, le-ltb, lt-ltb, Window, window, holes, larger_hole, largest}
 
 higher : (low high : Window) → low.len < high.len → larger_hole low high ≡ high
 higher low high h = rw (lt-ltb low.len high.len h) refl

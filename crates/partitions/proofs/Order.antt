@@ -1,14 +1,9 @@
 -- Windows in order.
-use Rattle.std.proofs.Common.{◌≡◌, ℕ, ◌+◌, ◌<◌, ◌≤◌, List, [], ◌∷◌, length, drop, get_or, subst, sym, arith, suc}
-use Rattle.std.proofs.Math.Seq.{drop-cons}
-use Rattle.std.proofs.lemmas.List.Elements.{All-from_recursion}
-use Rattle.std.proofs.lemmas.List.Kept.{AllPairs-cons}
-use Rattle.std.specs.List.{All, AllPairs, AllByRecursion, Contains}
-use Rattle.memory_windows.specs.declared.Window.{Window}
-use Rattle.memory_windows.specs.Windows.{InOrder, IsApart, put_in, taken_out}
-use Rattle.memory_windows.proofs.Ordered.{order-ends, order-put_in, order-taken_out, apart-taken_out}
-use Rattle.memory_windows.proofs.Listed.{without_window-with_window, All-with_window, All-without_window}
-use Rattle.partitions.specs.Granted.{Granted, HoldsZone, granted-order, LieInside, NeverOverlap}
+use Rattle.partitions.proofs.Cited.{◌≡◌, ℕ, ◌+◌, ◌<◌, ◌≤◌, List, [], ◌∷◌, length, drop, get_or, subst, sym, arith, suc, drop-cons}
+use Rattle.partitions.proofs.Cited.{All-from_recursion, AllPairs-cons, AllPairs, AllByRecursion, Contains, Window, InOrder, IsApart, put_in}
+use Rattle.partitions.proofs.Cited.{taken_out, order-ends, order-put_in, order-taken_out, apart-taken_out, without_window-with_window}
+use Rattle.partitions.proofs.Cited.{All-with_window, All-without_window, Granted, HoldsZone, granted-order, LieInside, NeverOverlap}
+use Rattle.std.specs.List.{All}
 
 -- each window of a list in order ends by the end
 pub window_ends : (ws : List Window) (i : ℕ) (d : Window) (from memory : ℕ) → i < length ws

@@ -1,16 +1,8 @@
 -- Where bytes can lie, there is a hole for them.
-use Rattle.std.proofs.Common.{◌≡◌, ℕ, ◌+◌, ◌-◌, ◌≤◌, ◌⊎◌, inl, inr, Bool, true, false, cond, List, [], ◌∷◌}
-use Rattle.std.proofs.Common.{Option, Some, None, refl, arith}
-use Rattle.std.specs.Prelude.{IsSomeAnd}
-use Rattle.std.proofs.Math.Dec.{ltb}
-use Rattle.std.proofs.lemmas.Bool.{leb-false, ltb-true, ltb-false}
-use Rattle.std.proofs.lemmas.List.Elements.{All-head, All-tail}
-use Rattle.std.specs.List.{find}
-use Rattle.std.specs.Option.{option_map, option_or}
-use Rattle.memory_windows.specs.declared.Window.{Window}
-use Rattle.memory_windows.specs.Windows.{IsApart, window}
-use Rattle.partitions.specs.Grant.{holes, has_room, lower_end, larger_hole, largest, at_least}
-use Rattle.partitions.specs.Fitting.{GivesPreferred, GivesLargest}
+use Rattle.partitions.proofs.Cited.{◌≡◌, ℕ, ◌+◌, ◌-◌, ◌≤◌, ◌⊎◌, inl, inr, Bool, true, false, cond, List, [], ◌∷◌, Option, Some, None, refl}
+use Rattle.partitions.proofs.Cited.{arith, IsSomeAnd, ltb, leb-false, ltb-true, ltb-false, All-head, All-tail, find, option_map, option_or}
+use Rattle.partitions.proofs.Cited.{Window, IsApart, window, holes, has_room, lower_end, larger_hole, largest, at_least, GivesPreferred}
+use Rattle.partitions.proofs.Cited.{GivesLargest}
 
 -- the window ends by these bytes, or begins behind them
 abbrev Meets : ℕ → ℕ → Window → Type 0

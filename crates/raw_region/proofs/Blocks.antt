@@ -1,10 +1,6 @@
 -- What a `Vec` of bytes owns beside its fields: its elements, and what else its block has. Assumes `Logic`.
-use Rattle.std.proofs.Common.{◌≡◌, ℕ, ◌+◌, ◌-◌, ◌*◌, ◌^◌, ◌<◌, List, [], ◌∷◌, length, true, refl, sym, arith}
-use Rattle.std.proofs.lemmas.Bool.{ne_eqb, not_from_false}
-use Rattle.std.specs.Allocator.{block_with_items, array_of}
-use Rattle.std.specs.Ptr.{room_for}
-use Rattle.raw_region.specs.Ownership.{run_owns}
-use Rattle.std_alloc.specs.Vec.Ownership.{owns_if, has_block, vec_owns, lodged}
+use Rattle.raw_region.proofs.Cited.{◌≡◌, ℕ, ◌+◌, ◌-◌, ◌*◌, ◌^◌, ◌<◌, List, [], ◌∷◌, length, true, refl, sym, arith, ne_eqb, not_from_false}
+use Rattle.raw_region.proofs.Cited.{block_with_items, array_of, room_for, run_owns, owns_if, has_block, vec_owns, lodged}
 use base.Fml.{Fml, ftrue, fsep, flt, froom}
 use base.Fraction.{full_share}
 use base.Logic.{ent, sep, never, id⊢}

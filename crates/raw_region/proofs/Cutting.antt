@@ -1,20 +1,10 @@
 -- What `cut` and `join` make of a region's gaps.
-use Rattle.std.proofs.Common.{◌≡◌, ℕ, ◌+◌, ◌-◌, ◌<◌, ◌≤◌, List, [], ◌∷◌, ◌++◌, length, take, drop, get_or, replicate}
-use Rattle.std.proofs.Common.{sym, ap, ◌∙◌, subst, arith, zero, suc, vec_len, vec_capacity}
-use Rattle.std.proofs.lemmas.List.{length-map, length-drop, length-take-le}
-use Rattle.std.proofs.lemmas.List.Sums.{prefix_len-le-length}
-use Rattle.std.specs.List.{prefix_len, insert}
+use Rattle.raw_region.proofs.Cited.{◌≡◌, ℕ, ◌+◌, ◌-◌, ◌<◌, ◌≤◌, List, [], ◌∷◌, ◌++◌, length, take, drop, get_or, replicate, sym, ap, ◌∙◌}
+use Rattle.raw_region.proofs.Cited.{subst, arith, zero, suc, vec_len, vec_capacity, length-map, length-drop, length-take-le}
+use Rattle.raw_region.proofs.Cited.{prefix_len-le-length, prefix_len, insert, prefix_len-map, Whole, window, IsApart, with_window, written}
+use Rattle.raw_region.proofs.Cited.{bytes_of, windows_of, window_of, gap_ends_by, IsLaid, IsStart, Fits, front, middle, back, EndsFit}
+use Rattle.raw_region.proofs.Cited.{region_view, IsRegion, Inside, OwnBytes, Gap}
 use denote.RawPtr.{null_ptr, InBlock}
-use Rattle.plain_laws.proofs.Mapped.{prefix_len-map}
-use Rattle.raw_region.specs.Memory.{Whole}
-use Rattle.memory_windows.specs.Windows.{window, IsApart, with_window}
-use Rattle.memory_windows.specs.Writes.{written}
-use Rattle.raw_region.specs.Gaps.{bytes_of, windows_of, window_of, gap_ends_by, IsLaid, IsStart, Fits, front, middle}
-use Rattle.raw_region.specs.Gaps.{back, EndsFit}
-use Rattle.raw_region.specs.Regions.{region_view, IsRegion}
-use Rattle.raw_region.specs.declared.region.Region.TheInside.{Inside}
-use Rattle.raw_region.specs.declared.raw.OwnBytes.{OwnBytes}
-use Rattle.raw_region.specs.declared.gaps.Gap.{Gap}
 use Rattle.raw_region.proofs.GapBytes.{round, opened_laid, opened_length, opened_bytes, middle_bytes, middle_at}
 use Rattle.raw_region.proofs.GapBytes.{middle_home}
 use Rattle.raw_region.proofs.GapWindows.{opened_windows, fits_in, ends_fit}

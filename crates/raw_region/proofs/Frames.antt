@@ -1,14 +1,12 @@
 -- A `Vec` of bytes is its elements and the frame that waits for them. Assumes `Logic`.
-use Rattle.std.proofs.Common.{◌≡◌, ℕ, ◌<◌, List, [], ◌∷◌, length, refl, sym, arith, Vec}
-use Rattle.std.proofs.lemmas.List.{with_items_is}
+use Rattle.raw_region.proofs.Cited.{◌≡◌, ℕ, ◌<◌, List, [], ◌∷◌, length, refl, sym, arith, Vec, with_items_is, with_items, vec_owns, Extent}
+use Rattle.raw_region.proofs.Cited.{run_owns}
 use Rattle.std.proofs.alloc.Global.TheLaws as global
-use Rattle.std.specs.Vec.{with_items}
 use Rattle.std.specs.contracts.alloc.Global as Global
 use Rattle.std.specs.contracts.impls.GlobalAllocator.TheImpl.{ghosts}
 use Rattle.std.specs.declared.alloc.Global as declared
 use Rattle.std_alloc.proofs.vec.Vec.TheLaws as vec
 use Rattle.std_alloc.specs.contracts.vec.Vec as V
-use Rattle.std_alloc.specs.Vec.Ownership.{vec_owns}
 use base.Fml.{fsep, feq, fall, fwand}
 use base.Fraction.{full_share}
 use base.Logic.{ent, sep, wand}
@@ -25,7 +23,6 @@ use seplogic.Ra.Ura.{Ura}
 use types.Kit.{‵, ◌⊛◌, ◌$◌, ◌∵◌, !, qed, move, split, frame, each, assume, show, fsplit, fjoin, feq_l, feq_i, rewrite}
 use types.Kit.{use1, use2, done}
 use types.Logic.{Logic, sem}
-use Rattle.raw_region.specs.Ownership.{Extent, run_owns}
 use Rattle.raw_region.specs.contracts.raw.Frame as Frame
 use Rattle.raw_region.proofs.Blocks.{spare, taken, given_back}
 use Rattle.raw_region.proofs.Steps.{alone, fields_of, alone_made}

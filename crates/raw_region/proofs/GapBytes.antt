@@ -1,13 +1,9 @@
 -- The bytes and the windows of a list of gaps.
-use Rattle.std.proofs.Common.{◌≡◌, ℕ, ◌+◌, ◌-◌, ◌<◌, ◌≤◌, zero, suc, List, [], ◌∷◌, ◌++◌, length, take, drop, get_or}
-use Rattle.std.proofs.Common.{replicate, refl, sym, ap, ◌∙◌, subst, arith, append_assoc, length-append, take_at}
-use Rattle.std.proofs.Common.{drop_at, take-append-drop, add-zero}
-use Rattle.std.proofs.lemmas.List.{length-replicate, length-drop, length-take-le, drop_more}
+use Rattle.raw_region.proofs.Cited.{◌≡◌, ℕ, ◌+◌, ◌-◌, ◌<◌, ◌≤◌, zero, suc, List, [], ◌∷◌, ◌++◌, length, take, drop, get_or, replicate, refl}
+use Rattle.raw_region.proofs.Cited.{sym, ap, ◌∙◌, subst, arith, append_assoc, length-append, take_at, drop_at, take-append-drop, add-zero}
+use Rattle.raw_region.proofs.Cited.{length-replicate, length-drop, length-take-le, drop_more, written, bytes_of, IsLaid, Fits, front}
+use Rattle.raw_region.proofs.Cited.{middle, back, before, Beside, joined, OwnBytes, Gap}
 use denote.RawPtr.{Ptr}
-use Rattle.memory_windows.specs.Writes.{written}
-use Rattle.raw_region.specs.Gaps.{bytes_of, IsLaid, Fits, front, middle, back, before, Beside, joined}
-use Rattle.raw_region.specs.declared.raw.OwnBytes.{OwnBytes}
-use Rattle.raw_region.specs.declared.gaps.Gap.{Gap}
 
 pub bytes_of-append : (xs ys : List Gap) → bytes_of (xs ++ ys) ≡ bytes_of xs ++ bytes_of ys
 bytes_of-append [] ys = refl

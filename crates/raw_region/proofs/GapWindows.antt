@@ -1,21 +1,12 @@
 -- The windows of a list of gaps, where one is put in or taken out.
-use Rattle.std.proofs.Common.{◌≡◌, ℕ, ◌+◌, ◌^◌, ◌<◌, ◌≤◌, ◌⊎◌, inl, inr, zero, suc, Bool, true, false, not, ◌&&◌}
-use Rattle.std.proofs.Common.{cond, List, [], ◌∷◌, ◌++◌, length, take, drop, map, get_or, refl, sym, ap, ◌∙◌, subst}
-use Rattle.std.proofs.Common.{arith, zero-add}
-use Rattle.std.proofs.Math.ListN.{get_or-map}
-use Rattle.std.proofs.lemmas.List.{take_more, map-append, length-map, append_assoc, drop-map, take-map}
-use Rattle.std.proofs.lemmas.Bool.{and_parts, leb-true, leb-false, eqb-true, eq-eqb, not-false}
-use Rattle.std.proofs.lemmas.List.Elements.{All-head, All-tail}
-use Rattle.std.proofs.lemmas.List.Sums.{prefix_len_stops}
-use Rattle.std.specs.List.{prefix_len, position_or_len, insert, remove, Contains}
+use Rattle.raw_region.proofs.Cited.{◌≡◌, ℕ, ◌+◌, ◌^◌, ◌<◌, ◌≤◌, ◌⊎◌, inl, inr, zero, suc, Bool, true, false, not, ◌&&◌, cond, List, [], ◌∷◌}
+use Rattle.raw_region.proofs.Cited.{◌++◌, length, take, drop, map, get_or, refl, sym, ap, ◌∙◌, subst, arith, zero-add, get_or-map}
+use Rattle.raw_region.proofs.Cited.{take_more, map-append, length-map, drop-map, take-map, and_parts, leb-true, leb-false, eqb-true, eq-eqb}
+use Rattle.raw_region.proofs.Cited.{not-false, All-head, All-tail, prefix_len_stops, prefix_len, position_or_len, insert, remove, Contains}
+use Rattle.raw_region.proofs.Cited.{prefix_len-map, below_cond, order-from, window, is_window, IsApart, InOrder, bytes_of, windows_of}
+use Rattle.raw_region.proofs.Cited.{window_of, gap_ends_by, gap_is, IsLaid, IsStart, Fits, front, back, joined, EndsFit, OwnBytes, Gap}
+use Rattle.std.proofs.lemmas.List.{append_assoc}
 use denote.RawPtr.{Ptr}
-use Rattle.plain_laws.proofs.Mapped.{prefix_len-map}
-use Rattle.memory_windows.proofs.Ordered.{below_cond, order-from}
-use Rattle.memory_windows.specs.Windows.{window, is_window, IsApart, InOrder}
-use Rattle.raw_region.specs.Gaps.{bytes_of, windows_of, window_of, gap_ends_by, gap_is, IsLaid, IsStart, Fits, front}
-use Rattle.raw_region.specs.Gaps.{back, joined, EndsFit}
-use Rattle.raw_region.specs.declared.raw.OwnBytes.{OwnBytes}
-use Rattle.raw_region.specs.declared.gaps.Gap.{Gap}
 use Rattle.raw_region.proofs.GapBytes.{ends_within, span}
 
 -- `drop (n + 1)`, and what else computes at a `suc`

@@ -1,17 +1,9 @@
 -- What `join` makes of a region's gaps.
-use Rattle.std.proofs.Common.{◌≡◌, ℕ, ◌+◌, ◌-◌, ◌<◌, List, [], ◌∷◌, ◌++◌, length, take, drop, get_or, refl, sym, ap}
-use Rattle.std.proofs.Common.{◌∙◌, subst, arith, zero, suc, vec_len, vec_capacity}
-use Rattle.std.proofs.lemmas.List.{length-drop, drop_more, get_or-drop, get_or_default}
-use Rattle.std.specs.List.{position_or_len, remove, Contains}
-use Rattle.plain_laws.proofs.Mapped.{prefix_len-map}
-use Rattle.raw_region.specs.Memory.{Whole, Bytes}
-use Rattle.memory_windows.specs.Windows.{window, without_window}
-use Rattle.memory_windows.specs.Writes.{written}
-use Rattle.raw_region.specs.Gaps.{bytes_of, windows_of, window_of, gap_is, IsLaid, IsStart, joined, Beside}
-use Rattle.raw_region.specs.Regions.{region_view, IsRegion}
-use Rattle.raw_region.specs.declared.region.Region.TheInside.{Inside}
-use Rattle.raw_region.specs.declared.raw.OwnBytes.{OwnBytes}
-use Rattle.raw_region.specs.declared.gaps.Gap.{Gap}
+use Rattle.raw_region.proofs.Cited.{◌≡◌, ℕ, ◌+◌, ◌-◌, ◌<◌, List, [], ◌∷◌, ◌++◌, length, take, drop, get_or, refl, sym, ap, ◌∙◌, subst}
+use Rattle.raw_region.proofs.Cited.{arith, zero, suc, vec_len, vec_capacity, length-drop, drop_more, get_or-drop, get_or_default}
+use Rattle.raw_region.proofs.Cited.{position_or_len, remove, Contains, prefix_len-map, Whole, Bytes, window, without_window, written}
+use Rattle.raw_region.proofs.Cited.{bytes_of, windows_of, window_of, gap_is, IsLaid, IsStart, joined, Beside, region_view, IsRegion, Inside}
+use Rattle.raw_region.proofs.Cited.{OwnBytes, Gap}
 use Rattle.raw_region.proofs.GapBytes.{round, is_beside, shut_bytes, shut_length, shut_laid}
 use Rattle.raw_region.proofs.GapWindows.{shut_windows, found, is_out}
 use Rattle.raw_region.proofs.Cutting.{none, still_region}

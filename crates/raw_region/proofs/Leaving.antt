@@ -1,5 +1,5 @@
 -- What a walk of `src/raw.rt` has of its parameters at exit, and what its clauses say there. Assumes `Logic`.
-use Rattle.std.proofs.Common.{List, [], ◌∷◌, ℕ}
+use Rattle.raw_region.proofs.Cited.{List, [], ◌∷◌, ℕ}
 use base.Logic.{emp}
 use contract.Monad.{fact, fact_i}
 use denote.Signature.{Slot}

@@ -1,3 +1,4 @@
+mod Cited
 pub mod Blocks
 pub mod Cutting
 pub mod Frames

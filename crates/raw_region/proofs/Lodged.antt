@@ -3,7 +3,7 @@ use Rattle.std_alloc.proofs.vec.Vec.TheLaws as vec
 use Rattle.std_alloc.proofs.vec.lodged.Lodged.TheLaws as lodged
 use Rattle.std_alloc.specs.contracts.vec.Vec as V
 use Rattle.std_alloc.specs.contracts.vec.lodged.Lodged as L
-use Rattle.std_alloc.specs.contracts.vec.lodged.LodgedAllocator.TheImpl.{ghosts}
+use Rattle.raw_region.proofs.Cited.{ghosts}
 use denote.Builtin.{u8}
 use denote.Param.Laws.{Laws}
 use denote.RattleType.{RattleType}

@@ -1,9 +1,7 @@
 -- One more stride of bytes that move within a list.
-use Rattle.std.proofs.Common.{◌≡◌, ℕ, ◌+◌, ◌≤◌, List, ◌++◌, length, take, drop, sym, ap, ◌∙◌, arith, take-append-drop}
-use Rattle.std.proofs.lemmas.List.{length-take-le, length-drop, drop-drop, drop-take, take-take}
-use Rattle.memory_windows.specs.Writes.{written}
-use Rattle.memory_windows.proofs.Pieces.{drop-written_above, piece-written_below}
-use Rattle.memory_windows.proofs.Written.{written-then, written-before}
+use Rattle.raw_region.proofs.Cited.{◌≡◌, ℕ, ◌+◌, ◌≤◌, List, ◌++◌, length, take, drop, sym, ap, ◌∙◌, arith, take-append-drop, length-take-le}
+use Rattle.raw_region.proofs.Cited.{length-drop, drop-drop, drop-take, take-take, written, drop-written_above, piece-written_below}
+use Rattle.raw_region.proofs.Cited.{written-then, written-before}
 
 -- the first i + n are the first i and the n after them
 two_takes : (i n : ℕ) (xs : List ℕ) → take i xs ++ take n (drop i xs) ≡ take (i + n) xs

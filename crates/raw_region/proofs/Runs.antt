@@ -1,7 +1,6 @@
 -- Runs of bytes that are cut and glued. Assumes `Logic`.
-use Rattle.std.proofs.Common.{◌≡◌, ℕ, ◌+◌, ◌≤◌, List, [], ◌∷◌, ◌++◌, length, take, drop, refl, sym, ap}
-use Rattle.std.proofs.Common.{take-append-drop, add-zero, add_assoc}
-use Rattle.std.proofs.lemmas.List.{length-take-le}
+use Rattle.raw_region.proofs.Cited.{◌≡◌, ℕ, ◌+◌, ◌≤◌, List, [], ◌∷◌, ◌++◌, length, take, drop, refl, sym, ap, take-append-drop, add-zero}
+use Rattle.raw_region.proofs.Cited.{add_assoc, length-take-le, run_owns}
 use seplogic.Ra.Ura.{Ura}
 use base.Fraction.{full_share}
 use base.Logic.{ent, sep, emp, id⊢, never}
@@ -10,7 +9,6 @@ use types.Logic.{Logic, sem}
 use types.Kit.{‵, ◌⊛◌, ◌$◌, ◌∵◌, !, qed, by, move, use0, use1, use2, split, rewrite, fsplit, fjoin, feq_l, feq_i, done}
 use denote.RawPtr.{Ptr, block_ptr, null_ptr, in_a_block, ◌+ₚ◌}
 use denote.RawPtr.Bytes.{bytes, bytes_cut, bytes_glue, bytes_apart, bytes_whole}
-use Rattle.raw_region.specs.Ownership.{run_owns}
 
 -- no bytes past p is p
 pub here : (p : Ptr) → p ≡ p +ₚ 0

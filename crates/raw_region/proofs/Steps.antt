@@ -1,6 +1,6 @@
 -- Steps of the walks of `src/raw.rt`: a run is told by the bytes that it owns, and takes no memory of its own. Assumes
 -- `Logic`.
-use Rattle.std.proofs.Common.{◌≡◌, List, [], ◌∷◌, refl}
+use Rattle.raw_region.proofs.Cited.{◌≡◌, List, [], ◌∷◌, refl, OwnBytes, run_owns}
 use seplogic.Ra.Ura.{Ura}
 use lib.Dec.{T}
 use mir.Syntax.{Ty}
@@ -15,8 +15,6 @@ use denote.Param.Laws.{Laws, param_laws}
 use denote.Steps.{nothing, peeks}
 use denote.Struct.Struct.{Struct, within}
 use Rattle.raw_region.specs.contracts.raw.OwnBytes as R
-use Rattle.raw_region.specs.declared.raw.OwnBytes.{OwnBytes}
-use Rattle.raw_region.specs.Ownership.{run_owns}
 
 -- what the machine holds of a run, and of two things side by side
 abbrev pub bare : Val

@@ -1,21 +1,10 @@
-use Rattle.std.proofs.Common.{◌≡◌, ℕ, zero, suc, ◌+◌, ◌-◌, ◌<◌, ◌≤◌, Bool, true, false, ◌&&◌, cond, not, List, [], ◌∷◌, ◌++◌, length, map}
-use Rattle.std.proofs.Common.{Option, Some, refl, sym, ◌∙◌, ap, append_assoc}
-use Rattle.std.specs.Prelude.{◌==◌}
-use Rattle.std.specs.List.{list_all, flat_map}
-use Rattle.std.specs.Option.{option_to_list}
-use Rattle.std.proofs.lemmas.Bool.{lt-leb, le-leb, cond-false, cond-true}
-use Rattle.std.proofs.lemmas.List.{append-nil, map-append}
-use Rattle.real_zone.specs.Numbers.{number}
-use Rattle.real_zone.specs.Header.{tag_at}
-use Rattle.real_zone.specs.Lists.{first}
-use Rattle.real_zone.specs.Blocks.{has_room, is_passable, places, places_from, is_tiled, free_bytes}
-use Rattle.real_zone.specs.Rules.{length_rule, kind_rule, owner_rule, block_rules, broken, block_damages, damages_of_blocks, master_at}
-use Rattle.real_zone.specs.Masters.{may_be_free, list_damages, damages_of_list}
-use Rattle.real_zone.specs.Zone.{damages_of_sum, damages_of_zone, damages, damages_from, has_record, has_limit, from_zone, zone_part}
-use Rattle.real_zone.specs.declared.form.Form.{Form}
-use Rattle.real_zone.specs.declared.fault.Rule.{Rule}
+use Rattle.real_zone.proofs.Cited.{◌≡◌, ℕ, zero, suc, ◌+◌, ◌-◌, ◌<◌, ◌≤◌, Bool, true, false, ◌&&◌, cond, not, List, [], ◌∷◌, ◌++◌, length}
+use Rattle.real_zone.proofs.Cited.{map, Option, Some, refl, sym, ◌∙◌, ap, append_assoc, ◌==◌, list_all, flat_map, option_to_list, lt-leb}
+use Rattle.real_zone.proofs.Cited.{le-leb, cond-false, cond-true, append-nil, map-append, number, tag_at, first, has_room, is_passable}
+use Rattle.real_zone.proofs.Cited.{places, places_from, is_tiled, free_bytes, length_rule, kind_rule, owner_rule, block_rules, broken}
+use Rattle.real_zone.proofs.Cited.{block_damages, damages_of_blocks, master_at, may_be_free, list_damages, damages_of_list, damages_of_sum}
+use Rattle.real_zone.proofs.Cited.{damages_of_zone, damages, damages_from, has_record, has_limit, from_zone, zone_part, Form, Rule, Damage}
 use Rattle.real_zone.specs.declared.fault.Rule.TheVariants as rule
-use Rattle.real_zone.specs.declared.fault.Damage.{Damage}
 use Rattle.real_zone.proofs.Walking.{next, rest_after, first_place, next_places, no_places}
 use Rattle.real_zone.proofs.Ruling.{damages_past}
 use Rattle.real_zone.proofs.Zones.{with_record}

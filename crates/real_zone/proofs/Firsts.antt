@@ -1,6 +1,5 @@
-use Rattle.std.proofs.Common.{◌≡◌, true, false, ◌&&◌, List, [], ◌∷◌, ◌++◌, Option, Some, None, refl, map}
-use Rattle.std.specs.Option.{option_to_list, option_or}
-use Rattle.real_zone.specs.Lists.{first, is_empty}
+use Rattle.real_zone.proofs.Cited.{◌≡◌, true, false, ◌&&◌, List, [], ◌∷◌, ◌++◌, Option, Some, None, refl, map, option_to_list, option_or}
+use Rattle.real_zone.proofs.Cited.{first, is_empty}
 
 -- The first of a list.
 

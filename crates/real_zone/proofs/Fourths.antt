@@ -1,8 +1,5 @@
-use Rattle.std.proofs.Common.{◌≡◌, ℕ, zero, suc, ◌+◌, ◌-◌, ◌<◌, ◌≤◌, List, ◌++◌, sym, ◌∙◌, ap, arith, append_assoc}
-use Rattle.std.specs.List.{flat_map}
-use Rattle.std.proofs.lemmas.List.{append-nil}
-use Rattle.real_zone.specs.Finding.{found_unnamed, fourths}
-use Rattle.real_zone.specs.declared.finding.FoundZone.{FoundZone}
+use Rattle.real_zone.proofs.Cited.{◌≡◌, ℕ, zero, suc, ◌+◌, ◌-◌, ◌<◌, ◌≤◌, List, ◌++◌, sym, ◌∙◌, ap, arith, append_assoc, flat_map}
+use Rattle.real_zone.proofs.Cited.{append-nil, found_unnamed, fourths, FoundZone}
 
 -- Zones that stand at multiples of 4.
 

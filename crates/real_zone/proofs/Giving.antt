@@ -1,12 +1,5 @@
-use Rattle.std.proofs.Common.{◌≡◌, ℕ, ◌+◌, ◌≤◌, ◌∷◌, List, length, map, true, sym, ◌∙◌, ap}
-use Rattle.std.proofs.lemmas.List.{drop_all}
-use Rattle.byteorder.specs.Endian.{big_number}
-use Rattle.real_zone.specs.Numbers.{number}
-use Rattle.real_zone.specs.Header.{size_at}
-use Rattle.real_zone.specs.Blocks.{is_passable, passed_from}
-use Rattle.real_zone.specs.Seen.{block_at}
-use Rattle.real_zone.specs.declared.form.Form.{Form}
-use Rattle.real_zone.specs.declared.block.Block.{Block}
+use Rattle.real_zone.proofs.Cited.{◌≡◌, ℕ, ◌+◌, ◌≤◌, ◌∷◌, List, length, map, true, sym, ◌∙◌, ap, drop_all, big_number, number, size_at}
+use Rattle.real_zone.proofs.Cited.{is_passable, passed_from, block_at, Form, Block}
 use Rattle.real_zone.proofs.Walking.{next}
 use Rattle.real_zone.proofs.Passed.{passed_next}
 

@@ -1,6 +1,4 @@
-use Rattle.std.proofs.Common.{◌≡◌, ℕ, ◌+◌, ◌<◌, ◌≤◌, true, false, List, length, ap, arith}
-use Rattle.real_zone.specs.Blocks.{is_passable, places_from}
-use Rattle.real_zone.specs.declared.form.Form.{Form}
+use Rattle.real_zone.proofs.Cited.{◌≡◌, ℕ, ◌+◌, ◌<◌, ◌≤◌, true, false, List, length, ap, arith, is_passable, places_from, Form}
 use Rattle.real_zone.proofs.Walking.{next, next_places, no_places}
 use Rattle.real_zone.proofs.AllFound.{last_place}
 

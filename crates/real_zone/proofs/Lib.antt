@@ -1,3 +1,4 @@
+mod Cited
 pub mod Tests
 pub mod Firsts
 pub mod Ruling

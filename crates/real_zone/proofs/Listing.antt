@@ -1,13 +1,7 @@
-use Rattle.std.proofs.Common.{◌≡◌, ℕ, zero, suc, ◌+◌, ◌-◌, ◌<◌, ◌≤◌, true, false, not, cond, List, [], ◌∷◌, Option, Some, None}
-use Rattle.std.proofs.Common.{sym, ◌∙◌, ap, arith}
-use Rattle.std.specs.Prelude.{◌==◌}
-use Rattle.std.proofs.lemmas.Bool.{eq-eqb, ne_eqb, cond-false, cond-true}
-use Rattle.real_zone.specs.Lists.{first}
-use Rattle.real_zone.specs.Rules.{broken, master_at}
-use Rattle.real_zone.specs.Masters.{may_be_free, list_damages}
-use Rattle.real_zone.specs.declared.form.Form.{Form}
+use Rattle.real_zone.proofs.Cited.{◌≡◌, ℕ, zero, suc, ◌+◌, ◌-◌, ◌<◌, ◌≤◌, true, false, not, cond, List, [], ◌∷◌, Option, Some, None, sym}
+use Rattle.real_zone.proofs.Cited.{◌∙◌, ap, arith, ◌==◌, eq-eqb, ne_eqb, cond-false, cond-true, first, broken, master_at, may_be_free}
+use Rattle.real_zone.proofs.Cited.{list_damages, Form, Damage}
 use Rattle.real_zone.specs.declared.fault.Rule.TheVariants as rule
-use Rattle.real_zone.specs.declared.fault.Damage.{Damage}
 
 -- The list of free master pointers, one after the other.
 

@@ -1,15 +1,9 @@
-use Rattle.std.proofs.Common.{◌≡◌, ℕ, zero, suc, ◌+◌, ◌-◌, ◌*◌, ◌/◌, ◌%◌, ◌<◌, ◌≤◌, Bool, true, false, ◌&&◌, ◌||◌, cond, List, [], ◌∷◌}
-use Rattle.std.proofs.Common.{◌++◌, length, get_or, refl, sym, ◌∙◌, ap, arith, append_assoc, inl, inr, ◌⊎◌}
-use Rattle.std.specs.Prelude.{◌==◌, nat_le}
-use Rattle.std.specs.List.{list_all, list_any, flat_map}
-use Rattle.std.proofs.lemmas.Bool.{and_parts, and_left, and_right, leb-true, eqb-true, lt-leb, cases_lt}
-use Rattle.std.proofs.lemmas.List.{append-nil, get_or_append_left, get_or-append_right}
-use Rattle.real_zone.specs.Form.{alignment, header_size}
-use Rattle.real_zone.specs.Header.{tag_at, size_at}
-use Rattle.real_zone.specs.Blocks.{is_nonrelocatable, is_passable, places, places_from, is_tiled}
-use Rattle.real_zone.specs.Rules.{is_master_place}
-use Rattle.real_zone.specs.Masters.{covers, is_covered, may_be_free, marks, block_marks, zone_marks}
-use Rattle.real_zone.specs.declared.form.Form.{Form}
+use Rattle.real_zone.proofs.Cited.{◌≡◌, ℕ, zero, suc, ◌+◌, ◌-◌, ◌*◌, ◌/◌, ◌%◌, ◌<◌, ◌≤◌, Bool, true, false, ◌&&◌, ◌||◌, cond, List, [], ◌∷◌}
+use Rattle.real_zone.proofs.Cited.{◌++◌, length, get_or, refl, sym, ◌∙◌, ap, arith, append_assoc, inl, inr, ◌⊎◌, ◌==◌, nat_le, list_all}
+use Rattle.real_zone.proofs.Cited.{list_any, flat_map, and_parts, and_left, and_right, leb-true, eqb-true, lt-leb, cases_lt, append-nil}
+use Rattle.real_zone.proofs.Cited.{get_or_append_left, get_or-append_right, alignment, header_size, tag_at, size_at, is_nonrelocatable}
+use Rattle.real_zone.proofs.Cited.{is_passable, places, places_from, is_tiled, is_master_place, covers, is_covered, may_be_free, marks}
+use Rattle.real_zone.proofs.Cited.{block_marks, zone_marks, Form}
 use Rattle.real_zone.specs.declared.form.Form.TheVariants as form
 use Rattle.real_zone.proofs.Tests.{or-false_left, or-false_right}
 use Rattle.real_zone.proofs.Walking.{Passes, passes, next, next_places, no_places}

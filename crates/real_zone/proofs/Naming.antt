@@ -1,19 +1,9 @@
-use Rattle.std.proofs.Common.{◌≡◌, ℕ, zero, suc, ◌+◌, ◌*◌, ◌-◌, ◌<◌, ◌≤◌, Bool, true, false, ◌&&◌, List, [], ◌∷◌, length, arith}
-use Rattle.std.proofs.Common.{Option, Some, None, refl, sym, ◌∙◌, ap, arith, sum_by}
-use Rattle.std.specs.Prelude.{nat_le}
-use Rattle.std.specs.List.{list_all}
-use Rattle.std.specs.Option.{option_or}
-use Rattle.std.proofs.lemmas.Bool.{and_parts, leb-true}
-use Rattle.std.proofs.lemmas.List.Sums.{sum_by-cons}
-use Rattle.real_zone.specs.Form.{header_size}
-use Rattle.real_zone.specs.Blocks.{is_passable}
-use Rattle.real_zone.specs.Lists.{first_found}
-use Rattle.real_zone.specs.Numbers.{number}
-use Rattle.real_zone.specs.Resources.{spaced, entries, type_list, types_end, has_types, has_references, has_room}
-use Rattle.real_zone.specs.Resources.{reference_count, first_reference, is_resource_map, named_by, named_in_type}
-use Rattle.real_zone.specs.Seen.{logical_size}
-use Rattle.real_zone.specs.declared.form.Form.{Form}
-use Rattle.real_zone.specs.declared.resource_map.Resource.{Resource}
+use Rattle.real_zone.proofs.Cited.{◌≡◌, ℕ, zero, suc, ◌+◌, ◌*◌, ◌-◌, ◌<◌, ◌≤◌, Bool, true, false, ◌&&◌, List, [], ◌∷◌, length, arith}
+use Rattle.real_zone.proofs.Cited.{Option, Some, None, refl, sym, ◌∙◌, ap, sum_by, nat_le, list_all, option_or, and_parts, leb-true}
+use Rattle.real_zone.proofs.Cited.{sum_by-cons, header_size, is_passable, first_found, number, spaced, entries, type_list, types_end}
+use Rattle.real_zone.proofs.Cited.{has_types, has_references, reference_count, first_reference, is_resource_map, named_by, named_in_type}
+use Rattle.real_zone.proofs.Cited.{logical_size, Form, Resource}
+use Rattle.real_zone.specs.Resources.{has_room}
 use Rattle.real_zone.specs.declared.form.Form.TheVariants as form
 use Rattle.real_zone.proofs.Walking.{passes}
 

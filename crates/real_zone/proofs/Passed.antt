@@ -1,12 +1,6 @@
-use Rattle.std.proofs.Common.{◌≡◌, ℕ, zero, suc, ◌-◌, ◌≤◌, Bool, true, false, cond, List, [], ◌∷◌, length, filter}
-use Rattle.std.proofs.Common.{refl, ◌∙◌, ap}
-use Rattle.std.specs.Prelude.{◌==◌}
-use Rattle.std.specs.List.{list_all}
-use Rattle.std.proofs.lemmas.Bool.{and_parts}
-use Rattle.real_zone.specs.Blocks.{is_passable, places, passed_from, block_places, passed_places}
-use Rattle.real_zone.specs.Rules.{keeps_rules}
-use Rattle.real_zone.specs.Zone.{is_zone}
-use Rattle.real_zone.specs.declared.form.Form.{Form}
+use Rattle.real_zone.proofs.Cited.{◌≡◌, ℕ, zero, suc, ◌-◌, ◌≤◌, Bool, true, false, cond, List, [], ◌∷◌, length, filter, refl, ◌∙◌, ap, ◌==◌}
+use Rattle.real_zone.proofs.Cited.{list_all, and_parts, is_passable, places, passed_from, block_places, passed_places, keeps_rules, is_zone}
+use Rattle.real_zone.proofs.Cited.{Form}
 use Rattle.real_zone.proofs.Ruling.{keeps_passable}
 use Rattle.real_zone.proofs.Walking.{next, next_places, no_places}
 use Rattle.real_zone.proofs.Zones.{zone_keeps}

@@ -1,18 +1,8 @@
-use Rattle.std.proofs.Common.{◌≡◌, ℕ, ◌+◌, ◌<◌, ◌≤◌, Bool, true, false, ◌&&◌, cond, not, List, [], ◌∷◌, ◌++◌, length, Option, Some, None}
-use Rattle.std.proofs.Common.{refl, sym, ◌∙◌, ap}
-use Rattle.std.specs.Prelude.{nat_le, nat_lt}
-use Rattle.std.specs.List.{flat_map}
-use Rattle.std.specs.Option.{option_to_list, option_or}
-use Rattle.std.proofs.lemmas.Bool.{lt-leb, le-leb, ltb-false, cond-false, cond-true}
-use Rattle.real_zone.specs.Header.{tag_at, size_at}
-use Rattle.real_zone.specs.Lists.{first}
-use Rattle.real_zone.specs.Blocks.{has_room, is_size, is_passable, places_from}
-use Rattle.real_zone.specs.Rules.{length_rule, kind_rule, owner_rule, block_rules}
-use Rattle.real_zone.specs.Rules.{keeps_rules, broken, block_damages}
-use Rattle.real_zone.specs.declared.form.Form.{Form}
-use Rattle.real_zone.specs.declared.fault.Rule.{Rule}
+use Rattle.real_zone.proofs.Cited.{◌≡◌, ℕ, ◌+◌, ◌<◌, ◌≤◌, Bool, true, false, ◌&&◌, cond, not, List, [], ◌∷◌, ◌++◌, length, Option, Some}
+use Rattle.real_zone.proofs.Cited.{None, refl, sym, ◌∙◌, ap, nat_le, nat_lt, flat_map, option_to_list, option_or, lt-leb, le-leb, ltb-false}
+use Rattle.real_zone.proofs.Cited.{cond-false, cond-true, tag_at, size_at, first, has_room, is_size, is_passable, places_from, length_rule}
+use Rattle.real_zone.proofs.Cited.{kind_rule, owner_rule, block_rules, keeps_rules, broken, block_damages, Form, Rule, Damage}
 use Rattle.real_zone.specs.declared.fault.Rule.TheVariants as rule
-use Rattle.real_zone.specs.declared.fault.Damage.{Damage}
 use Rattle.real_zone.proofs.Firsts.{first_of_options, first-map_some, first-map_none, map-nothing, nothing, empty, first-append_some}
 use Rattle.real_zone.proofs.Walking.{next, rest_after, first_place, next_places, no_places}
 

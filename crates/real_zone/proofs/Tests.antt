@@ -1,4 +1,4 @@
-use Rattle.std.proofs.Common.{◌≡◌, Bool, true, false, ◌||◌, refl}
+use Rattle.real_zone.proofs.Cited.{◌≡◌, Bool, true, false, ◌||◌, refl}
 
 -- Tests whose answer is known.
 

@@ -1,13 +1,7 @@
-use Rattle.std.proofs.Common.{◌≡◌, ℕ, zero, suc, ◌+◌, ◌-◌, ◌%◌, ◌<◌, ◌≤◌, Bool, true, false, ◌&&◌, cond, List, [], ◌∷◌, length}
-use Rattle.std.proofs.Common.{refl, sym, ◌∙◌, ap, arith, sum_by, add_assoc}
-use Rattle.std.specs.Prelude.{◌==◌, nat_le}
-use Rattle.std.specs.List.{list_all}
-use Rattle.std.proofs.lemmas.Bool.{and_parts, leb-true, eqb-true, eq-eqb, ne_eqb, cond-false, cond-true}
-use Rattle.std.proofs.lemmas.List.Sums.{sum_by-cons}
-use Rattle.real_zone.specs.Form.{alignment}
-use Rattle.real_zone.specs.Header.{size_at}
-use Rattle.real_zone.specs.Blocks.{has_room, is_size, is_passable, places, places_from}
-use Rattle.real_zone.specs.declared.form.Form.{Form}
+use Rattle.real_zone.proofs.Cited.{◌≡◌, ℕ, zero, suc, ◌+◌, ◌-◌, ◌%◌, ◌<◌, ◌≤◌, Bool, true, false, ◌&&◌, cond, List, [], ◌∷◌, length, refl}
+use Rattle.real_zone.proofs.Cited.{sym, ◌∙◌, ap, arith, sum_by, add_assoc, ◌==◌, nat_le, list_all, and_parts, leb-true, eqb-true, eq-eqb}
+use Rattle.real_zone.proofs.Cited.{ne_eqb, cond-false, cond-true, sum_by-cons, alignment, size_at, has_room, is_size, is_passable, places}
+use Rattle.real_zone.proofs.Cited.{places_from, Form}
 
 -- Walking over the blocks of a zone.
 

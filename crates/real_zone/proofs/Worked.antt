@@ -1,15 +1,10 @@
-use Rattle.std.proofs.Common.{◌≡◌, ℕ, Bool, List, [], ◌∷◌, ◌++◌, take, drop, length, ◌+◌, replicate, refl, true, false}
+use Rattle.real_zone.proofs.Cited.{◌≡◌, ℕ, Bool, List, [], ◌∷◌, ◌++◌, take, drop, length, ◌+◌, replicate, refl, true, false, number, first}
+use Rattle.real_zone.proofs.Cited.{is_passable, places, free_size, is_master_place, length_rule, correction_rule, zone_rule, handle_rule}
+use Rattle.real_zone.proofs.Cited.{kind_rule, owner_rule, block_rules, block_damages, broken, covers, is_covered, may_be_free, list_damages}
+use Rattle.real_zone.proofs.Cited.{damages, damages_of_zone, flags_at, master_of, kind_of, logical_size, block_at, blocks_of, blocks_passed}
+use Rattle.real_zone.proofs.Cited.{Block}
 use Rattle.std.specs.Prelude.{Some}
-use Rattle.real_zone.specs.Numbers.{number}
-use Rattle.real_zone.specs.Lists.{first}
-use Rattle.real_zone.specs.Blocks.{is_passable, places, free_size}
-use Rattle.real_zone.specs.Rules.{is_master_place, length_rule, correction_rule, zone_rule, handle_rule, kind_rule, owner_rule}
-use Rattle.real_zone.specs.Rules.{block_rules, block_damages, broken}
-use Rattle.real_zone.specs.Masters.{covers, is_covered, may_be_free, list_damages}
-use Rattle.real_zone.specs.Zone.{damages, damages_of_zone}
-use Rattle.real_zone.specs.Seen.{flags_at, master_of, kind_of, logical_size, block_at, blocks_of, blocks_passed}
 use Rattle.real_zone.specs.declared.form.Form.TheVariants as form
-use Rattle.real_zone.specs.declared.block.Block.{Block}
 use Rattle.real_zone.specs.declared.block.Kind.TheVariants as kind
 use Rattle.real_zone.specs.declared.fault.Rule.TheVariants as rule
 

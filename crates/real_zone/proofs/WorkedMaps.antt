@@ -1,10 +1,6 @@
-use Rattle.std.proofs.Common.{◌≡◌, ℕ, List, [], ◌∷◌, ◌++◌, take, drop, length, ◌+◌, replicate, refl, true, false, Some, None}
-use Rattle.std.proofs.Common.{pos, ◌-ℤ◌}
-use Rattle.real_zone.specs.Numbers.{number}
-use Rattle.real_zone.specs.Blocks.{is_passable, places}
-use Rattle.real_zone.specs.Seen.{logical_size, content_at}
-use Rattle.real_zone.specs.Resources.{spaced, has_types, has_references, is_resource_map, named_in_type, named_in_map}
-use Rattle.real_zone.specs.Resources.{named_in_block, resource_of}
+use Rattle.real_zone.proofs.Cited.{◌≡◌, ℕ, List, [], ◌∷◌, ◌++◌, take, drop, length, ◌+◌, replicate, refl, true, false, Some, None, pos}
+use Rattle.real_zone.proofs.Cited.{◌-ℤ◌, number, is_passable, places, logical_size, content_at, spaced, has_types, has_references}
+use Rattle.real_zone.proofs.Cited.{is_resource_map, named_in_type, named_in_map, named_in_block, resource_of}
 use Rattle.real_zone.specs.declared.form.Form.TheVariants as form
 
 -- Worked resource maps, laid by hand from the figures of Inside Macintosh: More Macintosh Toolbox, chapter 1, "Resource File Format".

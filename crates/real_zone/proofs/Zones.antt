@@ -1,19 +1,9 @@
-use Rattle.std.proofs.Common.{◌≡◌, ℕ, ◌+◌, Bool, true, false, ◌&&◌, not, cond, List, [], ◌∷◌, ◌++◌, Some, None}
-use Rattle.std.proofs.Common.{refl, sym, ◌∙◌, ap}
-use Rattle.std.specs.Prelude.{◌==◌}
-use Rattle.std.specs.List.{list_all, flat_map}
-use Rattle.std.specs.Option.{option_or}
-use Rattle.std.proofs.lemmas.Bool.{and_from, and_parts, cond-false, cond-true}
-use Rattle.real_zone.specs.Numbers.{number}
-use Rattle.real_zone.specs.Lists.{first, is_empty}
-use Rattle.real_zone.specs.Blocks.{is_passable, block_places, is_tiled, free_bytes}
-use Rattle.real_zone.specs.Rules.{broken, keeps_rules, block_rules, block_damages, damages_of_blocks}
-use Rattle.real_zone.specs.Masters.{damages_of_list}
-use Rattle.real_zone.specs.Zone.{is_zone, is_zone_at, zone_bytes, damages_of_sum, damages_of_zone, damages, damages_from, has_record}
-use Rattle.real_zone.specs.Zone.{has_limit, from_zone, zone_part}
-use Rattle.real_zone.specs.declared.form.Form.{Form}
+use Rattle.real_zone.proofs.Cited.{◌≡◌, ℕ, ◌+◌, Bool, true, false, ◌&&◌, not, cond, List, [], ◌∷◌, ◌++◌, Some, None, refl, sym, ◌∙◌, ap}
+use Rattle.real_zone.proofs.Cited.{◌==◌, list_all, flat_map, option_or, and_from, and_parts, cond-false, cond-true, number, first, is_empty}
+use Rattle.real_zone.proofs.Cited.{is_passable, block_places, is_tiled, free_bytes, broken, keeps_rules, block_rules, block_damages}
+use Rattle.real_zone.proofs.Cited.{damages_of_blocks, damages_of_list, is_zone, is_zone_at, zone_bytes, damages_of_sum, damages_of_zone}
+use Rattle.real_zone.proofs.Cited.{damages, damages_from, has_record, has_limit, from_zone, zone_part, Form, Damage}
 use Rattle.real_zone.specs.declared.fault.Rule.TheVariants as rule
-use Rattle.real_zone.specs.declared.fault.Damage.{Damage}
 use Rattle.real_zone.proofs.Firsts.{nothing, first-append, first-append_some, empty_if_none, full_if_some, is_empty-append, is_empty-map}
 use Rattle.real_zone.proofs.Ruling.{passable_if_whole, keeps_passable}
 

@@ -1,9 +1,5 @@
-use Rattle.std.proofs.Common.{◌≡◌, ℕ, ◌+◌, true, false, List, [], ◌∷◌, ◌++◌, Option, if◌then◌else◌, arith, ap, sym, ◌∙◌, append_assoc}
-use Rattle.std.specs.List.{flat_map}
-use Rattle.real_zone.specs.declared.block.Block.{Block}
-use Rattle.real_zone.specs.declared.resource_map.Resource.{Resource}
-use Rattle.real_zone_view.specs.Picture.{bins, bin_text, bins_after, is_full}
-use Rattle.real_zone_view.specs.Totals.{in_class, sized}
+use Rattle.real_zone_view.proofs.Cited.{◌≡◌, ℕ, ◌+◌, true, false, List, [], ◌∷◌, ◌++◌, Option, if◌then◌else◌, arith, ap, sym, ◌∙◌}
+use Rattle.real_zone_view.proofs.Cited.{append_assoc, flat_map, Block, Resource, bins, bin_text, bins_after, is_full, in_class, sized}
 use Rattle.real_zone_view.specs.declared.totals.Class.TheVariants as class
 
 -- The bins of a picture, and the bytes of one.

@@ -1,3 +1,4 @@
+mod Cited
 pub mod Named
 pub mod Binned
 pub mod Scripted

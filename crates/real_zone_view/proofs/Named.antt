@@ -1,13 +1,5 @@
-use Rattle.std.proofs.Common.{◌≡◌, ℕ, List, ◌++◌, Option, ap, ◌∙◌}
-use Rattle.real_zone.specs.Resources.{resource_of}
-use Rattle.real_zone.specs.Seen.{blocks_passed}
-use Rattle.real_zone.specs.declared.block.Block.{Block}
-use Rattle.real_zone.specs.declared.fault.Damage.{Damage}
-use Rattle.real_zone.specs.declared.form.Form.{Form}
-use Rattle.real_zone.specs.declared.resource_map.Resource.{Resource}
-use Rattle.real_zone_view.specs.Picture.{picture, zone_picture}
-use Rattle.real_zone_view.specs.Totals.{blocks_text, zone_text}
-use Rattle.real_zone_view.specs.declared.style.Style.{Style}
+use Rattle.real_zone_view.proofs.Cited.{◌≡◌, ℕ, List, ◌++◌, Option, ap, ◌∙◌, resource_of, blocks_passed, Block, Damage, Form, Resource}
+use Rattle.real_zone_view.proofs.Cited.{picture, zone_picture, blocks_text, zone_text, Style}
 
 -- The resources of handles.
 

@@ -1,12 +1,5 @@
-use Rattle.std.proofs.Common.{◌≡◌, ℕ, true, false, List, [], ◌∷◌, Option, Some, None, refl, subst}
-use Rattle.std.specs.Bool.{IsTrue}
-use Rattle.real_zone.specs.Lists.{first, is_empty}
-use Rattle.real_zone.specs.Zone.{damages, is_zone_at}
-use Rattle.real_zone.specs.declared.fault.Damage.{Damage}
-use Rattle.real_zone.specs.declared.form.Form.{Form}
-use Rattle.real_zone.proofs.Zones.{dump_whole}
-use Rattle.real_zone_view.specs.declared.dump.DumpFault.{DumpFault}
-use Rattle.real_zone_view.specs.Answers.{damage_or}
+use Rattle.real_zone_view.proofs.Cited.{◌≡◌, ℕ, true, false, List, [], ◌∷◌, Option, Some, None, refl, subst, IsTrue, first, is_empty}
+use Rattle.real_zone_view.proofs.Cited.{damages, is_zone_at, Damage, Form, dump_whole, DumpFault, damage_or}
 
 -- A zone that keeps all rules has no damage that would be a fault.
 pub sound_fault : (form : Form) (dump : List ℕ) (base zone : ℕ) (other : Option DumpFault)

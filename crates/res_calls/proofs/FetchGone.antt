@@ -1,15 +1,6 @@
-use Rattle.std.proofs.Common.{◌≡◌, ℕ, Bool, true, List, Option, Some, None, refl, sym, subst}
-use Rattle.std.specs.Prelude.{is_some}
-use Rattle.heap_calls.specs.Gone.{Gone, Tells}
-use Rattle.heap_calls.specs.State.{Memory}
-use Rattle.res_calls.specs.Files.{Resources, Found, find}
-use Rattle.res_calls.specs.Fetch.{Managers}
-use Rattle.res_calls.specs.Given.{managers}
-use Rattle.res_calls.specs.Gone.{fetch_gone_as, fetch_gone}
-use Rattle.res_calls.specs.Places.{is_searched, is_wanted, found_at, found_from}
-use Rattle.res_calls.specs.declared.find.Spot.{Spot}
-use Rattle.res_calls.specs.declared.find.Within.{Within}
-use Rattle.res_calls.specs.declared.find.Wanted.{Wanted}
+use Rattle.res_calls.proofs.Cited.{◌≡◌, ℕ, Bool, true, List, Option, Some, None, refl, sym, subst, is_some, Gone, Tells, Memory, Resources}
+use Rattle.res_calls.proofs.Cited.{Found, find, Managers, managers, fetch_gone_as, fetch_gone, is_searched, is_wanted, found_at, found_from}
+use Rattle.res_calls.proofs.Cited.{Spot, Within, Wanted}
 use Rattle.res_calls.proofs.Fetches.{filed}
 
 -- What a sink is told of a fetch.

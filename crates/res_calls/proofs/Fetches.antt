@@ -1,28 +1,12 @@
-use Rattle.std.proofs.Common.{◌≡◌, ℕ, Bool, true, false, cond, List, Option, Some, None, Result, Ok, Err, refl}
-use Rattle.std.proofs.Common.{sym, ◌∙◌, ap}
-use Rattle.std.proofs.Common.{subst}
-use Rattle.std.specs.Prelude.{not, ◌&&◌, is_some, option_map}
-use Rattle.mac_words.specs.declared.code.OsErr.{OsErr}
-use Rattle.heap_calls.specs.State.{Memory}
-use Rattle.heap_calls.specs.Inside.{refill_inside, has_block}
-use Rattle.heap_calls.specs.Inner.Given.{IsAnswer}
-use Rattle.heap_calls.specs.declared.refusal.Refusal.{Refusal}
-use Rattle.heap_calls.specs.declared.refusal.Refusal.TheVariants.{Code, HostMemory}
-use Rattle.res_map.specs.Map.{Reference, with_handle}
-use Rattle.res_calls.specs.Files.{OpenFile, Resources, Found, with_reference}
-use Rattle.res_calls.specs.Fetch.{Managers, Answer, is_system, flags_of, fetch_new, fetch_again, now_filled}
-use Rattle.res_calls.specs.Fetch.{now_empty, now_refilled}
+use Rattle.res_calls.proofs.Cited.{◌≡◌, ℕ, Bool, true, false, cond, List, Option, Some, None, Result, Ok, Err, refl, sym, ◌∙◌, ap, subst}
+use Rattle.res_calls.proofs.Cited.{is_some, option_map, OsErr, Memory, refill_inside, has_block, IsAnswer, Refusal, Code, HostMemory}
+use Rattle.res_calls.proofs.Cited.{Reference, with_handle, OpenFile, Resources, Found, with_reference, Managers, Answer, is_system}
+use Rattle.res_calls.proofs.Cited.{flags_of, fetch_new, fetch_again, now_filled, now_empty, now_refilled, IsFetched, IsUnread, managers}
+use Rattle.res_calls.proofs.Cited.{made_for, found_from, last_fetched, noting, fetched_as, NO_ERR, code_of, Spot, Unread}
+use Rattle.std.specs.Prelude.{not, ◌&&◌}
 use Rattle.res_calls.specs.Fetch as fetch
-use Rattle.res_calls.specs.Given.{IsFetched, IsUnread, managers}
-use Rattle.res_calls.specs.Places.{made_for, found_from, last_fetched}
-use Rattle.res_calls.specs.Rows.{noting}
 use Rattle.res_calls.specs.Rows as rows
-use Rattle.res_calls.specs.Rows.{fetched_as}
-use Rattle.mac_words.specs.declared.code.TheConstants.OsErr.{NO_ERR}
-use Rattle.heap_calls.specs.Answer.{code_of}
-use Rattle.res_calls.specs.declared.find.Spot.{Spot}
 use Rattle.res_calls.specs.declared.fetched.Fetched.{Fetched}
-use Rattle.res_calls.specs.declared.fetched.Unread.{Unread}
 
 -- What a fetch comes to.
 

@@ -1,21 +1,9 @@
-use Rattle.std.proofs.Common.{◌≡◌, ◌<◌, ℕ, ◌==◌, Bool, true, false, cond, Option, Some, None, Ok, Err, List, map, length, refl, sym}
-use Rattle.std.proofs.Common.{◌∙◌, ap, subst, get_or, slice_set}
-use Rattle.std.specs.Prelude.{option_map}
-use Rattle.mac_words.specs.Attributes.{has_bit}
-use Rattle.mac_words.specs.declared.code.TheConstants.OsErr.{WRITE_PERMISSION}
-use Rattle.fork_format.specs.Fork.{map_kept}
-use Rattle.heap_calls.specs.State.{Memory}
-use Rattle.heap_calls.specs.declared.refusal.Refusal.TheVariants.{Code}
-use Rattle.res_map.specs.Split.{Split, split, place, replaced}
-use Rattle.res_map.specs.Map.{Map}
-use Rattle.res_map.proofs.Splitting.{found-none, found-place, split-set}
-use Rattle.res_calls.specs.Files.{OpenFile, Resources}
-use Rattle.res_calls.specs.Fetch.{Managers, done, refused}
-use Rattle.res_calls.specs.Rows.{attrs_told, with_resources}
-use Rattle.res_calls.specs.Changing.{set_file, set_res_file_attrs, with_map_attrs}
-use Rattle.res_calls.specs.Given.{IsAnswered, managers}
-use Rattle.res_calls.specs.Places.{chained}
-use Rattle.res_calls.specs.View.{view_open}
+use Rattle.res_calls.proofs.Cited.{◌≡◌, ◌<◌, ℕ, ◌==◌, Bool, true, false, cond, Option, Some, None, Ok, Err, List, map, length, refl, sym}
+use Rattle.res_calls.proofs.Cited.{◌∙◌, ap, subst, get_or, option_map, has_bit, WRITE_PERMISSION, map_kept, Memory, Code, Split, split}
+use Rattle.res_calls.proofs.Cited.{place, replaced, Map, found-none, found-place, split-set, OpenFile, Resources, Managers, done, refused}
+use Rattle.res_calls.proofs.Cited.{attrs_told, with_resources, set_file, set_res_file_attrs, with_map_attrs, IsAnswered, managers, chained}
+use Rattle.res_calls.proofs.Cited.{view_open}
+use Rattle.std.proofs.Common.{slice_set}
 use Rattle.res_calls.specs.declared.files.OpenFile.{OpenFile as StoredOpenFile}
 use Rattle.res_calls.proofs.Lookups.{found_seen}
 use Rattle.res_calls.proofs.Standing.{map_set}

@@ -1,18 +1,10 @@
-use Rattle.std.proofs.Common.{◌≡◌, ℕ, ◌+◌, ◌<◌, Bool, true, false, cond, List, [], ◌∷◌, ◌++◌, length, map, drop}
-use Rattle.std.proofs.Common.{Option, Some, None, refl, sym, ◌∙◌, ap, arith, get_or, subst}
-use Rattle.std.specs.Prelude.{option_map, is_some, filter, nat_le}
-use Rattle.std.specs.List.{flat_map}
+use Rattle.res_calls.proofs.Cited.{◌≡◌, ℕ, ◌+◌, ◌<◌, Bool, true, false, cond, List, [], ◌∷◌, ◌++◌, length, map, drop, Option, Some, None}
+use Rattle.res_calls.proofs.Cited.{refl, sym, ◌∙◌, ap, arith, get_or, subst, option_map, is_some, filter, flat_map, option_or, rest-map}
+use Rattle.res_calls.proofs.Cited.{Split, split, behind, place, Reference, OpenFile, Resources, Found, find, found_in, found_behind}
+use Rattle.res_calls.proofs.Cited.{find_from_current, split-whole, reference_in, at_index, in_file, found_at, found_from, spot_of, Spot}
+use Rattle.std.specs.Prelude.{nat_le}
 use Rattle.std.specs.List as first
-use Rattle.std.specs.Option.{option_or}
-use Rattle.fork_format.proofs.Rest.{rest-map}
-use Rattle.res_map.specs.Split.{Split, split, behind, place}
-use Rattle.res_map.specs.Map.{Reference}
-use Rattle.res_calls.specs.Files.{OpenFile, Resources, Found, find, found_in, found_behind, find_from_current}
-use Rattle.res_map.proofs.Splitting.{split-whole}
 use Rattle.res_calls.proofs.Standing.{index_whole}
-use Rattle.res_calls.specs.Rows.{reference_in}
-use Rattle.res_calls.specs.Places.{at_index, in_file, found_at, found_from, spot_of}
-use Rattle.res_calls.specs.declared.find.Spot.{Spot}
 
 -- A search along open files: what is found in the files that are left is found in all.
 

@@ -1,47 +1,18 @@
-use Rattle.std.proofs.Common.{◌≡◌, ◌≢◌, ℕ, zero, suc, ◌-◌, ◌<◌, ◌≤◌, Bool, true, false, cond, List, [], ◌∷◌, length, map}
-use Rattle.std.proofs.Common.{◌++◌, not, ◌||◌, Result, Ok}
-use Rattle.std.specs.Prelude.{is_some}
-use Rattle.std.proofs.Common.{Option, Some, None, refl, sym, ◌∙◌, ap, arith, subst, if◌then◌else◌, slice_get}
-use Rattle.std.specs.Prelude.{option_map, filter, nat_le, nat_lt, ◌==◌, ◌&&◌}
-use Rattle.std.specs.List.{list_all}
-use Rattle.std.proofs.lemmas.Bool.{and_parts, le-leb, lt-ltb, leb-true, ltb-true, eqb-true, ne_eqb}
-use Rattle.fork_format.proofs.Whole.{filter-all}
-use Rattle.fork_format.proofs.Bools.{and_both}
-use Rattle.res_map.specs.Split.{Split, split, behind}
-use Rattle.res_calls.specs.Files.{File, OpenFile, Resources, file_of}
-use Rattle.res_calls.specs.Sound.{falls, is_placed, has_place, keeps_handle, is_kept, is_untouched, Sound}
-use Rattle.res_calls.specs.Update.{written, written_at, updated_reference, updated_map, fork_of, rewritten}
-use Rattle.mac_words.specs.declared.code.OsErr.{OsErr}
-use Rattle.fork_format.specs.Content.{IsContent}
-use Rattle.fork_format.specs.Canonical.{fits}
-use Rattle.res_map.specs.Map.{map_of}
-use Rattle.res_map.specs.Split.{replaced}
-use Rattle.res_map.proofs.Splitting.{split-passes, split-whole}
-use Rattle.res_calls.specs.Fetch.{is_system}
-use Rattle.std.proofs.Common.{Err, ℤ}
-use Rattle.std.proofs.lemmas.Bool.{false≢true}
-use Rattle.std.specs.Ordering.{int_eq}
-use Rattle.mac_words.specs.declared.code.TheConstants.OsErr.{RES_FILE_NOT_FOUND, ADD_RES_FAILED, WRITE_PERMISSION}
-use Rattle.heap_calls.specs.Answer.{Known, handle_at}
+use Rattle.res_calls.proofs.Cited.{◌≡◌, ◌≢◌, ℕ, zero, suc, ◌-◌, ◌<◌, ◌≤◌, Bool, true, false, cond, List, [], ◌∷◌, length, map, ◌++◌, not}
+use Rattle.res_calls.proofs.Cited.{◌||◌, Result, Ok, is_some, Option, Some, None, refl, sym, ◌∙◌, ap, arith, subst, if◌then◌else◌}
+use Rattle.res_calls.proofs.Cited.{option_map, filter, list_all, and_parts, le-leb, lt-ltb, leb-true, ltb-true, eqb-true, ne_eqb}
+use Rattle.res_calls.proofs.Cited.{filter-all, and_both, Split, split, behind, File, OpenFile, Resources, file_of, falls, is_placed}
+use Rattle.res_calls.proofs.Cited.{has_place, keeps_handle, is_kept, is_untouched, Sound, written, written_at, updated_reference}
+use Rattle.res_calls.proofs.Cited.{updated_map, fork_of, rewritten, OsErr, IsContent, fits, map_of, replaced, split-passes, split-whole}
+use Rattle.res_calls.proofs.Cited.{is_system, Err, ℤ, false≢true, int_eq, RES_FILE_NOT_FOUND, ADD_RES_FAILED, WRITE_PERMISSION, Known}
+use Rattle.res_calls.proofs.Cited.{handle_at, has_block, new_reference, Managers, Answer, done, refused, on_open, on_file, add_resource}
+use Rattle.res_calls.proofs.Cited.{on_known, added_to, HasFork, StoresHandle, unwrap_or, is_changed, bytes_held, update, map_in, and_assoc}
+use Rattle.res_calls.proofs.Cited.{State, unchanged, Ref, Group, Content, map_kept, clear, clear_ref, clear_group, Reference, Map, is_of}
+use Rattle.res_calls.proofs.Cited.{of_type, types, group_of, groups_of, content}
+use Rattle.std.proofs.Common.{slice_get}
+use Rattle.std.specs.Prelude.{nat_le, nat_lt, ◌==◌, ◌&&◌}
 use Rattle.heap_calls.specs.Purging.{is_resource}
-use Rattle.heap_calls.specs.Inside.{has_block}
-use Rattle.res_map.specs.Map.{new_reference}
-use Rattle.res_calls.specs.Fetch.{Managers, Answer, done, refused}
-use Rattle.res_calls.specs.Rows.{on_open, on_file}
-use Rattle.res_calls.specs.Changing.{add_resource, on_known, added_to}
-use Rattle.res_calls.specs.Forks.{HasFork, StoresHandle}
-use Rattle.std.specs.Prelude.{unwrap_or}
-use Rattle.res_map.specs.Map.{is_changed}
-use Rattle.res_calls.specs.Update.{bytes_held, update}
-use Rattle.res_calls.specs.Rows.{map_in}
 use Rattle.res_calls.proofs.Walks.Forks.{fork_is_read}
-use Rattle.std.proofs.lemmas.Nat.{and_assoc}
-use Rattle.heap_calls.specs.State.{State}
-use Rattle.mac_words.specs.Attributes.{unchanged}
-use Rattle.fork_format.specs.Content.{Ref, Group, Content}
-use Rattle.fork_format.specs.Fork.{map_kept}
-use Rattle.fork_format.specs.Canonical.{clear, clear_ref, clear_group}
-use Rattle.res_map.specs.Map.{Reference, Map, is_of, of_type, types, group_of, groups_of, content}
 
 -- What follows of what holds of open files at all times.
 

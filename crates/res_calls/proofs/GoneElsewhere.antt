@@ -1,20 +1,12 @@
 -- What a call purges does not depend on where its heap lies.
-use Rattle.std.proofs.Common.{◌≡◌, ℕ, ℤ, Bool, true, false, cond, List, [], ◌∷◌, ◌++◌, Option, Some, None, Result, Ok, Err, refl, ap, ◌∙◌}
+use Rattle.res_calls.proofs.Cited.{◌≡◌, ℕ, ℤ, Bool, true, false, cond, List, [], ◌∷◌, ◌++◌, Option, Some, None, Result, Ok, Err, refl, ap}
+use Rattle.res_calls.proofs.Cited.{◌∙◌, OsErr, Site, Memory, elsewhere, Split, place, Reference, Map, is_named, is_resource, ResourceAsked}
+use Rattle.res_calls.proofs.Cited.{Managers, Loaded, preload_one, File, OpenFile, Found, file_named, find_from_current, find_in_current}
+use Rattle.res_calls.proofs.Cited.{open_at, fetch_gone_as, fetch_gone, preload_gone, load_gone, map_gone, fork_gone, unless_open_gone}
+use Rattle.res_calls.proofs.Cited.{open_gone, gone_for, own_gone, preload_one_gone, find_own, greatest_number, map_in, nth_among}
+use Rattle.res_calls.proofs.Cited.{resource_of}
 use Rattle.std.specs.Prelude.{nat_lt}
-use Rattle.mac_words.specs.declared.code.OsErr.{OsErr}
-use Rattle.block_store.specs.Rest.{Site}
-use Rattle.heap_calls.specs.State.{Memory}
-use Rattle.heap_calls.proofs.Tries.Elsewhere.{elsewhere}
-use Rattle.res_map.specs.Split.{Split, place}
-use Rattle.res_map.specs.Map.{Reference, Map, is_named, is_resource}
 use Rattle.res_calls.specs.Asked as asks
-use Rattle.res_calls.specs.Asked.{ResourceAsked}
-use Rattle.res_calls.specs.Fetch.{Managers, Loaded, preload_one}
-use Rattle.res_calls.specs.Files.{File, OpenFile, Found, file_named, find_from_current, find_in_current, open_at}
-use Rattle.res_calls.specs.Gone.{fetch_gone_as, fetch_gone, preload_gone, load_gone, map_gone, fork_gone}
-use Rattle.res_calls.specs.Gone.{unless_open_gone, open_gone, gone_for, own_gone, preload_one_gone}
-use Rattle.res_calls.specs.Own.{find_own}
-use Rattle.res_calls.specs.Rows.{greatest_number, map_in, nth_among, resource_of}
 use Rattle.res_calls.proofs.Walks.Place.{moved, one-place}
 
 -- a fetch

@@ -1,16 +1,8 @@
-use Rattle.std.proofs.Common.{◌≡◌, ℕ, suc, ◌+◌, ◌-◌, ◌<◌, ◌≤◌, ◌^◌, Bool, true, false, List, [], ◌∷◌, length, map, drop}
-use Rattle.std.proofs.Common.{Option, Some, None, refl, sym, ◌∙◌, ap, arith, get_or}
-use Rattle.std.specs.Prelude.{option_map, is_some}
-use Rattle.fork_format.proofs.Rest.{rest-map}
-use Rattle.res_map.specs.Split.{place}
-use Rattle.res_map.specs.Map.{is_of, of_type, split_nth}
-use Rattle.res_map.proofs.Splitting.{split_nth-whole}
-use Rattle.res_calls.specs.Files.{OpenFile, Found, found_behind}
-use Rattle.res_calls.specs.Rows.{count_each, told_count, nth_each, first_free}
-use Rattle.res_calls.specs.Places.{found_at, found_from, spot_of}
+use Rattle.res_calls.proofs.Cited.{◌≡◌, ℕ, suc, ◌+◌, ◌-◌, ◌<◌, ◌≤◌, ◌^◌, Bool, true, false, List, [], ◌∷◌, length, map, drop, Option, Some}
+use Rattle.res_calls.proofs.Cited.{None, refl, sym, ◌∙◌, ap, arith, get_or, option_map, is_some, rest-map, place, is_of, of_type, split_nth}
+use Rattle.res_calls.proofs.Cited.{split_nth-whole, OpenFile, Found, found_behind, count_each, told_count, nth_each, first_free, found_at}
+use Rattle.res_calls.proofs.Cited.{found_from, spot_of, Spot, view_open}
 use Rattle.res_calls.specs.declared.files.OpenFile.{OpenFile as StoredOpenFile}
-use Rattle.res_calls.specs.declared.find.Spot.{Spot}
-use Rattle.res_calls.specs.View.{view_open}
 use Rattle.res_calls.proofs.Standing.{index_whole}
 use Rattle.res_calls.proofs.Typing.{told_small, told_more}
 use Rattle.res_calls.proofs.Finding.{spot_from, spot_start, here_spot, on_spot, either_stands, again_from, placed_from}

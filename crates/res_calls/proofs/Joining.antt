@@ -1,24 +1,12 @@
-use Rattle.std.proofs.Common.{◌≡◌, ◌<◌, ℕ, true, false, cond, Option, Some, None, Result, Ok, List, map, length}
-use Rattle.std.proofs.Common.{refl, sym, ◌∙◌, ap, subst, get_or}
-use Rattle.mac_words.specs.declared.code.TheConstants.OsErr.{WRITE_PERMISSION}
-use Rattle.std.specs.Prelude.{option_map, slice_get, slice_set, is_ok, ◌==◌}
-use Rattle.heap_calls.specs.State.{State, Memory, Role, Meaning, Handle, Pointer, Disposed}
-use Rattle.heap_calls.specs.Answer.{Known, known_as, handle_at}
-use Rattle.heap_calls.specs.Inside.{inside, cast, owned_as, is_owned, has_block}
+use Rattle.res_calls.proofs.Cited.{◌≡◌, ◌<◌, ℕ, true, false, cond, Option, Some, None, Result, Ok, List, map, length, refl, sym, ◌∙◌, ap}
+use Rattle.res_calls.proofs.Cited.{subst, get_or, WRITE_PERMISSION, option_map, slice_get, slice_set, is_ok, State, Memory, Role, Meaning}
+use Rattle.res_calls.proofs.Cited.{Handle, Pointer, Disposed, Known, known_as, handle_at, inside, cast, owned_as, is_owned, has_block}
+use Rattle.res_calls.proofs.Cited.{Refusal, Split, split, place, replaced, Reference, added, split-set, OpenFile, Resources, view_open}
+use Rattle.res_calls.proofs.Cited.{Managers, Answer, done, refused, on_open, on_file, on_handle, added_to, IsAnswered, managers, chained}
+use Rattle.res_calls.proofs.Cited.{add_found}
+use Rattle.std.specs.Prelude.{◌==◌}
 use Rattle.heap_calls.specs.Purging.{is_resource as is_owner}
-use Rattle.heap_calls.specs.declared.refusal.Refusal.{Refusal}
-use Rattle.res_map.specs.Split.{Split, split, place, replaced}
-use Rattle.res_map.specs.Map.{Reference, added}
-use Rattle.res_map.proofs.Splitting.{split-set}
-use Rattle.res_calls.specs.Files.{OpenFile, Resources}
 use Rattle.res_calls.specs.declared.files.OpenFile.{OpenFile as StoredOpenFile}
-use Rattle.res_calls.specs.View.{view_open}
-use Rattle.res_calls.specs.Fetch.{Managers, Answer, done, refused}
-use Rattle.res_calls.specs.Rows.{on_open, on_file}
-use Rattle.res_calls.specs.Changing.{on_handle, added_to}
-use Rattle.res_calls.specs.Given.{IsAnswered, managers}
-use Rattle.res_calls.specs.Places.{chained}
-use Rattle.res_calls.specs.Changing.{add_found}
 use Rattle.res_calls.proofs.Lookups.{found_seen}
 use Rattle.res_calls.proofs.Standing.{listed, touched_as, map_set}
 

@@ -1,16 +1,7 @@
-use Rattle.std.proofs.Common.{◌≡◌, Bool, true, false, cond, refl, subst, Option, Some, None, Result, Ok, Err, ℕ}
-use Rattle.mac_words.specs.declared.code.OsErr.{OsErr}
-use Rattle.mac_words.specs.declared.code.TheConstants.OsErr.{WRITE_PERMISSION, RES_ATTR}
-use Rattle.fork_format.specs.Canonical.{fits}
-use Rattle.heap_calls.specs.State.{State}
-use Rattle.heap_calls.specs.Answer.{Known}
-use Rattle.res_map.specs.Split.{Split}
-use Rattle.res_map.specs.Map.{content, is_protected}
-use Rattle.res_calls.specs.Files.{OpenFile, Resources, Found}
-use Rattle.res_calls.specs.Fetch.{Managers, Answer, refused, is_system}
-use Rattle.res_calls.specs.Rows.{on_found, on_open, on_resource, resource_of, on_updated, if_updated}
-use Rattle.res_calls.specs.Update.{update, updated_map, rewritten}
-use Rattle.res_calls.specs.Changing.{on_known, on_removable, if_changeable}
+use Rattle.res_calls.proofs.Cited.{◌≡◌, Bool, true, false, cond, refl, subst, Option, Some, None, Result, Ok, Err, ℕ, OsErr}
+use Rattle.res_calls.proofs.Cited.{WRITE_PERMISSION, RES_ATTR, fits, State, Known, Split, content, is_protected, OpenFile, Resources, Found}
+use Rattle.res_calls.proofs.Cited.{Managers, Answer, refused, is_system, on_found, on_open, on_resource, resource_of, on_updated}
+use Rattle.res_calls.proofs.Cited.{if_updated, update, updated_map, rewritten, on_known, on_removable, if_changeable}
 
 -- What holds of the managers after each answer that a call may give holds after the call.
 

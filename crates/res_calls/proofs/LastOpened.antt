@@ -1,21 +1,9 @@
-use Rattle.std.proofs.Common.{◌≡◌, ◌<◌, ℕ, suc, ℤ, pos, Bool, true, false, true≢false, not}
-use Rattle.std.proofs.Common.{Option, Some, None, List, [], ◌∷◌, length, refl, sym, ◌∙◌, ap, subst, cond, arith}
-use Rattle.std.proofs.lemmas.Bool.{not-true}
-use Rattle.std.proofs.lemmas.Bool.Decides.{Decides-int_eq}
-use Rattle.std.specs.Ordering.{int_eq}
-use Rattle.mac_words.specs.declared.code.OsErr.{OsErr}
-use Rattle.mac_words.specs.declared.code.TheConstants.OsErr.{NO_ERR, DISK_FULL}
-use Rattle.heap_calls.specs.State.{State, Memory}
-use Rattle.res_map.specs.Split.{Split}
-use Rattle.res_calls.specs.Files.{OpenFile, Resources}
-use Rattle.res_calls.specs.Fetch.{Managers, is_system}
-use Rattle.res_calls.specs.Given.{managers}
-use Rattle.res_calls.specs.Leaving.{FilesClosed, update_code, updated_or, left_file, last_opened, first_code, leave}
-use Rattle.res_calls.specs.Leaving.{leave_files, has_own, left_one_of, left_one, left_after}
-use Rattle.res_calls.specs.Places.{at_index, left_last, left_last_of, IsLastUpdated, IsLastClosed, StopsAmid}
-use Rattle.res_calls.specs.Rows.{handles_of, closed, closed_file}
-use Rattle.res_calls.specs.Sound.{Sound}
-use Rattle.res_calls.specs.Update.{update, updated_map, rewritten}
+use Rattle.res_calls.proofs.Cited.{◌≡◌, ◌<◌, ℕ, suc, ℤ, pos, Bool, true, false, true≢false, not, Option, Some, None, List, [], ◌∷◌, length}
+use Rattle.res_calls.proofs.Cited.{refl, sym, ◌∙◌, ap, subst, cond, arith, not-true, Decides-int_eq, int_eq, OsErr, NO_ERR, DISK_FULL}
+use Rattle.res_calls.proofs.Cited.{State, Memory, Split, OpenFile, Resources, Managers, is_system, managers, FilesClosed, update_code}
+use Rattle.res_calls.proofs.Cited.{updated_or, left_file, last_opened, first_code, leave, leave_files, has_own, left_one_of, left_one}
+use Rattle.res_calls.proofs.Cited.{left_after, at_index, left_last, left_last_of, IsLastUpdated, IsLastClosed, StopsAmid, handles_of}
+use Rattle.res_calls.proofs.Cited.{closed, closed_file, Sound, update, updated_map, rewritten}
 use Rattle.res_calls.proofs.Keeping.{update-comes}
 use Rattle.res_calls.proofs.LettingGo.{updated-handles, lies-released}
 use Rattle.res_calls.proofs.Soundness.Changes.{sound-closed, sound-closed-written}

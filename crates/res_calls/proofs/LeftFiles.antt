@@ -1,18 +1,9 @@
-use Rattle.std.proofs.Common.{◌≡◌, ◌==◌, ◌&&◌, ◌||◌, ◌⊎◌, inl, inr, ℕ, zero, suc, Bool, true, false, true≢false, not}
-use Rattle.std.proofs.Common.{Option, Some, None, List, [], ◌∷◌, length, refl, sym, ◌∙◌, ap, subst, arith}
-use Rattle.std.proofs.lemmas.Bool.{and_parts, eqb-true, ltb-true, not-true}
-use Rattle.std.proofs.lemmas.Bool.Decides.{Decides-eqb}
-use Rattle.std.specs.Prelude.{slice_get, nat_lt}
-use Rattle.std.specs.List.{list_all, list_any}
-use Rattle.mac_words.specs.declared.code.TheConstants.OsErr.{NO_ERR}
-use Rattle.fork_format.specs.Canonical.{fits}
-use Rattle.res_map.specs.Map.{content}
-use Rattle.res_calls.specs.Files.{File, OpenFile, Resources, is_at}
-use Rattle.res_calls.specs.Fetch.{Managers, is_system}
-use Rattle.res_calls.specs.Leaving.{FilesClosed, update_code, updated_or, left_file, last_opened, first_code, leave}
-use Rattle.res_calls.specs.Leaving.{leave_files, has_own}
-use Rattle.res_calls.specs.Sound.{Sound, falls}
-use Rattle.res_calls.specs.Update.{update, updated_map, written, written_at, fork_of}
+use Rattle.res_calls.proofs.Cited.{◌≡◌, ◌==◌, ◌&&◌, ◌||◌, ◌⊎◌, inl, inr, ℕ, zero, suc, Bool, true, false, true≢false, not, Option, Some}
+use Rattle.res_calls.proofs.Cited.{None, List, [], ◌∷◌, length, refl, sym, ◌∙◌, ap, subst, arith, and_parts, eqb-true, ltb-true, not-true}
+use Rattle.res_calls.proofs.Cited.{Decides-eqb, slice_get, list_all, list_any, NO_ERR, fits, content, File, OpenFile, Resources, is_at}
+use Rattle.res_calls.proofs.Cited.{Managers, is_system, FilesClosed, update_code, updated_or, left_file, last_opened, first_code, leave}
+use Rattle.res_calls.proofs.Cited.{leave_files, has_own, Sound, falls, update, updated_map, written, written_at, fork_of}
+use Rattle.std.specs.Prelude.{nat_lt}
 use Rattle.res_calls.proofs.LastOpened.{next_code, next_after, no_more, sound_left_file}
 use Rattle.res_calls.proofs.Soundness.Changes.{written-at-many}
 use Rattle.res_calls.proofs.Walks.Forks.{updated_files, untouched_stays}

@@ -1,31 +1,16 @@
-use Rattle.std.proofs.Common.{◌≡◌, ◌<◌, ℕ, ◌+◌, Bool, true, false, Option, Some, None, refl, sym, subst, ◌∙◌, ap, List, [], ◌∷◌, ◌++◌, map}
-use Rattle.std.proofs.Common.{length, drop, suc, zero, cond, arith, get_or}
-use Rattle.std.specs.Prelude.{option_map, slice_get, option_to_list, remove, ◌==◌, Ok, Err}
-use Rattle.std.specs.List.{cons_option}
-use Rattle.std.proofs.lemmas.Bool.{eqb-true}
-use Rattle.std.proofs.lemmas.List.{drop-map}
-use Rattle.heap_calls.specs.State.{State, Memory}
-use Rattle.heap_calls.specs.Inside.{inside, released}
-use Rattle.res_map.specs.Split.{Split, split, place, replaced, removed}
-use Rattle.res_map.specs.Map.{Reference, content}
-use Rattle.fork_format.specs.Canonical.{fits}
-use Rattle.res_map.proofs.Splitting.{split-whole, split-passes, get-whole, found-place, remove-replaced}
-use Rattle.res_map.proofs.Order.{map-remove}
-use Rattle.fork_format.proofs.Rest.{rest-map}
-use Rattle.res_calls.specs.Files.{OpenFile, Resources}
+use Rattle.res_calls.proofs.Cited.{◌≡◌, ◌<◌, ℕ, ◌+◌, Bool, true, false, Option, Some, None, refl, sym, subst, ◌∙◌, ap, List, [], ◌∷◌, ◌++◌}
+use Rattle.res_calls.proofs.Cited.{map, length, drop, suc, zero, cond, arith, get_or, option_map, slice_get, option_to_list, remove}
+use Rattle.res_calls.proofs.Cited.{cons_option, eqb-true, drop-map, State, Memory, inside, released, Split, split, place, replaced, removed}
+use Rattle.res_calls.proofs.Cited.{Reference, content, fits, split-whole, split-passes, get-whole, found-place, remove-replaced, map-remove}
+use Rattle.res_calls.proofs.Cited.{rest-map, OpenFile, Resources, view_file, view_open, Refusal, Code, HostMemory, at_index}
+use Rattle.res_calls.proofs.Cited.{updated_reference, updated_map, updated, rewritten, update, IsUpdated, stored_in, Answer, done}
+use Rattle.res_calls.proofs.Cited.{IsAnswered, managers, all_released, handles_of, first_number, closed, close_res_file, closed_file}
+use Rattle.res_calls.proofs.Cited.{if_updated}
+use Rattle.std.specs.Prelude.{◌==◌, Ok, Err}
 use Rattle.res_calls.specs.declared.files.File.{File as StoredFile}
 use Rattle.res_calls.specs.declared.files.OpenFile.{OpenFile as StoredOpenFile}
-use Rattle.res_calls.specs.View.{view_file, view_open}
-use Rattle.heap_calls.specs.declared.refusal.Refusal.{Refusal}
-use Rattle.heap_calls.specs.declared.refusal.Refusal.TheVariants.{Code, HostMemory}
-use Rattle.res_calls.specs.Places.{at_index}
-use Rattle.res_calls.specs.Update.{updated_reference, updated_map, updated, rewritten, update}
-use Rattle.res_calls.specs.Updating.{IsUpdated, stored_in}
 use Rattle.res_calls.proofs.Standing.{index_whole}
 use Rattle.res_calls.proofs.WritingAnew.{found_stands, same_resources}
-use Rattle.res_calls.specs.Fetch.{Answer, done}
-use Rattle.res_calls.specs.Given.{IsAnswered, managers}
-use Rattle.res_calls.specs.Rows.{all_released, handles_of, first_number, closed, close_res_file, closed_file, if_updated}
 
 -- handles are let go one after the other
 handles_from : (references : List Reference) (i : ℕ) (x : Reference) → slice_get references i ≡ Some x

@@ -1,3 +1,4 @@
+mod Cited
 pub mod Walks
 mod Worked
 pub mod Finding

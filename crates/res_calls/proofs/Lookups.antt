@@ -1,11 +1,7 @@
-use Rattle.std.proofs.Common.{◌≡◌, ◌<◌, ℕ, Bool, Some, sym, ◌∙◌, ap, List, map, length, get_or}
-use Rattle.std.specs.Prelude.{option_map, slice_get}
-use Rattle.std.proofs.lemmas.Option.{slice_get-get_or, slice_get-map}
-use Rattle.res_map.specs.Split.{Split, split, place}
-use Rattle.res_map.proofs.Splitting.{found-place, split-get}
-use Rattle.res_calls.specs.Files.{OpenFile, references_in}
+use Rattle.res_calls.proofs.Cited.{◌≡◌, ◌<◌, ℕ, Bool, Some, sym, ◌∙◌, ap, List, map, length, get_or, option_map, slice_get}
+use Rattle.res_calls.proofs.Cited.{slice_get-get_or, slice_get-map, Split, split, place, found-place, split-get, OpenFile, references_in}
+use Rattle.res_calls.proofs.Cited.{view_open}
 use Rattle.res_calls.specs.declared.files.OpenFile.{OpenFile as StoredOpenFile}
-use Rattle.res_calls.specs.View.{view_open}
 
 -- What a place that was found says of the item there.
 

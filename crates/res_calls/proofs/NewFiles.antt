@@ -1,21 +1,9 @@
-use Rattle.std.proofs.Common.{◌≡◌, ◌<◌, ℕ, true, false, Some, None, refl, sym, ◌∙◌, ap, List, [], ◌∷◌, ◌++◌, map}
-use Rattle.std.proofs.Common.{length, arith, get_or}
-use Rattle.std.specs.Prelude.{option_map, bytes_eq, Ok, Err, Result, ◌==◌, nat_le}
-use Rattle.std.proofs.lemmas.Bool.{lt-leb}
-use Rattle.std.proofs.lemmas.List.{length-map}
-use Rattle.heap_calls.specs.State.{Memory}
-use Rattle.heap_calls.specs.declared.refusal.Refusal.{Refusal}
-use Rattle.heap_calls.specs.declared.refusal.Refusal.TheVariants.{Code}
-use Rattle.mac_words.specs.declared.code.TheConstants.OsErr.{DUPLICATE_FILE}
-use Rattle.res_map.specs.Split.{Split, split, place}
+use Rattle.res_calls.proofs.Cited.{◌≡◌, ◌<◌, ℕ, true, false, Some, None, refl, sym, ◌∙◌, ap, List, [], ◌∷◌, ◌++◌, map, length, arith}
+use Rattle.res_calls.proofs.Cited.{get_or, option_map, bytes_eq, lt-leb, length-map, Memory, Refusal, Code, DUPLICATE_FILE, Split, split}
+use Rattle.res_calls.proofs.Cited.{place, create_named, create_res_file, most_files, new_file, new_fork, File, Resources, IsAnswered}
+use Rattle.res_calls.proofs.Cited.{managers, at_index, written, written_at, filed_in, view_file}
+use Rattle.std.specs.Prelude.{Ok, Err, Result, ◌==◌, nat_le}
 use Rattle.res_calls.specs.declared.files.File.{File as StoredFile}
-use Rattle.res_calls.specs.Changing.{create_named, create_res_file, most_files, new_file, new_fork}
-use Rattle.res_calls.specs.Files.{File, Resources}
-use Rattle.res_calls.specs.Given.{IsAnswered, managers}
-use Rattle.res_calls.specs.Places.{at_index}
-use Rattle.res_calls.specs.Update.{written, written_at}
-use Rattle.res_calls.specs.Updating.{filed_in}
-use Rattle.res_calls.specs.View.{view_file}
 use Rattle.res_calls.proofs.Standing.{index_stands}
 use Rattle.res_calls.proofs.WritingAnew.{here_seen, found_stands}
 

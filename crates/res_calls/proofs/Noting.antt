@@ -1,15 +1,6 @@
-use Rattle.std.proofs.Common.{◌≡◌, Result, Ok, Err, ◌∙◌, ap, Option, None, Some, true, refl, subst}
-use Rattle.std.specs.Prelude.{is_some, IsOk}
-use Rattle.mac_words.specs.declared.code.OsErr.{OsErr}
-use Rattle.mac_words.specs.declared.code.TheConstants.OsErr.{NO_ERR}
-use Rattle.heap_calls.specs.State.{Memory}
-use Rattle.heap_calls.specs.Answer.{code_of}
-use Rattle.heap_calls.specs.declared.refusal.Refusal.{Refusal}
-use Rattle.heap_calls.specs.declared.refusal.Refusal.TheVariants.{Code, HostMemory}
-use Rattle.res_calls.specs.Files.{Resources, Found}
-use Rattle.res_calls.specs.Fetch.{Managers, Answer}
-use Rattle.res_calls.specs.Rows.{keep_error, noting, on_found}
-use Rattle.res_calls.specs.Given.{IsAnswered, IsAnsweredUnseen, managers, noted}
+use Rattle.res_calls.proofs.Cited.{◌≡◌, Result, Ok, Err, ◌∙◌, ap, Option, None, Some, true, refl, subst, is_some, IsOk, OsErr, NO_ERR}
+use Rattle.res_calls.proofs.Cited.{Memory, code_of, Refusal, Code, HostMemory, Resources, Found, Managers, Answer, keep_error, noting}
+use Rattle.res_calls.proofs.Cited.{on_found, IsAnswered, IsAnsweredUnseen, managers, noted}
 
 -- A call on what was found; a call whose code is noted.
 

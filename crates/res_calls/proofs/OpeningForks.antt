@@ -1,24 +1,12 @@
-use Rattle.std.proofs.Common.{◌≡◌, ℕ, Bool, true, false, Some, None, Result, Ok, Err, refl, sym, ◌∙◌, ap, List, [], ◌∷◌}
-use Rattle.std.proofs.Common.{◌<◌, ◌≤◌, ◌==◌, arith, cond, get_or, length, map, subst}
-use Rattle.std.proofs.lemmas.Bool.{le-ltb}
-use Rattle.std.proofs.lemmas.List.{length-map}
-use Rattle.std.specs.Prelude.{option_map, slice_get, IfSome, nat_lt, bytes_eq}
-use Rattle.mac_words.specs.declared.code.TheConstants.OsErr.{END_OF_FILE, MAP_READ}
-use Rattle.heap_calls.specs.State.{Memory}
-use Rattle.heap_calls.specs.declared.refusal.Refusal.{Refusal}
-use Rattle.heap_calls.specs.declared.refusal.Refusal.TheVariants.{Code, HostMemory}
-use Rattle.fork_format.specs.Fork.{is_fork, content_of}
-use Rattle.res_map.specs.Split.{Split, split, place}
-use Rattle.fork_format.specs.Content.{Content}
-use Rattle.res_map.specs.Map.{Map, map_of}
-use Rattle.res_map.proofs.Splitting.{found-place, found-none, split-get}
-use Rattle.res_calls.specs.Files.{File, OpenFile, Resources, is_at, opened, fresh_resources}
-use Rattle.res_calls.specs.Fetch.{Managers, Answer, done}
-use Rattle.res_calls.specs.Given.{IsAnswered, IsReply, managers}
-use Rattle.res_calls.specs.Rows.{open_res_file, open_fork, open_as, map_in, map_read, greatest_number, launched_resources}
+use Rattle.res_calls.proofs.Cited.{◌≡◌, ℕ, Bool, true, false, Some, None, Result, Ok, Err, refl, sym, ◌∙◌, ap, List, [], ◌∷◌, ◌<◌, ◌≤◌}
+use Rattle.res_calls.proofs.Cited.{◌==◌, arith, cond, get_or, length, map, subst, le-ltb, length-map, option_map, slice_get, IfSome}
+use Rattle.res_calls.proofs.Cited.{bytes_eq, END_OF_FILE, MAP_READ, Memory, Refusal, Code, HostMemory, is_fork, content_of, Split, split}
+use Rattle.res_calls.proofs.Cited.{place, Content, Map, map_of, found-place, found-none, split-get, File, OpenFile, Resources, is_at}
+use Rattle.res_calls.proofs.Cited.{opened, fresh_resources, Managers, Answer, done, IsAnswered, IsReply, managers, open_res_file, open_fork}
+use Rattle.res_calls.proofs.Cited.{open_as, map_in, map_read, greatest_number, launched_resources, view_file, view_open}
+use Rattle.std.specs.Prelude.{nat_lt}
 use Rattle.res_calls.specs.declared.files.File.{File as StoredFile}
 use Rattle.res_calls.specs.declared.files.OpenFile.{OpenFile as StoredOpenFile}
-use Rattle.res_calls.specs.View.{view_file, view_open}
 use Rattle.res_calls.proofs.Lookups.{item_seen, found_seen}
 
 -- the map that was read is that of the content

@@ -1,21 +1,8 @@
-use Rattle.std.proofs.Common.{◌≡◌, ◌≢◌, ℕ, false, Some, None, Result, Ok, Err, List, [], map, refl, sym, ◌∙◌}
-use Rattle.std.proofs.Common.{ap, subst}
-use Rattle.std.specs.Prelude.{option_map, slice_get, IfSome, nat_lt, bytes_eq}
-use Rattle.heap_calls.specs.Gone.{Gone, Tells}
-use Rattle.heap_calls.specs.State.{Memory}
-use Rattle.heap_calls.specs.declared.refusal.Refusal.{Refusal}
-use Rattle.heap_calls.specs.declared.refusal.Refusal.TheVariants.{Code, HostMemory}
-use Rattle.heap_calls.proofs.GoneForSizes.{tells-none}
-use Rattle.res_map.specs.Split.{Split, split, place}
-use Rattle.res_map.specs.Map.{Map}
-use Rattle.res_map.proofs.Splitting.{found-place, found-none}
-use Rattle.res_calls.specs.Asked.{OpenResFile}
-use Rattle.res_calls.specs.Fetch.{Managers}
-use Rattle.res_calls.specs.Files.{File, OpenFile, Resources, is_at}
-use Rattle.res_calls.specs.Given.{IsReply, managers}
-use Rattle.res_calls.specs.Gone.{gone_for, fork_gone, load_gone}
-use Rattle.res_calls.specs.Rows.{greatest_number, map_in}
-use Rattle.res_calls.specs.View.{view_file, view_open}
+use Rattle.res_calls.proofs.Cited.{◌≡◌, ◌≢◌, ℕ, false, Some, None, Result, Ok, Err, List, [], map, refl, sym, ◌∙◌, ap, subst, option_map}
+use Rattle.res_calls.proofs.Cited.{slice_get, IfSome, bytes_eq, Gone, Tells, Memory, Refusal, Code, HostMemory, tells-none, Split, split}
+use Rattle.res_calls.proofs.Cited.{place, Map, found-place, found-none, OpenResFile, Managers, File, OpenFile, Resources, is_at, IsReply}
+use Rattle.res_calls.proofs.Cited.{managers, gone_for, fork_gone, load_gone, greatest_number, map_in, view_file, view_open}
+use Rattle.std.specs.Prelude.{nat_lt}
 use Rattle.res_calls.specs.declared.files.File.{File as StoredFile}
 use Rattle.res_calls.specs.declared.files.OpenFile.{OpenFile as StoredOpenFile}
 use Rattle.res_calls.proofs.OpeningForks.{file_anew}

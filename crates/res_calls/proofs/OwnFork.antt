@@ -1,7 +1,4 @@
-use Rattle.std.proofs.Common.{◌≡◌, Option, Some, None, refl, ap}
-use Rattle.std.specs.Prelude.{option_map, option_and_then}
-use Rattle.res_map.specs.Map.{Reference}
-use Rattle.res_calls.specs.Files.{Found}
+use Rattle.res_calls.proofs.Cited.{◌≡◌, Option, Some, None, refl, ap, option_map, option_and_then, Reference, Found}
 
 -- What is lent of a reference of the application's own fork.
 

@@ -1,13 +1,7 @@
 -- A part of what is stored of a resource.
-use Rattle.std.proofs.Common.{◌≡◌, ◌≢◌, ◌≤◌, ℕ, Bool, true, false, if◌then◌else◌, Option, Some, None, length, nat_lt, ◌+◌, refl, arith}
-use Rattle.std.proofs.lemmas.Bool.{ltb-false}
-use Rattle.std.specs.Prelude.{IfSome}
-use Rattle.mac_words.specs.declared.code.OsErr.{OsErr}
-use Rattle.mac_words.specs.declared.code.TheConstants.OsErr.{OFFSET, RES_ATTR, TOO_LONG, WRITE_PERMISSION}
-use Rattle.res_map.specs.Map.{is_protected}
-use Rattle.res_calls.specs.Fetch.{is_system}
-use Rattle.res_calls.specs.Files.{Found}
-use Rattle.res_calls.specs.Partial.{most_bytes, write_refusal}
+use Rattle.res_calls.proofs.Cited.{◌≡◌, ◌≢◌, ◌≤◌, ℕ, Bool, true, false, if◌then◌else◌, Option, Some, None, length, nat_lt, ◌+◌, refl, arith}
+use Rattle.res_calls.proofs.Cited.{ltb-false, IfSome, OsErr, OFFSET, RES_ATTR, TOO_LONG, WRITE_PERMISSION, is_protected, is_system, Found}
+use Rattle.res_calls.proofs.Cited.{most_bytes, write_refusal}
 
 -- bytes whose writing is not refused begin within what is stored
 pub offset-within : (from n : ℕ) (at : Found) → write_refusal from n at ≡ None

@@ -1,20 +1,9 @@
-use Rattle.std.proofs.Common.{◌≡◌, ℕ, ◌+◌, Bool, true, false, Option, Some, refl, sym, ◌∙◌, ap, List, [], ◌∷◌, ◌++◌, map, length}
-use Rattle.std.proofs.Common.{drop, suc, zero, cond, arith, Result, Ok, Err, ◌≤◌, subst, IfSome}
-use Rattle.std.specs.Prelude.{slice_get, slice_set}
-use Rattle.std.specs.Option.{option_or}
-use Rattle.std.proofs.lemmas.List.{length-set}
-use Rattle.mac_words.specs.declared.code.OsErr.{OsErr}
-use Rattle.block_store.specs.declared.flags.Flags.{Flags}
-use Rattle.heap_calls.specs.State.{Memory, Resource}
-use Rattle.heap_calls.specs.Answer.{nothing}
-use Rattle.heap_calls.specs.Gone.{Gone, Tells, made_gone, all_gone}
-use Rattle.heap_calls.specs.Inside.{new_inside, new_all, number_if}
-use Rattle.heap_calls.specs.Inner.Filling.{wanted_as}
-use Rattle.heap_calls.specs.declared.filling.Filling.{Filling}
-use Rattle.res_map.specs.Map.{Reference, Map, is_preload, with_handle}
-use Rattle.res_calls.specs.Fetch.{Loaded, flags_of, given, preload_one, preload, loaded_both}
-use Rattle.res_calls.specs.Gone.{preload_gone}
-use Rattle.res_calls.specs.Preloading.{filling_of, wanted_of, next_number, numbered, given_to}
+use Rattle.res_calls.proofs.Cited.{◌≡◌, ℕ, ◌+◌, Bool, true, false, Option, Some, refl, sym, ◌∙◌, ap, List, [], ◌∷◌, ◌++◌, map, length, drop}
+use Rattle.res_calls.proofs.Cited.{suc, zero, cond, arith, Result, Ok, Err, ◌≤◌, subst, slice_get, slice_set, option_or, length-set, OsErr}
+use Rattle.res_calls.proofs.Cited.{Flags, Memory, Resource, nothing, Gone, Tells, made_gone, all_gone, new_inside, new_all, number_if}
+use Rattle.res_calls.proofs.Cited.{wanted_as, Filling, Reference, Map, is_preload, with_handle, Loaded, flags_of, given, preload_one}
+use Rattle.res_calls.proofs.Cited.{preload, loaded_both, preload_gone, filling_of, wanted_of, next_number, numbered, given_to}
+use Rattle.std.proofs.Common.{IfSome}
 
 -- A file's references are read as it is opened: making all handles first and then giving them out comes to the same.
 

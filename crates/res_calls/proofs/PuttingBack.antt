@@ -1,13 +1,7 @@
-use Rattle.std.proofs.Common.{◌≡◌, ◌<◌, ◌≤◌, ℕ, zero, suc, Bool, List, [], ◌∷◌, ◌++◌, map, length, get_or, refl, sym}
-use Rattle.std.proofs.Common.{◌∙◌, ap, arith, Option, Some}
-use Rattle.std.specs.Prelude.{slice_set, option_to_list}
-use Rattle.std.proofs.lemmas.List.{length-map}
+use Rattle.res_calls.proofs.Cited.{◌≡◌, ◌<◌, ◌≤◌, ℕ, zero, suc, Bool, List, [], ◌∷◌, ◌++◌, map, length, get_or, refl, sym, ◌∙◌, ap, arith}
+use Rattle.res_calls.proofs.Cited.{Option, Some, slice_set, option_to_list, length-map, Replaced, File, Resources, Sound, given_back}
+use Rattle.res_calls.proofs.Cited.{put_back, undone, view_file}
 use Rattle.res_calls.specs.declared.files.File.{File as StoredFile}
-use Rattle.res_calls.specs.declared.undoing.Replaced.{Replaced}
-use Rattle.res_calls.specs.Files.{File, Resources}
-use Rattle.res_calls.specs.Sound.{Sound}
-use Rattle.res_calls.specs.Undoing.{given_back, put_back, undone}
-use Rattle.res_calls.specs.View.{view_file}
 use Rattle.res_calls.proofs.Soundness.Changes.{sound-files}
 
 -- The forks that updates replaced are put back.

@@ -1,19 +1,12 @@
-use Rattle.std.proofs.Common.{◌≡◌, ℕ, ◌<◌, Bool, true, List, [], ◌∷◌, ◌++◌, length, map}
-use Rattle.std.proofs.Common.{Option, Some, None, refl, sym, ◌∙◌, ap, get_or, suc, zero, subst, IfSome}
-use Rattle.std.specs.Prelude.{option_map, is_some, slice_get, slice_set, remove}
-use Rattle.std.proofs.lemmas.List.{length-map}
-use Rattle.std.proofs.lemmas.Option.{slice_get_within, slice_get-get_or, slice_get-map}
-use Rattle.res_map.specs.Split.{Split, split, behind, replaced, removed, place}
-use Rattle.res_map.specs.Map.{Reference, Map, is_of, split_nth}
-use Rattle.res_map.proofs.Splitting.{get-whole, set-whole, remove-whole, found-place, found-none}
-use Rattle.res_map.proofs.Splitting.{split-whole, split_nth-whole}
-use Rattle.res_calls.specs.Rows.{reference_in, nth_in}
+use Rattle.res_calls.proofs.Cited.{◌≡◌, ℕ, ◌<◌, Bool, true, List, [], ◌∷◌, ◌++◌, length, map, Option, Some, None, refl, sym, ◌∙◌, ap}
+use Rattle.res_calls.proofs.Cited.{get_or, suc, zero, subst, option_map, is_some, slice_get, slice_set, remove, length-map}
+use Rattle.res_calls.proofs.Cited.{slice_get_within, slice_get-get_or, slice_get-map, Split, split, behind, replaced, removed, place}
+use Rattle.res_calls.proofs.Cited.{Reference, Map, is_of, split_nth, get-whole, set-whole, remove-whole, found-place, found-none}
+use Rattle.res_calls.proofs.Cited.{split-whole, split_nth-whole, reference_in, nth_in, view_open, OpenFile, Found, at_index, in_file}
+use Rattle.res_calls.proofs.Cited.{found_at, Spot}
+use Rattle.std.proofs.Common.{IfSome}
 use Rattle.res_calls.specs.declared.files.OpenFile.{OpenFile as StoredOpenFile}
-use Rattle.res_calls.specs.View.{view_open}
 use Rattle.res_calls.proofs.Lookups.{found_seen}
-use Rattle.res_calls.specs.Files.{OpenFile, Found}
-use Rattle.res_calls.specs.Places.{at_index, in_file, found_at}
-use Rattle.res_calls.specs.declared.find.Spot.{Spot}
 
 -- What stands in a place.
 

@@ -1,15 +1,8 @@
-use Rattle.std.proofs.Common.{◌≡◌, ◌⊎◌, ℕ, Bool, false, IsTrue, Option, Some, None, Ok, List, map, refl, sym, subst}
-use Rattle.std.specs.Prelude.{option_map, slice_get, IfSome, nat_lt, bytes_eq}
-use Rattle.heap_calls.specs.Gone.{Gone}
-use Rattle.heap_calls.specs.State.{Memory}
-use Rattle.res_map.specs.Split.{Split, split, place}
-use Rattle.res_map.specs.Map.{Map}
-use Rattle.res_calls.specs.Fetch.{Managers}
-use Rattle.res_calls.specs.Files.{File, OpenFile, Resources, is_at, opened}
-use Rattle.res_calls.specs.Given.{managers}
-use Rattle.res_calls.specs.Rows.{greatest_number, map_in}
-use Rattle.res_calls.specs.Stopped.{LeavesOpened, LeavesOpen, fork_opens, newly_opened}
-use Rattle.res_calls.specs.View.{view_file, view_open}
+use Rattle.res_calls.proofs.Cited.{◌≡◌, ◌⊎◌, ℕ, Bool, false, IsTrue, Option, Some, None, Ok, List, map, refl, sym, subst, option_map}
+use Rattle.res_calls.proofs.Cited.{slice_get, IfSome, bytes_eq, Gone, Memory, Split, split, place, Map, Managers, File, OpenFile, Resources}
+use Rattle.res_calls.proofs.Cited.{is_at, opened, managers, greatest_number, map_in, LeavesOpened, LeavesOpen, fork_opens, newly_opened}
+use Rattle.res_calls.proofs.Cited.{view_file, view_open}
+use Rattle.std.specs.Prelude.{nat_lt}
 use Rattle.res_calls.specs.declared.files.File.{File as StoredFile}
 use Rattle.res_calls.specs.declared.files.OpenFile.{OpenFile as StoredOpenFile}
 use Rattle.res_calls.proofs.OpeningForks.{file_anew}

@@ -1,19 +1,9 @@
 -- What is stored of the blocks that a call purges.
-use Rattle.std.proofs.Common.{◌≡◌, ℕ, Bool, true, false, cond, List, [], ◌∷◌, map, Option, Some, None, refl, sym, ap, subst, ◌∙◌}
-use Rattle.std.specs.Prelude.{is_some}
-use Rattle.heap_calls.specs.Gone.{Gone}
-use Rattle.res_map.specs.Map.{has_handle, stored_anew}
-use Rattle.res_calls.specs.Changing.{is_to_write}
-use Rattle.res_calls.specs.Fetch.{Managers}
-use Rattle.res_calls.specs.Files.{Resources, Found, find_open, with_reference}
-use Rattle.res_calls.specs.Owning.{Owns}
-use Rattle.res_calls.specs.Places.{found_at, chained}
-use Rattle.res_calls.specs.Purging.{heard, stored_found, stored_gone}
-use Rattle.res_calls.specs.Rows.{with_resources}
-use Rattle.res_calls.specs.Sound.{Sound}
-use Rattle.res_calls.specs.View.{view_open}
+use Rattle.res_calls.proofs.Cited.{◌≡◌, ℕ, Bool, true, false, cond, List, [], ◌∷◌, map, Option, Some, None, refl, sym, ap, subst, ◌∙◌}
+use Rattle.res_calls.proofs.Cited.{is_some, Gone, has_handle, stored_anew, is_to_write, Managers, Resources, Found, find_open}
+use Rattle.res_calls.proofs.Cited.{with_reference, Owns, found_at, chained, heard, stored_found, stored_gone, with_resources, Sound}
+use Rattle.res_calls.proofs.Cited.{view_open, Spot}
 use Rattle.res_calls.specs.declared.files.OpenFile.{OpenFile as StoredOpenFile}
-use Rattle.res_calls.specs.declared.find.Spot.{Spot}
 use Rattle.res_calls.proofs.Owning.Calls.{changed-owns}
 use Rattle.res_calls.proofs.Owning.Facts.{owns-one, one-owns}
 use Rattle.res_calls.proofs.Owning.Owners.{OneOwner}

@@ -1,19 +1,11 @@
 -- Storing purged blocks stores of each changed resource that is not protected the bytes of its own handle's block, where
 -- it is among them.
-use Rattle.std.proofs.Common.{◌≡◌, ℕ, ◌+◌, ◌≤◌, ◌==◌, Bool, true, false, cond, List, [], ◌∷◌, ◌++◌, map, Option, Some, None}
-use Rattle.std.proofs.Common.{refl, sym, ◌∙◌, ap, arith, count_by}
-use Rattle.std.proofs.lemmas.List.Sums.{sum_by-cons, sum_by-append}
-use Rattle.heap_calls.specs.Gone.{Gone}
-use Rattle.heap_calls.specs.ToldGone.{told_of}
-use Rattle.std.specs.Option.{option_map, option_or}
-use Rattle.res_map.specs.Split.{Split, split, replaced, behind}
-use Rattle.res_map.specs.Map.{Reference, is_handle, has_handle, stored_anew}
-use Rattle.fork_format.proofs.Bools.{flips}
-use Rattle.res_calls.specs.Changing.{is_to_write}
-use Rattle.res_calls.specs.Files.{OpenFile, Resources, Found, find, find_open, found_in, found_behind, with_reference}
-use Rattle.res_calls.specs.Owning.{references}
-use Rattle.res_calls.specs.Purging.{stored_found, stored_gone}
-use Rattle.res_calls.specs.Storing.{stored_first, stored_of, stored_by, file_stored, all_stored}
+use Rattle.res_calls.proofs.Cited.{◌≡◌, ℕ, ◌+◌, ◌≤◌, ◌==◌, Bool, true, false, cond, List, [], ◌∷◌, ◌++◌, map, Option, Some, None, refl, sym}
+use Rattle.res_calls.proofs.Cited.{◌∙◌, ap, arith, count_by, sum_by-cons, sum_by-append, Gone, told_of, option_or, Split, split, replaced}
+use Rattle.res_calls.proofs.Cited.{behind, Reference, is_handle, has_handle, stored_anew, flips, is_to_write, OpenFile, Resources, Found}
+use Rattle.res_calls.proofs.Cited.{find, find_open, found_in, found_behind, with_reference, references, stored_found, stored_gone}
+use Rattle.res_calls.proofs.Cited.{stored_first, stored_of, stored_by, file_stored, all_stored}
+use Rattle.std.specs.Option.{option_map}
 use Rattle.res_calls.proofs.Owning.Places.{Stands, same-there, find-finds}
 use Rattle.res_calls.proofs.StoringChanged.{stored-unchanged}
 use Rattle.res_calls.proofs.ToldGone.Filled.{told-append}

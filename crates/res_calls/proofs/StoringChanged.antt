@@ -1,14 +1,8 @@
 -- Storing purged blocks changes nothing but what is stored of changed resources.
-use Rattle.std.proofs.Common.{◌≡◌, inl, inr, ℕ, Bool, true, false, true≢false, cond, List, [], ◌∷◌, ◌++◌, Option, Some, None}
-use Rattle.std.proofs.Common.{refl, sym, ◌∙◌, ap, subst}
-use Rattle.std.proofs.lemmas.Bool.{and_left}
-use Rattle.heap_calls.specs.Gone.{Gone}
-use Rattle.res_map.specs.Split.{replaced}
-use Rattle.res_map.specs.Map.{Reference, has_handle, stored_anew}
-use Rattle.res_calls.specs.Changing.{is_to_write}
-use Rattle.res_calls.specs.Files.{OpenFile, Resources, Found, find_open, with_reference}
-use Rattle.res_calls.specs.Purging.{stored_found, stored_gone, heard}
-use Rattle.res_calls.specs.Storing.{StoredOrSame, EachStoredOrSame, StoresIn, StoresInEach, OnlyStoresChanged}
+use Rattle.res_calls.proofs.Cited.{◌≡◌, inl, inr, ℕ, Bool, true, false, true≢false, cond, List, [], ◌∷◌, ◌++◌, Option, Some, None, refl}
+use Rattle.res_calls.proofs.Cited.{sym, ◌∙◌, ap, subst, and_left, Gone, replaced, Reference, has_handle, stored_anew, is_to_write, OpenFile}
+use Rattle.res_calls.proofs.Cited.{Resources, Found, find_open, with_reference, stored_found, stored_gone, heard, StoredOrSame}
+use Rattle.res_calls.proofs.Cited.{EachStoredOrSame, StoresIn, StoresInEach, OnlyStoresChanged}
 use Rattle.res_calls.proofs.Owning.Calls.{has-some}
 use Rattle.res_calls.proofs.Owning.Places.{Stands, find-finds}
 use Rattle.res_calls.proofs.Soundness.References.{changed-clear}

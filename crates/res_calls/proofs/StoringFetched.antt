@@ -1,30 +1,15 @@
 -- What is stored once a fetch is done, of the blocks that it purged.
-use Rattle.std.proofs.Common.{◌≡◌, inl, inr, ℕ, ℤ, ◌≤◌, Bool, true, false, not, ◌&&◌, List, [], ◌∷◌, ◌++◌, map, length}
-use Rattle.std.proofs.Common.{Option, Some, None, Result, Ok, Err, refl, sym, ◌∙◌, ap, subst, arith}
-use Rattle.std.proofs.lemmas.List.{map-append}
-use Rattle.mac_words.specs.declared.code.OsErr.{OsErr}
-use Rattle.heap_calls.specs.Gone.{Gone}
-use Rattle.block_store.specs.declared.flags.Flags.{Flags}
-use Rattle.heap_calls.specs.State.{State, Memory, Role}
-use Rattle.heap_calls.specs.Inside.{new_filled, new_inside, new_empty_inside, refill_inside, has_block, resource_role}
-use Rattle.heap_calls.specs.Path.{read_new}
-use Rattle.heap_calls.specs.ToldGone.{told_of}
-use Rattle.heap_calls.proofs.Steps.Ways.{emptied-goes, slotted-names}
-use Rattle.res_map.specs.Split.{Split, replaced}
-use Rattle.res_map.specs.Map.{Reference, with_handle, has_handle, is_resource, is_named}
-use Rattle.res_calls.specs.Asked.{ResourceAsked, served}
+use Rattle.res_calls.proofs.Cited.{◌≡◌, inl, inr, ℕ, ℤ, ◌≤◌, Bool, true, false, not, ◌&&◌, List, [], ◌∷◌, ◌++◌, map, length, Option, Some}
+use Rattle.res_calls.proofs.Cited.{None, Result, Ok, Err, refl, sym, ◌∙◌, ap, subst, arith, map-append, OsErr, Gone, Flags, State, Memory}
+use Rattle.res_calls.proofs.Cited.{Role, new_filled, new_inside, new_empty_inside, refill_inside, has_block, resource_role, read_new}
+use Rattle.res_calls.proofs.Cited.{told_of, emptied-goes, slotted-names, Split, replaced, Reference, with_handle, has_handle, is_resource}
+use Rattle.res_calls.proofs.Cited.{is_named, ResourceAsked, served, Managers, Answer, done, flags_of, is_system, now_filled, now_empty}
+use Rattle.res_calls.proofs.Cited.{now_refilled, fetch_as, fetches, without_handles, OpenFile, Resources, Found, holding, find_from_current}
+use Rattle.res_calls.proofs.Cited.{find_in_current, is_at, gone_for, own_gone, find_own, fetch_own, Owns, heard, stored_gone, fetched_as}
+use Rattle.res_calls.proofs.Cited.{noting, nth_among, resource_of, stored_by, stored_of, stored_first, file_stored, all_stored}
+use Rattle.res_calls.proofs.Cited.{after_purges, StoresJust}
 use Rattle.res_calls.specs.Asked as asks
-use Rattle.res_calls.specs.Fetch.{Managers, Answer, done, flags_of, is_system, now_filled, now_empty, now_refilled, fetch_as}
-use Rattle.res_calls.specs.Fetching.{fetches, without_handles}
-use Rattle.res_calls.specs.Files.{OpenFile, Resources, Found, holding, find_from_current, find_in_current}
-use Rattle.res_calls.specs.Files.{is_at}
-use Rattle.res_calls.specs.Gone.{gone_for, own_gone}
-use Rattle.res_calls.specs.Own.{find_own, fetch_own}
-use Rattle.res_calls.specs.Owning.{Owns}
-use Rattle.res_calls.specs.Purging.{heard, stored_gone}
 use Rattle.res_calls.specs.Rows as rows
-use Rattle.res_calls.specs.Rows.{fetched_as, noting, nth_among, resource_of}
-use Rattle.res_calls.specs.Storing.{stored_by, stored_of, stored_first, file_stored, all_stored, after_purges, StoresJust}
 use Rattle.res_calls.proofs.Keeping.{either-keeps, found-keeps}
 use Rattle.res_calls.proofs.Owning.Laws.{owns-served}
 use Rattle.res_calls.proofs.Owning.Places.{Stands, same-there, find-finds, among-stands}

@@ -1,23 +1,11 @@
-use Rattle.std.proofs.Common.{◌≡◌, ℕ, zero, suc, ◌+◌, ◌-◌, ◌<◌, ◌≤◌, ◌^◌, ◌==◌, Bool, true, false, not, ◌||◌, List, [], ◌∷◌, ◌++◌, length}
-use Rattle.std.proofs.Common.{map, drop, take, Option, Some, None, refl, sym, ◌∙◌, ap, arith, cond, get_or, slice_get}
-use Rattle.std.specs.Prelude.{◌≢◌, filter}
-use Rattle.std.specs.List.{list_any}
-use Rattle.std.proofs.lemmas.Bool.Decides.{Decides-eqb}
-use Rattle.std.proofs.lemmas.List.{drop_all, length-append, map-append, map_more}
-use Rattle.std.proofs.lemmas.List.Elements.{filter-append}
-use Rattle.std.proofs.lemmas.List.Folds.{list_any-append}
-use Rattle.byteorder.specs.Endian.{big_number}
-use Rattle.fork_format.specs.Content.{distinct}
-use Rattle.fork_format.proofs.Bools.{flips}
-use Rattle.fork_format.proofs.Rest.{rest-map}
-use Rattle.mac_words.specs.declared.name.OsType.{OsType}
-use Rattle.res_map.specs.Map.{Reference, nth, types}
-use Rattle.res_calls.specs.Files.{OpenFile}
-use Rattle.res_calls.specs.Owning.{references}
-use Rattle.res_calls.specs.Places.{has_type, is_new, new_types}
-use Rattle.res_calls.specs.Rows.{told_count}
+use Rattle.res_calls.proofs.Cited.{◌≡◌, ℕ, zero, suc, ◌+◌, ◌-◌, ◌<◌, ◌≤◌, ◌^◌, ◌==◌, Bool, true, false, not, ◌||◌, List, [], ◌∷◌, ◌++◌}
+use Rattle.res_calls.proofs.Cited.{length, map, drop, take, Option, Some, None, refl, sym, ◌∙◌, ap, arith, cond, get_or, filter, list_any}
+use Rattle.res_calls.proofs.Cited.{Decides-eqb, drop_all, length-append, map-append, map_more, filter-append, list_any-append, big_number}
+use Rattle.res_calls.proofs.Cited.{distinct, flips, rest-map, OsType, Reference, nth, types, OpenFile, references, has_type, is_new}
+use Rattle.res_calls.proofs.Cited.{new_types, told_count, view_open}
+use Rattle.std.proofs.Common.{slice_get}
+use Rattle.std.specs.Prelude.{◌≢◌}
 use Rattle.res_calls.specs.declared.files.OpenFile.{OpenFile as StoredOpenFile}
-use Rattle.res_calls.specs.View.{view_open}
 
 -- The types of all open files, gone through file by file.
 

@@ -1,35 +1,15 @@
-use Rattle.std.proofs.Common.{◌≡◌, ◌<◌, ◌≤◌, ℕ, ◌+◌, zero, suc, Bool, true, false, Option, Some, None, refl, sym, ◌∙◌, ap, subst}
-use Rattle.std.proofs.Common.{List, [], ◌∷◌, ◌++◌, map, length, drop, arith, get_or, append_assoc}
-use Rattle.std.proofs.lemmas.List.{map-append, append-nil}
-use Rattle.std.specs.Prelude.{Vec}
-use Rattle.std.specs.declared.alloc.Global.{Global}
-use Rattle.res_map.specs.View.{view_bytes, view_all}
-use Rattle.std.specs.Prelude.{option_map, slice_get, slice_set, IsTrue, IsErr, OnOk, ◌≢◌}
-use Rattle.fork_format.specs.Content.{Content}
-use Rattle.fork_format.specs.Fork.{Spells}
-use Rattle.fork_format.specs.Canonical.{canon, fits, clear}
-use Rattle.heap_calls.specs.State.{State, Memory}
-use Rattle.res_map.specs.Map.{Reference, Map, all_anew, content}
+use Rattle.res_calls.proofs.Cited.{◌≡◌, ◌<◌, ◌≤◌, ℕ, ◌+◌, zero, suc, Bool, true, false, Option, Some, None, refl, sym, ◌∙◌, ap, subst, List}
+use Rattle.res_calls.proofs.Cited.{[], ◌∷◌, ◌++◌, map, length, drop, arith, get_or, append_assoc, map-append, append-nil, Vec, Global}
+use Rattle.res_calls.proofs.Cited.{view_bytes, view_all, option_map, slice_get, slice_set, IsErr, OnOk, Content, Spells, canon, fits, clear}
+use Rattle.res_calls.proofs.Cited.{State, Memory, Reference, Map, all_anew, content, length-map, slice_get-get_or, ne_eqb, Refusal, Code}
+use Rattle.res_calls.proofs.Cited.{HostMemory, Split, replaced, split, place, found-place, split-whole, Anew, File, OpenFile, Resources}
+use Rattle.res_calls.proofs.Cited.{file_of, done, IsAnswered, managers, update_res_file, if_updated, with_resources, at_index, fresh}
+use Rattle.res_calls.proofs.Cited.{updated_reference, updated_map, updated, written, written_at, fork_of, rewritten, update, IsWritten}
+use Rattle.res_calls.proofs.Cited.{IsFork, IsAnew, IsUpdated, stored_in, view_file, view_open}
+use Rattle.std.specs.Prelude.{IsTrue, ◌≢◌}
 use Rattle.std.specs.Prelude.{Result, Ok, Err, ◌==◌, ◌-◌}
-use Rattle.std.proofs.lemmas.List.{length-map}
-use Rattle.std.proofs.lemmas.Option.{slice_get-get_or}
-use Rattle.std.proofs.lemmas.Bool.{ne_eqb}
-use Rattle.heap_calls.specs.declared.refusal.Refusal.{Refusal}
-use Rattle.heap_calls.specs.declared.refusal.Refusal.TheVariants.{Code, HostMemory}
-use Rattle.res_map.specs.Split.{Split, replaced, split, place}
-use Rattle.res_map.proofs.Splitting.{found-place, split-whole}
 use Rattle.res_calls.specs.declared.files.File.{File as StoredFile}
 use Rattle.res_calls.specs.declared.files.OpenFile.{OpenFile as StoredOpenFile}
-use Rattle.res_calls.specs.declared.updating.Anew.{Anew}
-use Rattle.res_calls.specs.Files.{File, OpenFile, Resources, file_of}
-use Rattle.res_calls.specs.Fetch.{done}
-use Rattle.res_calls.specs.Given.{IsAnswered, managers}
-use Rattle.res_calls.specs.Rows.{update_res_file, if_updated, with_resources}
-use Rattle.res_calls.specs.Places.{at_index}
-use Rattle.res_calls.specs.Update.{fresh, updated_reference, updated_map, updated, written, written_at, fork_of}
-use Rattle.res_calls.specs.Update.{rewritten, update}
-use Rattle.res_calls.specs.Updating.{IsWritten, IsFork, IsAnew, IsUpdated, stored_in}
-use Rattle.res_calls.specs.View.{view_file, view_open}
 use Rattle.res_calls.proofs.Lookups.{item_seen}
 use Rattle.res_calls.proofs.Standing.{index_stands, index_whole, stands_get, stands_set, map_set}
 

@@ -1,11 +1,6 @@
-use Rattle.std.proofs.Common.{◌≡◌, ℕ, ◌+◌, ◌<◌, ◌≤◌, List, [], ◌∷◌, ◌++◌, length, map, take, drop}
-use Rattle.std.proofs.Common.{Option, refl, sym, ◌∙◌, ap, arith, suc, zero, get_or, Vec}
-use Rattle.std.specs.Prelude.{slice_set}
-use Rattle.std.specs.declared.alloc.Global.{Global}
-use Rattle.mac_words.proofs.Plain.{rest-next}
-use Rattle.res_map.specs.Map.{Reference, stored_anew, all_anew}
-use Rattle.res_map.specs.View.{view_reference, view_bytes, view_all}
-use Rattle.res_map.specs.declared.stored.StoredReference.{StoredReference}
+use Rattle.res_map.proofs.Cited.{◌≡◌, ℕ, ◌+◌, ◌<◌, ◌≤◌, List, [], ◌∷◌, ◌++◌, length, map, take, drop, Option, refl, sym, ◌∙◌, ap, arith}
+use Rattle.res_map.proofs.Cited.{suc, zero, get_or, Vec, slice_set, Global, rest-next, Reference, stored_anew, all_anew, view_reference}
+use Rattle.res_map.proofs.Cited.{view_bytes, view_all, StoredReference}
 
 -- References that are stored anew.
 

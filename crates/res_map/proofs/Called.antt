@@ -1,14 +1,8 @@
-use Rattle.std.proofs.Common.{◌≡◌, ◌∙◌, refl, sym, ap, ℕ, ℤ, zero, suc, ◌+◌, arith, Bool, true, false, ◌&&◌}
-use Rattle.std.proofs.Common.{List, [], ◌∷◌, drop, Option, Some, None}
-use Rattle.std.specs.Prelude.{option_map, ◌==◌, ◌%◌}
-use Rattle.std.specs.Str.{str_to_ascii_lowercase}
-use Rattle.std.specs.Int.{cast_signed, w32}
-use Rattle.std.proofs.lemmas.Bool.Decides.{Decides-int_eq}
-use Rattle.std.proofs.lemmas.Slice.Eq.{bytes_eq-Decides}
-use Rattle.res_map.specs.declared.index.Row.{Row}
-use Rattle.res_map.specs.Print.{print, with_bytes}
-use Rattle.res_map.specs.Map.{Reference, is_named, same_name}
-use Rattle.res_map.specs.Index.{IsIndex, first_place, place_in, is_printed, has_print}
+use Rattle.res_map.proofs.Cited.{◌≡◌, ◌∙◌, refl, sym, ap, ℕ, ℤ, zero, suc, ◌+◌, arith, Bool, true, false, ◌&&◌, List, [], ◌∷◌, drop, Option}
+use Rattle.res_map.proofs.Cited.{Some, None, option_map, ◌==◌, ◌%◌, str_to_ascii_lowercase, cast_signed, Decides-int_eq, bytes_eq-Decides}
+use Rattle.res_map.proofs.Cited.{Row, print, with_bytes, Reference, is_named, same_name, IsIndex, first_place, place_in, is_printed}
+use Rattle.res_map.proofs.Cited.{has_print}
+use Rattle.std.specs.Int.{w32}
 use Rattle.res_map.proofs.Places.{first-cons, one_on}
 
 -- A name is found by its print.

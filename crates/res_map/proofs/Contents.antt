@@ -1,14 +1,7 @@
-use Rattle.std.proofs.Common.{◌≡◌, ℕ, Bool, true, false, not, cond, ◌||◌, List, [], ◌∷◌, ◌++◌, length, map, take, drop}
-use Rattle.std.proofs.Common.{Option, None, refl, sym, ◌∙◌, ap, suc}
-use Rattle.std.specs.Prelude.{◌==◌}
-use Rattle.std.specs.List.{list_all}
-use Rattle.std.proofs.lemmas.Bool.{and_parts}
-use Rattle.fork_format.specs.Content.{Ref, Group, Content}
-use Rattle.fork_format.specs.Canonical.{has_refs, are_distinct}
-use Rattle.fork_format.proofs.Bools.{same_self, and_both}
-use Rattle.res_map.specs.Map.{Reference, Map, IsOrdered, types, starts_with, stand_together, read_reference, with_handle}
-use Rattle.res_map.specs.Map.{of_groups, group_of, groups_of, all_anew, content, map_of}
-use Rattle.res_map.specs.Runs.{leading_count, stored_group, leading_groups}
+use Rattle.res_map.proofs.Cited.{◌≡◌, ℕ, Bool, true, false, not, cond, ◌||◌, List, [], ◌∷◌, ◌++◌, length, map, take, drop, Option, None}
+use Rattle.res_map.proofs.Cited.{refl, sym, ◌∙◌, ap, suc, ◌==◌, list_all, and_parts, Ref, Group, Content, has_refs, are_distinct, same_self}
+use Rattle.res_map.proofs.Cited.{and_both, Reference, Map, IsOrdered, types, starts_with, stand_together, read_reference, with_handle}
+use Rattle.res_map.proofs.Cited.{of_groups, group_of, groups_of, all_anew, content, map_of, leading_count, stored_group, leading_groups}
 use Rattle.res_map.proofs.Anew.{kinds-anew}
 use Rattle.res_map.proofs.Order.{kinds_of, ordered-kinds}
 use Rattle.res_map.proofs.Runs.{none-of, runs_are, runs-read}

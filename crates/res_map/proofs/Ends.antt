@@ -1,15 +1,8 @@
-use Rattle.std.proofs.Common.{◌≡◌, ◌∙◌, ℕ, suc, ◌+◌, ◌-◌, ◌<◌, ◌≤◌, arith, Bool, true, false, not, cond, ◌||◌, ◌&&◌}
-use Rattle.std.proofs.Common.{List, [], ◌∷◌, ◌++◌, length, map, take, get_or, refl, sym, ap, Option, Some, None}
-use Rattle.std.proofs.Common.{zero, subst}
-use Rattle.std.specs.Prelude.{◌==◌, is_some, is_none, slice_get, option_map}
-use Rattle.std.specs.List.{insert, remove, list_any}
-use Rattle.std.proofs.lemmas.List.Edits.{insert_end}
-use Rattle.std.proofs.lemmas.List.{map_more, map_push, length-map, length-take-le}
-use Rattle.std.proofs.lemmas.Option.{slice_get-map, slice_get-get_or}
-use Rattle.res_map.specs.Map.{Reference, IsOrdered, is_of, added}
-use Rattle.res_map.specs.Inner.{end_of, end_after}
-use Rattle.res_map.specs.View.{view_reference}
-use Rattle.res_map.specs.declared.stored.StoredReference.{StoredReference}
+use Rattle.res_map.proofs.Cited.{◌≡◌, ◌∙◌, ℕ, suc, ◌+◌, ◌-◌, ◌<◌, ◌≤◌, arith, Bool, true, false, not, cond, ◌||◌, ◌&&◌, List, [], ◌∷◌, ◌++◌}
+use Rattle.res_map.proofs.Cited.{length, map, take, get_or, refl, sym, ap, Option, Some, None, zero, subst, ◌==◌, is_some, is_none}
+use Rattle.res_map.proofs.Cited.{slice_get, option_map, insert, remove, list_any, insert_end, map_more, map_push, length-map}
+use Rattle.res_map.proofs.Cited.{length-take-le, slice_get-map, slice_get-get_or, Reference, IsOrdered, is_of, added, end_of, end_after}
+use Rattle.res_map.proofs.Cited.{view_reference, StoredReference}
 use Rattle.res_map.proofs.TypeLists.{is_among, others}
 use Rattle.res_map.proofs.Order.{kinds_of, kinds-any, map-remove, ordered-among, ordered-new}
 use Rattle.res_map.proofs.Order.{ordered-gone, ordered-left}

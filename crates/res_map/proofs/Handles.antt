@@ -1,22 +1,12 @@
-use Rattle.std.proofs.Common.{◌≡◌, ◌∙◌, refl, sym, ap, ℕ, ℤ, suc, ◌+◌, ◌<◌, ◌≤◌, ◌/◌, ◌%◌, arith, Bool, true, false, cond, ◌&&◌}
-use Rattle.std.proofs.Common.{List, [], ◌∷◌, ◌++◌, length, Option, Some, None, IfSome, get_or, map, subst, int_eq, length-set, w32}
-use Rattle.std.specs.Prelude.{option_map, slice_get, slice_set, ◌==◌}
-use Rattle.std.specs.Int.{cast_unsigned}
-use Rattle.std.specs.List.{remove}
-use Rattle.std.proofs.lemmas.Int.{of_z-to_z}
-use Rattle.std.proofs.lemmas.Bool.Decides.{Decides-int_eq, Decides-eqb}
-use Rattle.std.proofs.lemmas.List.{map-set, set-set}
-use Rattle.std.proofs.lemmas.List.Edits.{length-remove}
-use Rattle.std.proofs.lemmas.List.Sums.{sum_by-cons}
-use Rattle.std.proofs.lemmas.Option.{slice_get_within, slice_get-get_or, slice_get-map}
-use Rattle.std.proofs.lemmas.Bool.{and_parts}
-use Rattle.fork_format.specs.Content.{Ref, Group}
-use Rattle.res_map.specs.View.{view_reference}
-use Rattle.res_map.specs.declared.stored.StoredReference.{StoredReference}
-use Rattle.res_map.specs.declared.index.Row.{Row}
-use Rattle.res_map.specs.Map.{Reference, Map, has_handle, is_handle, all_anew, stored_anew, with_handle, read_reference, of_groups}
-use Rattle.res_map.specs.Index.{IsEach, IsEachAnd, IsHolding, IsIndex, IsRising, IsToldAs, IsRowOf, IsAt, is_own, place_in}
-use Rattle.res_map.specs.Index.{first_place, handle_row, held_row, held_weights, is_held, lowered, moved, row_weights, sooner, weight}
+use Rattle.res_map.proofs.Cited.{◌≡◌, ◌∙◌, refl, sym, ap, ℕ, ℤ, suc, ◌+◌, ◌<◌, ◌≤◌, ◌/◌, arith, Bool, true, false, cond, ◌&&◌, List, []}
+use Rattle.res_map.proofs.Cited.{◌∷◌, ◌++◌, length, Option, Some, None, IfSome, get_or, map, subst, int_eq, length-set, w32, option_map}
+use Rattle.res_map.proofs.Cited.{slice_get, slice_set, ◌==◌, cast_unsigned, remove, of_z-to_z, Decides-int_eq, Decides-eqb, map-set}
+use Rattle.res_map.proofs.Cited.{set-set, length-remove, sum_by-cons, slice_get_within, slice_get-get_or, slice_get-map, and_parts, Ref}
+use Rattle.res_map.proofs.Cited.{Group, view_reference, StoredReference, Row, Reference, Map, has_handle, is_handle, all_anew, stored_anew}
+use Rattle.res_map.proofs.Cited.{with_handle, read_reference, of_groups, IsEach, IsEachAnd, IsHolding, IsIndex, IsRising, IsToldAs, IsRowOf}
+use Rattle.res_map.proofs.Cited.{IsAt, is_own, place_in, first_place, handle_row, held_row, held_weights, is_held, lowered, moved}
+use Rattle.res_map.proofs.Cited.{row_weights, sooner, weight}
+use Rattle.std.proofs.Common.{◌%◌}
 use Rattle.res_map.proofs.Places.{first-cons, first-set, one_on, replaced_at}
 use Rattle.res_map.proofs.Rows.{key-of, index-alike, index-anew, index-found, index-gone, index-left, read-back, rising-moved}
 use Rattle.res_map.proofs.Weights.{fewer-rows, held-removed, held-set, held-zero, one, weights-moved}

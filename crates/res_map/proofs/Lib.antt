@@ -1,3 +1,4 @@
+mod Cited
 pub mod Ends
 pub mod TypeLists
 pub mod Order

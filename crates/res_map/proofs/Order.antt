@@ -1,13 +1,7 @@
-use Rattle.std.proofs.Common.{◌≡◌, ◌∙◌, refl, sym, ap, subst, zero, suc, ℕ, ◌<◌, List, [], ◌∷◌, length, map}
-use Rattle.std.proofs.Common.{Option, Some, None, IfSome, get_or, arith}
-use Rattle.std.proofs.Common.{Bool, true, false, not, cond, ◌||◌, ◌&&◌, ◌++◌}
-use Rattle.std.specs.Prelude.{slice_get, slice_set, option_map, ◌==◌}
-use Rattle.std.specs.List.{list_any, remove}
-use Rattle.std.proofs.lemmas.Option.{slice_get-map}
-use Rattle.fork_format.specs.Content.{distinct}
-use Rattle.res_map.specs.Map.{Reference, Map, IsOrdered, stand_together, added}
-use Rattle.res_map.specs.View.{view_reference}
-use Rattle.res_map.specs.declared.stored.StoredReference.{StoredReference}
+use Rattle.res_map.proofs.Cited.{◌≡◌, ◌∙◌, refl, sym, ap, subst, zero, suc, ℕ, ◌<◌, List, [], ◌∷◌, length, map, Option, Some, None, IfSome}
+use Rattle.res_map.proofs.Cited.{get_or, arith, Bool, true, false, not, cond, ◌||◌, ◌&&◌, ◌++◌, slice_get, slice_set, option_map, ◌==◌}
+use Rattle.res_map.proofs.Cited.{list_any, remove, slice_get-map, distinct, Reference, Map, IsOrdered, stand_together, added}
+use Rattle.res_map.proofs.Cited.{view_reference, StoredReference}
 use Rattle.res_map.proofs.TypeLists.{is_among, others, added_kind, distinct-among, distinct-new, together-added}
 use Rattle.res_map.proofs.TypeLists.{distinct-gone, distinct-left, together-removed}
 use Rattle.res_map.proofs.Splitting.{get-inside}

@@ -1,10 +1,8 @@
-use Rattle.std.proofs.Common.{◌≡◌, ◌∙◌, refl, sym, ap, ℕ, zero, suc, ◌+◌, ◌-◌, ◌<◌, ◌≤◌, min, arith, Bool, true, false, cond}
-use Rattle.std.proofs.Common.{List, [], ◌∷◌, ◌++◌, length, Option, Some, None, IfSome, ◌≢◌, subst}
-use Rattle.std.specs.Prelude.{option_map, slice_get, slice_set, nat_le, ◌^◌}
-use Rattle.std.specs.List.{insert, remove}
-use Rattle.std.proofs.lemmas.Bool.Decides.{nat_tests}
-use Rattle.res_map.specs.Split.{Split, split, behind, place}
-use Rattle.res_map.specs.Index.{first_place, raised, raised_within, lowered, sooner, entered}
+use Rattle.res_map.proofs.Cited.{◌≡◌, ◌∙◌, refl, sym, ap, ℕ, zero, suc, ◌+◌, ◌-◌, ◌<◌, ◌≤◌, min, arith, Bool, true, false, cond, List, []}
+use Rattle.res_map.proofs.Cited.{◌∷◌, ◌++◌, length, Option, Some, None, IfSome, subst, option_map, slice_get, slice_set, nat_le, ◌^◌}
+use Rattle.res_map.proofs.Cited.{insert, remove, nat_tests, Split, split, behind, place, first_place, raised, raised_within, lowered}
+use Rattle.res_map.proofs.Cited.{sooner, entered}
+use Rattle.std.proofs.Common.{◌≢◌}
 
 -- The place of the first item that passes a test, as the list changes.
 

@@ -1,21 +1,12 @@
-use Rattle.std.proofs.Common.{◌≡◌, ◌∙◌, refl, sym, ap, ℕ, ℤ, zero, suc, ◌+◌, ◌<◌, ◌≤◌, arith, Bool, true, false, cond, not, ◌&&◌}
-use Rattle.std.proofs.Common.{List, [], ◌∷◌, ◌++◌, length, Option, Some, None, IfSome, get_or, filter, map, take, drop, subst, int_eq}
-use Rattle.std.proofs.Common.{nat_cmp, is_lt, ⊎_elim, length-set}
-use Rattle.std.specs.Prelude.{option_map, slice_get, slice_set, nat_lt, ◌==◌, ◌≢◌}
-use Rattle.std.specs.List.{insert, remove}
-use Rattle.std.specs.List.Sorted.{IsStableBy, IsPartitionPoint}
-use Rattle.std.proofs.lemmas.List.Sorted.{IsNonDecreasingBy-insert}
-use Rattle.std.proofs.lemmas.Bool.Decides.{nat_tests, Decides-int_eq, Decides-eqb}
-use Rattle.std.proofs.lemmas.List.{get_or-map, length-map, get_or_default, length-take-le, map-set, append-nil}
-use Rattle.std.proofs.lemmas.Option.{slice_get-map, slice_get-get_or}
-use Rattle.std.proofs.lemmas.Bool.{cases_lt, and_parts}
-use Rattle.res_map.specs.View.{view_reference}
-use Rattle.res_map.specs.declared.stored.StoredReference.{StoredReference}
-use Rattle.res_map.specs.declared.index.Row.{Row}
-use Rattle.res_map.specs.Map.{Reference, Map, is_resource, all_anew, stored_anew, renamed, name_by}
-use Rattle.res_map.specs.Print.{print}
-use Rattle.res_map.specs.Index.{IsIndex, IsRising, IsToldAs, rank, rank_of, is_row, place_in, moved, sooner, entered}
-use Rattle.res_map.specs.Index.{raised, lowered, first_place, IsAt, IsRowOf, IsWithin, is_own, is_printed, has_print, named_row, rows_in}
+use Rattle.res_map.proofs.Cited.{◌≡◌, ◌∙◌, refl, sym, ap, ℕ, ℤ, zero, suc, ◌+◌, ◌<◌, ◌≤◌, arith, Bool, true, false, cond, not, ◌&&◌, List}
+use Rattle.res_map.proofs.Cited.{[], ◌∷◌, ◌++◌, length, Option, Some, None, IfSome, get_or, map, take, drop, subst, int_eq, nat_cmp, is_lt}
+use Rattle.res_map.proofs.Cited.{⊎_elim, length-set, option_map, slice_get, slice_set, nat_lt, ◌==◌, ◌≢◌, insert, remove, IsStableBy}
+use Rattle.res_map.proofs.Cited.{IsPartitionPoint, IsNonDecreasingBy-insert, nat_tests, Decides-int_eq, Decides-eqb, get_or-map, length-map}
+use Rattle.res_map.proofs.Cited.{get_or_default, length-take-le, map-set, append-nil, slice_get-map, slice_get-get_or, cases_lt, and_parts}
+use Rattle.res_map.proofs.Cited.{view_reference, StoredReference, Row, Reference, Map, is_resource, all_anew, stored_anew, renamed, name_by}
+use Rattle.res_map.proofs.Cited.{print, IsIndex, IsRising, IsToldAs, rank, rank_of, is_row, place_in, moved, sooner, entered, raised}
+use Rattle.res_map.proofs.Cited.{lowered, first_place, IsAt, IsRowOf, IsWithin, is_own, is_printed, has_print, named_row, rows_in}
+use Rattle.std.proofs.Common.{filter}
 use Rattle.res_map.proofs.Places.{later, first-insert, first-remove, first-set, first-alike, first-there, first-push, replaced_at}
 use Rattle.res_map.proofs.Places.{some-none, first-cons, first-within, one_on}
 use Rattle.res_map.proofs.Splitting.{get-inside}

@@ -1,24 +1,11 @@
-use Rattle.std.proofs.Common.{◌≡◌, ℕ, ◌+◌, ◌<◌, Bool, true, false, not, cond, ◌||◌, List, [], ◌∷◌, ◌++◌, length}
-use Rattle.std.proofs.Common.{map, take, drop, Option, None, refl, sym, ◌∙◌, ap, subst, arith, suc, get_or}
-use Rattle.std.proofs.Common.{◌⊎◌, inl, inr, ◌≢◌, Vec, append_assoc}
-use Rattle.std.specs.Prelude.{◌==◌, filter}
-use Rattle.std.specs.declared.alloc.Global.{Global}
-use Rattle.std.proofs.lemmas.Bool.{and_parts}
-use Rattle.std.proofs.lemmas.Bool.Decides.{eqb_tells}
-use Rattle.std.specs.List.{take-map, drop-map}
-use Rattle.std.proofs.lemmas.List.{map-append, map_push}
-use Rattle.fork_format.specs.Content.{Group}
-use Rattle.fork_format.specs.View.{view_group}
+use Rattle.res_map.proofs.Cited.{◌≡◌, ℕ, ◌+◌, ◌<◌, Bool, true, false, not, cond, ◌||◌, List, [], ◌∷◌, ◌++◌, length, map, take, drop, Option}
+use Rattle.res_map.proofs.Cited.{None, refl, sym, ◌∙◌, ap, subst, arith, suc, get_or, ◌⊎◌, inl, inr, Vec, append_assoc, ◌==◌, filter}
+use Rattle.res_map.proofs.Cited.{Global, and_parts, eqb_tells, take-map, drop-map, map-append, map_push, Group, view_group, same_self}
+use Rattle.res_map.proofs.Cited.{not_same, rest-map, filter-all, distinct-all, Reference, is_of, of_type, types, stand_together}
+use Rattle.res_map.proofs.Cited.{read_reference, with_handle, of_group, of_groups, group_of, all_anew, leading_count, stored_group}
+use Rattle.res_map.proofs.Cited.{leading_groups, view_reference, view_all, StoredReference}
+use Rattle.std.proofs.Common.{◌≢◌}
 use Rattle.fork_format.specs.declared.content.Group.{Group as StoredGroup}
-use Rattle.fork_format.proofs.Bools.{same_self, not_same}
-use Rattle.fork_format.proofs.Rest.{rest-map}
-use Rattle.fork_format.proofs.Whole.{filter-all}
-use Rattle.fork_format.proofs.Spelled.{distinct-all}
-use Rattle.res_map.specs.Map.{Reference, is_of, of_type, types, stand_together, read_reference}
-use Rattle.res_map.specs.Map.{with_handle, of_group, of_groups, group_of, all_anew}
-use Rattle.res_map.specs.Runs.{leading_count, stored_group, leading_groups}
-use Rattle.res_map.specs.View.{view_reference, view_all}
-use Rattle.res_map.specs.declared.stored.StoredReference.{StoredReference}
 use Rattle.res_map.proofs.Anew.{kinds-anew, take-anew, drop-anew}
 use Rattle.res_map.proofs.Order.{kinds_of}
 use Rattle.res_map.proofs.TypeLists.{is_apart}

@@ -1,7 +1,6 @@
-use Rattle.std.proofs.Common.{◌≤◌, ◌<◌, ◌^◌, ℕ, Bool, true, false, List, [], ◌∷◌, length, map, arith, cond}
-use Rattle.res_map.specs.Map.{is_of, of_type}
-use Rattle.res_map.specs.View.{view_reference}
-use Rattle.res_map.specs.declared.stored.StoredReference.{StoredReference}
+use Rattle.res_map.proofs.Cited.{◌≤◌, ◌<◌, ℕ, Bool, true, false, List, [], ◌∷◌, length, map, arith, cond, is_of, of_type, view_reference}
+use Rattle.res_map.proofs.Cited.{StoredReference}
+use Rattle.std.proofs.Common.{◌^◌}
 
 -- No more references are of a type than there are.
 

@@ -1,9 +1,7 @@
-use Rattle.std.proofs.Common.{◌≡◌, ℕ, ◌<◌, Bool, true, false, cond, List, [], ◌∷◌, ◌++◌, length, Option, Some, None}
-use Rattle.std.proofs.Common.{refl, sym, ◌∙◌, ap, arith, suc, zero, map, get_or, IfSome, subst}
-use Rattle.std.specs.Prelude.{option_map, slice_get, slice_set, remove, ◌&&◌, ◌==◌, ◌-◌}
-use Rattle.res_map.specs.Split.{Split, split, behind, replaced, removed, place}
-use Rattle.std.proofs.lemmas.Option.{slice_get_within}
-use Rattle.res_map.specs.Map.{split_nth}
+use Rattle.res_map.proofs.Cited.{◌≡◌, ℕ, ◌<◌, Bool, true, false, cond, List, [], ◌∷◌, ◌++◌, length, Option, Some, None, refl, sym, ◌∙◌, ap}
+use Rattle.res_map.proofs.Cited.{arith, suc, zero, map, get_or, IfSome, subst, option_map, slice_get, slice_set, ◌==◌, Split, split, behind}
+use Rattle.res_map.proofs.Cited.{replaced, removed, place, slice_get_within, split_nth}
+use Rattle.std.specs.Prelude.{remove, ◌&&◌, ◌-◌}
 
 -- An item of a list in its place, and the same by its index.
 

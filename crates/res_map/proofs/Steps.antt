@@ -1,9 +1,6 @@
-use Rattle.std.proofs.Common.{◌≡◌, ℕ, ◌+◌, ◌<◌, Bool, true, false, cond, List, [], ◌∷◌, length, map, drop}
-use Rattle.std.proofs.Common.{Option, Some, None, refl, sym, ◌∙◌, ap, arith, get_or}
-use Rattle.std.specs.Prelude.{option_map, filter, ◌&&◌, ◌==◌, ◌-◌}
-use Rattle.fork_format.proofs.Rest.{rest-map}
-use Rattle.res_map.specs.Split.{Split, split, behind, place}
-use Rattle.res_map.specs.Map.{split_nth}
+use Rattle.res_map.proofs.Cited.{◌≡◌, ℕ, ◌+◌, ◌<◌, Bool, true, false, cond, List, [], ◌∷◌, length, map, drop, Option, Some, None, refl, sym}
+use Rattle.res_map.proofs.Cited.{◌∙◌, ap, arith, get_or, option_map, filter, ◌==◌, rest-map, Split, split, behind, place, split_nth}
+use Rattle.std.specs.Prelude.{◌&&◌, ◌-◌}
 
 -- A search that goes on: what is found in the items that are left is found in all.
 

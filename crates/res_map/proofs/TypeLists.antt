@@ -1,16 +1,7 @@
-use Rattle.std.proofs.Common.{◌≡◌, ◌∙◌, ℕ, zero, suc, Bool, true, false, not, cond, ◌||◌, ◌&&◌, List, [], ◌∷◌, ◌++◌}
-use Rattle.std.proofs.Common.{refl, sym, ap, subst, Some, ◌⊎◌, inl, inr}
-use Rattle.std.specs.Prelude.{◌==◌, filter, slice_get}
-use Rattle.std.specs.List.{list_all, list_any, remove}
-use Rattle.std.proofs.lemmas.Bool.{and_parts, or_parts, or_cases, or_left, or_right, or_from, not_from_false}
-use Rattle.std.proofs.lemmas.Bool.{not-true, both_ways, eqb-true}
-use Rattle.std.proofs.lemmas.List.Elements.{filter-append}
-use Rattle.fork_format.specs.Content.{distinct}
-use Rattle.fork_format.proofs.Bools.{same_self, and_both, not_same}
-use Rattle.fork_format.proofs.Joining.{left_apart}
-use Rattle.fork_format.proofs.Whole.{filter-all}
-use Rattle.fork_format.proofs.Spelled.{distinct-all}
-use Rattle.res_map.specs.Map.{starts_with, stand_together}
+use Rattle.res_map.proofs.Cited.{◌≡◌, ◌∙◌, ℕ, zero, suc, Bool, true, false, not, cond, ◌||◌, ◌&&◌, List, [], ◌∷◌, ◌++◌, refl, sym, ap}
+use Rattle.res_map.proofs.Cited.{subst, Some, ◌⊎◌, inl, inr, ◌==◌, filter, slice_get, list_all, list_any, remove, and_parts, or_parts}
+use Rattle.res_map.proofs.Cited.{or_cases, or_left, or_right, or_from, not_from_false, not-true, both_ways, eqb-true, filter-append}
+use Rattle.res_map.proofs.Cited.{distinct, same_self, and_both, not_same, left_apart, filter-all, distinct-all, starts_with, stand_together}
 
 -- Lists of types: which of them are different, and which stand together.
 

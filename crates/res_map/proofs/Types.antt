@@ -1,13 +1,6 @@
-use Rattle.std.proofs.Common.{◌≡◌, ℕ, true, not, cond, List, [], ◌∷◌, ◌++◌, length, map, refl, ◌∙◌, ap}
-use Rattle.std.specs.Prelude.{◌==◌, filter, nat_le}
-use Rattle.std.specs.List.{list_all}
-use Rattle.std.proofs.lemmas.Bool.{and_parts}
-use Rattle.fork_format.specs.Content.{Ref, Group}
-use Rattle.fork_format.specs.Canonical.{has_refs, are_distinct}
-use Rattle.fork_format.proofs.Bools.{same_self}
-use Rattle.fork_format.proofs.Joining.{left_apart}
-use Rattle.fork_format.proofs.Whole.{filter-all}
-use Rattle.res_map.specs.Map.{Reference, types, read_reference, of_groups}
+use Rattle.res_map.proofs.Cited.{◌≡◌, ℕ, true, not, cond, List, [], ◌∷◌, ◌++◌, length, map, refl, ◌∙◌, ap, ◌==◌, filter, nat_le, list_all}
+use Rattle.res_map.proofs.Cited.{and_parts, Ref, Group, has_refs, are_distinct, same_self, left_apart, filter-all, Reference, types}
+use Rattle.res_map.proofs.Cited.{read_reference, of_groups}
 
 -- The types of references.
 

@@ -1,16 +1,9 @@
-use Rattle.std.proofs.Common.{◌≡◌, ◌∙◌, refl, sym, ap, ℕ, ℤ, zero, suc, ◌+◌, ◌<◌, ◌≤◌, arith, Bool, true, false, cond, ◌&&◌}
-use Rattle.std.proofs.Common.{List, [], ◌∷◌, length, Option, Some, None, get_or, map, int_eq, ⊎_elim}
-use Rattle.std.specs.Prelude.{option_map, slice_get, slice_set, ◌==◌, ◌≢◌}
-use Rattle.std.specs.List.{insert, remove}
-use Rattle.std.proofs.lemmas.Bool.{cases_lt}
-use Rattle.std.proofs.lemmas.Bool.Decides.{Decides-int_eq, Decides-eqb}
-use Rattle.std.proofs.lemmas.List.Edits.{length-remove, get_or-remove_below, get_or-remove_above}
-use Rattle.std.proofs.lemmas.List.Sums.{sum_by-cons, sum_by-insert, sum_by-remove, sum_by-set}
-use Rattle.std.proofs.lemmas.Option.{slice_get-get_or, slice_get_within}
-use Rattle.res_map.specs.declared.index.Row.{Row}
-use Rattle.res_map.specs.Map.{Reference}
-use Rattle.res_map.specs.Index.{IsEach, IsEachAnd, IsRising, IsToldAs, first_place, held_row, held_weights}
-use Rattle.res_map.specs.Index.{is_held, is_own, is_row, moved, place_in, rank_of, row_weights, weight}
+use Rattle.res_map.proofs.Cited.{◌≡◌, ◌∙◌, refl, sym, ap, ℕ, ℤ, zero, suc, ◌+◌, ◌<◌, ◌≤◌, arith, Bool, true, false, cond, ◌&&◌, List, []}
+use Rattle.res_map.proofs.Cited.{◌∷◌, length, Option, Some, None, get_or, map, int_eq, ⊎_elim, option_map, slice_get, slice_set, ◌==◌, ◌≢◌}
+use Rattle.res_map.proofs.Cited.{insert, remove, cases_lt, Decides-int_eq, Decides-eqb, length-remove, get_or-remove_below}
+use Rattle.res_map.proofs.Cited.{get_or-remove_above, sum_by-cons, sum_by-insert, sum_by-remove, sum_by-set, slice_get-get_or}
+use Rattle.res_map.proofs.Cited.{slice_get_within, Row, Reference, IsEach, IsEachAnd, IsRising, IsToldAs, first_place, held_row}
+use Rattle.res_map.proofs.Cited.{held_weights, is_held, is_own, is_row, moved, place_in, rank_of, row_weights, weight}
 use Rattle.res_map.proofs.Places.{first-cons, one_on}
 use Rattle.res_map.proofs.Rows.{row-key, told-same}
 

@@ -1,3 +1,4 @@
+mod Cited
 pub mod Readings
 pub mod Judged
 pub mod Whole

@@ -1,20 +1,13 @@
 -- One more turn of a loop that reads tokens.
-use Rattle.std.proofs.Common.{◌≡◌, ℕ, ◌+◌, ◌-◌, ◌<◌, ◌≤◌, Bool, Some, None, Ok, Result, List, [], ◌∷◌, ◌++◌}
-use Rattle.std.proofs.Common.{if◌then◌else◌, length, map, true, false, codes, ap, arith}
-use Rattle.std.proofs.lemmas.List.{map_push}
+use Rattle.rez_declarations.proofs.Cited.{◌≡◌, ℕ, ◌+◌, ◌-◌, ◌<◌, ◌≤◌, Bool, Some, None, Ok, Result, List, [], ◌∷◌, ◌++◌, if◌then◌else◌}
+use Rattle.rez_declarations.proofs.Cited.{length, map, true, false, codes, ap, arith, map_push, number_of, text_of, TypeFault, Modified}
+use Rattle.rez_declarations.proofs.Cited.{NamedNumber, NamedText, Field, Draft, no_draft, closed, Parsing, ◌>>=◌, refused, lexeme, passed}
+use Rattle.rez_declarations.proofs.Cited.{is_mark, is_word_in, Cases, drafted_at, number_named, numbers_named, string_part, string_on}
+use Rattle.rez_declarations.proofs.Cited.{text_named, texts_named, modifier_in, with_modifier, modified, ends_here, field_read, fields_read}
+use Rattle.rez_declarations.proofs.Cited.{fields_in, case_read, cases_read, left, above}
 use Rattle.rez_types.specs.declared.declaration.NamedNumber.{NamedNumber as HeldNumber}
 use Rattle.rez_types.specs.declared.declaration.NamedText.{NamedText as HeldText}
-use Rattle.rez_types.specs.View.{number_of, text_of}
-use Rattle.rez_declarations.specs.declared.type_fault.TypeFault.{TypeFault}
 use Rattle.rez_declarations.specs.declared.type_fault.FaultKind.TheVariants as faults
-use Rattle.rez_declarations.specs.declared.modified.Modified.{Modified}
-use Rattle.rez_types.specs.Fields.{NamedNumber, NamedText, Field}
-use Rattle.rez_declarations.specs.Drafting.{Draft, no_draft, closed}
-use Rattle.rez_declarations.specs.Parsing.{Parsing, ◌>>=◌, refused, lexeme, passed, is_mark, is_word_in}
-use Rattle.rez_declarations.specs.Declaring.{Cases, drafted_at, number_named, numbers_named, string_part, string_on, text_named}
-use Rattle.rez_declarations.specs.Declaring.{texts_named, modifier_in, with_modifier, modified, ends_here, field_read, fields_read}
-use Rattle.rez_declarations.specs.Declaring.{fields_in, case_read, cases_read}
-use Rattle.rez_types.proofs.Turns.{left, above}
 
 none_left : (n i : ℕ) → n ≤ i → n - i ≡ 0
 none_left n i h = omega arith

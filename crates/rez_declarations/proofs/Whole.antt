@@ -1,16 +1,11 @@
 -- Sound declarations have whole runs.
-use Rattle.std.proofs.Common.{◌≡◌, ℕ, ◌+◌, ◌*◌, Bool, true, false, not, ◌||◌, nat_lt, None, Result, Ok, Err}
-use Rattle.std.proofs.Common.{List, [], ◌∷◌, ◌++◌, refl, arith}
-use Rattle.std.specs.List.{list_all}
-use Rattle.rez_declarations.specs.declared.unsound.Unsound.{Unsound}
+use Rattle.rez_declarations.proofs.Cited.{◌≡◌, ℕ, ◌+◌, ◌*◌, Bool, true, false, not, ◌||◌, nat_lt, None, Result, Ok, Err, List, [], ◌∷◌}
+use Rattle.rez_declarations.proofs.Cited.{◌++◌, refl, arith, list_all, Unsound, Shape, Part, Field, Run, Declaration, width_of, bits_in}
+use Rattle.rez_declarations.proofs.Cited.{is_whole, has_whole_runs, unless, no_fields, is_run, parts_judged, run_judged, longer}
+use Rattle.rez_declarations.proofs.Cited.{kind_judged, field_judged, fields_judged, each_counts, limits_judged, block_judged, shapes_of}
+use Rattle.rez_declarations.proofs.Cited.{judged, fault_in, fault_of}
 use Rattle.rez_declarations.specs.declared.unsound.Unsound.TheVariants as fault
-use Rattle.rez_declarations.specs.declared.shape.Shape.{Shape}
-use Rattle.rez_types.specs.Fields.{Part, Field, Run, Declaration}
-use Rattle.rez_types.specs.Decoding.{width_of}
-use Rattle.rez_types.specs.Whole.{bits_in, is_whole, has_whole_runs}
-use Rattle.rez_declarations.specs.Results.{◌>>=◌, unless}
-use Rattle.rez_declarations.specs.Sound.{no_fields, is_run, parts_judged, run_judged, longer, kind_judged, field_judged, fields_judged}
-use Rattle.rez_declarations.specs.Sound.{each_counts, limits_judged, block_judged, shapes_of, judged, fault_in, fault_of}
+use Rattle.rez_declarations.specs.Results.{◌>>=◌}
 
 -- what both of two steps lead to
 bound : {A B : Type 0} (r : Result A Unsound) (f : A → Result B Unsound) (y : B) → (r >>= f) ≡ Ok y → (x : A) × (r ≡ Ok x) × (f x ≡ Ok y)

@@ -1,20 +1,16 @@
 -- Worked resources, on the definitions alone. The layouts are those of Inside Macintosh.
-use Rattle.std.proofs.Common.{◌≡◌, ℕ, true, false, Some, None, List, [], ◌∷◌, ◌++◌, map, take, replicate, codes, refl}
+use Rattle.rez_declarations.proofs.Cited.{◌≡◌, ℕ, true, false, Some, None, List, [], ◌∷◌, ◌++◌, map, take, replicate, codes, refl, Part}
+use Rattle.rez_declarations.proofs.Cited.{Integer, Constant, Count, FillBits, Fixed, Counted, Before, Resource, Field, Run, Fill, Align}
+use Rattle.rez_declarations.proofs.Cited.{Text, Point, Rect, Array, Switch, Declaration, Value, values_of_datum, decoded_run, decoded_fill}
+use Rattle.rez_declarations.proofs.Cited.{decoded_pstring, decoded_cstring, decoded_bytes, decoded_switch, next, next_number, put}
+use Rattle.rez_declarations.proofs.Cited.{datum_of_values, encoded_run, encoded_fill, encoded_text, encoded_array, encoded_switch, write}
+use Rattle.rez_declarations.proofs.Cited.{next_value, of_fields, with_block, fault_of, judged, block_judged}
 use Rattle.rez_types.specs.declared.declaration.Form.TheVariants as form
 use Rattle.rez_types.specs.declared.declaration.Boundary.TheVariants as boundary
 use Rattle.rez_types.specs.declared.declaration.TextEnd.TheVariants as end
 use Rattle.rez_declarations.specs.declared.unsound.Unsound.TheVariants as fault
-use Rattle.rez_types.specs.Fields.{Part, Integer, Constant, Count, FillBits, Fixed, Counted, Before, Resource}
-use Rattle.rez_types.specs.Fields.{Field, Run, Fill, Align, Text, Point, Rect, Array, Switch, Declaration}
 use Rattle.rez_types.specs.Values as value
-use Rattle.rez_types.specs.Values.{Value}
-use Rattle.rez_types.specs.Decoding.{values_of_datum, decoded_run, decoded_fill, decoded_pstring}
-use Rattle.rez_types.specs.Decoding.{decoded_cstring, decoded_bytes, decoded_switch, next, next_number, put}
-use Rattle.rez_types.specs.Encoding.{datum_of_values, encoded_run, encoded_fill, encoded_text, encoded_array, encoded_switch}
-use Rattle.rez_types.specs.Encoding.{write, next_value}
 use Rattle.rez_types.specs.Encoding as writing
-use Rattle.rez_types.proofs.Declared.{of_fields, with_block}
-use Rattle.rez_declarations.specs.Sound.{fault_of, judged, block_judged}
 
 -- integers of two bytes and of four, and an integer of a byte
 abbrev integer : Part

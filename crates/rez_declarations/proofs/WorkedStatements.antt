@@ -1,18 +1,14 @@
 -- Worked statements, on the definitions alone.
-use Rattle.std.proofs.Common.{◌≡◌, ℕ, true, false, Ok, Err, List, [], ◌∷◌, ◌++◌, codes, map, refl}
+use Rattle.rez_declarations.proofs.Cited.{◌≡◌, ℕ, true, false, Ok, Err, List, [], ◌∷◌, ◌++◌, codes, map, refl, Integer, Constant, Count}
+use Rattle.rez_declarations.proofs.Cited.{Counted, Field, Run, Text, Array, Switch, Token, Lexeme, Word, Number, Literal, Function, Mark}
+use Rattle.rez_declarations.proofs.Cited.{judged, block_judged, marked, named, bracketed, constant, Declared, As, pattern_named}
+use Rattle.rez_declarations.proofs.Cited.{number_named, numbers_named, numbers_of, texts_of, name_in_parentheses, less_one, count_read}
+use Rattle.rez_declarations.proofs.Cited.{integer_read, text_read, string_read, array_read, case_read, switch_read, bitstring_read}
+use Rattle.rez_declarations.proofs.Cited.{field_read, type_read, declared, likened, statement}
 use Rattle.rez_declarations.specs.declared.type_fault.FaultKind.TheVariants as faults
 use Rattle.rez_declarations.specs.declared.unsound.Unsound.TheVariants as fault
 use Rattle.rez_types.specs.declared.declaration.Form.TheVariants as form
 use Rattle.rez_types.specs.declared.declaration.TextEnd.TheVariants as end
-use Rattle.rez_types.specs.Fields.{Integer, Constant, Count, Counted}
-use Rattle.rez_types.specs.Fields.{Field, Run, Text, Array, Switch}
-use Rattle.rez_tokens.specs.Tokens.{Token, Lexeme, Word, Number, Literal, Function, Mark}
-use Rattle.rez_declarations.specs.Sound.{judged, block_judged}
-use Rattle.rez_declarations.specs.Parsing.{marked, named, bracketed, constant}
-use Rattle.rez_declarations.specs.Declaring.{Declared, As, pattern_named, number_named, numbers_named, numbers_of}
-use Rattle.rez_declarations.specs.Declaring.{texts_of, name_in_parentheses, less_one, count_read, integer_read, text_read, string_read}
-use Rattle.rez_declarations.specs.Declaring.{array_read, case_read, switch_read, bitstring_read, field_read, type_read, declared}
-use Rattle.rez_declarations.specs.Declaring.{likened, statement}
 
 -- tokens on one line
 abbrev on_line : ℕ → List Lexeme → List Token

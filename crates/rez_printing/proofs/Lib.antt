@@ -1,2 +1,3 @@
+mod Cited
 pub mod Onward
 pub mod Worked

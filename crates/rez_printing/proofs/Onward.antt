@@ -1,21 +1,11 @@
 -- One more turn of a loop that counts.
-use Rattle.std.proofs.Common.{◌≡◌, ℕ, ◌+◌, ◌-◌, ◌<◌, ◌≤◌, Option, Some, List, [], if◌then◌else◌, length, get_or}
-use Rattle.std.proofs.Common.{refl, ap, ◌∙◌, sym, append_assoc}
-use Rattle.std.specs.Prelude.{◌++◌, take, drop, slice_get, option_map}
-use Rattle.std.proofs.lemmas.Option.{slice_get-map, slice_get_read, slice_get_past}
-use Rattle.rez_types.specs.declared.declaration.Block.{Block}
-use Rattle.rez_types.specs.View.{block_of, blocks_of}
-use Rattle.rez_types.specs.Fields.{Field}
-use Rattle.rez_types.specs.Options.{◌>>=◌}
-use Rattle.rez_types.specs.Encoding.{more_in}
-use Rattle.rez_types.proofs.Turns.{left, above}
+use Rattle.rez_printing.proofs.Cited.{◌≡◌, ℕ, ◌+◌, ◌-◌, ◌<◌, ◌≤◌, Option, Some, List, [], if◌then◌else◌, length, get_or, refl, ap, ◌∙◌, sym}
+use Rattle.rez_printing.proofs.Cited.{append_assoc, take, slice_get, option_map, slice_get-map, slice_get_read, slice_get_past, Block}
+use Rattle.rez_printing.proofs.Cited.{block_of, blocks_of, Field, ◌>>=◌, more_in, left, above, Layout, gap_next, signed_number, row_text}
+use Rattle.rez_printing.proofs.Cited.{more_rows, Showing, next_number, next_of, stated, with_gap, numbered, shown_numbers, shown_elements}
+use Rattle.rez_printing.proofs.Cited.{shown_fields, shown_block, block_text, fields_from, fields_text}
+use Rattle.std.specs.Prelude.{◌++◌, drop}
 use Rattle.rez_printing.specs.declared.layout.Layout.TheVariants as layout
-use Rattle.rez_printing.specs.declared.layout.Layout.{Layout}
-use Rattle.rez_printing.specs.Layouts.{gap_next}
-use Rattle.rez_printing.specs.Pieces.{signed_number, row_text, more_rows}
-use Rattle.rez_printing.specs.Showing.{Showing, next_number, next_of, stated, with_gap, numbered, shown_numbers, shown_elements}
-use Rattle.rez_printing.specs.Showing.{shown_fields, shown_block}
-use Rattle.rez_printing.specs.TypeText.{block_text, fields_from, fields_text}
 
 pub numbers_on : (n i : ℕ) (s : Showing) → i < n → shown_numbers (n - i) s
     ≡ (next_number 16 s >>= λ (here, t). shown_numbers (n - (i + 1)) (stated (signed_number 16 here) layout.Flat t))

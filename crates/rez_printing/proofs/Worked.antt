@@ -1,23 +1,19 @@
 -- Worked texts, on the definitions alone.
-use Rattle.std.proofs.Common.{◌≡◌, ℕ, true, false, Some, None, List, [], ◌∷◌, ◌++◌, codes, refl}
-use Rattle.std.specs.Fmt.{digits}
+use Rattle.rez_printing.proofs.Cited.{◌≡◌, ℕ, true, false, Some, None, List, [], ◌∷◌, ◌++◌, codes, refl, digits, NamedNumber, Integer}
+use Rattle.rez_printing.proofs.Cited.{Constant, Count, FillBits, Fixed, Counted, Field, Run, Fill, Align, Text, Point, Rect, Array, Switch}
+use Rattle.rez_printing.proofs.Cited.{Declaration, Value, Style, in_quotes, string_text, hex_text, points, row_text, picture_text}
+use Rattle.rez_printing.proofs.Cited.{fill_comment, array_comment, element_comment, hex_number, binary_number, next_value, next_number}
+use Rattle.rez_printing.proofs.Cited.{opened, closed, commented, filled, counted_at, shown_integer, shown_bits, passed_count, shown_fill}
+use Rattle.rez_printing.proofs.Cited.{shown_text, shown_coordinates, shown_array, shown_switch, shown, in_brackets, constant_named}
+use Rattle.rez_printing.proofs.Cited.{count_head, count_text, fixed_text, string_word, array_word, case_word, array_text, switch_text}
+use Rattle.rez_printing.proofs.Cited.{type_word, open_text, declared_text, tailed_text}
 use Rattle.rez_types.specs.declared.declaration.Form.TheVariants as form
 use Rattle.rez_types.specs.declared.declaration.Boundary.TheVariants as boundary
 use Rattle.rez_types.specs.declared.declaration.TextEnd.TheVariants as end
-use Rattle.rez_types.specs.Fields.{NamedNumber, Integer, Constant, Count, FillBits, Fixed, Counted}
-use Rattle.rez_types.specs.Fields.{Field, Run, Fill, Align, Text, Point, Rect, Array, Switch, Declaration}
 use Rattle.rez_types.specs.Values as value
-use Rattle.rez_types.specs.Values.{Value}
 use Rattle.rez_printing.specs.declared.style.Numbering.TheVariants as numbering
 use Rattle.rez_printing.specs.declared.style.Letters.TheVariants as letter
 use Rattle.rez_printing.specs.declared.style.Pictures.TheVariants as picture
-use Rattle.rez_printing.specs.declared.style.Style.{Style}
-use Rattle.rez_printing.specs.Pieces.{in_quotes, string_text, hex_text, points, row_text, picture_text, fill_comment, array_comment}
-use Rattle.rez_printing.specs.Pieces.{element_comment, hex_number, binary_number}
-use Rattle.rez_printing.specs.Showing.{next_value, next_number, opened, closed, commented, filled, counted_at, shown_integer, shown_bits}
-use Rattle.rez_printing.specs.Showing.{passed_count, shown_fill, shown_text, shown_coordinates, shown_array, shown_switch, shown}
-use Rattle.rez_printing.specs.TypeText.{in_brackets, constant_named, count_head, count_text, fixed_text, string_word}
-use Rattle.rez_printing.specs.TypeText.{array_word, case_word, array_text, switch_text, type_word, open_text, declared_text, tailed_text}
 
 -- without numbers and pictures, in ASCII
 abbrev plain : Style

@@ -1,6 +1,5 @@
 -- The tokens of a declaration.
-use Rattle.std.proofs.Common.{◌≡◌, Bool, true, false, cond, List, [], ◌∷◌, map, refl, ap}
-use Rattle.std.specs.List.{filter}
+use Rattle.rez_statements.proofs.Cited.{◌≡◌, Bool, true, false, cond, List, [], ◌∷◌, map, refl, ap, filter}
 
 -- what is left of what is seen is what is seen of what is left
 pub map-filter : {X Y : Type 0} (of : X → Y) (test : Y → Bool) (xs : List X)

@@ -1,14 +1,8 @@
 -- The last declaration of a type, by its place.
-use Rattle.std.proofs.Common.{◌≡◌, ◌==◌, ◌<◌, ◌≤◌, ℕ, zero, suc, Bool, true, false, cond, Option, Some, None}
-use Rattle.std.proofs.Common.{List, [], ◌∷◌, ◌++◌, length, map, slice_get, get_or, refl, sym, ap, ◌∙◌, subst, arith}
-use Rattle.std.specs.Ordering.{nat_cmp, is_eq}
-use Rattle.std.proofs.lemmas.Bool.Decides.{nat_tests}
-use Rattle.std.proofs.lemmas.Option.{slice_get_read, slice_get_past}
-use Rattle.rez_types.specs.Fields.{Declaration}
-use Rattle.rez_statements.specs.declared.table.DeclaredType.{DeclaredType}
-use Rattle.rez_statements.specs.Places.{last_place}
-use Rattle.rez_statements.specs.Types.{in_force}
-use Rattle.rez_statements.specs.View.{declared_of, shared}
+use Rattle.rez_statements.proofs.Cited.{◌≡◌, ◌==◌, ◌<◌, ◌≤◌, ℕ, zero, suc, Bool, true, false, cond, Option, Some, None, List, [], ◌∷◌, ◌++◌}
+use Rattle.rez_statements.proofs.Cited.{length, map, slice_get, get_or, refl, sym, ap, ◌∙◌, subst, arith, nat_cmp, is_eq, nat_tests}
+use Rattle.rez_statements.proofs.Cited.{slice_get_read, slice_get_past, Declaration, DeclaredType, last_place, in_force, declared_of}
+use Rattle.rez_statements.proofs.Cited.{shared}
 
 -- a declaration more
 push : (q : ℕ) (xs : List DeclaredType) (x : DeclaredType)

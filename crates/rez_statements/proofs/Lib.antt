@@ -1,2 +1,3 @@
+mod Cited
 mod Lasts
 mod Fills

@@ -1,6 +1,5 @@
 -- The first of some.
-use Rattle.std.proofs.Common.{◌≡◌, ℕ, List, length, map, take, min, ap, ◌∙◌, sym}
-use Rattle.std.proofs.lemmas.List.{take_min, take-map}
+use Rattle.rez_templates.proofs.Cited.{◌≡◌, ℕ, List, length, map, take, min, ap, ◌∙◌, sym, take_min, take-map}
 
 pub first_are : {X Y : Type 0} (f : X → Y) (n : ℕ) (xs : List X) (ys : List Y) → map f xs ≡ ys
     → map f (take (min n (length xs)) xs) ≡ take n ys

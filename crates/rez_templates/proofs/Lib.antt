@@ -1,3 +1,4 @@
+mod Cited
 pub mod Firsts
 pub mod Turns
 pub mod Worked

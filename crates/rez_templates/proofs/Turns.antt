@@ -1,8 +1,6 @@
 -- One more turn of a loop that reads items, and the last of some.
-use Rattle.std.proofs.Common.{◌≡◌, ℕ, zero, suc, ◌-◌, ◌<◌, Some, None, List, [], ◌∷◌, ◌++◌, ap, refl, ◌∙◌, length, arith}
-use Rattle.rez_types.specs.Options.{◌>>=◌}
-use Rattle.rez_types.proofs.Turns.{above}
-use Rattle.rez_templates.specs.Items.{Drafted, with_next, with_items, split_last}
+use Rattle.rez_templates.proofs.Cited.{◌≡◌, ℕ, zero, suc, ◌-◌, ◌<◌, Some, None, List, [], ◌∷◌, ◌++◌, ap, refl, ◌∙◌, length, arith, ◌>>=◌}
+use Rattle.rez_templates.proofs.Cited.{above, Drafted, with_next, with_items, split_last}
 
 pub items_on : (n : ℕ) (rest : List ℕ) (d : Drafted) → 0 < n → 0 < length rest
     → with_items n rest d ≡ (with_next rest d >>= λ (e, more). with_items (n - 1) more e)

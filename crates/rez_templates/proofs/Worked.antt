@@ -1,8 +1,7 @@
 -- Worked templates, on the definitions alone.
-use Rattle.std.proofs.Common.{◌≡◌, ℕ, Some, None, List, [], ◌∷◌, ◌++◌, codes, length, refl}
-use Rattle.std.specs.Fmt.{digits}
-use Rattle.rez_templates.specs.Items.{template_statement, statement, with_items, with_next, item_of, with_count, with_list, with_end}
-use Rattle.rez_templates.specs.Items.{with_fill, fields_text, fill_text, count_text, begin_text, end_text, hex_text}
+use Rattle.rez_templates.proofs.Cited.{◌≡◌, ℕ, Some, None, List, [], ◌∷◌, ◌++◌, codes, length, refl, digits, template_statement, statement}
+use Rattle.rez_templates.proofs.Cited.{with_items, with_next, item_of, with_count, with_list, with_end, with_fill, fields_text, fill_text}
+use Rattle.rez_templates.proofs.Cited.{count_text, begin_text, end_text, hex_text}
 
 -- an item: its label, and four characters
 abbrev item : List ℕ → List ℕ → List ℕ

@@ -1,18 +1,9 @@
 -- What is printed is read again.
-use Rattle.std.proofs.Common.{◌≡◌, ℕ, zero, suc, true, Ok, List, [], ◌++◌, map, length, drop, replicate, refl, ap, ◌∙◌}
-use Rattle.std.specs.List.{list_all, flat_map}
-use Rattle.mac_roman.specs.declared.charset.Charset.{Charset}
-use Rattle.fork_format.specs.Content.{Group, Content, IsContent}
-use Rattle.fork_format.specs.Canonical.{are_distinct, clear, has_refs}
-use Rattle.rez_statements.specs.Types.{Declared}
-use Rattle.rez_text.specs.declared.lettering.Lettering.{Lettering}
-use Rattle.rez_text.specs.declared.lettering.Lettering.TheVariants.{Plain}
+use Rattle.rez_text.proofs.Cited.{◌≡◌, ℕ, zero, suc, true, Ok, List, [], ◌++◌, map, length, drop, replicate, refl, ap, ◌∙◌, list_all}
+use Rattle.rez_text.proofs.Cited.{flat_map, Charset, Group, Content, IsContent, are_distinct, clear, has_refs, Declared, Lettering, Plain}
+use Rattle.rez_text.proofs.Cited.{Files, unnamed, start, step, between, IsOfBytes, finish, first_line, unless_lacking, stated, read_roman}
+use Rattle.rez_text.proofs.Cited.{read, source_of, lettered_source, attributes_remark, area_remark, group_statements}
 use Rattle.rez_text.specs.declared.mode.Place.TheVariants as place
-use Rattle.rez_text.specs.State.{Files, unnamed, start}
-use Rattle.rez_text.specs.Lexing.{step, between}
-use Rattle.rez_text.specs.Bytes.{IsOfBytes}
-use Rattle.rez_text.specs.Reading.{finish, first_line, unless_lacking, stated, read_roman, read}
-use Rattle.rez_text.specs.Printing.{source_of, lettered_source, attributes_remark, area_remark, group_statements}
 use Rattle.rez_text.proofs.Plain.{read_plainly, source_opens}
 use Rattle.rez_text.proofs.Steps.{run, after, read_run}
 use Rattle.rez_text.proofs.Statements.{outside, groups_run}

@@ -1,7 +1,6 @@
 -- Texts that are appended one after another, and lines that are appended one by one.
-use Rattle.std.proofs.Common.{◌≡◌, ◌<◌, ℕ, suc, ◌+◌, ◌-◌, List, [], ◌∷◌, ◌++◌, take, drop, replicate}
-use Rattle.std.proofs.Common.{sym, ap, ◌∙◌, arith, append_assoc}
-use Rattle.rez_text.specs.Printing.{line_count}
+use Rattle.rez_text.proofs.Cited.{◌≡◌, ◌<◌, ℕ, suc, ◌+◌, ◌-◌, List, [], ◌∷◌, ◌++◌, take, drop, replicate, sym, ap, ◌∙◌, arith, append_assoc}
+use Rattle.rez_text.proofs.Cited.{line_count}
 
 -- four pieces
 pub four : (old a b d e one two three new : List ℕ) → one ≡ old ++ a → two ≡ one ++ b → three ≡ two ++ d

@@ -1,21 +1,11 @@
 -- The arguments of a statement: what is printed is read again.
-use Rattle.std.proofs.Common.{◌≡◌, ◌<◌, ◌≤◌, ◌==◌, ◌⊎◌, inl, inr, ℕ, ◌+◌, ◌*◌, ◌/◌, ◌%◌, Bool, true, false, cond}
-use Rattle.std.proofs.Common.{nat_lt, bit_and, bit_or, codes, Ok, Some, List, [], ◌∷◌, ◌++◌, refl, ap, ◌∙◌, sym, subst, arith}
-use Rattle.std.proofs.Common.{eqb-true, le-ltb}
-use Rattle.std.proofs.lemmas.Bool.{agree_below_at}
-use Rattle.fork_format.specs.Content.{Ref}
-use Rattle.mac_words.specs.Digits.{upper_digit}
+use Rattle.rez_text.proofs.Cited.{◌≡◌, ◌<◌, ◌≤◌, ◌==◌, ◌⊎◌, inl, inr, ℕ, ◌+◌, ◌*◌, ◌/◌, ◌%◌, Bool, true, false, cond, nat_lt, bit_and}
+use Rattle.rez_text.proofs.Cited.{bit_or, codes, Ok, Some, List, [], ◌∷◌, ◌++◌, refl, ap, ◌∙◌, sym, subst, arith, eqb-true, le-ltb}
+use Rattle.rez_text.proofs.Cited.{agree_below_at, Ref, upper_digit, Place, Said, State, attribute, word, number, mark, hex_value, step}
+use Rattle.rez_text.proofs.Cited.{between, in_word, dollar, in_number, digit_in, byte_hex, word_for, attribute_words, attributes_argument}
 use Rattle.rez_text.specs.declared.mode.Radix.TheVariants as radix
 use Rattle.rez_text.specs.declared.mode.Mode.TheVariants as mode
-use Rattle.rez_text.specs.declared.mode.Place.{Place}
 use Rattle.rez_text.specs.declared.mode.Place.TheVariants as place
-use Rattle.rez_text.specs.State.{Said, State}
-use Rattle.rez_text.specs.Tokens.{attribute, word, number, mark}
-use Rattle.rez_text.specs.Remarks.{hex_value}
-use Rattle.rez_text.specs.Lexing.{step, between, in_word, dollar, in_number}
-use Rattle.rez_text.specs.Ascii.{digit_in}
-use Rattle.rez_text.specs.Printing.{byte_hex, word_for, attribute_words}
-use Rattle.rez_text.specs.Printing.{attributes_argument}
 use Rattle.rez_text.proofs.Steps.{at, run, after}
 use Rattle.rez_text.proofs.Digits.{digit_value, digit_read, digit_no_quote}
 

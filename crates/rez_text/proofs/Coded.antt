@@ -1,29 +1,12 @@
 -- Texts in UTF-8, which are read as the bytes of which they are made.
-use Rattle.std.proofs.Common.{◌≡◌, ◌≤◌, ◌&&◌, ℕ, ◌+◌, Bool, true, false, cond, Result, Ok, Err, List, [], ◌∷◌, ◌++◌, length, drop}
-use Rattle.std.proofs.Common.{map, refl, sym, ap, ◌∙◌, arith, le-leb, nat_le}
-use Rattle.std.proofs.lemmas.Bool.{and_right, or_right}
-use Rattle.std.proofs.lemmas.List.Concat.{flat_map-append}
-use Rattle.std.proofs.lemmas.Str.{is_utf8-from_IsUtf8}
-use Rattle.std.specs.List.{flat_map}
-use Rattle.std.specs.Str.{is_utf8, all_scalars, chars}
-use Rattle.plain_laws.proofs.Bytes.{bytes-append}
-use Rattle.mac_roman.specs.Table.{char_of}
-use Rattle.mac_roman.specs.Roman.{bytes_of, from_roman}
-use Rattle.mac_roman.specs.Charset.{character}
-use Rattle.mac_roman.proofs.Encoding.{roman_again, scalar_one}
-use Rattle.mac_roman.proofs.PlainText.{printed_whole}
-use Rattle.fork_format.specs.Content.{Content}
-use Rattle.fork_format.specs.Canonical.{clear}
-use Rattle.rez_statements.specs.Types.{Declared}
-use Rattle.rez_text.specs.declared.fault.FaultKind.{FaultKind}
-use Rattle.rez_text.specs.declared.line.Lines.{Lines}
+use Rattle.rez_text.proofs.Cited.{◌≡◌, ◌≤◌, ◌&&◌, ℕ, ◌+◌, Bool, true, false, cond, Result, Ok, Err, List, [], ◌∷◌, ◌++◌, length, drop, map}
+use Rattle.rez_text.proofs.Cited.{refl, sym, ap, ◌∙◌, arith, le-leb, nat_le, and_right, or_right, flat_map-append, is_utf8-from_IsUtf8}
+use Rattle.rez_text.proofs.Cited.{flat_map, is_utf8, all_scalars, chars, bytes-append, char_of, bytes_of, from_roman, character}
+use Rattle.rez_text.proofs.Cited.{roman_again, scalar_one, printed_whole, Content, clear, Declared, FaultKind, Lines, State, start}
+use Rattle.rez_text.proofs.Cited.{AreBytes, after_blanks, begins, remarked, comment, coding_words, coding_comment, order_mark, is_coded}
+use Rattle.rez_text.proofs.Cited.{as_roman, decoded, with_line, step, between, slash, in_comment, star, finish, first_line, read_from}
+use Rattle.rez_text.proofs.Cited.{stated, read_made, read_roman, read, later, unless_lacking}
 use Rattle.rez_text.specs.declared.mode.Place.TheVariants as place
-use Rattle.rez_text.specs.State.{State, start}
-use Rattle.rez_text.specs.Bytes.{AreBytes}
-use Rattle.rez_text.specs.Remarks.{after_blanks, begins, remarked, comment}
-use Rattle.rez_text.specs.Coding.{coding_words, coding_comment, order_mark, is_coded, as_roman, decoded, with_line}
-use Rattle.rez_text.specs.Lexing.{step, between, slash, in_comment, star}
-use Rattle.rez_text.specs.Reading.{finish, first_line, read_from, stated, read_made, read_roman, read, later, unless_lacking}
 use Rattle.rez_text.proofs.Printed.{bytes_are}
 use Rattle.rez_text.proofs.Later.{moved, read_further}
 

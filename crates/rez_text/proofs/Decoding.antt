@@ -1,11 +1,7 @@
 -- A text as bytes in Mac OS Roman, by whether it is UTF-8.
-use Rattle.std.proofs.Common.{◌≡◌, ℕ, ◌+◌, Bool, true, false, cond, Ok, Err, List, take, refl, sym, ap, ◌∙◌}
-use Rattle.std.proofs.lemmas.Str.{is_utf8-from_IsUtf8, IsUtf8-from_is_utf8}
-use Rattle.std.specs.Str.{IsUtf8, is_utf8, chars}
-use Rattle.std.specs.Str.Lossy.{utf8_valid_len}
-use Rattle.mac_roman.specs.Roman.{to_roman}
+use Rattle.rez_text.proofs.Cited.{◌≡◌, ℕ, ◌+◌, Bool, true, false, cond, Ok, Err, List, take, refl, sym, ap, ◌∙◌, is_utf8-from_IsUtf8}
+use Rattle.rez_text.proofs.Cited.{IsUtf8-from_is_utf8, IsUtf8, is_utf8, chars, utf8_valid_len, to_roman, decoded, last_line, with_line}
 use Rattle.rez_text.specs.declared.fault.FaultKind.TheVariants as faults
-use Rattle.rez_text.specs.Coding.{decoded, last_line, with_line}
 
 pub decoded_utf8 : (text made : List ℕ) → made ≡ text → IsUtf8 text → with_line (chars made) (to_roman made) ≡ decoded text
 decoded_utf8 text made is coded =

@@ -1,18 +1,11 @@
 -- Hexadecimal digits: what is printed is read again.
-use Rattle.std.proofs.Common.{◌≡◌, ◌<◌, ◌==◌, ℕ, ◌+◌, ◌/◌, ◌%◌, Bool, true, false, cond, Option, Some, None, nat_lt, ◌&&◌}
-use Rattle.std.proofs.Common.{Ok, List, [], ◌∷◌, ◌++◌, refl, ap, ◌∙◌, sym, arith, eqb-true, append_assoc, append-nil}
-use Rattle.std.proofs.lemmas.Bool.{agree_below_at}
-use Rattle.fork_format.specs.Content.{Ref}
-use Rattle.mac_words.specs.Digits.{upper_digit}
-use Rattle.rez_text.specs.State.{Said}
+use Rattle.rez_text.proofs.Cited.{◌≡◌, ◌<◌, ◌==◌, ℕ, ◌+◌, ◌/◌, ◌%◌, Bool, true, false, cond, Option, Some, None, nat_lt, ◌&&◌, Ok, List, []}
+use Rattle.rez_text.proofs.Cited.{◌∷◌, ◌++◌, refl, ap, ◌∙◌, sym, arith, eqb-true, append_assoc, append-nil, agree_below_at, Ref}
+use Rattle.rez_text.proofs.Cited.{upper_digit, Said, AreBytes, is_blank, hex_value, byte_of, step, hex_string, hex_half, digit_in, byte_hex}
+use Rattle.rez_text.proofs.Cited.{gap, grouped}
 use Rattle.rez_text.specs.declared.mode.Radix.TheVariants as radix
 use Rattle.rez_text.specs.declared.mode.Mode.TheVariants as mode
 use Rattle.rez_text.specs.declared.mode.Place.TheVariants as place
-use Rattle.rez_text.specs.Bytes.{AreBytes}
-use Rattle.rez_text.specs.Remarks.{is_blank, hex_value, byte_of}
-use Rattle.rez_text.specs.Lexing.{step, hex_string, hex_half}
-use Rattle.rez_text.specs.Ascii.{digit_in}
-use Rattle.rez_text.specs.Printing.{byte_hex, gap, grouped}
 use Rattle.rez_text.proofs.Steps.{at, run, after}
 
 -- the value of an option is a number

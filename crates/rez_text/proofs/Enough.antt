@@ -1,40 +1,24 @@
 -- With as many files as the statements of a text name none is lacking: what a text names does not depend on what files are given.
-use Rattle.std.proofs.Common.{◌≡◌, ◌==◌, ◌&&◌, ◌||◌, ℕ, zero, suc, ◌+◌, ◌-◌, ◌*◌, Bool, true, false, cond, nat_lt, nat_le, Option, Some}
-use Rattle.std.proofs.Common.{None, Result, Ok, Err, List, [], ◌∷◌, ◌++◌, length, drop, codes, refl, sym, ap, ◌∙◌, subst, arith}
-use Rattle.std.specs.Prelude.{bytes_eq}
-use Rattle.fork_format.specs.Content.{Content}
-use Rattle.rez_statements.specs.declared.fault.StatementFault.{StatementFault}
-use Rattle.rez_statements.specs.Types.{Declared, with_type, datum_stated}
-use Rattle.rez_text.specs.declared.fault.FaultKind.{FaultKind}
+use Rattle.rez_text.proofs.Cited.{◌≡◌, ◌==◌, ◌&&◌, ◌||◌, ℕ, zero, suc, ◌+◌, ◌-◌, ◌*◌, Bool, true, false, cond, nat_lt, nat_le, Option, Some}
+use Rattle.rez_text.proofs.Cited.{None, Result, Ok, Err, List, [], ◌∷◌, ◌++◌, length, drop, codes, refl, sym, ap, ◌∙◌, subst, arith}
+use Rattle.rez_text.proofs.Cited.{bytes_eq, Content, StatementFault, Declared, with_type, datum_stated, FaultKind, Lines, Form, Mode, Place}
+use Rattle.rez_text.proofs.Cited.{Quote, Radix, Scope, clear, as_roman, ends_line, is_digit, is_letter, begins_word, quote_byte, base}
+use Rattle.rez_text.proofs.Cited.{digit_in, ends, State, with_types, start, gather, in_mode, come_to, with_content, ◌>>=◌, is_blank}
+use Rattle.rez_text.proofs.Cited.{hex_value, begins, bytes_after, with_map_attributes, with_area, after_blanks, remarked, comment}
+use Rattle.rez_text.proofs.Cited.{comment_at, refused, attribute, with_attributes, word, word_at, type_token, type_at, attributes_in}
+use Rattle.rez_text.proofs.Cited.{number, number_at, named, file_named, string, string_at, datum, datum_at, of_text, type_statement}
+use Rattle.rez_text.proofs.Cited.{resource_body, with_datum, opened, mark, mark_at, statement_begun, declaration_begun, between, slash}
+use Rattle.rez_text.proofs.Cited.{in_comment, star, line_comment, declaring, body, after_word, in_word, number_ended, number_on, grown}
+use Rattle.rez_text.proofs.Cited.{in_number, by_digit, prefixed, after_zero, string_opened, dollar, hex_string, hex_half, closed, quoted}
+use Rattle.rez_text.proofs.Cited.{escaped_byte, escape_grown, escape_on, escape_number, escape_by, escape, escape_zero, step, step_in}
+use Rattle.rez_text.proofs.Cited.{Wrong, Lacking, finish, ended, ended_in, first_line, lines_at, at_line, read_from, stated, unless_lacking}
+use Rattle.rez_text.proofs.Cited.{read_made, read_roman, read}
 use Rattle.rez_text.specs.declared.fault.FaultKind.TheVariants as faults
-use Rattle.rez_text.specs.declared.line.Lines.{Lines}
-use Rattle.rez_text.specs.declared.mode.Form.{Form}
 use Rattle.rez_text.specs.declared.mode.Form.TheVariants as forms
-use Rattle.rez_text.specs.declared.mode.Mode.{Mode}
 use Rattle.rez_text.specs.declared.mode.Mode.TheVariants as mode
-use Rattle.rez_text.specs.declared.mode.Place.{Place}
 use Rattle.rez_text.specs.declared.mode.Place.TheVariants as place
-use Rattle.rez_text.specs.declared.mode.Quote.{Quote}
 use Rattle.rez_text.specs.declared.mode.Quote.TheVariants as quotes
-use Rattle.rez_text.specs.declared.mode.Radix.{Radix}
 use Rattle.rez_text.specs.declared.mode.Radix.TheVariants as radix
-use Rattle.rez_text.specs.declared.scope.Scope.{Scope}
-use Rattle.fork_format.specs.Canonical.{clear}
-use Rattle.rez_text.specs.Coding.{as_roman}
-use Rattle.rez_text.specs.Ascii.{ends_line, is_digit, is_letter, begins_word, quote_byte, base, digit_in}
-use Rattle.rez_text.specs.Scopes.{ends}
-use Rattle.rez_text.specs.State.{State, with_types, start, gather, in_mode, come_to, with_content, ◌>>=◌}
-use Rattle.rez_text.specs.Remarks.{is_blank, hex_value, begins, bytes_after, with_map_attributes, with_area, after_blanks, remarked}
-use Rattle.rez_text.specs.Remarks.{comment, comment_at}
-use Rattle.rez_text.specs.Tokens.{refused, attribute, with_attributes, word, word_at, type_token, type_at, attributes_in, number, number_at}
-use Rattle.rez_text.specs.Tokens.{named, file_named, string, string_at, datum, datum_at, of_text, type_statement, resource_body, with_datum}
-use Rattle.rez_text.specs.Tokens.{opened, mark, mark_at, statement_begun, declaration_begun}
-use Rattle.rez_text.specs.Lexing.{between, slash, in_comment, star, line_comment, declaring, body, after_word, in_word, number_ended}
-use Rattle.rez_text.specs.Lexing.{number_on, grown, in_number, by_digit, prefixed, after_zero, string_opened, dollar, hex_string, hex_half}
-use Rattle.rez_text.specs.Lexing.{closed, quoted, escaped_byte, escape_grown, escape_on, escape_number, escape_by, escape, escape_zero}
-use Rattle.rez_text.specs.Lexing.{step, step_in}
-use Rattle.rez_text.specs.Reading.{Wrong, Lacking, finish, ended, ended_in, first_line, lines_at, at_line, read_from, stated}
-use Rattle.rez_text.specs.Reading.{unless_lacking, read_made, read_roman, read}
 
 -- what has been read but for data, and for the files that are given
 abbrev blur : State → State

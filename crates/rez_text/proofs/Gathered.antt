@@ -1,15 +1,8 @@
 -- The text of a statement is gathered as it stands.
-use Rattle.std.proofs.Common.{◌≡◌, ◌==◌, ℕ, Bool, true, false, cond, not, Ok, List, [], ◌∷◌, ◌++◌, length, refl, ap, ◌∙◌, sym, append_assoc}
-use Rattle.std.proofs.Common.{append-nil, eqb-true, arith}
-use Rattle.std.proofs.lemmas.Bool.{and_parts, not-true}
-use Rattle.fork_format.specs.Content.{Ref}
+use Rattle.rez_text.proofs.Cited.{◌≡◌, ◌==◌, ℕ, Bool, true, false, cond, not, Ok, List, [], ◌∷◌, ◌++◌, length, refl, ap, ◌∙◌, sym}
+use Rattle.rez_text.proofs.Cited.{append_assoc, append-nil, eqb-true, arith, and_parts, not-true, Ref, Place, Scope, Said, type_statement}
+use Rattle.rez_text.proofs.Cited.{resource_body, ends, scope_step, scope_after, keeps, ends_last, step, declaring, body}
 use Rattle.rez_text.specs.declared.mode.Mode.TheVariants as mode
-use Rattle.rez_text.specs.declared.mode.Place.{Place}
-use Rattle.rez_text.specs.declared.scope.Scope.{Scope}
-use Rattle.rez_text.specs.State.{Said}
-use Rattle.rez_text.specs.Tokens.{type_statement, resource_body}
-use Rattle.rez_text.specs.Scopes.{ends, scope_step, scope_after, keeps, ends_last}
-use Rattle.rez_text.specs.Lexing.{step, declaring, body}
 use Rattle.rez_text.proofs.Steps.{at, run, after}
 
 -- Between the braces of a statement `resource`.

@@ -1,15 +1,7 @@
 -- The groups of a source: where a resource is put.
-use Rattle.std.proofs.Common.{◌≡◌, ℕ, zero, suc, ◌+◌, ◌≤◌, Bool, true, false, cond, Some, None, List, [], ◌∷◌}
-use Rattle.std.proofs.Common.{◌++◌, map, set, get_or, refl, sym, ap, ◌∙◌, subst, arith}
-use Rattle.std.specs.List.{position, position_from}
-use Rattle.std.proofs.lemmas.List.{map-append}
-use Rattle.std.proofs.lemmas.Iterator.Adapters.{position_from-zero}
-use Rattle.byteorder.specs.Endian.{big_number}
-use Rattle.rez_text.specs.declared.source.SourceGroup.{SourceGroup}
-use Rattle.rez_text.specs.declared.source.SourceRef.{SourceRef}
-use Rattle.rez_text.specs.Groups.{is_of}
-use Rattle.rez_text.specs.View.{ref_said, group_said}
-use Rattle.rez_text.specs.State.{with_ref}
+use Rattle.rez_text.proofs.Cited.{◌≡◌, ℕ, zero, suc, ◌+◌, ◌≤◌, Bool, true, false, cond, Some, None, List, [], ◌∷◌, ◌++◌, map, set, get_or}
+use Rattle.rez_text.proofs.Cited.{refl, sym, ap, ◌∙◌, subst, arith, position, position_from, map-append, position_from-zero, big_number}
+use Rattle.rez_text.proofs.Cited.{SourceGroup, SourceRef, is_of, ref_said, group_said, with_ref}
 
 -- where a group is found
 found_above : (p : SourceGroup → Bool) (i n : ℕ) (gs : List SourceGroup) → Some n ≡ position_from p i gs → i ≤ n

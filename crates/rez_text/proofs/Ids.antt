@@ -1,24 +1,13 @@
 -- The ID and the name of a resource: what is printed is read again.
-use Rattle.std.proofs.Common.{◌≡◌, ◌<◌, ◌≤◌, ◌==◌, inl, inr, ℕ, ℤ, pos, negsuc, neg_ℤ, zero, suc, ◌+◌, ◌-◌, ◌*◌, ◌/◌, ◌%◌, Bool, true}
-use Rattle.std.proofs.Common.{false, nat_lt, Ok, Option, Some, None, List, [], ◌∷◌, ◌++◌, length, IfSome, refl, ap, ◌∙◌, arith, le-ltb}
-use Rattle.std.proofs.Common.{eqb-true, FitsSigned}
-use Rattle.std.proofs.lemmas.Bool.{agree_below_at, agree_below}
-use Rattle.std.proofs.lemmas.Fmt.{decimal_by_steps}
-use Rattle.std.specs.Int.{w16}
-use Rattle.std.specs.Fmt.{decimal as in_decimal, digits, signed_decimal}
-use Rattle.fork_format.specs.Content.{Ref}
-use Rattle.rez_text.specs.declared.lettering.Lettering.{Lettering}
+use Rattle.rez_text.proofs.Cited.{◌≡◌, ◌<◌, ◌≤◌, ◌==◌, inl, inr, ℕ, ℤ, pos, negsuc, neg_ℤ, zero, suc, ◌+◌, ◌-◌, ◌*◌, ◌/◌, ◌%◌, Bool, true}
+use Rattle.rez_text.proofs.Cited.{false, nat_lt, Ok, Option, Some, None, List, [], ◌∷◌, ◌++◌, length, IfSome, refl, ap, ◌∙◌, arith, le-ltb}
+use Rattle.rez_text.proofs.Cited.{eqb-true, FitsSigned, agree_below_at, agree_below, decimal_by_steps, w16, digits, signed_decimal, Ref}
+use Rattle.rez_text.proofs.Cited.{Lettering, Place, Said, State, no_ref, number, mark, is_blank, step, between, after_zero, in_number}
+use Rattle.rez_text.proofs.Cited.{is_digit, digit_in, AreBytes, in_quotes, name_argument}
+use Rattle.std.specs.Fmt.{decimal as in_decimal}
 use Rattle.rez_text.specs.declared.mode.Radix.TheVariants as radix
 use Rattle.rez_text.specs.declared.mode.Mode.TheVariants as mode
-use Rattle.rez_text.specs.declared.mode.Place.{Place}
 use Rattle.rez_text.specs.declared.mode.Place.TheVariants as place
-use Rattle.rez_text.specs.State.{Said, State, no_ref}
-use Rattle.rez_text.specs.Tokens.{number, mark}
-use Rattle.rez_text.specs.Remarks.{is_blank}
-use Rattle.rez_text.specs.Lexing.{step, between, after_zero, in_number}
-use Rattle.rez_text.specs.Ascii.{is_digit, digit_in}
-use Rattle.rez_text.specs.Bytes.{AreBytes}
-use Rattle.rez_text.specs.Printing.{in_quotes, name_argument}
 use Rattle.rez_text.proofs.Steps.{at, run, after}
 use Rattle.rez_text.proofs.Digits.{has_value, value_is}
 use Rattle.rez_text.proofs.Quotes.{name_run}

@@ -1,11 +1,7 @@
 -- Resources that are put where they belong, group by group, make the groups again.
-use Rattle.std.proofs.Common.{◌≡◌, ◌==◌, not, ℕ, true, false, cond, List, [], ◌∷◌, ◌++◌, map, length, nat_le, refl, ap, ◌∙◌, sym}
-use Rattle.std.proofs.Common.{append_assoc, append-nil, arith, rules}
-use Rattle.std.specs.List.{AllByRecursion, list_all}
-use Rattle.std.proofs.lemmas.Bool.{and_parts, not-true, eq-eqb}
-use Rattle.fork_format.specs.Content.{Ref, Group}
-use Rattle.fork_format.specs.Canonical.{are_distinct, has_refs}
-use Rattle.rez_text.specs.State.{with_ref}
+use Rattle.rez_text.proofs.Cited.{◌≡◌, ◌==◌, not, ℕ, true, false, cond, List, [], ◌∷◌, ◌++◌, map, length, nat_le, refl, ap, ◌∙◌, sym}
+use Rattle.rez_text.proofs.Cited.{append_assoc, append-nil, arith, rules, AllByRecursion, list_all, and_parts, not-true, eq-eqb, Ref, Group}
+use Rattle.rez_text.proofs.Cited.{are_distinct, has_refs, with_ref}
 use Rattle.rez_text.proofs.Statements.{with_all, with_groups}
 
 -- none of the groups is of the type

@@ -1,10 +1,6 @@
 -- The names of the files that are not given.
-use Rattle.std.proofs.Common.{◌≡◌, ◌<◌, ℕ, Ok, Err, List, [], ◌∷◌, length, drop, refl, sym, arith}
-use Rattle.std.proofs.lemmas.List.{drop-map}
-use Rattle.fork_format.specs.Content.{Content}
-use Rattle.rez_text.specs.declared.fault.FileName.{FileName}
-use Rattle.rez_text.specs.View.{names_of}
-use Rattle.rez_text.specs.Reading.{Lacking, unless_lacking}
+use Rattle.rez_text.proofs.Cited.{◌≡◌, ◌<◌, ℕ, Ok, Err, List, [], ◌∷◌, length, drop, refl, sym, arith, drop-map, Content, FileName}
+use Rattle.rez_text.proofs.Cited.{names_of, Lacking, unless_lacking}
 
 -- names of those that are left
 pub names_left : (n : ℕ) (names : List FileName) → names_of (drop n names) ≡ drop n (names_of names)

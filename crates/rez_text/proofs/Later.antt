@@ -1,16 +1,9 @@
 -- The same text one line further down.
-use Rattle.std.proofs.Common.{◌≡◌, ◌==◌, ◌&&◌, ◌||◌, ◌+◌, ◌-◌, ℕ, Bool, true, false, cond, Result, Ok, Err, List, [], ◌∷◌, ◌++◌, not, refl}
-use Rattle.std.proofs.Common.{sym, ap, ◌∙◌, arith, min}
-use Rattle.rez_statements.specs.declared.fault.StatementFault.{StatementFault}
-use Rattle.rez_text.specs.declared.fault.FaultKind.{FaultKind}
+use Rattle.rez_text.proofs.Cited.{◌≡◌, ◌==◌, ◌&&◌, ◌||◌, ◌+◌, ◌-◌, ℕ, Bool, true, false, cond, Result, Ok, Err, List, [], ◌∷◌, ◌++◌, not}
+use Rattle.rez_text.proofs.Cited.{refl, sym, ap, ◌∙◌, arith, min, StatementFault, FaultKind, Lines, Mode, State, line_of, step, finish}
+use Rattle.rez_text.proofs.Cited.{begun_on, lines_at, is_whole, fault_line, at_line, read_from}
 use Rattle.rez_text.specs.declared.fault.FaultKind.TheVariants as faults
-use Rattle.rez_text.specs.declared.line.Lines.{Lines}
-use Rattle.rez_text.specs.declared.mode.Mode.{Mode}
 use Rattle.rez_text.specs.declared.mode.Mode.TheVariants as mode
-use Rattle.rez_text.specs.State.{State}
-use Rattle.rez_text.specs.Ascii.{line_of}
-use Rattle.rez_text.specs.Lexing.{step}
-use Rattle.rez_text.specs.Reading.{finish, begun_on, lines_at, is_whole, fault_line, at_line, read_from}
 
 -- lines one further down
 abbrev pub further : Lines → Lines

@@ -1,3 +1,4 @@
+mod Cited
 pub mod Grouping
 pub mod Placed
 pub mod Appending

@@ -1,28 +1,14 @@
 -- The lines of a resource's data: what is printed is read again.
-use Rattle.std.proofs.Common.{◌≡◌, ◌==◌, ℕ, zero, suc, ◌+◌, ◌-◌, ◌*◌, ◌/◌, ◌<◌, Bool, true, false, ◌&&◌, Ok, List, [], ◌∷◌, ◌++◌}
-use Rattle.std.proofs.Common.{length, take, drop, codes, refl, ap, ◌∙◌, sym, arith, append_assoc, append-nil}
-use Rattle.std.proofs.Math.Seq.{take-add}
-use Rattle.std.proofs.lemmas.Bool.{agree_below_at}
+use Rattle.rez_text.proofs.Cited.{◌≡◌, ◌==◌, ℕ, zero, suc, ◌+◌, ◌-◌, ◌*◌, ◌/◌, ◌<◌, Bool, true, false, ◌&&◌, Ok, List, [], ◌∷◌, ◌++◌}
+use Rattle.rez_text.proofs.Cited.{length, take, drop, codes, refl, ap, ◌∙◌, sym, arith, append_assoc, append-nil, take-add, agree_below_at}
+use Rattle.rez_text.proofs.Cited.{AllByRecursion, flat_map, list_all, take_all, Lettering, Plain, Roman, Ascii, Utf8, Ref, Said, Place}
+use Rattle.rez_text.proofs.Cited.{datum, comment, step, between, dollar, slash, in_comment, star, hex_string, AreBytes, shown, grouped}
+use Rattle.rez_text.proofs.Cited.{margin, hex_column, text_column, data_line, data_lines, line_count, bytes-take, bytes-drop, each-append}
 use Rattle.std.specs.Prelude.{not}
-use Rattle.std.specs.List.{AllByRecursion, flat_map, list_all}
-use Rattle.std.proofs.lemmas.List.{take_all}
-use Rattle.rez_text.specs.declared.lettering.Lettering.{Lettering}
-use Rattle.rez_text.specs.declared.lettering.Lettering.TheVariants.{Plain, Roman}
-use Rattle.mac_roman.specs.declared.charset.Charset.TheVariants.{Ascii, Utf8}
-use Rattle.fork_format.specs.Content.{Ref}
-use Rattle.rez_text.specs.State.{Said}
 use Rattle.rez_text.specs.declared.mode.Mode.TheVariants as mode
-use Rattle.rez_text.specs.declared.mode.Place.{Place}
 use Rattle.rez_text.specs.declared.mode.Place.TheVariants as place
-use Rattle.rez_text.specs.Tokens.{datum}
-use Rattle.rez_text.specs.Remarks.{comment}
-use Rattle.rez_text.specs.Lexing.{step, between, dollar, slash, in_comment, star, hex_string}
-use Rattle.rez_text.specs.Bytes.{AreBytes}
-use Rattle.rez_text.specs.Printing.{shown, grouped, margin, hex_column, text_column, data_line, data_lines, line_count}
 use Rattle.rez_text.proofs.Steps.{at, run, after, blanks}
 use Rattle.rez_text.proofs.Digits.{grouped_run}
-use Rattle.plain_laws.proofs.Bytes.{bytes-take, bytes-drop}
-use Rattle.plain_laws.proofs.Elements.{each-append}
 
 -- a text that no comment ends in
 abbrev pub NoStar : List ℕ → Type 0

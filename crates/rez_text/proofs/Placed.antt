@@ -1,14 +1,7 @@
 -- The places of types' groups, as groups change.
-use Rattle.std.proofs.Common.{◌≡◌, ◌≢◌, ◌==◌, ◌⊎◌, inl, inr, ℕ, ◌+◌, Bool, true, false, cond, Some, None}
-use Rattle.std.proofs.Common.{List, [], ◌∷◌, ◌++◌, length, refl, sym, ap, ◌∙◌, arith}
-use Rattle.std.specs.List.{position, position_from}
-use Rattle.std.specs.Ordering.{nat_cmp, is_eq}
-use Rattle.std.proofs.lemmas.Bool.Decides.{eqb_tells}
-use Rattle.std.proofs.lemmas.Iterator.Adapters.{position_from-zero}
-use Rattle.byteorder.specs.Endian.{big_number}
-use Rattle.fork_format.proofs.Placing.{is_eq-nat_cmp}
-use Rattle.rez_text.specs.declared.source.SourceGroup.{SourceGroup}
-use Rattle.rez_text.specs.Groups.{is_of}
+use Rattle.rez_text.proofs.Cited.{◌≡◌, ◌≢◌, ◌==◌, ◌⊎◌, inl, inr, ℕ, ◌+◌, Bool, true, false, cond, Some, None, List, [], ◌∷◌, ◌++◌, length}
+use Rattle.rez_text.proofs.Cited.{refl, sym, ap, ◌∙◌, arith, position, position_from, nat_cmp, is_eq, eqb_tells, position_from-zero}
+use Rattle.rez_text.proofs.Cited.{big_number, is_eq-nat_cmp, SourceGroup, is_of}
 
 -- a group more: of another type, and of the type where that has none
 other-from : (p : SourceGroup → Bool) (gs : List SourceGroup) (g : SourceGroup) (i : ℕ) → p g ≡ false

@@ -1,18 +1,10 @@
 -- Texts that do not say that they are in UTF-8.
-use Rattle.std.proofs.Common.{◌≡◌, ◌==◌, ◌&&◌, ◌||◌, ℕ, Bool, true, false, cond, Option, Some, None, List, [], ◌∷◌, ◌++◌, refl, sym, ap}
-use Rattle.std.proofs.Common.{◌∙◌, subst, eqb-true, nat_le, length}
-use Rattle.std.proofs.lemmas.Bool.{and_parts}
+use Rattle.rez_text.proofs.Cited.{◌≡◌, ◌==◌, ◌&&◌, ◌||◌, ℕ, Bool, true, false, cond, Option, Some, None, List, [], ◌∷◌, ◌++◌, refl, sym, ap}
+use Rattle.rez_text.proofs.Cited.{◌∙◌, subst, eqb-true, nat_le, length, and_parts, flat_map, list_all, Ref, Group, Content, Declared}
+use Rattle.rez_text.proofs.Cited.{Lettering, is_letter, is_blank, is_coded, as_roman, statement_head, statement, group_statements}
+use Rattle.rez_text.proofs.Cited.{attributes_comment, attributes_remark, area_comment, area_remark, lettered_source, read, read_made}
+use Rattle.rez_text.proofs.Cited.{read_roman}
 use Rattle.std.specs.Prelude.{codes}
-use Rattle.std.specs.List.{flat_map, list_all}
-use Rattle.fork_format.specs.Content.{Ref, Group, Content}
-use Rattle.rez_statements.specs.Types.{Declared}
-use Rattle.rez_text.specs.declared.lettering.Lettering.{Lettering}
-use Rattle.rez_text.specs.Ascii.{is_letter}
-use Rattle.rez_text.specs.Remarks.{is_blank}
-use Rattle.rez_text.specs.Coding.{is_coded, as_roman}
-use Rattle.rez_text.specs.Printing.{statement_head, statement, group_statements, attributes_comment, attributes_remark, area_comment}
-use Rattle.rez_text.specs.Printing.{area_remark, lettered_source}
-use Rattle.rez_text.specs.Reading.{read, read_made, read_roman}
 
 -- what stands after the first byte of a comment on the map's attributes, or on the bytes after the header
 abbrev remark_follows : List ℕ → Bool

@@ -1,22 +1,11 @@
 -- What is printed is bytes.
-use Rattle.std.proofs.Common.{◌≡◌, ◌<◌, ◌==◌, ◌&&◌, ◌^◌, ℕ, ℤ, pos, negsuc, zero, suc, ◌+◌, ◌-◌, ◌*◌, ◌/◌, ◌%◌, Bool, true, false, cond}
-use Rattle.std.proofs.Common.{nat_lt, Some, None, codes, List, [], ◌∷◌, ◌++◌, length, take, drop, replicate, refl, arith, Option, rules}
-use Rattle.std.proofs.lemmas.Bool.{agree_below_at, and_parts, ltb-true}
-use Rattle.std.proofs.lemmas.Fmt.{decimal_by_steps}
-use Rattle.std.proofs.Common.{FitsSigned, IfSome}
-use Rattle.std.specs.Int.{w16}
-use Rattle.std.specs.Fmt.{decimal, signed_decimal}
-use Rattle.std.specs.List.{flat_map, list_all}
-use Rattle.plain_laws.proofs.Bytes.{bytes-take, bytes-drop, bytes-append}
-use Rattle.byteorder.specs.Endian.{big_bytes}
-use Rattle.mac_roman.specs.declared.charset.Charset.TheVariants.{Ascii, Utf8}
-use Rattle.fork_format.specs.Content.{Ref, IsRef}
-use Rattle.rez_text.specs.declared.lettering.Lettering.{Lettering}
-use Rattle.rez_text.specs.declared.lettering.Lettering.TheVariants.{Plain, Roman}
-use Rattle.rez_text.specs.Bytes.{AreBytes, HasBytes}
-use Rattle.rez_text.specs.Printing.{byte_hex, gap, grouped, shown, margin, hex_column, text_column, data_line, data_lines, line_count}
-use Rattle.rez_text.specs.Printing.{escaped, in_quotes, name_argument, attributes_argument, type_literal, statement_head, statement}
-use Rattle.rez_text.specs.Printing.{attributes_comment, attributes_remark, area_lines, area_comment, area_remark}
+use Rattle.rez_text.proofs.Cited.{◌≡◌, ◌<◌, ◌==◌, ◌&&◌, ◌^◌, ℕ, ℤ, pos, negsuc, zero, suc, ◌+◌, ◌-◌, ◌*◌, ◌/◌, ◌%◌, Bool, true, false, cond}
+use Rattle.rez_text.proofs.Cited.{nat_lt, Some, None, codes, List, [], ◌∷◌, ◌++◌, length, take, drop, replicate, refl, arith, Option, rules}
+use Rattle.rez_text.proofs.Cited.{agree_below_at, and_parts, ltb-true, decimal_by_steps, FitsSigned, IfSome, w16, decimal, signed_decimal}
+use Rattle.rez_text.proofs.Cited.{flat_map, list_all, bytes-take, bytes-drop, bytes-append, big_bytes, Ascii, Utf8, Ref, IsRef, Lettering}
+use Rattle.rez_text.proofs.Cited.{Plain, Roman, AreBytes, HasBytes, byte_hex, gap, grouped, shown, margin, hex_column, text_column}
+use Rattle.rez_text.proofs.Cited.{data_line, data_lines, line_count, escaped, in_quotes, name_argument, attributes_argument, type_literal}
+use Rattle.rez_text.proofs.Cited.{statement_head, statement, attributes_comment, attributes_remark, area_lines, area_comment, area_remark}
 
 -- the test that computes
 abbrev pub all_low : List ℕ → Bool

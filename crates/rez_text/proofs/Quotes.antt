@@ -1,28 +1,14 @@
 -- Names and types between quotes: what is printed is read again.
-use Rattle.std.proofs.Common.{◌≡◌, ◌<◌, ◌≤◌, ◌==◌, ◌^◌, ◌&&◌, ℕ, ◌+◌, ◌*◌, ◌/◌, ◌%◌, Bool, true, false, cond, nat_lt, Ok, Some}
-use Rattle.std.proofs.Common.{List, [], ◌∷◌, ◌++◌, length, refl, ap, ◌∙◌, sym, subst, arith, append_assoc, append-nil, eqb-true, le-ltb}
-use Rattle.std.proofs.Common.{rules}
-use Rattle.std.proofs.lemmas.Bool.{agree_below_at}
-use Rattle.std.specs.List.{flat_map}
-use Rattle.byteorder.specs.Endian.{big_number, big_bytes}
-use Rattle.fork_format.specs.Content.{Ref}
-use Rattle.fork_format.proofs.Standing.{kind_again}
-use Rattle.mac_words.specs.Digits.{upper_digit}
-use Rattle.mac_roman.specs.declared.charset.Charset.TheVariants.{Ascii}
-use Rattle.rez_text.specs.declared.lettering.Lettering.{Lettering}
-use Rattle.rez_text.specs.declared.lettering.Lettering.TheVariants.{Plain, Roman}
-use Rattle.rez_text.specs.declared.mode.Quote.{Quote}
+use Rattle.rez_text.proofs.Cited.{◌≡◌, ◌<◌, ◌≤◌, ◌==◌, ◌^◌, ◌&&◌, ℕ, ◌+◌, ◌*◌, ◌/◌, ◌%◌, Bool, true, false, cond, nat_lt, Ok, Some, List}
+use Rattle.rez_text.proofs.Cited.{[], ◌∷◌, ◌++◌, length, refl, ap, ◌∙◌, sym, subst, arith, append_assoc, append-nil, eqb-true, le-ltb}
+use Rattle.rez_text.proofs.Cited.{rules, agree_below_at, flat_map, big_number, big_bytes, Ref, kind_again, upper_digit, Ascii, Lettering}
+use Rattle.rez_text.proofs.Cited.{Plain, Roman, Quote, Place, Said, State, string, type_token, step, between, quoted, escape, escape_zero}
+use Rattle.rez_text.proofs.Cited.{escape_number, quote_byte, digit_in, ends_line, AreBytes, byte_hex, stands, escaped, in_quotes}
+use Rattle.rez_text.proofs.Cited.{type_literal}
 use Rattle.rez_text.specs.declared.mode.Quote.TheVariants as quotes
 use Rattle.rez_text.specs.declared.mode.Radix.TheVariants as radix
 use Rattle.rez_text.specs.declared.mode.Mode.TheVariants as mode
-use Rattle.rez_text.specs.declared.mode.Place.{Place}
 use Rattle.rez_text.specs.declared.mode.Place.TheVariants as place
-use Rattle.rez_text.specs.State.{Said, State}
-use Rattle.rez_text.specs.Tokens.{string, type_token}
-use Rattle.rez_text.specs.Lexing.{step, between, quoted, escape, escape_zero, escape_number}
-use Rattle.rez_text.specs.Ascii.{quote_byte, digit_in, ends_line}
-use Rattle.rez_text.specs.Bytes.{AreBytes}
-use Rattle.rez_text.specs.Printing.{byte_hex, stands, escaped, in_quotes, type_literal}
 use Rattle.rez_text.proofs.Steps.{at, run, after}
 use Rattle.rez_text.proofs.Digits.{digit_read}
 

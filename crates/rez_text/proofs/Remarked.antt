@@ -1,29 +1,19 @@
 -- The comments before the statements: what is printed is read again.
-use Rattle.std.proofs.Common.{◌≡◌, ◌<◌, ◌≤◌, ◌==◌, ◌&&◌, ℕ, zero, suc, ◌+◌, ◌*◌, ◌/◌, ◌%◌, Bool, true, false, cond, nat_lt, nat_le, Ok}
-use Rattle.std.proofs.Common.{Some, None, codes, List, [], ◌∷◌, ◌++◌, length, take, drop, replicate, refl, ap, ◌∙◌, sym, arith}
-use Rattle.std.proofs.Common.{append_assoc, append-nil, le-leb, eq-eqb, eqb-true}
-use Rattle.std.proofs.Math.Seq.{take-add}
-use Rattle.std.proofs.lemmas.Bool.{and_right, and_parts}
-use Rattle.std.specs.List.{list_all}
-use Rattle.byteorder.specs.Endian.{big_number}
-use Rattle.fork_format.specs.Content.{Group, Content}
-use Rattle.mac_words.specs.Digits.{upper_digit}
-use Rattle.rez_statements.specs.Types.{Declared}
+use Rattle.rez_text.proofs.Cited.{◌≡◌, ◌<◌, ◌≤◌, ◌==◌, ◌&&◌, ℕ, zero, suc, ◌+◌, ◌*◌, ◌/◌, ◌%◌, Bool, true, false, cond, nat_lt, nat_le, Ok}
+use Rattle.rez_text.proofs.Cited.{Some, None, codes, List, [], ◌∷◌, ◌++◌, length, take, drop, replicate, refl, ap, ◌∙◌, sym, arith}
+use Rattle.rez_text.proofs.Cited.{append_assoc, append-nil, le-leb, eqb-true, take-add, and_right, and_parts, list_all, big_number, Group}
+use Rattle.rez_text.proofs.Cited.{Content, upper_digit, Declared, Said, State, Files, no_ref, with_content, AreBytes, is_blank, hex_value}
+use Rattle.rez_text.proofs.Cited.{byte_of, hex_from, begins, bytes_after, remarked, comment, with_area, with_map_attributes, step, between}
+use Rattle.rez_text.proofs.Cited.{slash, in_comment, star, byte_hex, gap, grouped, line_count, attributes_comment, attributes_remark}
+use Rattle.rez_text.proofs.Cited.{area_lines, area_remark, bytes-take, bytes-drop, each-append}
+use Rattle.std.proofs.Common.{eq-eqb}
 use Rattle.rez_text.specs.declared.mode.Mode.TheVariants as mode
 use Rattle.rez_text.specs.declared.mode.Place.TheVariants as place
-use Rattle.rez_text.specs.State.{Said, State, Files, no_ref, with_content}
-use Rattle.rez_text.specs.Bytes.{AreBytes}
-use Rattle.rez_text.specs.Remarks.{is_blank, hex_value, byte_of, hex_from, begins, bytes_after, stated}
-use Rattle.rez_text.specs.Remarks.{remarked, comment, with_area, with_map_attributes}
-use Rattle.rez_text.specs.Lexing.{step, between, slash, in_comment, star}
-use Rattle.rez_text.specs.Printing.{byte_hex, gap, grouped, line_count, attributes_comment, attributes_remark}
-use Rattle.rez_text.specs.Printing.{area_lines, area_remark}
+use Rattle.rez_text.specs.Remarks.{stated}
 use Rattle.rez_text.proofs.Steps.{at, run, after}
 use Rattle.rez_text.proofs.Digits.{digit_value, digit_no_blank, digit_no_star, halves}
 use Rattle.rez_text.proofs.Lines.{NoStar, comment_run, all_lines}
 use Rattle.rez_text.proofs.Statements.{saying, outside}
-use Rattle.plain_laws.proofs.Bytes.{bytes-take, bytes-drop}
-use Rattle.plain_laws.proofs.Elements.{each-append}
 
 -- Hexadecimal digits in a comment.
 

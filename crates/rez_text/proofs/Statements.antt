@@ -1,19 +1,11 @@
 -- Statements: what is printed is read again.
-use Rattle.std.proofs.Common.{◌≡◌, ◌<◌, ◌^◌, ℕ, Ok, codes, List, [], ◌∷◌, ◌++◌, refl}
-use Rattle.std.specs.List.{AllByRecursion, flat_map}
-use Rattle.std.specs.Fmt.{signed_decimal}
-use Rattle.rez_text.specs.declared.lettering.Lettering.{Lettering}
-use Rattle.fork_format.specs.Content.{Ref, Group, IsRef, IsGroup}
-use Rattle.rez_statements.specs.Types.{Declared}
+use Rattle.rez_text.proofs.Cited.{◌≡◌, ◌<◌, ◌^◌, ℕ, Ok, codes, List, [], ◌∷◌, ◌++◌, refl, AllByRecursion, flat_map, signed_decimal}
+use Rattle.rez_text.proofs.Cited.{Lettering, Ref, Group, IsRef, IsGroup, Declared, Said, State, Files, no_ref, with_ref, word, mark, step}
+use Rattle.rez_text.proofs.Cited.{between, in_word, HasBytes, type_literal, name_argument, attributes_argument, statement_head, statement}
+use Rattle.rez_text.proofs.Cited.{data_lines, line_count, group_statements}
 use Rattle.rez_text.specs.declared.mode.Form.TheVariants as forms
 use Rattle.rez_text.specs.declared.mode.Mode.TheVariants as mode
 use Rattle.rez_text.specs.declared.mode.Place.TheVariants as place
-use Rattle.rez_text.specs.State.{Said, State, Files, no_ref, with_ref}
-use Rattle.rez_text.specs.Tokens.{word, mark}
-use Rattle.rez_text.specs.Lexing.{step, between, in_word}
-use Rattle.rez_text.specs.Bytes.{HasBytes}
-use Rattle.rez_text.specs.Printing.{type_literal, name_argument, attributes_argument, statement_head, statement, data_lines}
-use Rattle.rez_text.specs.Printing.{line_count, group_statements}
 use Rattle.rez_text.proofs.Steps.{at, run, after}
 use Rattle.rez_text.proofs.Lines.{data_run}
 use Rattle.rez_text.proofs.Quotes.{type_run}

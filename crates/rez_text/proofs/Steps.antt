@@ -1,14 +1,7 @@
 -- Runs of steps over stretches of a text.
-use Rattle.std.proofs.Common.{◌≡◌, ℕ, Result, Ok, Err, List, [], ◌∷◌, ◌++◌, replicate, zero, suc, refl, ap, ◌∙◌}
-use Rattle.fork_format.specs.Content.{Ref}
-use Rattle.rez_text.specs.declared.fault.FaultKind.{FaultKind}
-use Rattle.rez_text.specs.declared.mode.Mode.{Mode}
+use Rattle.rez_text.proofs.Cited.{◌≡◌, ℕ, Result, Ok, Err, List, [], ◌∷◌, ◌++◌, replicate, zero, suc, refl, ap, ◌∙◌, Ref, FaultKind, Mode}
+use Rattle.rez_text.proofs.Cited.{Place, Said, State, ◌>>=◌, step, between, Lines, finish, at_line, lines_at, read_from}
 use Rattle.rez_text.specs.declared.mode.Mode.TheVariants as mode
-use Rattle.rez_text.specs.declared.mode.Place.{Place}
-use Rattle.rez_text.specs.State.{Said, State, ◌>>=◌}
-use Rattle.rez_text.specs.Lexing.{step, between}
-use Rattle.rez_text.specs.declared.line.Lines.{Lines}
-use Rattle.rez_text.specs.Reading.{finish, at_line, lines_at, read_from}
 
 -- a state by its parts
 abbrev pub at : Mode → Place → List ℕ → ℕ → Ref → Said → State

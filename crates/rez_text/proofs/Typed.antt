@@ -1,20 +1,12 @@
 -- Statements `type` and `resource`: what a text of them says, as it is read.
-use Rattle.std.proofs.Common.{◌≡◌, ◌<◌, ◌^◌, ℕ, true, Ok, codes, List, [], ◌∷◌, ◌++◌, refl, ◌∙◌}
-use Rattle.std.specs.Fmt.{signed_decimal}
-use Rattle.fork_format.specs.Content.{Ref, Group, IsRef}
-use Rattle.rez_statements.specs.Types.{Declared, with_type, datum_stated}
-use Rattle.rez_text.specs.declared.lettering.Lettering.{Lettering}
+use Rattle.rez_text.proofs.Cited.{◌≡◌, ◌<◌, ◌^◌, ℕ, true, Ok, codes, List, [], ◌∷◌, ◌++◌, refl, ◌∙◌, signed_decimal, Ref, Group, IsRef}
+use Rattle.rez_text.proofs.Cited.{Declared, with_type, datum_stated, Lettering, Scope, Said, Files, no_ref, with_ref, word, mark}
+use Rattle.rez_text.proofs.Cited.{type_statement, resource_body, inside, keeps, ends_last, scope_after, scope_step, step, between, in_word}
+use Rattle.rez_text.proofs.Cited.{declaring, HasBytes, type_literal, name_argument, attributes_argument}
 use Rattle.rez_text.specs.declared.mode.Form.TheVariants as forms
 use Rattle.rez_text.specs.declared.mode.Mode.TheVariants as mode
 use Rattle.rez_text.specs.declared.mode.Place.TheVariants as place
-use Rattle.rez_text.specs.declared.scope.Scope.{Scope}
-use Rattle.rez_text.specs.State.{Said, Files, no_ref, with_ref}
-use Rattle.rez_text.specs.Tokens.{word, mark, type_statement, resource_body}
-use Rattle.rez_text.specs.Scopes.{inside, keeps, ends_last, scope_after, scope_step}
 use Rattle.rez_text.specs.Scopes.{outside as unbraced}
-use Rattle.rez_text.specs.Lexing.{step, between, in_word, declaring}
-use Rattle.rez_text.specs.Bytes.{HasBytes}
-use Rattle.rez_text.specs.Printing.{type_literal, name_argument, attributes_argument}
 use Rattle.rez_text.proofs.Steps.{at, run, after}
 use Rattle.rez_text.proofs.Statements.{outside, saying, headed, arguments_run}
 use Rattle.rez_text.proofs.Gathered.{body_run, body_closes, declaring_run}

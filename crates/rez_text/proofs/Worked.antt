@@ -1,29 +1,17 @@
 -- Worked sources, on the definitions alone.
-use Rattle.std.proofs.Common.{◌≡◌, ℕ, true, false, pos, negsuc, Some, None, Ok, Err, List, [], ◌∷◌, ◌++◌, replicate, codes, refl, ap}
-use Rattle.std.specs.Fmt.{digits}
-use Rattle.mac_roman.specs.declared.charset.Charset.TheVariants.{Ascii, Utf8}
-use Rattle.fork_format.specs.Content.{Group, Content}
-use Rattle.fork_format.proofs.Vectors.{a_ref}
-use Rattle.rez_statements.specs.declared.fault.StatementFault.{StatementFault}
-use Rattle.rez_statements.specs.Types.{Declared, with_type}
+use Rattle.rez_text.proofs.Cited.{◌≡◌, ℕ, true, false, pos, negsuc, Some, None, Ok, Err, List, [], ◌∷◌, ◌++◌, replicate, codes, refl, ap}
+use Rattle.rez_text.proofs.Cited.{digits, Ascii, Utf8, Group, Content, a_ref, StatementFault, Declared, with_type, inside, outside, keeps}
+use Rattle.rez_text.proofs.Cited.{ends_last, scope_step, word, type_token, number, string, datum, type_statement, resource_body, mark}
+use Rattle.rez_text.proofs.Cited.{bytes_after, remarked, comment, step, between, slash, in_comment, star, line_comment, declaring, body}
+use Rattle.rez_text.proofs.Cited.{in_word, after_zero, prefixed, in_number, dollar, hex_string, hex_half, quoted, escape, escape_zero}
+use Rattle.rez_text.proofs.Cited.{escape_number, Wrong, Lacking, finish, read, read_roman, read_declarations, read_roman_declarations}
+use Rattle.rez_text.proofs.Cited.{stated, read_from, at_line, as_roman, is_coded, Roman, type_literal, statement_head, statement, source_of}
+use Rattle.rez_text.proofs.Cited.{Lines, State, no_ref, no_content, unnamed, come_to, with_types, of_text}
 use Rattle.rez_text.specs.declared.fault.FaultKind.TheVariants as faults
-use Rattle.rez_text.specs.Scopes.{inside, outside, keeps, ends_last, scope_step}
 use Rattle.rez_text.specs.declared.fault.Unread.TheVariants as unread
-use Rattle.rez_text.specs.Tokens.{word, type_token, number, string, datum, type_statement, resource_body, mark}
-use Rattle.rez_text.specs.Remarks.{bytes_after, remarked, comment}
-use Rattle.rez_text.specs.Lexing.{step, between, slash, in_comment, star, line_comment, declaring, body, in_word, after_zero, prefixed}
-use Rattle.rez_text.specs.Lexing.{in_number, dollar, hex_string, hex_half, quoted, escape, escape_zero, escape_number}
-use Rattle.rez_text.specs.Reading.{Wrong, Lacking, finish, read, read_roman, read_declarations, read_roman_declarations, stated, read_from}
-use Rattle.rez_text.specs.Reading.{at_line}
-use Rattle.rez_text.specs.Coding.{as_roman, is_coded}
-use Rattle.rez_text.specs.declared.lettering.Lettering.TheVariants.{Roman}
-use Rattle.rez_text.specs.Printing.{type_literal, statement_head, statement, source_of}
-use Rattle.rez_text.specs.declared.line.Lines.{Lines}
 use Rattle.rez_text.specs.declared.mode.Form.TheVariants as forms
 use Rattle.rez_text.specs.declared.mode.Mode.TheVariants as mode
 use Rattle.rez_text.specs.declared.mode.Place.TheVariants as place
-use Rattle.rez_text.specs.State.{State, no_ref, no_content, unnamed, come_to, with_types}
-use Rattle.rez_text.specs.Tokens.{of_text}
 
 -- a content of these groups
 abbrev of_groups : List Group → Content

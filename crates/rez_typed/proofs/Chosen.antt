@@ -1,25 +1,14 @@
 -- What a form, and a choice among forms, are known to state.
-use Rattle.std.proofs.Common.{◌≡◌, ℕ, zero, suc, ◌+◌, ◌-◌, ◌<◌, ◌==◌, Bool, true, false, Option, Some, None, Result, Ok, Err}
-use Rattle.std.proofs.Common.{List, [], ◌∷◌, ◌++◌, codes, drop, length, slice_get, refl, ap, ◌∙◌, sym, subst, if◌then◌else◌, eqb-true}
-use Rattle.std.proofs.Common.{arith}
-use Rattle.std.proofs.lemmas.Bool.{and_parts}
-use Rattle.std.proofs.lemmas.Slice.Eq.{bytes_eq-Decides}
-use Rattle.std.specs.List.{AllByRecursion, flat_map}
-use Rattle.fork_format.specs.Content.{Ref}
-use Rattle.rez_types.specs.Fields.{Declaration}
-use Rattle.rez_types.specs.Options.{◌>>=◌}
-use Rattle.rez_types.specs.Values.{Value}
-use Rattle.rez_declarations.specs.Declaring.{Stated}
+use Rattle.rez_typed.proofs.Cited.{◌≡◌, ℕ, zero, suc, ◌+◌, ◌-◌, ◌<◌, ◌==◌, Bool, true, false, Option, Some, None, Result, Ok, Err, List, []}
+use Rattle.rez_typed.proofs.Cited.{◌∷◌, ◌++◌, codes, drop, length, slice_get, refl, ap, ◌∙◌, sym, subst, if◌then◌else◌, eqb-true, arith}
+use Rattle.rez_typed.proofs.Cited.{and_parts, bytes_eq-Decides, AllByRecursion, flat_map, Ref, Declaration, ◌>>=◌, Value, Stated, Declared}
+use Rattle.rez_typed.proofs.Cited.{Fault, declares, datum_by, Style, shown, declared_text, tailed_text, open_text, type_word, keeps}
+use Rattle.rez_typed.proofs.Cited.{ends_last, inside, Tail, Form, own_of, form_declared, form_by, text_with, form_of, one_of, forms_with}
+use Rattle.rez_typed.proofs.Cited.{forms_of, is_statement, are_bytes, states, stating, values_by, body, Choice, text_by, chosen_below}
+use Rattle.rez_typed.proofs.Cited.{chosen}
 use Rattle.rez_declarations.specs.Declaring as stated
-use Rattle.rez_statements.specs.Types.{Declared, Fault, declares, datum_by}
-use Rattle.rez_printing.specs.declared.style.Style.{Style}
-use Rattle.rez_printing.specs.Showing.{shown}
-use Rattle.rez_printing.specs.TypeText.{declared_text, tailed_text, open_text, type_word}
-use Rattle.rez_text.specs.Scopes.{keeps, ends_last, inside, outside}
-use Rattle.rez_typed.specs.declared.form.Tail.{Tail}
+use Rattle.rez_text.specs.Scopes.{outside}
 use Rattle.rez_typed.specs.declared.form.Tail.TheVariants as tails
-use Rattle.rez_typed.specs.Forms.{Form, own_of, form_declared, form_by, text_with, form_of, one_of, forms_with, forms_of, is_statement}
-use Rattle.rez_typed.specs.Forms.{are_bytes, states, stating, values_by, body, Choice, text_by, chosen_below, chosen}
 
 -- The text of a form is one statement, which declares the type by its declaration.
 pub record IsForm (kind : ℕ) (f : Form) : Type 0 where

@@ -1,3 +1,4 @@
+mod Cited
 pub mod Chosen
 pub mod Plain
 pub mod Runs

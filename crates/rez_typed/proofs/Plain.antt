@@ -1,17 +1,10 @@
 -- A typed source begins with a statement, or with one of the comments before the statements.
-use Rattle.std.proofs.Common.{◌≡◌, Bool, true, false, ◌==◌, ℕ, Option, Some, None, List, [], ◌∷◌, ◌++◌, codes, slice_get, refl, ap, ◌∙◌}
-use Rattle.std.proofs.Common.{sym, subst, if◌then◌else◌}
-use Rattle.std.specs.List.{AllByRecursion, flat_map}
-use Rattle.fork_format.specs.Content.{Ref, Group, Content}
-use Rattle.rez_statements.specs.Types.{Declared}
-use Rattle.rez_text.specs.declared.lettering.Lettering.{Lettering}
-use Rattle.rez_text.specs.Printing.{attributes_remark, area_remark}
-use Rattle.rez_text.proofs.Plain.{opens_plainly, plain_both, plain_all, statement_opens, attributes_open, area_opens}
-use Rattle.rez_typed.specs.declared.style.SourceStyle.{SourceStyle}
-use Rattle.rez_typed.specs.Styles.{lettering_of, style_of}
-use Rattle.rez_typed.specs.Forms.{Form, Choice, chosen, forms_of}
-use Rattle.rez_typed.specs.Source.{typed_head, typed_statement, declaration_line, declaring as declared_before}
-use Rattle.rez_typed.specs.Source.{chosen_statement, force_after, typed_refs, typed_group, typed_bytes}
+use Rattle.rez_typed.proofs.Cited.{◌≡◌, Bool, true, false, ◌==◌, ℕ, Option, Some, None, List, [], ◌∷◌, ◌++◌, codes, slice_get, refl, ap}
+use Rattle.rez_typed.proofs.Cited.{◌∙◌, sym, subst, if◌then◌else◌, AllByRecursion, flat_map, Ref, Group, Content, Declared, Lettering}
+use Rattle.rez_typed.proofs.Cited.{attributes_remark, area_remark, opens_plainly, plain_both, plain_all, statement_opens, attributes_open}
+use Rattle.rez_typed.proofs.Cited.{area_opens, SourceStyle, lettering_of, style_of, Form, Choice, chosen, forms_of, typed_head}
+use Rattle.rez_typed.proofs.Cited.{typed_statement, declaration_line, chosen_statement, force_after, typed_refs, typed_group, typed_bytes}
+use Rattle.rez_typed.specs.Source.{declaring as declared_before}
 use Rattle.rez_typed.proofs.Chosen.{IsForm, forms_are, form_at}
 
 line_opens : (kind : ℕ) (forms : List Form) (place : ℕ) (o : Option Form) → AllByRecursion (IsForm kind) forms

@@ -1,22 +1,11 @@
 -- Typed statements: what is printed is read again.
-use Rattle.std.proofs.Common.{◌≡◌, ◌<◌, ◌^◌, ◌==◌, ℕ, Bool, true, false, Option, Some, None, Ok, codes, List, [], ◌∷◌, ◌++◌}
-use Rattle.std.proofs.Common.{slice_get, refl, ap, ◌∙◌, sym, subst, eqb-true, arith, if◌then◌else◌}
-use Rattle.std.specs.List.{AllByRecursion, flat_map}
-use Rattle.fork_format.specs.Content.{Ref, Group, IsRef, IsGroup}
-use Rattle.rez_types.specs.Fields.{Declaration}
-use Rattle.rez_printing.specs.declared.style.Style.{Style}
-use Rattle.rez_statements.specs.Types.{Declared, with_type, in_force, datum_stated}
-use Rattle.rez_text.specs.declared.lettering.Lettering.{Lettering}
-use Rattle.rez_text.specs.State.{State, Files, with_ref}
-use Rattle.rez_text.specs.Bytes.{HasBytes}
-use Rattle.rez_text.proofs.Steps.{run, after}
-use Rattle.rez_text.proofs.Statements.{outside, statement_run, with_all, with_groups}
-use Rattle.rez_text.proofs.Typed.{type_run, resource_run}
-use Rattle.rez_typed.specs.declared.style.SourceStyle.{SourceStyle}
-use Rattle.rez_typed.specs.Styles.{lettering_of, style_of}
-use Rattle.rez_typed.specs.Forms.{Form, Choice, chosen, forms_of}
-use Rattle.rez_typed.specs.Source.{typed_head, typed_statement, declaration_line, declaring as declared_before}
-use Rattle.rez_typed.specs.Source.{chosen_statement, force_after, typed_refs, typed_group}
+use Rattle.rez_typed.proofs.Cited.{◌≡◌, ◌<◌, ◌^◌, ◌==◌, ℕ, Bool, true, false, Option, Some, None, Ok, codes, List, [], ◌∷◌, ◌++◌, slice_get}
+use Rattle.rez_typed.proofs.Cited.{refl, ap, ◌∙◌, sym, subst, eqb-true, arith, if◌then◌else◌, AllByRecursion, flat_map, Ref, Group, IsRef}
+use Rattle.rez_typed.proofs.Cited.{IsGroup, Declaration, Style, Declared, with_type, in_force, datum_stated, Lettering, State, Files}
+use Rattle.rez_typed.proofs.Cited.{with_ref, HasBytes, run, after, outside, statement_run, with_all, with_groups, type_run, resource_run}
+use Rattle.rez_typed.proofs.Cited.{SourceStyle, lettering_of, style_of, Form, Choice, chosen, forms_of, typed_head, typed_statement}
+use Rattle.rez_typed.proofs.Cited.{declaration_line, chosen_statement, force_after, typed_refs, typed_group}
+use Rattle.rez_typed.specs.Source.{declaring as declared_before}
 use Rattle.rez_typed.proofs.Chosen.{IsForm, IsStated, forms_are, form_at, chosen_is}
 
 -- the types with a declaration more

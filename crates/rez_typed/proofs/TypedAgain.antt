@@ -1,27 +1,11 @@
 -- What is printed with typed statements is read again.
-use Rattle.std.proofs.Common.{◌≡◌, Bool, true, false, ℕ, Ok, List, [], ◌∷◌, ◌++◌, map, replicate, refl, ap, ◌∙◌, if◌then◌else◌}
-use Rattle.std.proofs.lemmas.Bool.{and_parts, ltb-true}
-use Rattle.std.specs.List.{list_all, flat_map}
-use Rattle.mac_roman.specs.Roman.{from_roman}
-use Rattle.fork_format.specs.Content.{Group, Content, IsContent}
-use Rattle.fork_format.specs.Canonical.{are_distinct, clear, has_refs}
-use Rattle.rez_statements.specs.Types.{Declared}
-use Rattle.rez_text.specs.Bytes.{AreBytes, IsOfBytes}
-use Rattle.rez_text.specs.Coding.{coding_comment}
-use Rattle.rez_text.specs.State.{unnamed}
-use Rattle.rez_text.specs.Reading.{read, read_roman}
-use Rattle.rez_text.specs.Printing.{attributes_remark, area_remark}
-use Rattle.rez_text.proofs.Again.{stated_by_run}
-use Rattle.rez_text.proofs.Steps.{after}
-use Rattle.rez_text.proofs.Statements.{outside}
-use Rattle.rez_text.proofs.Remarked.{attributes_remark_run, area_remark_run}
-use Rattle.rez_text.proofs.Joined.{groups_again}
-use Rattle.rez_text.proofs.Plain.{opens_plainly, read_plainly}
-use Rattle.rez_text.proofs.Coded.{read_coded}
-use Rattle.rez_typed.specs.declared.style.Coding.{Coding}
+use Rattle.rez_typed.proofs.Cited.{◌≡◌, Bool, true, false, ℕ, Ok, List, [], ◌∷◌, ◌++◌, map, replicate, refl, ap, ◌∙◌, if◌then◌else◌}
+use Rattle.rez_typed.proofs.Cited.{and_parts, ltb-true, list_all, flat_map, from_roman, Group, Content, IsContent, are_distinct, clear}
+use Rattle.rez_typed.proofs.Cited.{has_refs, Declared, AreBytes, IsOfBytes, coding_comment, unnamed, read, read_roman, attributes_remark}
+use Rattle.rez_typed.proofs.Cited.{area_remark, stated_by_run, after, outside, attributes_remark_run, area_remark_run, groups_again}
+use Rattle.rez_typed.proofs.Cited.{opens_plainly, read_plainly, read_coded, Coding, SourceStyle, is_byte, coded, typed_bytes, typed_source}
+use Rattle.rez_typed.proofs.Cited.{typed_group}
 use Rattle.rez_typed.specs.declared.style.Coding.TheVariants as coding
-use Rattle.rez_typed.specs.declared.style.SourceStyle.{SourceStyle}
-use Rattle.rez_typed.specs.Source.{is_byte, coded, typed_bytes, typed_source, typed_group}
 use Rattle.rez_typed.proofs.Runs.{typed_groups_led}
 use Rattle.rez_typed.proofs.Plain.{bytes_open_plainly}
 

@@ -1,6 +1,5 @@
 -- Declarations of worked examples.
-use Rattle.std.proofs.Common.{List, [], ◌∷◌}
-use Rattle.rez_types.specs.Fields.{Field, Declaration}
+use Rattle.rez_types.proofs.Cited.{List, [], ◌∷◌, Field, Declaration}
 
 -- fields without blocks
 abbrev pub of_fields : List Field → Declaration

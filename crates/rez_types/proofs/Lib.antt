@@ -1,3 +1,4 @@
+mod Cited
 pub mod Turns
 pub mod Mapped
 pub mod Undone

@@ -1,9 +1,6 @@
 -- Tests over the values of a list.
-use Rattle.std.proofs.Common.{◌≡◌, ℕ, Bool, not, cond, ◌||◌, Option, Some, None, nat_lt, List, [], ◌∷◌, map}
-use Rattle.std.proofs.Common.{refl, ap, ap₂}
-use Rattle.std.proofs.lemmas.List.{length-map}
-use Rattle.std.specs.List.{list_any, position}
-use Rattle.plain_laws.proofs.Mapped.{prefix_len-map}
+use Rattle.rez_types.proofs.Cited.{◌≡◌, ℕ, Bool, not, cond, ◌||◌, Option, Some, None, nat_lt, List, [], ◌∷◌, map, refl, ap, ap₂, length-map}
+use Rattle.rez_types.proofs.Cited.{list_any, position, prefix_len-map}
 
 pub any_map : {X Y : Type 0} (f : X → Y) (p : Y → Bool) (xs : List X) → list_any p (map f xs) ≡ list_any (λ x. p (f x)) xs
 any_map f p [] = refl

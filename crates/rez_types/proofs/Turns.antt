@@ -1,17 +1,10 @@
 -- One more turn of a loop that counts.
-use Rattle.std.proofs.Common.{◌≡◌, ℕ, suc, ◌+◌, ◌-◌, ◌<◌, Option, Some, List, if◌then◌else◌}
-use Rattle.std.proofs.Common.{ap, arith}
+use Rattle.rez_types.proofs.Cited.{◌≡◌, ℕ, suc, ◌+◌, ◌-◌, ◌<◌, Option, Some, List, if◌then◌else◌, ap, arith, Value, Field, ArrayEnd, ◌>>=◌}
+use Rattle.rez_types.proofs.Cited.{Decoding, put, next_number, decoded, decoded_alone, decoded_coordinates, decoded_elements, decoded_until}
+use Rattle.rez_types.proofs.Cited.{ends_before, big_bytes, Encoding, write, encoded, encoded_alone, encoded_coordinates, encoded_element}
+use Rattle.rez_types.proofs.Cited.{encoded_elements, next_of, more_in, slice_get}
 use Rattle.rez_types.specs.Values as value
-use Rattle.rez_types.specs.Values.{Value}
-use Rattle.rez_types.specs.Fields.{Field, ArrayEnd}
-use Rattle.rez_types.specs.Options.{◌>>=◌}
-use Rattle.rez_types.specs.Decoding.{Decoding, put, next_number, decoded, decoded_alone, decoded_coordinates, decoded_elements}
-use Rattle.rez_types.specs.Decoding.{decoded_until, ends_before}
-use Rattle.byteorder.specs.Endian.{big_bytes}
-use Rattle.rez_types.specs.Encoding.{Encoding, write, encoded, encoded_alone, encoded_coordinates, encoded_element, encoded_elements}
-use Rattle.rez_types.specs.Encoding.{next_of, more_in}
 use Rattle.rez_types.specs.Encoding as writing
-use Rattle.std.specs.Prelude.{slice_get}
 
 -- what is left of n turns before the i-th
 pub left : (n i : ℕ) → i < n → n - i ≡ suc (n - (i + 1))

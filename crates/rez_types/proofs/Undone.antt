@@ -1,13 +1,7 @@
 -- Steps of reading, and the steps of writing that undo them.
-use Rattle.std.proofs.Common.{◌≡◌, ℕ, ◌+◌, ◌%◌, ◌≤◌, Option, Some, None, Bool, true, false, List, [], ◌∷◌, ◌++◌, length, take, drop}
-use Rattle.std.proofs.Common.{refl, sym, ap, subst, ◌∙◌, arith, append_assoc, length-append}
-use Rattle.std.proofs.lemmas.List.{append-nil, take-append-drop, length-take-le}
-use Rattle.std.proofs.lemmas.Bool.{leb-true, le-leb}
-use Rattle.rez_types.specs.Values.{Value}
-use Rattle.rez_types.specs.Options.{◌>>=◌, given}
-use Rattle.rez_types.specs.Decoding.{Decoding, put, next}
-use Rattle.rez_types.specs.Encoding.{Encoding, write}
-use Rattle.rez_types.specs.Whole.{AreBytes}
+use Rattle.rez_types.proofs.Cited.{◌≡◌, ℕ, ◌+◌, ◌%◌, ◌≤◌, Option, Some, None, Bool, true, false, List, [], ◌∷◌, ◌++◌, length, take, drop}
+use Rattle.rez_types.proofs.Cited.{refl, sym, ap, subst, ◌∙◌, arith, append_assoc, length-append, append-nil, take-append-drop}
+use Rattle.rez_types.proofs.Cited.{length-take-le, leb-true, le-leb, Value, ◌>>=◌, given, Decoding, put, next, Encoding, write, AreBytes}
 
 -- a writer before values, after bytes and counts
 abbrev pub writer : List Value → List ℕ → List ℕ → Encoding

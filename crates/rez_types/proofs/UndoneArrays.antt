@@ -1,19 +1,11 @@
 -- Arrays that are read are written again.
-use Rattle.std.proofs.Common.{◌≡◌, ℕ, zero, suc, ◌+◌, ◌≤◌, ◌<◌, ◌%◌, ◌==◌, ◌&&◌, Option, Some, None, Bool, true, false, List, [], ◌∷◌, ◌++◌}
-use Rattle.std.proofs.Common.{length, nat_le, if◌then◌else◌, refl, sym, ap, subst, ◌∙◌, arith, append_assoc, length-append}
-use Rattle.std.specs.Prelude.{slice_get}
-use Rattle.std.proofs.lemmas.List.{append-nil}
-use Rattle.std.proofs.lemmas.Bool.{eqb-true, eq-eqb, leb-true, le-leb, not_from_false, true≢false}
-use Rattle.std.proofs.Math.Seq.{drop-append_seam}
-use Rattle.byteorder.specs.Endian.{big_number}
-use Rattle.byteorder.specs.Numbers.{big_from-append}
-use Rattle.rez_types.specs.Fields.{ArrayEnd, Fixed, Counted, Before, Resource}
+use Rattle.rez_types.proofs.Cited.{◌≡◌, ℕ, zero, suc, ◌+◌, ◌≤◌, ◌<◌, ◌%◌, ◌==◌, ◌&&◌, Option, Some, None, Bool, true, false, List, [], ◌∷◌}
+use Rattle.rez_types.proofs.Cited.{◌++◌, length, nat_le, if◌then◌else◌, refl, sym, ap, subst, ◌∙◌, arith, append_assoc, length-append}
+use Rattle.rez_types.proofs.Cited.{slice_get, append-nil, eqb-true, eq-eqb, leb-true, le-leb, not_from_false, true≢false, drop-append_seam}
+use Rattle.rez_types.proofs.Cited.{big_number, big_from-append, ArrayEnd, Fixed, Counted, Before, Resource, Value, ◌>>=◌, Decoding, put}
+use Rattle.rez_types.proofs.Cited.{decoded_elements, decoded_until, decoded_array, begins, ends_before, Encoding, next_value, is_element}
+use Rattle.rez_types.proofs.Cited.{encoded_element, encoded_elements, encoded_array, may_have, AreBytes}
 use Rattle.rez_types.specs.Values as value
-use Rattle.rez_types.specs.Values.{Value}
-use Rattle.rez_types.specs.Options.{◌>>=◌}
-use Rattle.rez_types.specs.Decoding.{Decoding, put, decoded_elements, decoded_until, decoded_array, begins, ends_before}
-use Rattle.rez_types.specs.Encoding.{Encoding, next_value, is_element, encoded_element, encoded_elements, encoded_array, may_have}
-use Rattle.rez_types.specs.Whole.{AreBytes}
 use Rattle.rez_types.proofs.Undone.{Undone, writer, bound, putting, left_bytes}
 
 -- a block is read and written so; it leaves the counts of the block around it

@@ -1,21 +1,13 @@
 -- Fields and resources that are read are written again.
-use Rattle.std.proofs.Common.{◌≡◌, ℕ, zero, suc, ◌+◌, ◌*◌, ◌≤◌, ◌%◌, ◌==◌, Option, Some, true, List, [], ◌∷◌, ◌++◌, length, nat_le}
-use Rattle.std.proofs.Common.{refl, sym, ap, subst, ◌∙◌, arith, append_assoc}
-use Rattle.std.specs.Prelude.{slice_get}
-use Rattle.std.specs.List.{list_all, position}
-use Rattle.std.proofs.lemmas.List.{append-nil, nil_from_length}
-use Rattle.std.proofs.lemmas.Bool.{eqb-true, leb-true, and_parts}
-use Rattle.rez_types.specs.declared.declaration.Boundary.{Boundary}
+use Rattle.rez_types.proofs.Cited.{◌≡◌, ℕ, zero, suc, ◌+◌, ◌*◌, ◌≤◌, ◌%◌, ◌==◌, Option, Some, true, List, [], ◌∷◌, ◌++◌, length, nat_le}
+use Rattle.rez_types.proofs.Cited.{refl, sym, ap, subst, ◌∙◌, arith, append_assoc, slice_get, list_all, position, append-nil}
+use Rattle.rez_types.proofs.Cited.{nil_from_length, eqb-true, leb-true, and_parts, Boundary, KeyPlace, Case, Field, Run, Fill, Align, Text}
+use Rattle.rez_types.proofs.Cited.{Point, Rect, Array, Switch, Declaration, Value, ◌>>=◌, given, Decoding, put, multiple, padding, key_in}
+use Rattle.rez_types.proofs.Cited.{has_key, decoded_switch, decoded_field, decoded_fields, with_counts, decoded_alone, decoded, unread}
+use Rattle.rez_types.proofs.Cited.{values_of_datum, Encoding, next_value, encoded_fill, encoded_switch, encoded_field, encoded_fields}
+use Rattle.rez_types.proofs.Cited.{encoded_alone, encoded, unwritten, datum_of_values, AreBytes, bits_in, is_whole, has_whole_runs}
 use Rattle.rez_types.specs.declared.declaration.Boundary.TheVariants as boundary
-use Rattle.rez_types.specs.Fields.{KeyPlace, Case, Field, Run, Fill, Align, Text, Point, Rect, Array, Switch, Declaration}
 use Rattle.rez_types.specs.Values as value
-use Rattle.rez_types.specs.Values.{Value}
-use Rattle.rez_types.specs.Options.{◌>>=◌, given}
-use Rattle.rez_types.specs.Decoding.{Decoding, put, multiple, padding, key_in, has_key, decoded_switch, decoded_field, decoded_fields}
-use Rattle.rez_types.specs.Decoding.{with_counts, decoded_alone, decoded, unread, values_of_datum}
-use Rattle.rez_types.specs.Encoding.{Encoding, next_value, encoded_fill, encoded_switch, encoded_field, encoded_fields, encoded_alone}
-use Rattle.rez_types.specs.Encoding.{encoded, unwritten, datum_of_values}
-use Rattle.rez_types.specs.Whole.{AreBytes, bits_in, is_whole, has_whole_runs}
 use Rattle.rez_types.proofs.Undone.{Undone, writer, bound, some_is, given_is, putting, left_bytes, as_it_is, both, none}
 use Rattle.rez_types.proofs.UndoneRuns.{run_undone, coordinates_undone}
 use Rattle.rez_types.proofs.UndoneTexts.{fill_undone, text_undone}

@@ -1,22 +1,13 @@
 -- Runs and coordinates that are read are written again.
-use Rattle.std.proofs.Common.{◌≡◌, ℕ, zero, suc, ◌+◌, ◌-◌, ◌*◌, ◌/◌, ◌%◌, ◌^◌, ◌≤◌, ◌<◌, Some, Bool, true, false, List, [], ◌∷◌, ◌++◌}
-use Rattle.std.proofs.Common.{length, nat_lt, refl, sym, ap, ap₂, subst, ◌∙◌, arith, append_assoc}
-use Rattle.std.proofs.Math.Nat.{div-div-eq-div-mul, div-eq_of_lt, div-le_self, div-one, mod-eq_of_lt, mod-lt, mod_self, add-mod_right}
-use Rattle.std.proofs.lemmas.Nat.{pow-add, pow_pos, div-add-mod'}
-use Rattle.std.proofs.Math.Pow.{pow_mono}
-use Rattle.std.proofs.lemmas.List.{append-nil}
-use Rattle.std.proofs.lemmas.Bool.{eqb-true, lt-ltb, ltb-true, ltb-false}
-use Rattle.byteorder.specs.Endian.{big_number, big_bytes}
-use Rattle.rez_types.specs.Fields.{Part, Integer, Constant, Count, FillBits}
+use Rattle.rez_types.proofs.Cited.{◌≡◌, ℕ, zero, suc, ◌+◌, ◌-◌, ◌*◌, ◌/◌, ◌%◌, ◌^◌, ◌≤◌, ◌<◌, Some, Bool, true, false, List, [], ◌∷◌, ◌++◌}
+use Rattle.rez_types.proofs.Cited.{length, nat_lt, refl, sym, ap, ap₂, subst, ◌∙◌, arith, append_assoc, div-div-eq-div-mul, div-eq_of_lt}
+use Rattle.rez_types.proofs.Cited.{div-le_self, div-one, mod-eq_of_lt, mod-lt, mod_self, add-mod_right, pow-add, pow_pos, div-add-mod'}
+use Rattle.rez_types.proofs.Cited.{pow_mono, append-nil, eqb-true, lt-ltb, ltb-true, ltb-false, big_number, big_bytes, Part, Integer}
+use Rattle.rez_types.proofs.Cited.{Constant, Count, FillBits, Value, ◌>>=◌, Decoding, put, next, next_number, width_of, bits_of, counted}
+use Rattle.rez_types.proofs.Cited.{with_count, decoded_part, decoded_parts, decoded_run, decoded_coordinates, Encoding, write, next_value}
+use Rattle.rez_types.proofs.Cited.{stated, joined, encoded_part, encoded_parts, encoded_run, encoded_coordinates, AreBytes, bits_in}
 use Rattle.rez_types.specs.Values as value
-use Rattle.rez_types.specs.Values.{Value}
-use Rattle.rez_types.specs.Options.{◌>>=◌}
-use Rattle.rez_types.specs.Decoding.{Decoding, put, next, next_number, width_of, bits_of, counted, with_count, decoded_part, decoded_parts}
-use Rattle.rez_types.specs.Decoding.{decoded_run, decoded_coordinates}
 use Rattle.rez_types.specs.Encoding as writing
-use Rattle.rez_types.specs.Encoding.{Encoding, write, next_value, stated, joined, encoded_part, encoded_parts, encoded_run}
-use Rattle.rez_types.specs.Encoding.{encoded_coordinates}
-use Rattle.rez_types.specs.Whole.{AreBytes, bits_in}
 use Rattle.rez_types.proofs.Undone.{Undone, Next, writer, bound, given_is, some_is, next_is, moved, write_on, putting, taken, as_it_is}
 use Rattle.rez_types.proofs.Undone.{one_by_one, bytes_before, left_bytes, both, none}
 

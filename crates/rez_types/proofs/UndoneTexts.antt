@@ -1,18 +1,11 @@
 -- Fills and strings that are read are written again.
-use Rattle.std.proofs.Common.{◌≡◌, ℕ, suc, ◌+◌, ◌*◌, ◌^◌, ◌≤◌, ◌<◌, cond, Some, None, Bool, true, false, not, List, [], ◌∷◌, ◌++◌, length}
-use Rattle.std.proofs.Common.{nat_lt, refl, sym, ap, subst, ◌∙◌, arith, append_assoc, length-append}
-use Rattle.std.specs.List.{position, prefix_len}
-use Rattle.std.proofs.lemmas.Bool.{eqb-true, eq-eqb, le-ltb}
-use Rattle.byteorder.specs.Endian.{big_number}
-use Rattle.rez_types.specs.declared.declaration.TextEnd.{TextEnd}
+use Rattle.rez_types.proofs.Cited.{◌≡◌, ℕ, suc, ◌+◌, ◌*◌, ◌^◌, ◌≤◌, ◌<◌, cond, Some, None, Bool, true, false, not, List, [], ◌∷◌, ◌++◌}
+use Rattle.rez_types.proofs.Cited.{length, nat_lt, refl, sym, ap, subst, ◌∙◌, arith, append_assoc, length-append, position, prefix_len}
+use Rattle.rez_types.proofs.Cited.{eqb-true, eq-eqb, le-ltb, big_number, TextEnd, Value, ◌>>=◌, Decoding, put, next, next_number}
+use Rattle.rez_types.proofs.Cited.{decoded_fill, decoded_bytes, decoded_pstring, decoded_cstring, decoded_text, is_zero, Encoding, write}
+use Rattle.rez_types.proofs.Cited.{next_value, encoded_fill, encoded_text, written_text, has_no_zero, AreBytes}
 use Rattle.rez_types.specs.declared.declaration.TextEnd.TheVariants as end
 use Rattle.rez_types.specs.Values as value
-use Rattle.rez_types.specs.Values.{Value}
-use Rattle.rez_types.specs.Options.{◌>>=◌}
-use Rattle.rez_types.specs.Decoding.{Decoding, put, next, next_number, decoded_fill, decoded_bytes, decoded_pstring, decoded_cstring}
-use Rattle.rez_types.specs.Decoding.{decoded_text, is_zero}
-use Rattle.rez_types.specs.Encoding.{Encoding, write, next_value, encoded_fill, encoded_text, written_text, has_no_zero}
-use Rattle.rez_types.specs.Whole.{AreBytes}
 use Rattle.rez_types.proofs.Undone.{Undone, writer, bound, some_is, next_is, moved, write_on, putting, taken, bytes_before}
 use Rattle.rez_types.proofs.UndoneRuns.{number_is, number_below}
 

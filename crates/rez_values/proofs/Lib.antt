@@ -1,2 +1,3 @@
+mod Cited
 pub mod Turns
 pub mod Worked

@@ -1,17 +1,10 @@
 -- One more turn of a loop that counts.
-use Rattle.std.proofs.Common.{◌≡◌, ℕ, ◌+◌, ◌-◌, ◌<◌, false, Some, None, Ok, Err, Result, List, ◌++◌}
-use Rattle.std.proofs.Common.{if◌then◌else◌, refl, ap, sym, subst, ◌∙◌, slice_get}
-use Rattle.rez_types.proofs.Turns.{left, above}
-use Rattle.rez_types.specs.Fields.{Field}
+use Rattle.rez_values.proofs.Cited.{◌≡◌, ℕ, ◌+◌, ◌-◌, ◌<◌, false, Some, None, Ok, Err, Result, List, ◌++◌, if◌then◌else◌, refl, ap, sym}
+use Rattle.rez_values.proofs.Cited.{subst, ◌∙◌, slice_get, left, above, Field, ValueFault, same, TakeFault, Takes, TakesTo, Taking, Fault}
+use Rattle.rez_values.proofs.Cited.{◌>>=◌, lexeme, passed, separated, put, number, string_in, strings_on, coordinates_taken, closes}
+use Rattle.rez_values.proofs.Cited.{element_taken, elements_taken, block_by, block_taken}
 use Rattle.rez_types.specs.Values as value
-use Rattle.rez_values.specs.declared.fault.ValueFault.{ValueFault}
-use Rattle.rez_types.specs.Leads.{same}
-use Rattle.rez_values.specs.declared.fault.TakeFault.{TakeFault}
 use Rattle.rez_values.specs.declared.fault.TakeFault.TheVariants as fault
-use Rattle.rez_values.specs.View.{Takes, TakesTo}
-use Rattle.rez_values.specs.Taking.{Taking, Fault, ◌>>=◌, lexeme, passed, separated, put, number}
-use Rattle.rez_values.specs.Stating.{string_in, strings_on, coordinates_taken}
-use Rattle.rez_values.specs.Taken.{closes, element_taken, elements_taken, block_by, block_taken}
 
 pub strings_turn : (n i : ℕ) (bytes : List ℕ) (s : Taking) → i < n
     → strings_on (n - i) bytes s

@@ -1,19 +1,15 @@
 -- Worked statements, on the definitions alone. The layouts are those of Inside Macintosh.
-use Rattle.std.proofs.Common.{◌≡◌, ℕ, true, false, Ok, Err, List, [], ◌∷◌, ◌++◌, map, replicate, codes, refl}
+use Rattle.rez_values.proofs.Cited.{◌≡◌, ℕ, true, false, Ok, Err, List, [], ◌∷◌, ◌++◌, map, replicate, codes, refl, NamedNumber, Integer}
+use Rattle.rez_values.proofs.Cited.{Constant, Count, FillBits, Fixed, Counted, Before, Field, Run, Fill, Align, Text, Rect, Array, Switch}
+use Rattle.rez_values.proofs.Cited.{Declaration, Value, of_fields, with_block, Token, Lexeme, marked, separated, trailed, opened, closed}
+use Rattle.rez_values.proofs.Cited.{put, number, integer_taken, count_taken, fill_bits_taken, fill_taken, align_taken, text_taken}
+use Rattle.rez_values.proofs.Cited.{corners_taken, closes, begun, element_taken, array_taken, switch_taken, finished, taken}
 use Rattle.rez_types.specs.declared.declaration.Form.TheVariants as form
 use Rattle.rez_types.specs.declared.declaration.Boundary.TheVariants as boundary
 use Rattle.rez_types.specs.declared.declaration.TextEnd.TheVariants as end
-use Rattle.rez_types.specs.Fields.{NamedNumber, Integer, Constant, Count, FillBits, Fixed, Counted, Before}
-use Rattle.rez_types.specs.Fields.{Field, Run, Fill, Align, Text, Rect, Array, Switch, Declaration}
 use Rattle.rez_types.specs.Values as value
-use Rattle.rez_types.specs.Values.{Value}
-use Rattle.rez_types.proofs.Declared.{of_fields, with_block}
 use Rattle.rez_tokens.specs.Tokens as token
-use Rattle.rez_tokens.specs.Tokens.{Token, Lexeme}
 use Rattle.rez_values.specs.declared.fault.ValueFault.TheVariants as faults
-use Rattle.rez_values.specs.Taking.{marked, separated, trailed, opened, closed, put, number}
-use Rattle.rez_values.specs.Stating.{integer_taken, count_taken, fill_bits_taken, fill_taken, align_taken, text_taken, corners_taken}
-use Rattle.rez_values.specs.Taken.{closes, begun, element_taken, array_taken, switch_taken, finished, taken}
 
 -- tokens on a line
 abbrev on : ℕ → List Lexeme → List Token

@@ -1,19 +1,7 @@
-use Rattle.std.proofs.Common.{◌≡◌, ◌∙◌, ℕ, Bool, true, false, refl, ap, List, [], ◌∷◌, cond, Some}
-use Rattle.std.specs.Cmp.Lexicographic.{slice_cmp}
-use Rattle.std.specs.declared.cmp.Ordering.{Ordering}
-use Rattle.std.specs.declared.cmp.Ordering.TheVariants.{Less, Equal, Greater}
-use Rattle.std.specs.Ordering.{nat_cmp, match_ordering}
-use Rattle.std.proofs.lemmas.Bool.{and_parts}
-use Rattle.std.specs.Prelude.{bytes_eq, unwrap_or}
-use Rattle.std.specs.Map.{lookup}
-use Rattle.mac_words.specs.declared.call.Call.{Call}
-use Rattle.script_text.specs.Argument.{Value}
-use Rattle.script_text.specs.declared.word.CallWord.{CallWord}
+use Rattle.script_text.proofs.Cited.{◌≡◌, ◌∙◌, ℕ, Bool, true, false, refl, ap, List, [], ◌∷◌, cond, Some, slice_cmp, Ordering, Less, Equal}
+use Rattle.script_text.proofs.Cited.{Greater, nat_cmp, match_ordering, and_parts, bytes_eq, unwrap_or, lookup, Call, Value, CallWord, meant}
+use Rattle.script_text.proofs.Cited.{may_stand, spoken, word_of, put_named, AllAllowed, are_allowed, block_of, Line}
 use Rattle.script_text.specs.declared.word.CallWord.TheVariants as word
-use Rattle.script_text.specs.Call.{meant, may_stand, spoken, word_of}
-use Rattle.script_text.specs.Named.{put_named}
-use Rattle.script_text.specs.Script.{AllAllowed, are_allowed, block_of}
-use Rattle.script_text.specs.declared.script.Line.{Line}
 
 -- The lines of a grow-zone script are allowed in one.
 

@@ -1,13 +1,7 @@
 -- Worked grow-zone scripts, by computation.
-use Rattle.std.proofs.Common.{◌≡◌, [], ◌∷◌, Ok, Err, refl, codes, pos, negsuc}
-use Rattle.std.specs.Fmt.{digits}
-use Rattle.script_text.specs.declared.fault.FaultKind.TheVariants.{UnknownCall, BadArgument, NotAllowed}
+use Rattle.script_text.proofs.Cited.{◌≡◌, [], ◌∷◌, Ok, Err, refl, codes, pos, negsuc, digits, UnknownCall, BadArgument, NotAllowed}
+use Rattle.script_text.proofs.Cited.{after_blanks, token_at, Letters, argument, word_spelled, script_of, read_at, with_token, grow_line}
 use Rattle.script_text.specs.declared.word.CallWord.TheVariants as word
-use Rattle.script_text.specs.Token.{after_blanks, token_at}
-use Rattle.script_text.specs.Argument.{Letters, argument}
-use Rattle.script_text.specs.Call.{word_spelled}
-use Rattle.script_text.specs.Script.{script_of, read_at, with_token}
-use Rattle.script_text.specs.Transcript.{grow_line}
 use Rattle.script_text.proofs.Rows.{says}
 
 not_allowed : script_of (codes "grow g\nNewHandle a 1\nend") ≡ Err (2, NotAllowed)

@@ -1,11 +1,8 @@
 -- Cutting a text into lines.
-use Rattle.std.proofs.Common.{◌≡◌, ℕ, ◌+◌, ◌-◌, ◌<◌, Bool, true, false, List, [], ◌∷◌, Some, None, refl, sym, ap, ◌∙◌}
-use Rattle.std.proofs.Common.{length, take, drop, cond, ◌==◌, arith}
-use Rattle.std.specs.List.{slice_split, onto_first, position_or_len, position, position_from}
-use Rattle.std.specs.Str.Lines.{lines, strip_carriage_return}
-use Rattle.std.proofs.lemmas.List.Splits.{slice_split_first}
-use Rattle.std.proofs.lemmas.Iterator.Adapters.{position_from-zero}
-use Rattle.std.proofs.lemmas.Grind.{common_steps}
+use Rattle.script_text.proofs.Cited.{◌≡◌, ℕ, ◌+◌, ◌-◌, ◌<◌, Bool, true, false, List, [], ◌∷◌, Some, None, refl, sym, ap, ◌∙◌, length, take}
+use Rattle.script_text.proofs.Cited.{drop, cond, arith, slice_split, onto_first, position_or_len, position, position_from, lines}
+use Rattle.script_text.proofs.Cited.{strip_carriage_return, slice_split_first, position_from-zero, common_steps}
+use Rattle.std.proofs.Common.{◌==◌}
 
 -- a line ends here
 abbrev ends : ℕ → Bool

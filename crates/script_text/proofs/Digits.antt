@@ -1,10 +1,7 @@
 -- Digits from the left.
-use Rattle.std.proofs.Common.{◌≡◌, ℕ, ◌+◌, ◌-◌, ◌*◌, ◌≤◌, ◌<◌, true, List, [], ◌∷◌, ◌++◌, Option, Some, None, refl}
-use Rattle.std.proofs.Common.{sym, ap, ◌∙◌, append_assoc, length, get_or, take, drop, arith}
-use Rattle.std.proofs.lemmas.Grind.{common_steps}
-use Rattle.std.specs.Char.{is_ascii_digit}
-use Rattle.std.specs.Option.{option_map}
-use Rattle.script_text.specs.Argument.{number_from, number_within, byte_at, hex_bytes}
+use Rattle.script_text.proofs.Cited.{◌≡◌, ℕ, ◌+◌, ◌-◌, ◌*◌, ◌≤◌, ◌<◌, true, List, [], ◌∷◌, ◌++◌, Option, Some, None, refl, sym, ap, ◌∙◌}
+use Rattle.script_text.proofs.Cited.{append_assoc, length, get_or, take, drop, arith, common_steps, is_ascii_digit, option_map, number_from}
+use Rattle.script_text.proofs.Cited.{number_within, byte_at, hex_bytes}
 
 -- a number doesn't fall as digits follow
 grows : (n : ℕ) (digits : List ℕ) → n ≤ number_from n digits

@@ -1,13 +1,8 @@
 -- Worked lines of calls of the Memory Manager, by computation.
-use Rattle.std.proofs.Common.{◌≡◌, [], ◌∷◌, Ok, Err, refl, codes, negsuc, pos}
-use Rattle.std.specs.Fmt.{digits}
-use Rattle.script_text.specs.declared.fault.FaultKind.TheVariants.{BadArgument}
+use Rattle.script_text.proofs.Cited.{◌≡◌, [], ◌∷◌, Ok, Err, refl, codes, negsuc, pos, digits, BadArgument, after_blanks, token_at, Letters}
+use Rattle.script_text.proofs.Cited.{Raw, Nil, argument, word_spelled, script_of, read_at, with_token, Number, reply_line}
 use Rattle.script_text.specs.declared.word.CallWord.TheVariants as word
-use Rattle.script_text.specs.Token.{after_blanks, token_at}
-use Rattle.script_text.specs.Argument.{Letters, Number as Count, Raw, Nil, argument}
-use Rattle.script_text.specs.Call.{word_spelled}
-use Rattle.script_text.specs.Script.{script_of, read_at, with_token}
-use Rattle.script_text.specs.Transcript.{Number, reply_line}
+use Rattle.script_text.specs.Argument.{Number as Count}
 use Rattle.script_text.proofs.Rows.{says}
 
 -- bytes, or how many; bytes, or NIL

@@ -1,17 +1,11 @@
 -- What holds of a job's inputs, of which each may follow those above it.
-use Rattle.std.proofs.Common.{◌≡◌, ℕ, suc, zero, ◌+◌, ◌≤◌, ◌<◌, Bool, true, false, cond, List, [], ◌∷◌, ◌++◌, length, take}
-use Rattle.std.proofs.Common.{inl, inr, drop, Some, None, is_some, refl, sym, ap, subst, ◌∙◌, arith}
-use Rattle.std.specs.Prelude.{◌&&◌, ◌||◌, ◌==◌, nat_lt, not, bytes_eq, IsTrue}
-use Rattle.std.specs.Cmp.{IsEquivalence, decided}
-use Rattle.std.specs.List.{IsDistinct, list_any, filter_map, cons_option, position_from}
-use Rattle.std.proofs.lemmas.Bool.{and_parts, cases_lt, ltb-true, eqb-true, eq-eqb, not-true}
-use Rattle.std.proofs.lemmas.List.{append-nil, append_assoc, length-append, length_push}
-use Rattle.std.proofs.lemmas.List.Elements.{filter_map-append}
-use Rattle.std.proofs.lemmas.Map.Keys.{IsDistinct-push}
-use Rattle.std.proofs.lemmas.Slice.Eq.{bytes_eq-Decides}
-use Rattle.script_text.specs.Job.{Input, System, App, File, app_name, app_names, file_name, given_names, file_names}
-use Rattle.script_text.specs.Job.{has_name, may_follow}
-use Rattle.script_text.specs.JobFacts.{all_follow, AreInOrder, AreApps, AreFiles}
+use Rattle.script_text.proofs.Cited.{◌≡◌, ℕ, suc, zero, ◌+◌, ◌≤◌, ◌<◌, Bool, true, false, cond, List, [], ◌∷◌, ◌++◌, length, take, inl, inr}
+use Rattle.script_text.proofs.Cited.{drop, Some, None, is_some, refl, sym, ap, subst, ◌∙◌, arith, ◌&&◌, ◌||◌, ◌==◌, nat_lt, not, bytes_eq}
+use Rattle.script_text.proofs.Cited.{IsTrue, IsEquivalence, decided, IsDistinct, list_any, filter_map, cons_option, position_from}
+use Rattle.script_text.proofs.Cited.{and_parts, cases_lt, ltb-true, eqb-true, eq-eqb, not-true, append-nil, length-append, length_push}
+use Rattle.script_text.proofs.Cited.{filter_map-append, IsDistinct-push, bytes_eq-Decides, Input, System, App, File, app_name, app_names}
+use Rattle.script_text.proofs.Cited.{file_name, given_names, file_names, has_name, may_follow, all_follow, AreInOrder, AreApps, AreFiles}
+use Rattle.std.proofs.lemmas.List.{append_assoc}
 
 -- bytes are compared as equals are
 same_bytes : IsEquivalence bytes_eq

@@ -1,13 +1,7 @@
 -- What is kept while a job is read.
-use Rattle.std.proofs.Common.{◌≡◌, ℕ, Bool, true, List, [], ◌∷◌, ◌++◌, length, Option, refl, ap, ◌∙◌, arith}
-use Rattle.std.specs.Prelude.{◌==◌}
-use Rattle.std.specs.List.{list_all}
-use Rattle.std.proofs.lemmas.Bool.{and_from, eqb-true}
-use Rattle.std.proofs.lemmas.List.Folds.{list_all-append}
-use Rattle.script_text.specs.declared.job.Event.{Event}
-use Rattle.script_text.specs.Job.{Input, app_names, may_follow}
-use Rattle.script_text.specs.JobFacts.{all_follow, AreEventsOf, is_event_of}
-use Rattle.script_text.specs.Inner.{IsJobKept}
+use Rattle.script_text.proofs.Cited.{◌≡◌, ℕ, Bool, true, List, [], ◌∷◌, ◌++◌, length, Option, refl, ap, ◌∙◌, arith, ◌==◌, list_all}
+use Rattle.script_text.proofs.Cited.{and_from, eqb-true, list_all-append, Event, Input, app_names, may_follow, all_follow, AreEventsOf}
+use Rattle.script_text.proofs.Cited.{is_event_of, IsJobKept}
 use Rattle.script_text.proofs.JobInputs.{follow_added}
 
 -- no events are events of any applications

@@ -1,17 +1,12 @@
 -- What is known of the inputs of a job, beside the inputs themselves.
-use Rattle.std.proofs.Common.{◌≡◌, ℕ, suc, zero, ◌<◌, Bool, true, false, cond, List, [], ◌∷◌, ◌++◌, length, take, drop}
-use Rattle.std.proofs.Common.{Some, None, inl, inr, get_or, map, refl, sym, ap, subst, ◌∙◌, arith}
-use Rattle.std.specs.Prelude.{◌&&◌, ◌||◌, ◌==◌, ◌≤◌, nat_lt, not, bytes_eq, slice_set}
-use Rattle.std.specs.List.{list_any, cons_option}
-use Rattle.std.proofs.lemmas.Bool.{and_parts, cases_lt, ltb-true, lt-ltb, le-ltb, eqb-true, eq-eqb, not-true}
-use Rattle.std.proofs.lemmas.List.{append-nil, length-map, map-append}
-use Rattle.std.proofs.lemmas.List.Folds.{list_any-append}
-use Rattle.indexmap.specs.IndexSet.{insert_key}
-use Rattle.mac_words.specs.declared.name.FileName.{FileName}
-use Rattle.script_text.specs.Job.{Input, System, App, File, is_system, app_names, file_name, given_names, file_names}
-use Rattle.script_text.specs.Job.{has_name, may_follow}
-use Rattle.script_text.specs.Known.{Known, KnownApp, none_known, known_names, known_files, known_with, put_name, with_file}
-use Rattle.script_text.specs.Known.{with_file_at, may_have, may_have_at, may_join, IsKnown}
+use Rattle.script_text.proofs.Cited.{◌≡◌, ℕ, suc, zero, ◌<◌, Bool, true, false, cond, List, [], ◌∷◌, ◌++◌, length, take, drop, Some, None}
+use Rattle.script_text.proofs.Cited.{inl, inr, get_or, map, refl, sym, ap, subst, ◌∙◌, arith, ◌&&◌, ◌||◌, ◌==◌, nat_lt, not, bytes_eq}
+use Rattle.script_text.proofs.Cited.{slice_set, list_any, cons_option, and_parts, cases_lt, ltb-true, lt-ltb, le-ltb, eqb-true, eq-eqb}
+use Rattle.script_text.proofs.Cited.{not-true, append-nil, length-map, map-append, list_any-append, insert_key, FileName, Input, System}
+use Rattle.script_text.proofs.Cited.{App, File, is_system, app_names, file_name, given_names, file_names, has_name, may_follow, Known}
+use Rattle.script_text.proofs.Cited.{KnownApp, none_known, known_names, known_files, known_with, put_name, with_file, with_file_at}
+use Rattle.script_text.proofs.Cited.{may_have, may_have_at, may_join, IsKnown}
+use Rattle.std.specs.Prelude.{◌≤◌}
 use Rattle.script_text.proofs.JobInputs.{names_added, given_added, same_names}
 
 -- files' names are equal where their bytes are

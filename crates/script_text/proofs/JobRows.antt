@@ -1,17 +1,10 @@
 -- Worked jobs, by computation.
-use Rattle.std.proofs.Common.{◌≡◌, Some, [], ◌∷◌, ◌++◌, Ok, Err, refl, codes, pos, negsuc}
-use Rattle.std.specs.Fmt.{digits}
-use Rattle.std.specs.Str.{chars, is_utf8}
-use Rattle.std.proofs.Math.Utf8.{encode}
-use Rattle.script_text.specs.declared.fault.FaultKind.TheVariants.{UnknownCall, BadArgument}
-use Rattle.script_text.specs.declared.job_word.JobWord.{JobWord}
+use Rattle.script_text.proofs.Cited.{◌≡◌, Some, [], ◌∷◌, ◌++◌, Ok, Err, refl, codes, pos, negsuc, digits, chars, is_utf8, encode}
+use Rattle.script_text.proofs.Cited.{UnknownCall, BadArgument, JobWord, Launch, Step, Turn, Quit, Rest, after_blanks, token_at, argument}
+use Rattle.script_text.proofs.Cited.{job_line, spelling, token_line, job_of, with_line, System, App, File, launch_of, refusal_of, end_of}
+use Rattle.script_text.proofs.Cited.{fork_of}
 use Rattle.script_text.specs.declared.job_word.JobWord.TheVariants as word
-use Rattle.script_text.specs.declared.job.Event.TheVariants.{Launch, Step, Turn, Quit, Rest}
-use Rattle.script_text.specs.Token.{after_blanks, token_at}
-use Rattle.script_text.specs.Argument.{argument}
-use Rattle.script_text.specs.Stating.{job_line, spelling, token_line, word_spelled}
-use Rattle.script_text.specs.Job.{job_of, with_line, System, App, File}
-use Rattle.script_text.specs.DeskLog.{launch_of, refusal_of, end_of, fork_of}
+use Rattle.script_text.specs.Stating.{word_spelled}
 
 -- each word is found by its spelling
 found : (w : JobWord) → word_spelled (spelling w) ≡ Some w

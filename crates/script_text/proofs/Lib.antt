@@ -1,3 +1,4 @@
+mod Cited
 mod Digits
 mod Cutting
 pub mod Naming

@@ -1,21 +1,8 @@
 -- Grow-zone scripts, found by name.
-use Rattle.std.proofs.Common.{◌≡◌, ℕ, Bool, true, false, List, [], ◌∷◌, Option, Some, refl, sym, ap, ◌∙◌}
-use Rattle.std.proofs.Common.{map, cond, is_some, true≢false}
-use Rattle.std.specs.Prelude.{bytes_eq, unwrap_or}
-use Rattle.std.specs.Map.{lookup}
-use Rattle.std.specs.BTreeMap.{insert_entry, is_at}
-use Rattle.std.specs.Cmp.Lexicographic.{slice_cmp, texts_ties}
-use Rattle.std.specs.declared.cmp.Ordering.{Ordering}
-use Rattle.std.specs.declared.cmp.Ordering.TheVariants.{Less, Equal, Greater}
-use Rattle.std.specs.Ordering.{nat_cmp, is_eq, match_ordering}
-use Rattle.std.specs.Option.{option_map}
-use Rattle.std.proofs.lemmas.Map.Made.{lookup-map_values}
-use Rattle.std.proofs.lemmas.Slice.Eq.{bytes_eq-Decides}
-use Rattle.mac_words.specs.declared.name.Label.{Label}
-use Rattle.mac_words.proofs.Plain.{is_some-map, not_some}
-use Rattle.script_text.specs.declared.script.Line.{Line}
-use Rattle.script_text.specs.Named.{put_named}
-use Rattle.script_text.specs.Script.{has_block, block_of, blocks_seen, statement}
+use Rattle.script_text.proofs.Cited.{◌≡◌, ℕ, Bool, true, false, List, [], ◌∷◌, Option, Some, refl, sym, ap, ◌∙◌, map, cond, is_some}
+use Rattle.script_text.proofs.Cited.{true≢false, bytes_eq, unwrap_or, lookup, insert_entry, is_at, slice_cmp, texts_ties, Ordering, Less}
+use Rattle.script_text.proofs.Cited.{Equal, Greater, nat_cmp, is_eq, match_ordering, option_map, lookup-map_values, bytes_eq-Decides, Label}
+use Rattle.script_text.proofs.Cited.{is_some-map, not_some, Line, put_named, has_block, block_of, blocks_seen, statement}
 
 -- an order of names that is the order of their bytes
 abbrev pub OrdersBytes : (Label → Label → Ordering) → Type 0

@@ -1,13 +1,9 @@
 -- Worked lines of the Resource Manager's calls, by computation.
-use Rattle.std.proofs.Common.{◌≡◌, [], ◌∷◌, true, false, Ok, Err, refl, codes, pos, negsuc}
-use Rattle.std.specs.Fmt.{digits}
-use Rattle.script_text.specs.declared.fault.FaultKind.TheVariants.{BadArgument, NotAllowed}
+use Rattle.script_text.proofs.Cited.{◌≡◌, [], ◌∷◌, true, false, Ok, Err, refl, codes, pos, negsuc, digits, BadArgument, NotAllowed}
+use Rattle.script_text.proofs.Cited.{after_blanks, token_at, Letters, Signed, Raw, Flag, argument, word_spelled, script_of, read_at}
+use Rattle.script_text.proofs.Cited.{with_token, Number, Bytes, reply_line}
 use Rattle.script_text.specs.declared.word.CallWord.TheVariants as word
-use Rattle.script_text.specs.Token.{after_blanks, token_at}
-use Rattle.script_text.specs.Argument.{Letters, Number as Count, Signed, Raw, Flag, argument}
-use Rattle.script_text.specs.Call.{word_spelled}
-use Rattle.script_text.specs.Script.{script_of, read_at, with_token}
-use Rattle.script_text.specs.Transcript.{Number, Bytes, reply_line}
+use Rattle.script_text.specs.Argument.{Number as Count}
 use Rattle.script_text.proofs.Rows.{says}
 
 -- types with a blank, of four quotes and in hexadecimal; IDs below 0, and 0 with a minus

@@ -1,14 +1,9 @@
 -- Worked lines, by computation.
-use Rattle.std.proofs.Common.{◌≡◌, ℕ, List, [], ◌∷◌, Ok, Err, refl, codes, pos, negsuc}
-use Rattle.std.specs.Fmt.{digits}
-use Rattle.script_text.specs.declared.fault.FaultKind.TheVariants.{UnknownCall, BadArgument}
-use Rattle.script_text.specs.declared.word.CallWord.{CallWord}
+use Rattle.script_text.proofs.Cited.{◌≡◌, ℕ, List, [], ◌∷◌, Ok, Err, refl, codes, pos, negsuc, digits, UnknownCall, BadArgument, CallWord}
+use Rattle.script_text.proofs.Cited.{after_blanks, token_at, Value, Letters, Raw, argument, word_spelled, script_of, read_at, with_token}
+use Rattle.script_text.proofs.Cited.{Statement, Makes, Number, Bytes, launch_line, end_line, reply_line}
 use Rattle.script_text.specs.declared.word.CallWord.TheVariants as word
-use Rattle.script_text.specs.Token.{after_blanks, token_at}
-use Rattle.script_text.specs.Argument.{Value, Letters, Number as Count, Raw, argument}
-use Rattle.script_text.specs.Call.{word_spelled}
-use Rattle.script_text.specs.Script.{script_of, read_at, with_token, Statement, Makes}
-use Rattle.script_text.specs.Transcript.{Number, Bytes, launch_line, end_line, reply_line}
+use Rattle.script_text.specs.Argument.{Number as Count}
 
 -- a line that holds a call
 abbrev pub says : ℕ → CallWord → List Value → Statement

@@ -1,8 +1,5 @@
-use Rattle.std.proofs.Common.{◌≡◌, ◌<◌, ◌≤◌, ℕ, Bool, true, false, List, Option, Some, None, refl, length, arith}
-use Rattle.std.proofs.lemmas.Grind.{common_steps}
-use Rattle.std.proofs.lemmas.List.Sums.{position_or_len_is}
-use Rattle.std.specs.List.{position, position_or_len}
-use Rattle.memchr.specs.Find.{IsFirstByte}
+use Rattle.script_text.proofs.Cited.{◌≡◌, ◌<◌, ◌≤◌, ℕ, Bool, true, false, List, Option, Some, None, refl, length, arith, common_steps}
+use Rattle.script_text.proofs.Cited.{position_or_len_is, position, position_or_len, IsFirstByte}
 
 -- The first byte that passes a test, as it is searched for.
 

@@ -1,13 +1,9 @@
 -- Worked lines of the Segment Manager's calls, by computation.
-use Rattle.std.proofs.Common.{◌≡◌, [], ◌∷◌, Ok, Err, refl, codes, pos, negsuc}
-use Rattle.std.specs.Fmt.{digits}
-use Rattle.script_text.specs.declared.fault.FaultKind.TheVariants.{BadArgument, NotAllowed}
+use Rattle.script_text.proofs.Cited.{◌≡◌, [], ◌∷◌, Ok, Err, refl, codes, pos, negsuc, digits, BadArgument, NotAllowed, after_blanks}
+use Rattle.script_text.proofs.Cited.{token_at, Signed, argument, word_spelled, script_of, read_at, with_token, Number, reply_line}
+use Rattle.script_text.proofs.Cited.{grow_line}
 use Rattle.script_text.specs.declared.word.CallWord.TheVariants as word
-use Rattle.script_text.specs.Token.{after_blanks, token_at}
-use Rattle.script_text.specs.Argument.{Number as Count, Signed, argument}
-use Rattle.script_text.specs.Call.{word_spelled}
-use Rattle.script_text.specs.Script.{script_of, read_at, with_token}
-use Rattle.script_text.specs.Transcript.{Number, reply_line, grow_line}
+use Rattle.script_text.specs.Argument.{Number as Count}
 use Rattle.script_text.proofs.Rows.{says}
 
 -- segments below 0 and above, and entries from 0 on

@@ -1,7 +1,5 @@
 -- Values one after the other.
-use Rattle.std.proofs.Common.{◌≡◌, ℕ, ℤ, pos, List, [], ◌∷◌, ◌++◌, refl, append_assoc}
-use Rattle.std.specs.Fmt.{digits, signed_decimal}
-use Rattle.script_text.specs.Transcript.{Shown, shown_all}
+use Rattle.script_text.proofs.Cited.{◌≡◌, ℕ, ℤ, pos, List, [], ◌∷◌, ◌++◌, refl, append_assoc, digits, signed_decimal, Shown, shown_all}
 
 -- what two lists of values show is what each shows, one after the other
 pub shown_all_append : (first second : List Shown) → shown_all (first ++ second) ≡ shown_all first ++ shown_all second

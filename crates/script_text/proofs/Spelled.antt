@@ -1,9 +1,8 @@
 -- Words found by their spelling.
-use Rattle.std.proofs.Common.{◌≡◌, ℕ, List, true, Some, bytes_eq, refl, sym, ap, ◌∙◌}
-use Rattle.std.proofs.lemmas.Slice.Eq.{bytes_eq-Decides}
-use Rattle.script_text.specs.declared.word.CallWord.{CallWord}
+use Rattle.script_text.proofs.Cited.{◌≡◌, ℕ, List, true, Some, refl, sym, ap, ◌∙◌, bytes_eq-Decides, CallWord, word_spelled}
+use Rattle.std.proofs.Common.{bytes_eq}
 use Rattle.script_text.specs.declared.word.CallWord.TheVariants as word
-use Rattle.script_text.specs.Call.{spelling, word_spelled}
+use Rattle.script_text.specs.Call.{spelling}
 
 -- each word in turn, by computation
 pub found : (w : CallWord) → word_spelled (spelling w) ≡ Some w

@@ -1,44 +1,19 @@
-use Rattle.std.proofs.Common.{◌≡◌, ◌≢◌, ◌≤◌, ◌<◌, ◌+◌, ◌^◌, ◌==◌, ℕ, ℤ, pos, Bool, true, false, Option, Some, None}
-use Rattle.std.proofs.Common.{Result, Ok, Err, List, [], length, slice_get, cond, refl, sym, ◌∙◌, ap, arith, true≢false}
-use Rattle.std.specs.Ordering.{int_eq}
-use Rattle.mac_words.specs.declared.code.OsErr.{OsErr}
-use Rattle.mac_words.specs.declared.code.TheConstants.OsErr.{LOCKED, MEM_FULL, PROFILE, SYSTEM_ERROR}
-use Rattle.mac_words.specs.declared.segment_call.SegmentCall.{SegmentCall}
+use Rattle.segments.proofs.Cited.{◌≡◌, ◌≢◌, ◌≤◌, ◌<◌, ◌+◌, ◌^◌, ◌==◌, ℕ, ℤ, pos, Bool, true, false, Option, Some, None, Result, Ok, Err}
+use Rattle.segments.proofs.Cited.{List, [], length, slice_get, cond, refl, sym, ◌∙◌, ap, arith, true≢false, int_eq, OsErr, LOCKED, MEM_FULL}
+use Rattle.segments.proofs.Cited.{PROFILE, SYSTEM_ERROR, SegmentCall, Told, Done, Refused, sizes, count, is_masters, is_relocatable, has}
+use Rattle.segments.proofs.Cited.{Site, counted, Memory, inside, loosened, resource_role_at, staying, locked_place, pointer_place}
+use Rattle.segments.proofs.Cited.{has_purgeable, put_reads, told_as, Known, unsearched, held-known, loosened-known, held-locked}
+use Rattle.segments.proofs.Cited.{loosened-locked, held-nonrelocatable, loosened-nonrelocatable, held-bytes, loosened-bytes, held-has}
+use Rattle.segments.proofs.Cited.{loosened-has, held-masters, loosened-masters, Managers, Reads, Fetched, own_datum, own_handle, fetch_own}
+use Rattle.segments.proofs.Cited.{Owns, Sound, bars, with_memory, own-known, own-locked, own-nonrelocatable, own-purgeable, own-bytes}
+use Rattle.segments.proofs.Cited.{own-masters, own-searches, own-fits, own-no_more, own-busy, own-code, own-window, own-files}
+use Rattle.segments.proofs.Cited.{own-elsewhere, own-owns, own-sound, own-unread, moved, answer_moved, Entry, can_load, unloaded, Program}
+use Rattle.segments.proofs.Cited.{Answer, Called, done, refused, held, load_fetched, load_by, load_datum, load_seg, unload_handle}
+use Rattle.segments.proofs.Cited.{unload_seg, called, call_loading, is_there, call_loaded, call_through, call_found, call_entry, show_of}
+use Rattle.segments.proofs.Cited.{show_found, show_entry, code_type, Served, telling, tell_loaded, tell_called, tell_shown, served, is_same}
+use Rattle.segments.proofs.Cited.{unlocks}
 use Rattle.mac_words.specs.declared.segment_call.SegmentCall.TheVariants as segment
-use Rattle.mac_words.specs.Told.{Told, Done, Refused}
-use Rattle.block_store.specs.Block.{sizes, count, is_masters, is_relocatable}
-use Rattle.block_store.specs.Run.{has}
-use Rattle.block_store.specs.Rest.{Site, counted}
-use Rattle.heap_calls.specs.State.{Memory}
-use Rattle.heap_calls.specs.Inside.{inside, loosened}
-use Rattle.heap_calls.specs.Owned.{resource_role_at}
-use Rattle.heap_calls.specs.Staying.{staying}
-use Rattle.heap_calls.specs.Locked.{locked_place}
-use Rattle.heap_calls.specs.Standing.{pointer_place}
-use Rattle.heap_calls.specs.Emptying.{has_purgeable}
-use Rattle.heap_calls.specs.Path.{put_reads}
-use Rattle.heap_calls.specs.Asked.{told_as}
-use Rattle.heap_calls.proofs.Promises.Knowing.{Known}
-use Rattle.heap_calls.proofs.Promises.FewSearches.{unsearched}
-use Rattle.heap_calls.proofs.Steps.Segments.{held-known, loosened-known, held-locked, loosened-locked, held-nonrelocatable}
-use Rattle.heap_calls.proofs.Steps.Segments.{loosened-nonrelocatable, held-bytes, loosened-bytes, held-has, loosened-has}
-use Rattle.heap_calls.proofs.Steps.Segments.{held-masters, loosened-masters}
-use Rattle.res_calls.specs.Fetch.{Managers, Reads, Fetched}
 use Rattle.res_calls.specs.Fetch as fetching
-use Rattle.res_calls.specs.Own.{own_datum, own_handle, fetch_own}
-use Rattle.res_calls.specs.Owning.{Owns}
-use Rattle.res_calls.specs.Sound.{Sound}
-use Rattle.res_calls.specs.Rows.{bars, with_memory}
-use Rattle.res_calls.proofs.Walks.Own.{own-known, own-locked, own-nonrelocatable, own-purgeable, own-bytes, own-masters}
-use Rattle.res_calls.proofs.Walks.Own.{own-searches, own-fits, own-no_more, own-busy, own-code, own-window, own-files}
-use Rattle.res_calls.proofs.Walks.Own.{own-elsewhere, own-owns, own-sound, own-unread}
-use Rattle.res_calls.proofs.Walks.Place.{moved, answer_moved}
-use Rattle.segments.specs.Table.{Entry, can_load, unloaded}
-use Rattle.segments.specs.Calls.{Program, Answer, Called, done, refused, held, load_fetched, load_by}
-use Rattle.segments.specs.Calls.{load_datum, load_seg, unload_handle, unload_seg, called, call_loading}
-use Rattle.segments.specs.Calls.{is_there, call_loaded, call_through, call_found, call_entry, show_of, show_found}
-use Rattle.segments.specs.Calls.{show_entry, code_type}
-use Rattle.segments.specs.Asked.{Served, telling, tell_loaded, tell_called, tell_shown, served, is_same, unlocks}
 
 -- The laws of one try of a segment's call.
 

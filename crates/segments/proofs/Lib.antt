@@ -1,3 +1,4 @@
+mod Cited
 mod Worked
 pub mod Marking
 pub mod Loading

@@ -1,24 +1,12 @@
-use Rattle.std.proofs.Common.{◌≡◌, ℕ, ℤ, pos, Bool, true, false, cond, Option, Some, None, Result, Ok, Err}
-use Rattle.std.proofs.Common.{List, refl, sym, ◌∙◌, ap, subst}
-use Rattle.std.specs.Prelude.{slice_get, option_map}
-use Rattle.std.specs.Ordering.{int_eq}
-use Rattle.mac_words.specs.declared.code.OsErr.{OsErr}
-use Rattle.mac_words.specs.declared.code.TheConstants.OsErr.{SYSTEM_ERROR}
-use Rattle.heap_calls.specs.State.{Memory}
-use Rattle.heap_calls.specs.Inside.{inside, held_high}
-use Rattle.heap_calls.specs.declared.refusal.Refusal.{Refusal}
-use Rattle.heap_calls.specs.declared.refusal.Refusal.TheVariants.{Code, HostMemory}
-use Rattle.res_calls.specs.Fetch.{Managers, Fetched}
-use Rattle.res_calls.specs.Own.{own_datum, fetch_own}
+use Rattle.segments.proofs.Cited.{◌≡◌, ℕ, ℤ, pos, Bool, true, false, cond, Option, Some, None, Result, Ok, Err, List, refl, sym, ◌∙◌, ap}
+use Rattle.segments.proofs.Cited.{subst, option_map, int_eq, OsErr, SYSTEM_ERROR, Memory, inside, held_high, Refusal, Code, HostMemory}
+use Rattle.segments.proofs.Cited.{Managers, Fetched, own_datum, fetch_own, Named, Unloaded, Entry, can_load, first_entry, entry_count}
+use Rattle.segments.proofs.Cited.{loaded_from, Program, Answer, Called, called, refused, load_seg, load_datum, load_by, load_fetched}
+use Rattle.segments.proofs.Cited.{code_type, call_entry, call_found, call_through, call_loaded, call_loading, Fetch, program, times}
+use Rattle.segments.proofs.Cited.{reads_of, IsLoaded, IsCalled, IsUnloaded, view_entry, named_from, named_by}
+use Rattle.std.specs.Prelude.{slice_get}
 use Rattle.segments.specs.declared.entry.Entry.{Entry as StoredEntry}
-use Rattle.segments.specs.declared.entries.Named.{Named}
 use Rattle.segments.specs.declared.loaded.Called.{Called as CalledSegment}
-use Rattle.segments.specs.declared.loaded.Unloaded.{Unloaded}
-use Rattle.segments.specs.Table.{Entry, can_load, first_entry, entry_count, loaded_from}
-use Rattle.segments.specs.Calls.{Program, Answer, Called, called, refused, load_seg, load_datum, load_by, load_fetched}
-use Rattle.segments.specs.Calls.{code_type, call_entry, call_found, call_through, call_loaded, call_loading}
-use Rattle.segments.specs.Given.{Fetch, program, times, reads_of, IsLoaded, IsCalled, IsUnloaded}
-use Rattle.segments.specs.View.{view_entry, named_from, named_by}
 
 -- What loading a segment, and calling a routine of it, come to.
 

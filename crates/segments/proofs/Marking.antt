@@ -1,12 +1,8 @@
-use Rattle.std.proofs.Common.{◌≡◌, ℕ, ◌-◌, ◌<◌, ◌≤◌, Bool, true, false, ◌&&◌, ◌==◌, cond, List, [], ◌∷◌, ◌++◌}
-use Rattle.std.proofs.Common.{length, map, take, drop, Some, None, refl, sym, get_or, ◌∙◌, ap, arith, suc, zero}
-use Rattle.std.proofs.Math.Dec.{eqb-suc-suc, eqb-suc-zero, eqb-zero-suc}
-use Rattle.std.specs.Prelude.{slice_get, slice_set}
-use Rattle.std.specs.List.{list_all}
-use Rattle.std.proofs.lemmas.List.{map-set}
+use Rattle.segments.proofs.Cited.{◌≡◌, ℕ, ◌-◌, ◌<◌, ◌≤◌, Bool, true, false, ◌&&◌, ◌==◌, cond, List, [], ◌∷◌, ◌++◌, length, map, take, drop}
+use Rattle.segments.proofs.Cited.{Some, None, refl, sym, get_or, ◌∙◌, ap, arith, suc, zero, eqb-suc-suc, eqb-suc-zero, eqb-zero-suc}
+use Rattle.segments.proofs.Cited.{slice_set, list_all, map-set, Entry, set_loaded, loaded_from, view_entry, view_entries}
+use Rattle.std.specs.Prelude.{slice_get}
 use Rattle.segments.specs.declared.entry.Entry.{Entry as StoredEntry}
-use Rattle.segments.specs.Table.{Entry, set_loaded, loaded_from}
-use Rattle.segments.specs.View.{view_entry, view_entries}
 
 -- Entries of a table that are looked at, or changed, one after another.
 

@@ -1,22 +1,12 @@
 -- What a call of the Segment Manager purges.
-use Rattle.std.proofs.Common.{◌≡◌, ◌≢◌, ℕ, ℤ, pos, Bool, true, false, cond, List, [], Option, Some, None, Result, Ok, Err, refl, ap}
+use Rattle.segments.proofs.Cited.{◌≡◌, ◌≢◌, ℕ, ℤ, pos, Bool, true, false, cond, List, [], Option, Some, None, Result, Ok, Err, refl, ap}
+use Rattle.segments.proofs.Cited.{int_eq, OsErr, SYSTEM_ERROR, SegmentCall, Refused, Site, Fetched, own_datum, fetch_own, served}
+use Rattle.segments.proofs.Cited.{tell_loaded, tell_called, Program, code_type, load_seg, load_datum, load_by, load_fetched, called}
+use Rattle.segments.proofs.Cited.{call_entry, call_through, call_found, refused, load_gone, through_gone, entry_gone, gone_for, Entry}
+use Rattle.segments.proofs.Cited.{can_load}
 use Rattle.std.specs.Prelude.{slice_get}
-use Rattle.std.specs.Ordering.{int_eq}
-use Rattle.mac_words.specs.declared.code.OsErr.{OsErr}
-use Rattle.mac_words.specs.declared.code.TheConstants.OsErr.{SYSTEM_ERROR}
-use Rattle.mac_words.specs.declared.segment_call.SegmentCall.{SegmentCall}
 use Rattle.mac_words.specs.declared.segment_call.SegmentCall.TheVariants as segment
-use Rattle.mac_words.specs.Told.{Refused}
-use Rattle.block_store.specs.Rest.{Site}
-use Rattle.res_calls.specs.Fetch.{Fetched}
-use Rattle.res_calls.specs.Own.{own_datum, fetch_own}
 use Rattle.res_calls.proofs.GoneElsewhere.{own-elsewhere}
-use Rattle.segments.specs.Asked.{served, tell_loaded, tell_called}
-use Rattle.segments.specs.Calls.{Program, code_type, load_seg, load_datum, load_by, load_fetched, called, call_entry, call_through}
-use Rattle.segments.specs.Calls.{call_found}
-use Rattle.segments.specs.Calls.{refused}
-use Rattle.segments.specs.Gone.{load_gone, through_gone, entry_gone, gone_for}
-use Rattle.segments.specs.Table.{Entry, can_load}
 use Rattle.segments.proofs.Laws.{told-refused, program_moved}
 
 -- a reply that refuses only by a system error

@@ -1,27 +1,11 @@
-use Rattle.std.proofs.Common.{◌≡◌, inl, inr, ℕ, ℤ, pos, Bool, true, false, Option, Some, None, Result, Ok, Err}
-use Rattle.std.proofs.Common.{List, slice_get, cond, refl, sym, ap, subst}
-use Rattle.std.proofs.lemmas.Bool.Decides.{Decides-eqb}
-use Rattle.std.specs.Ordering.{int_eq}
-use Rattle.mac_words.specs.declared.code.OsErr.{OsErr}
-use Rattle.mac_words.specs.declared.code.TheConstants.OsErr.{LOCKED, PROFILE, SYSTEM_ERROR}
-use Rattle.mac_words.specs.declared.segment_call.SegmentCall.{SegmentCall}
+use Rattle.segments.proofs.Cited.{◌≡◌, inl, inr, ℕ, ℤ, pos, Bool, true, false, Option, Some, None, Result, Ok, Err, List, slice_get, cond}
+use Rattle.segments.proofs.Cited.{refl, sym, ap, subst, Decides-eqb, int_eq, OsErr, LOCKED, PROFILE, SYSTEM_ERROR, SegmentCall, Told, Done}
+use Rattle.segments.proofs.Cited.{Refused, loosened, locked_place, told_as, Known, StaysOr, locked-there, loosened-none, Fetched, own_datum}
+use Rattle.segments.proofs.Cited.{own_handle, fetch_own, bars, Entry, can_load, unloaded, Program, Answer, Called, done, refused, let_loose}
+use Rattle.segments.proofs.Cited.{load_fetched, load_by, load_datum, load_seg, unload_handle, unload_seg, is_there, call_through}
+use Rattle.segments.proofs.Cited.{call_found, call_entry, show_of, show_found, show_entry, called, code_type, telling, tell_loaded}
+use Rattle.segments.proofs.Cited.{tell_called, tell_shown, served, is_same, unlocks}
 use Rattle.mac_words.specs.declared.segment_call.SegmentCall.TheVariants as segment
-use Rattle.mac_words.specs.Told.{Told, Done, Refused}
-use Rattle.heap_calls.specs.Inside.{loosened}
-use Rattle.heap_calls.specs.Locked.{locked_place}
-use Rattle.heap_calls.specs.Asked.{told_as}
-use Rattle.heap_calls.proofs.Promises.Knowing.{Known}
-use Rattle.heap_calls.proofs.Promises.Taking.{StaysOr}
-use Rattle.heap_calls.proofs.Steps.Letting.{locked-there}
-use Rattle.heap_calls.proofs.Steps.Segments.{loosened-none}
-use Rattle.res_calls.specs.Fetch.{Fetched}
-use Rattle.res_calls.specs.Own.{own_datum, own_handle, fetch_own}
-use Rattle.res_calls.specs.Rows.{bars}
-use Rattle.segments.specs.Table.{Entry, can_load, unloaded}
-use Rattle.segments.specs.Calls.{Program, Answer, Called, done, refused, let_loose, load_fetched, load_by, load_datum}
-use Rattle.segments.specs.Calls.{load_seg, unload_handle, unload_seg, is_there, call_through, call_found}
-use Rattle.segments.specs.Calls.{call_entry, show_of, show_found, show_entry, called, code_type}
-use Rattle.segments.specs.Asked.{telling, tell_loaded, tell_called, tell_shown, served, is_same, unlocks}
 use Rattle.segments.proofs.Laws.{served-locked}
 
 -- A call that unlocks the block of a segment is done, and a call that finds no room is refused.

@@ -1,34 +1,14 @@
 -- What a call of the Segment Manager reports is what it purges.
-use Rattle.std.proofs.Common.{◌≡◌, ℕ, ℤ, pos, ◌≤◌, Bool, true, false, cond, List, [], Option, Some, None, Result, Ok, Err}
-use Rattle.std.proofs.Common.{refl, sym, ◌∙◌, ap, arith, slice_get}
+use Rattle.segments.proofs.Cited.{◌≡◌, ℕ, ℤ, pos, ◌≤◌, Bool, true, false, cond, List, [], Option, Some, None, Result, Ok, Err, refl, sym}
+use Rattle.segments.proofs.Cited.{◌∙◌, ap, arith, slice_get, int_eq, OsErr, LOCKED, PROFILE, SYSTEM_ERROR, SegmentCall, sizes}
+use Rattle.segments.proofs.Cited.{GREATEST_ZONE, Gone, has_block, State, bytes_in, held-has, loosened-has, Managers, Fetched, Found}
+use Rattle.segments.proofs.Cited.{own_gone, find_own, own_handle, fetch_own, bars, TellsWhatGoes, TellsOfPurgeable, TellsOnce, own-tells}
+use Rattle.segments.proofs.Cited.{own-loose, own-once, none-bytes, OnceEach, served, Program, Answer, Called, code_type, load_seg}
+use Rattle.segments.proofs.Cited.{load_datum, load_by, load_fetched, refused, done, let_loose, unload_handle, call_through, call_found}
+use Rattle.segments.proofs.Cited.{show_of, show_found, is_there, load_gone, through_gone, entry_gone, gone_for, Entry, can_load, unloaded}
 use Rattle.std.specs.Option.{option_map}
-use Rattle.std.specs.Ordering.{int_eq}
-use Rattle.mac_words.specs.declared.code.OsErr.{OsErr}
-use Rattle.mac_words.specs.declared.code.TheConstants.OsErr.{LOCKED, PROFILE, SYSTEM_ERROR}
-use Rattle.mac_words.specs.declared.segment_call.SegmentCall.{SegmentCall}
 use Rattle.mac_words.specs.declared.segment_call.SegmentCall.TheVariants as segment
-use Rattle.block_store.specs.Block.{sizes}
-use Rattle.block_store.specs.declared.measures.TheConstants.{GREATEST_ZONE}
-use Rattle.heap_calls.specs.Gone.{Gone}
-use Rattle.heap_calls.specs.Inside.{has_block}
-use Rattle.heap_calls.specs.State.{State}
-use Rattle.heap_calls.specs.ToldGone.{bytes_in}
-use Rattle.heap_calls.proofs.Steps.Segments.{held-has, loosened-has}
-use Rattle.res_calls.specs.Fetch.{Managers, Fetched}
 use Rattle.res_calls.specs.Fetch as fetching
-use Rattle.res_calls.specs.Files.{Found}
-use Rattle.res_calls.specs.Gone.{own_gone}
-use Rattle.res_calls.specs.Own.{find_own, own_handle, fetch_own}
-use Rattle.res_calls.specs.Rows.{bars}
-use Rattle.res_calls.specs.ToldGone.{TellsWhatGoes, TellsOfPurgeable, TellsOnce}
-use Rattle.res_calls.proofs.ToldGone.Calls.{own-tells, own-loose, own-once}
-use Rattle.res_calls.proofs.ToldGone.Filled.{none-bytes}
-use Rattle.res_calls.proofs.ToldGone.Paths.{OnceEach}
-use Rattle.segments.specs.Asked.{served}
-use Rattle.segments.specs.Calls.{Program, Answer, Called, code_type, load_seg, load_datum, load_by, load_fetched, refused}
-use Rattle.segments.specs.Calls.{done, let_loose, unload_handle, call_through, call_found, show_of, show_found, is_there}
-use Rattle.segments.specs.Gone.{load_gone, through_gone, entry_gone, gone_for}
-use Rattle.segments.specs.Table.{Entry, can_load, unloaded}
 
 -- where nothing is reported each handle that had a block has one
 pub quiet : (before after : State) → ((h : ℕ) → has_block h after ≡ has_block h before) → TellsWhatGoes [] before after

@@ -1,23 +1,11 @@
-use Rattle.std.proofs.Common.{◌≡◌, ℕ, pos, negsuc, false, List, [], ◌∷◌, ◌++◌, None, Some, refl, replicate}
-use Rattle.mac_words.specs.declared.code.TheConstants.OsErr.{MEM_FULL, NIL_HANDLE, PROFILE, SYSTEM_ERROR}
-use Rattle.mac_words.specs.declared.segment_call.SegmentCall.{SegmentCall}
-use Rattle.mac_words.specs.declared.segment_call.SegmentCall.TheVariants.{LoadSeg, UnloadSeg, CallEntry, ShowEntry}
-use Rattle.mac_words.specs.Told.{Told, Done, Fetched, Number, Entry, Refused}
-use Rattle.block_store.specs.Rest.{Site}
-use Rattle.fork_format.specs.Content.{Ref, Group}
-use Rattle.res_map.specs.Map.{map_of}
-use Rattle.heap_calls.specs.State.{fresh_memory}
-use Rattle.heap_calls.specs.Asked.{Asked, HUnlock, EmptyHandle, PurgeMem, Show, Where}
+use Rattle.segments.proofs.Cited.{◌≡◌, ℕ, pos, negsuc, false, List, [], ◌∷◌, ◌++◌, None, Some, refl, replicate, MEM_FULL, NIL_HANDLE}
+use Rattle.segments.proofs.Cited.{PROFILE, SYSTEM_ERROR, SegmentCall, LoadSeg, UnloadSeg, CallEntry, ShowEntry, Told, Done, Number, Refused}
+use Rattle.segments.proofs.Cited.{Site, Ref, Group, map_of, fresh_memory, Asked, HUnlock, EmptyHandle, PurgeMem, Show, Where}
+use Rattle.segments.proofs.Cited.{fresh_resources, Managers, preloaded, own_datum, ResourceAsked, GetResource, SetResLoad, UseResFile}
+use Rattle.segments.proofs.Cited.{CloseResFile, table_in, Program, code_type, served}
+use Rattle.mac_words.specs.Told.{Fetched, Entry}
 use Rattle.heap_calls.specs.Table as heap
-use Rattle.res_calls.specs.Files.{fresh_resources}
-use Rattle.res_calls.specs.Fetch.{Managers}
-use Rattle.res_calls.specs.Rows.{preloaded}
-use Rattle.res_calls.specs.Own.{own_datum}
-use Rattle.res_calls.specs.Asked.{ResourceAsked, GetResource, SetResLoad, UseResFile, CloseResFile}
 use Rattle.res_calls.specs.Asked as resource
-use Rattle.segments.specs.Table.{table_in}
-use Rattle.segments.specs.Calls.{Program, code_type}
-use Rattle.segments.specs.Asked.{served}
 
 -- What lines of calls tell, one after another, of small applications.
 

@@ -1,3 +1,4 @@
+mod Cited
 pub mod Cutting
 pub mod Fronts
 pub mod Sides

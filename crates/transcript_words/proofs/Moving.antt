@@ -1,6 +1,5 @@
-use Rattle.std.proofs.Common.{◌≡◌, ℕ, Bool, List, [], ◌∷◌, ◌++◌, Option, refl, ◌∙◌, ap}
-use Rattle.std.specs.List.{flat_map}
-use Rattle.transcript_words.specs.Changes.{Placed, change_by, change_words, is_handle}
+use Rattle.transcript_words.proofs.Cited.{◌≡◌, ℕ, Bool, List, [], ◌∷◌, ◌++◌, Option, refl, ◌∙◌, ap, flat_map, Placed, change_by}
+use Rattle.transcript_words.proofs.Cited.{change_words, is_handle}
 
 -- Changes are the same where the blocks begin at the same places afterwards.
 

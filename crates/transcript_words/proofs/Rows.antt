@@ -1,11 +1,6 @@
 -- Worked lines, by computation.
-use Rattle.std.proofs.Common.{◌≡◌, ℕ, true, false, List, [], ◌∷◌, Option, Some, None, refl, codes}
-use Rattle.std.specs.Fmt.{digits}
-use Rattle.script_text.specs.Token.{after_blanks}
-use Rattle.transcript_words.specs.Changes.{Placed, changes}
-use Rattle.transcript_words.specs.Code.{code_words}
-use Rattle.transcript_words.specs.Source.{source}
-use Rattle.transcript_words.specs.Words.{call_words, step_words}
+use Rattle.transcript_words.proofs.Cited.{◌≡◌, ℕ, true, false, List, [], ◌∷◌, Option, Some, None, refl, codes, digits, after_blanks, Placed}
+use Rattle.transcript_words.proofs.Cited.{changes, code_words, source, call_words, step_words}
 
 abbrev one : List (List ℕ)
 one = source (codes "grow less\nEmptyHandle picture\nend\n NewHandle list 500\n\nGetResource icon 'ICN#' 128\n")

@@ -1,3 +1,4 @@
+mod Cited
 pub mod Tiles
 pub mod Places
 pub mod SlotTable

@@ -1,10 +1,5 @@
-use Rattle.std.proofs.Common.{◌≡◌, ℕ, ◌+◌, true, false, List, [], ◌∷◌, ◌++◌, if◌then◌else◌, arith, ap, sym, ◌∙◌, append_assoc}
-use Rattle.std.specs.List.{flat_map}
-use Rattle.zone_drawing.specs.Drawing.{line_sizes}
-use Rattle.zone_drawing.specs.Line.{Line}
-use Rattle.zone_drawing.specs.Strip.{bins, bin_text, bins_text, is_full}
-use Rattle.zone_drawing.specs.declared.strip.Layer.{Layer}
-use Rattle.zone_drawing.specs.declared.strip.Window.{Window}
+use Rattle.zone_drawing.proofs.Cited.{◌≡◌, ℕ, ◌+◌, true, false, List, [], ◌∷◌, ◌++◌, if◌then◌else◌, arith, ap, sym, ◌∙◌, append_assoc}
+use Rattle.zone_drawing.proofs.Cited.{flat_map, line_sizes, Line, bins, bin_text, bins_text, is_full, Layer, Window}
 
 -- The bins of a strip, and the bytes of one.
 

@@ -1,11 +1,6 @@
-use Rattle.std.proofs.Common.{◌≡◌, ℕ, ◌+◌, Bool, true, false, not, ◌&&◌, List, [], ◌∷◌, refl, sym, ap, arith, ◌∙◌, cond}
-use Rattle.zone_drawing.specs.Choice.{chosen, is_chosen}
-use Rattle.zone_drawing.specs.Line.{Line}
-use Rattle.zone_drawing.specs.Text.{is_locked}
-use Rattle.zone_drawing.specs.Totals.{counted, in_class, sized}
-use Rattle.zone_drawing.specs.declared.choice.Choice.{Choice}
+use Rattle.zone_drawing.proofs.Cited.{◌≡◌, ℕ, ◌+◌, Bool, true, false, not, ◌&&◌, List, [], ◌∷◌, refl, sym, ap, arith, ◌∙◌, cond, chosen}
+use Rattle.zone_drawing.proofs.Cited.{is_chosen, Line, is_locked, counted, in_class, sized, Choice, Class}
 use Rattle.zone_drawing.specs.declared.choice.Choice.TheVariants as choice
-use Rattle.zone_drawing.specs.declared.totals.Class.{Class}
 use Rattle.zone_drawing.specs.declared.totals.Class.TheVariants as class
 
 -- The blocks that are chosen have the totals of their class.

@@ -1,8 +1,5 @@
-use Rattle.std.proofs.Common.{◌≡◌, Bool, List, [], ◌∷◌, ◌++◌, map, refl, sym, ap, ◌∙◌}
-use Rattle.std.proofs.lemmas.List.{map_push}
-use Rattle.zone_drawing.specs.Quiet.{added, after_last}
-use Rattle.zone_drawing.specs.Steps.{Moment}
-use Rattle.zone_drawing.specs.View.{view_moment}
+use Rattle.zone_drawing.proofs.Cited.{◌≡◌, Bool, List, [], ◌∷◌, ◌++◌, map, refl, sym, ap, ◌∙◌, map_push, added, after_last, Moment}
+use Rattle.zone_drawing.proofs.Cited.{view_moment}
 use Rattle.zone_drawing.specs.declared.line.Moment.{Moment as OwnMoment}
 
 -- A moment that is added to others.

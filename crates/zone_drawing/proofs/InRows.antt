@@ -1,6 +1,6 @@
-use Rattle.std.proofs.Common.{◌≡◌, ℕ, Bool, true, false, List, [], ◌∷◌, ◌++◌, refl, ap, ◌∙◌, if◌then◌else◌}
-use Rattle.std.proofs.Common.{append_assoc}
-use Rattle.zone_drawing.specs.Bytes.{bytes_in, is_full, rows}
+use Rattle.zone_drawing.proofs.Cited.{◌≡◌, ℕ, Bool, true, false, List, [], ◌∷◌, ◌++◌, refl, ap, ◌∙◌, if◌then◌else◌, append_assoc, bytes_in}
+use Rattle.zone_drawing.proofs.Cited.{rows}
+use Rattle.zone_drawing.specs.Bytes.{is_full}
 
 -- The bytes of a block, in rows.
 

@@ -1,9 +1,5 @@
-use Rattle.std.proofs.Common.{◌≡◌, List, [], ◌∷◌, ◌++◌, map, refl, sym, ap, ◌∙◌}
-use Rattle.std.proofs.lemmas.List.{map_push}
-use Rattle.zone_drawing.specs.Inside.{above_last, added_line}
-use Rattle.zone_drawing.specs.Line.{Line}
-use Rattle.zone_drawing.specs.View.{view_line}
-use Rattle.zone_drawing.specs.declared.line.BlockLine.{BlockLine}
+use Rattle.zone_drawing.proofs.Cited.{◌≡◌, List, [], ◌∷◌, ◌++◌, map, refl, sym, ap, ◌∙◌, map_push, above_last, added_line, Line, view_line}
+use Rattle.zone_drawing.proofs.Cited.{BlockLine}
 
 -- A block that is added above others.
 

@@ -1,9 +1,5 @@
-use Rattle.std.proofs.Common.{◌≡◌, ℕ, Bool, true, false, List, [], ◌∷◌, ◌++◌, Option, Some, None, cond, nat_le, refl, ◌∙◌, ap}
-use Rattle.zone_drawing.specs.declared.strip.Extent.{Extent}
-use Rattle.zone_drawing.specs.declared.strip.Window.{Window}
-use Rattle.zone_drawing.specs.Line.{Line}
-use Rattle.zone_drawing.specs.Steps.{arrow_of, arrow_to, line_arrow, arrows}
-use Rattle.zone_drawing.specs.Svg.{extent}
+use Rattle.zone_drawing.proofs.Cited.{◌≡◌, ℕ, Bool, true, false, List, [], ◌∷◌, ◌++◌, Option, Some, None, cond, nat_le, refl, ◌∙◌, ap}
+use Rattle.zone_drawing.proofs.Cited.{Extent, Window, Line, arrow_of, arrow_to, line_arrow, arrows, extent}
 
 -- Arrows are the same where the blocks of the lower strip stand at the same places.
 

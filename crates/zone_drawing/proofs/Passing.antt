@@ -1,15 +1,8 @@
-use Rattle.std.proofs.Common.{◌≡◌, ℕ, ◌+◌, ◌≤◌, Bool, true, false, not, ◌&&◌, List, [], ◌∷◌, refl, ◌∙◌, ap, arith, map, max, cond}
-use Rattle.std.proofs.lemmas.Bool.{cond-true, cond-false}
-use Rattle.block_store.specs.Block.{Block, Free, Nonrelocatable, Masters, Relocatable, total}
-use Rattle.block_store.specs.Run.{Stretch, segments}
+use Rattle.zone_drawing.proofs.Cited.{◌≡◌, ℕ, ◌+◌, ◌≤◌, Bool, true, false, not, ◌&&◌, List, [], ◌∷◌, refl, ◌∙◌, ap, arith, map, max, cond}
+use Rattle.zone_drawing.proofs.Cited.{cond-true, cond-false, Block, Free, Nonrelocatable, Masters, Relocatable, total, Stretch, segments}
+use Rattle.zone_drawing.proofs.Cited.{largest, seen, seen_size, Seen, in_run, could_be_free, pass, largest_purged}
 use Rattle.block_store.specs.Run as run
-use Rattle.block_store.specs.Compact.{largest}
-use Rattle.block_store.specs.Seen.{seen}
-use Rattle.block_store.specs.Walk.{seen_size}
-use Rattle.block_store.specs.declared.sparing.Seen.{Seen}
 use Rattle.block_store.specs.declared.sparing.Seen.TheVariants as see
-use Rattle.zone_drawing.specs.Inner.{in_run, could_be_free, pass}
-use Rattle.zone_drawing.specs.Totals.{largest_purged}
 use Rattle.zone_drawing.specs.Totals as whole
 
 -- A pass over the runs of a zone gives the greatest of them.

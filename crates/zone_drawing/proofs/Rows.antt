@@ -1,21 +1,12 @@
 -- Worked zones, by computation.
-use Rattle.std.proofs.Common.{◌≡◌, true, false, List, [], ◌∷◌, Some, None, map, replicate, refl, codes, pos}
-use Rattle.std.specs.Fmt.{digits}
-use Rattle.block_store.specs.Block.{Block, Free, Nonrelocatable, Masters, Relocatable, no_flags}
-use Rattle.block_store.specs.Seen.{seen}
+use Rattle.zone_drawing.proofs.Cited.{◌≡◌, true, false, List, [], ◌∷◌, Some, None, map, replicate, refl, codes, pos, digits, Block, Free}
+use Rattle.zone_drawing.proofs.Cited.{Nonrelocatable, Masters, Relocatable, no_flags, seen, row_line, rows, chosen, digit_at, hex_digits}
+use Rattle.zone_drawing.proofs.Cited.{Known, Line, lines, no_tag, escaped, cell_box, line_text, type_text, counted, sized, largest_of}
 use Rattle.zone_drawing.specs.declared.choice.Choice.TheVariants as choice
 use Rattle.zone_drawing.specs.declared.digits.Digits.TheVariants as written
 use Rattle.zone_drawing.specs.declared.line.Shape.TheVariants as shape
 use Rattle.zone_drawing.specs.declared.style.Style.TheVariants as style
 use Rattle.zone_drawing.specs.declared.totals.Class.TheVariants as class
-use Rattle.zone_drawing.specs.Bytes.{row_line, rows}
-use Rattle.zone_drawing.specs.Choice.{chosen}
-use Rattle.zone_drawing.specs.Digits.{digit_at, hex_digits}
-use Rattle.zone_drawing.specs.Line.{Known, Line, lines, no_tag}
-use Rattle.zone_drawing.specs.Drawing.{escaped}
-use Rattle.zone_drawing.specs.Svg.{cell_box}
-use Rattle.zone_drawing.specs.Text.{line_text, type_text}
-use Rattle.zone_drawing.specs.Totals.{counted, sized, largest_of}
 
 -- a pointer's block; a locked, purgeable block; a new block of master pointers above it; a purgeable block; and free bytes
 abbrev marked : List Block

@@ -1,14 +1,8 @@
 -- Worked moments of a zone, by computation.
-use Rattle.std.proofs.Common.{◌≡◌, ℕ, List, [], ◌∷◌, Some, None, map, refl, codes}
-use Rattle.std.specs.Fmt.{digits}
-use Rattle.block_store.specs.Block.{no_flags}
+use Rattle.zone_drawing.proofs.Cited.{◌≡◌, ℕ, List, [], ◌∷◌, Some, None, map, refl, codes, digits, no_flags, Window, line_sizes}
+use Rattle.zone_drawing.proofs.Cited.{cleared_lines, parts, purged_lines, Known, Line, Tag, lines, no_tag, Moment, arrow, arrow_of, arrows}
+use Rattle.zone_drawing.proofs.Cited.{extent_of, greatest_size, moment_caption, passed_text, passed_words}
 use Rattle.block_store.specs.declared.sparing.Seen.TheVariants as see
-use Rattle.zone_drawing.specs.declared.strip.Window.{Window}
-use Rattle.zone_drawing.specs.Drawing.{line_sizes}
-use Rattle.zone_drawing.specs.Inside.{cleared_lines, parts, purged_lines}
-use Rattle.zone_drawing.specs.Line.{Known, Line, Tag, lines, no_tag}
-use Rattle.zone_drawing.specs.Steps.{Moment, arrow, arrow_of, arrows, extent_of, greatest_size, moment_caption, passed_text}
-use Rattle.zone_drawing.specs.Steps.{passed_words}
 
 abbrev numbered : ℕ → Tag
 numbered n = record { name = None; owner = None; number = Some n }

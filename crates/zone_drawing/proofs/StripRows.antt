@@ -1,17 +1,11 @@
 -- Worked strips, by computation.
-use Rattle.std.proofs.Common.{◌≡◌, ℕ, true, false, List, [], ◌∷◌, Some, None, map, refl, codes}
-use Rattle.std.specs.Fmt.{digits}
-use Rattle.block_store.specs.Block.{no_flags}
+use Rattle.zone_drawing.proofs.Cited.{◌≡◌, ℕ, true, false, List, [], ◌∷◌, Some, None, map, refl, codes, digits, no_flags, Window}
+use Rattle.zone_drawing.proofs.Cited.{line_sizes, Known, Line, Tag, lines, no_tag, all_parts, bin_box, bin_name, bin_text, bins, box_opened}
+use Rattle.zone_drawing.proofs.Cited.{class_titles, class_words, is_in, least_bin, middle, name_at, piece, rectangle, title_by, row_count}
+use Rattle.zone_drawing.proofs.Cited.{row_window, svg_height}
 use Rattle.block_store.specs.declared.sparing.Seen.TheVariants as see
 use Rattle.zone_drawing.specs.declared.strip.Layer.TheVariants as layer
-use Rattle.zone_drawing.specs.declared.strip.Window.{Window}
 use Rattle.zone_drawing.specs.declared.totals.Class.TheVariants as class
-use Rattle.zone_drawing.specs.Drawing.{line_sizes}
-use Rattle.zone_drawing.specs.Line.{Known, Line, Tag, lines, no_tag}
-use Rattle.zone_drawing.specs.Strip.{all_parts, bin_box, bin_name, bin_text, bins, box_opened}
-use Rattle.zone_drawing.specs.Strip.{class_titles, class_words, is_in, least_bin, middle}
-use Rattle.zone_drawing.specs.Strip.{name_at, piece, rectangle, title_by}
-use Rattle.zone_drawing.specs.Svg.{row_count, row_window, svg_height}
 
 abbrev known : Known
 known = record { handle = λ slot. record { name = Some (codes "text"); owner = None; number = Some slot }; pointer = λ place. no_tag }

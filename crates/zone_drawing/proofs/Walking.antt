@@ -1,19 +1,7 @@
-use Rattle.std.proofs.Common.{◌≡◌, ℕ, ◌+◌, ◌-◌, ◌≤◌, ◌<◌, List, [], ◌∷◌, ◌++◌, refl, sym, ◌∙◌, ap, subst}
-use Rattle.std.proofs.Common.{arith, Option, Some, None, map, append_assoc, append-nil}
-use Rattle.std.proofs.lemmas.List.{map-append}
-use Rattle.std.proofs.lemmas.Option.{none-some, same_Some}
-use Rattle.std.specs.Option.{option_map}
-use Rattle.block_store.specs.Block.{Block, size, sizes, tidy}
-use Rattle.block_store.specs.Find.{IsEdge}
-use Rattle.block_store.specs.Room.{Spot, spot_at}
-use Rattle.block_store.specs.Seen.{seen}
-use Rattle.block_store.specs.Walk.{seen_size}
-use Rattle.block_store.specs.declared.sparing.Seen.{Seen}
-use Rattle.zone_drawing.specs.Line.{seen_sizes}
-use Rattle.block_store.proofs.Zone.Apart.{Apart, apart-size, apart-tidied, apart-above}
-use Rattle.block_store.proofs.Zone.Edges.{edge-between}
-use Rattle.block_store.proofs.Zone.Parted.{spot_at-parted, spot-end}
-use Rattle.block_store.proofs.Zone.Totals.{total-append}
+use Rattle.zone_drawing.proofs.Cited.{◌≡◌, ℕ, ◌+◌, ◌-◌, ◌≤◌, ◌<◌, List, [], ◌∷◌, ◌++◌, refl, sym, ◌∙◌, ap, subst, arith, Option, Some, None}
+use Rattle.zone_drawing.proofs.Cited.{map, append_assoc, append-nil, map-append, none-some, same_Some, option_map, Block, size, sizes, tidy}
+use Rattle.zone_drawing.proofs.Cited.{IsEdge, Spot, spot_at, seen, seen_size, Seen, seen_sizes, Apart, apart-size, apart-tidied}
+use Rattle.zone_drawing.proofs.Cited.{apart-above, edge-between, spot_at-parted, spot-end, total-append}
 use Rattle.block_store.proofs.Walks.Telling.{size-seen as seen-size}
 
 -- A walk over the blocks of a zone, lowest first.

@@ -1,13 +1,7 @@
-use Rattle.std.proofs.Common.{◌≡◌, ◌≤◌, ℕ, ◌+◌, ◌*◌, ◌/◌, Bool, true, false, not, ◌&&◌, List, []}
-use Rattle.std.proofs.Common.{◌∷◌, ◌++◌, refl, sym, ◌∙◌, ap, arith, cond, length, min, nat_le}
-use Rattle.std.proofs.Common.{append_assoc}
-use Rattle.zone_drawing.specs.Drawing.{line_sizes}
-use Rattle.zone_drawing.specs.Line.{Line}
-use Rattle.zone_drawing.specs.Strip.{bins, blocks_in, counted_by, counted_in, drawn_classes, is_full, sized_by, sized_in}
-use Rattle.zone_drawing.specs.Totals.{counted, sized}
-use Rattle.zone_drawing.specs.declared.line.Shape.{Shape}
+use Rattle.zone_drawing.proofs.Cited.{◌≡◌, ◌≤◌, ℕ, ◌+◌, ◌*◌, ◌/◌, Bool, true, false, not, ◌&&◌, List, [], ◌∷◌, ◌++◌, refl, sym, ◌∙◌, ap}
+use Rattle.zone_drawing.proofs.Cited.{arith, cond, length, min, nat_le, append_assoc, line_sizes, Line, bins, blocks_in, counted_by}
+use Rattle.zone_drawing.proofs.Cited.{counted_in, drawn_classes, is_full, sized_by, sized_in, counted, sized, Shape, Class}
 use Rattle.zone_drawing.specs.declared.line.Shape.TheVariants as shape
-use Rattle.zone_drawing.specs.declared.totals.Class.{Class}
 
 -- No block is lost in the bins of a strip, nor in the parts of a bin.
 

@@ -1,3 +1,4 @@
+mod Cited
 pub mod Joined
 pub mod Marks
 pub mod Bounds

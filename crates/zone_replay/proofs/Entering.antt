@@ -1,23 +1,10 @@
-use Rattle.std.proofs.Common.{◌≡◌, ℕ, ◌+◌, ◌==◌, Bool, true, false, cond, List, ◌∷◌, Option, Some, None, refl, sym, ap, ◌∙◌}
-use Rattle.std.proofs.Common.{arith, ◌<◌, ◌^◌, nat_lt, ◌≤◌, suc, add-one, length, drop, slice_get}
-use Rattle.std.proofs.Math.Seq.{drop-cons}
-use Rattle.std.proofs.lemmas.Bool.{cond-true}
-use Rattle.std.proofs.lemmas.Bool.Decides.{nat_tests}
-use Rattle.std.proofs.lemmas.List.{drop_all}
-use Rattle.std.proofs.lemmas.Option.{slice_get_within, get_or_from_slice_get}
-use Rattle.std.specs.BTreeMap.{BTreeMap, get}
-use Rattle.std.specs.Borrow.{Bor}
-use Rattle.std.specs.Option.{option_or, option_map}
-use Rattle.std.specs.Ordering.{nat_cmp}
-use Rattle.mac_words.specs.declared.name.Label.{Label}
-use Rattle.res_map.specs.Map.{Reference, has_handle}
-use Rattle.heap_calls.specs.declared.anchor.Anchor.{Anchor}
-use Rattle.heap_calls.specs.Inner.Numbered.{number_from, no_number}
-use Rattle.zone_drawing.specs.Line.{Tag, no_tag}
-use Rattle.zone_drawing.specs.View.{view_tag, tag_in}
-use Rattle.zone_drawing.specs.declared.line.Owner.{Owner}
+use Rattle.zone_replay.proofs.Cited.{◌≡◌, ℕ, ◌+◌, ◌==◌, Bool, true, false, cond, List, ◌∷◌, Option, Some, None, refl, sym, ap, ◌∙◌, arith}
+use Rattle.zone_replay.proofs.Cited.{◌<◌, ◌^◌, ◌≤◌, suc, add-one, length, drop, slice_get, drop-cons, cond-true, nat_tests, drop_all}
+use Rattle.zone_replay.proofs.Cited.{slice_get_within, get_or_from_slice_get, BTreeMap, get, Bor, option_or, option_map, nat_cmp, Label}
+use Rattle.zone_replay.proofs.Cited.{Reference, has_handle, Anchor, number_from, no_number, Tag, no_tag, view_tag, tag_in, Owner, entered}
+use Rattle.zone_replay.proofs.Cited.{given, owned, owner, owner_in, tag_by}
+use Rattle.std.proofs.Common.{nat_lt}
 use Rattle.zone_drawing.specs.declared.line.Tag as declared
-use Rattle.zone_replay.specs.Known.{entered, given, owned, owner, owner_in, tag_by}
 
 -- Maps into which the first value of each key is entered.
 

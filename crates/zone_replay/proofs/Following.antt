@@ -1,29 +1,10 @@
-use Rattle.std.proofs.Common.{◌≡◌, ◌∙◌, ◌-◌, ◌++◌, ℕ, Bool, true, false, cond, List, [], ◌∷◌, Vec, Result, refl, ap}
-use Rattle.std.proofs.Common.{subst, map, take, drop, IfOk}
-use Rattle.std.specs.Global.{Global}
-use Rattle.std.specs.declared.alloc.AllocError.{AllocError}
-use Rattle.block_store.specs.Rest.{Site}
-use Rattle.script_text.specs.Script.{ScriptParts}
-use Rattle.script_text.specs.Transcript.{launch_line}
-use Rattle.script_text.specs.declared.script.Line.{Line}
-use Rattle.res_calls.specs.Files.{Resources}
-use Rattle.applications.specs.Alone.{first_steps}
-use Rattle.applications.specs.Application.{lines_told}
-use Rattle.applications.specs.Elsewhere.{moved, course_elsewhere}
-use Rattle.applications.specs.Step.{Course, step, course_of}
-use Rattle.applications.specs.Trying.{Blocks, Running, launched_with}
-use Rattle.applications.specs.Inside.{Glance, glances}
-use Rattle.applications.proofs.Elsewhere.{glance_elsewhere, glances-elsewhere, step-elsewhere, launched_course}
-use Rattle.zone_drawing.specs.Inside.{added_with, inside}
-use Rattle.zone_drawing.specs.Quiet.{gathered}
-use Rattle.zone_drawing.specs.Steps.{Moment, steps_svg}
-use Rattle.transcript_words.specs.Source.{source}
-use Rattle.zone_replay.specs.Drawn.{drawn_behind, moments_svg}
-use Rattle.zone_replay.specs.Inside.{gathered_inside, glance_moment, inside_behind, step_added, unless_ended}
-use Rattle.zone_replay.specs.Known.{tag}
-use Rattle.zone_replay.specs.Moments.{moment, moments_of, moments_behind, step_moment, words_after}
-use Rattle.zone_replay.specs.Shown.{zone_lines}
-use Rattle.zone_replay.specs.declared.moments.Strips.{Strips}
+use Rattle.zone_replay.proofs.Cited.{◌≡◌, ◌∙◌, ◌-◌, ◌++◌, ℕ, Bool, true, false, cond, List, [], ◌∷◌, Vec, Result, refl, ap, subst, map}
+use Rattle.zone_replay.proofs.Cited.{take, drop, IfOk, Global, AllocError, Site, ScriptParts, launch_line, Line, Resources, first_steps}
+use Rattle.zone_replay.proofs.Cited.{lines_told, moved, course_elsewhere, Course, step, course_of, Blocks, Running, launched_with, Glance}
+use Rattle.zone_replay.proofs.Cited.{glances, glance_elsewhere, glances-elsewhere, step-elsewhere, launched_course, added_with, inside}
+use Rattle.zone_replay.proofs.Cited.{gathered, Moment, steps_svg, source, drawn_behind, moments_svg, gathered_inside, glance_moment}
+use Rattle.zone_replay.proofs.Cited.{inside_behind, step_added, unless_ended, tag, moment, moments_of, moments_behind, step_moment}
+use Rattle.zone_replay.proofs.Cited.{words_after, zone_lines, Strips}
 
 -- The moments of an application, one after another.
 

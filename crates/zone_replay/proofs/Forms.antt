@@ -1,29 +1,9 @@
-use Rattle.std.proofs.Common.{◌≡◌, ◌∙◌, ◌++◌, ℕ, Option, List, Vec, Result, sym, ap, subst, map, take, IfOk}
-use Rattle.std.specs.Global.{Global}
-use Rattle.std.specs.declared.alloc.AllocError.{AllocError}
-use Rattle.block_store.specs.Rest.{Site}
-use Rattle.script_text.specs.Script.{ScriptParts}
-use Rattle.script_text.specs.Transcript.{launch_line}
+use Rattle.zone_replay.proofs.Cited.{◌≡◌, ◌∙◌, ◌++◌, ℕ, Option, List, Vec, Result, sym, ap, subst, map, take, IfOk, Global, AllocError}
+use Rattle.zone_replay.proofs.Cited.{Site, ScriptParts, launch_line, Resources, first_steps, lines_told, course_elsewhere, Bindings, Course}
+use Rattle.zone_replay.proofs.Cited.{course_of, Running, launched_with, launched_course, widest, zone_text, view_line, BlockLine, Listing}
+use Rattle.zone_replay.proofs.Cited.{Largest, step_told, zone_behind, lines_shown, listing_of, zone_shown, Details, Form}
 use Rattle.script_text.specs.declared.script.Line as script
-use Rattle.res_calls.specs.Files.{Resources}
-use Rattle.applications.specs.Alone.{first_steps}
-use Rattle.applications.specs.Application.{lines_told}
-use Rattle.applications.specs.Elsewhere.{course_elsewhere}
-use Rattle.applications.specs.Names.{Bindings}
-use Rattle.applications.specs.Step.{Course, course_of}
-use Rattle.applications.specs.Trying.{Running, launched_with}
-use Rattle.applications.proofs.Elsewhere.{launched_course}
-use Rattle.zone_drawing.specs.Text.{widest}
-use Rattle.zone_drawing.specs.Listing.{zone_text}
-use Rattle.zone_drawing.specs.View.{view_line}
-use Rattle.zone_drawing.specs.declared.line.BlockLine.{BlockLine}
-use Rattle.zone_drawing.specs.declared.listing.Listing.{Listing}
 use Rattle.zone_drawing.specs.declared.style.Style.TheVariants as style
-use Rattle.zone_drawing.specs.declared.totals.Largest.{Largest}
-use Rattle.zone_replay.specs.Behind.{step_told, zone_behind}
-use Rattle.zone_replay.specs.Shown.{lines_shown, listing_of, zone_shown}
-use Rattle.zone_replay.specs.declared.form.Details.{Details}
-use Rattle.zone_replay.specs.declared.form.Form.{Form}
 use Rattle.zone_replay.specs.declared.form.Form.TheVariants as form
 
 -- A zone in a form, and the zone of an application alone.

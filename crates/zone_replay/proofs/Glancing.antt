@@ -1,19 +1,7 @@
-use Rattle.std.proofs.Common.{◌≡◌, ◌∙◌, ◌++◌, Bool, true, false, Option, None, List, [], ◌∷◌, ℕ, ap, cond, is_some, map, refl, sym}
-use Rattle.std.proofs.lemmas.List.{map_push}
-use Rattle.mac_words.specs.declared.code.OsErr.{OsErr}
-use Rattle.mac_words.specs.declared.reply.Reply.{Reply}
-use Rattle.script_text.specs.Call.{word_of}
-use Rattle.script_text.specs.Transcript.{Number, bytes_shown, name_shown, type_shown, values_of}
-use Rattle.script_text.specs.declared.script.Line.{Line}
-use Rattle.script_text.specs.declared.word.CallWord.{CallWord}
-use Rattle.applications.specs.Inside.{Glance}
-use Rattle.applications.specs.Replies.{exit_of}
-use Rattle.applications.specs.Step.{Course, step}
-use Rattle.applications.specs.Trying.{Blocks, Running}
-use Rattle.applications.specs.declared.quitting.Exit.{Exit}
-use Rattle.applications.proofs.Rounds.{over-of}
-use Rattle.zone_drawing.specs.Steps.{Moment}
-use Rattle.zone_replay.specs.Inside.{gathered_inside, glance_line, glance_moment, in_words, step_added, try_line, try_of, view_try}
+use Rattle.zone_replay.proofs.Cited.{◌≡◌, ◌∙◌, ◌++◌, Bool, true, false, Option, None, List, [], ◌∷◌, ℕ, ap, cond, is_some, map, refl, sym}
+use Rattle.zone_replay.proofs.Cited.{map_push, OsErr, Reply, word_of, Number, bytes_shown, name_shown, type_shown, values_of, Line}
+use Rattle.zone_replay.proofs.Cited.{CallWord, Glance, exit_of, Course, step, Blocks, Running, Exit, over-of, Moment, gathered_inside}
+use Rattle.zone_replay.proofs.Cited.{glance_line, glance_moment, in_words, step_added, try_line, try_of, view_try}
 use Rattle.zone_replay.specs.declared.inside.Try as seen
 
 -- Tries as lines of a transcript, and in words.

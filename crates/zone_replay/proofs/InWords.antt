@@ -1,24 +1,10 @@
-use Rattle.std.proofs.Common.{◌≡◌, ◌∙◌, ◌++◌, ◌||◌, ℕ, Bool, true, false, cond, List, [], ◌∷◌, Option, is_some, refl, sym, ap}
-use Rattle.std.proofs.Common.{◌-◌, append_assoc, append-nil, length, take, drop, Vec, Result, IfOk, subst}
-use Rattle.std.specs.Global.{Global}
-use Rattle.std.specs.Prelude.{nat_lt}
-use Rattle.std.specs.declared.alloc.AllocError.{AllocError}
-use Rattle.block_store.specs.Rest.{Site}
-use Rattle.script_text.specs.Script.{ScriptParts}
-use Rattle.script_text.specs.declared.script.Line.{Line}
-use Rattle.res_calls.specs.Files.{Resources}
-use Rattle.applications.specs.Alone.{ending, first_steps}
-use Rattle.applications.specs.Elsewhere.{moved, course_elsewhere}
-use Rattle.applications.specs.Replies.{end_if, exit_of}
-use Rattle.applications.specs.Step.{Course, step, joined, course_of}
-use Rattle.applications.specs.Trying.{Blocks, Running, launched_with, nowhere}
-use Rattle.applications.specs.declared.quitting.Exit.{Exit}
-use Rattle.applications.proofs.Elsewhere.{step-elsewhere, launched-elsewhere, launched_course}
-use Rattle.applications.proofs.Quits.{end_if-elsewhere, ending-told}
-use Rattle.applications.proofs.Rounds.{over-of, rest_of as left_of}
-use Rattle.transcript_words.specs.Source.{source}
-use Rattle.transcript_words.specs.Words.{launch_words}
-use Rattle.zone_replay.specs.Words.{step_told_in, steps_told, then_told, end_told_in, told_alone, told_between}
+use Rattle.zone_replay.proofs.Cited.{◌≡◌, ◌∙◌, ◌++◌, ◌||◌, ℕ, Bool, true, false, cond, List, [], ◌∷◌, Option, is_some, refl, sym, ap, ◌-◌}
+use Rattle.zone_replay.proofs.Cited.{append_assoc, append-nil, length, take, drop, Vec, Result, IfOk, subst, Global, nat_lt, AllocError}
+use Rattle.zone_replay.proofs.Cited.{Site, ScriptParts, Line, Resources, ending, first_steps, moved, course_elsewhere, end_if, exit_of}
+use Rattle.zone_replay.proofs.Cited.{Course, step, joined, course_of, Blocks, Running, launched_with, nowhere, Exit, step-elsewhere}
+use Rattle.zone_replay.proofs.Cited.{launched-elsewhere, launched_course, end_if-elsewhere, ending-told, over-of, source, launch_words}
+use Rattle.zone_replay.proofs.Cited.{step_told_in, steps_told, then_told, end_told_in, told_alone, told_between}
+use Rattle.applications.proofs.Rounds.{rest_of as left_of}
 
 -- The transcript of an application in words.
 

@@ -1,3 +1,4 @@
+mod Cited
 pub mod Entering
 pub mod Numbered
 pub mod Forms

@@ -1,15 +1,7 @@
 -- Worked moments of an application, by computation.
-use Rattle.std.proofs.Common.{◌≡◌, ℕ, true, false, List, [], ◌∷◌, Some, None, map, refl, codes}
-use Rattle.block_store.specs.Block.{Free, Masters, Relocatable, no_flags}
-use Rattle.script_text.specs.Token.{after_blanks}
-use Rattle.zone_drawing.specs.Line.{Line, Tag}
-use Rattle.zone_drawing.specs.Quiet.{gathered}
-use Rattle.zone_drawing.specs.Steps.{Moment}
-use Rattle.transcript_words.specs.Code.{code_words}
-use Rattle.transcript_words.specs.Source.{source}
-use Rattle.zone_replay.specs.Known.{given}
-use Rattle.zone_replay.specs.Moments.{words_after}
-use Rattle.zone_replay.specs.Shown.{zone_lines}
+use Rattle.zone_replay.proofs.Cited.{◌≡◌, ℕ, true, false, List, [], ◌∷◌, Some, None, map, refl, codes, Free, Masters, Relocatable, no_flags}
+use Rattle.zone_replay.proofs.Cited.{after_blanks, Tag, gathered, Moment, code_words, source, given, words_after, zone_lines}
+use Rattle.zone_drawing.specs.Line.{Line}
 
 -- a call that found no room, after a line of its grow-zone script; and no call
 words-refused : words_after (source (codes "grow g\nDisposeHandle a\nend\nNewHandle b 500\n")) 1

@@ -1,22 +1,8 @@
-use Rattle.std.proofs.Common.{◌≡◌, ℕ, ◌+◌, List, [], ◌∷◌, map, max, refl, sym, ap, ◌∙◌, length}
-use Rattle.std.specs.BTreeMap.{BTreeMap, get}
-use Rattle.std.specs.Borrow.{Bor}
-use Rattle.std.specs.Ordering.{nat_cmp}
-use Rattle.mac_words.specs.Size.{padded}
-use Rattle.mac_words.specs.declared.name.Label.{Label}
-use Rattle.block_store.specs.Block.{Block, Free, Nonrelocatable, Masters, Relocatable, rename, rename_block, total}
-use Rattle.block_store.specs.Compact.{Placed, largest}
-use Rattle.block_store.specs.Run.{runs}
-use Rattle.block_store.specs.Seen.{seen}
-use Rattle.block_store.specs.declared.measures.TheConstants.{MASTERS_SIZE}
-use Rattle.block_store.proofs.Renamed.Renaming.{total-rename}
-use Rattle.heap_calls.proofs.Numbering.Largest.{runs-rename, largest_free-rename, largest_run-rename}
-use Rattle.applications.specs.Trying.{Running}
-use Rattle.zone_drawing.specs.Line.{Tag, Known, line, lines}
-use Rattle.zone_drawing.specs.Totals.{could_be_free, largest_of}
-use Rattle.zone_drawing.specs.declared.line.Owner.{Owner}
-use Rattle.zone_replay.specs.Known.{tag, tag_by, given, name_of, owner_of, named_by}
-use Rattle.zone_replay.specs.Shown.{block_lines, zone_lines}
+use Rattle.zone_replay.proofs.Cited.{◌≡◌, ℕ, ◌+◌, List, [], ◌∷◌, map, max, refl, sym, ap, ◌∙◌, length, BTreeMap, get, Bor, nat_cmp, padded}
+use Rattle.zone_replay.proofs.Cited.{Label, Block, Free, Nonrelocatable, Masters, Relocatable, rename, rename_block, total, Placed, largest}
+use Rattle.zone_replay.proofs.Cited.{runs, seen, MASTERS_SIZE, total-rename, runs-rename, largest_free-rename, largest_run-rename, Running}
+use Rattle.zone_replay.proofs.Cited.{Tag, Known, line, lines, could_be_free, largest_of, Owner, tag, tag_by, given, name_of, owner_of}
+use Rattle.zone_replay.proofs.Cited.{named_by, block_lines, zone_lines}
 
 -- A zone whose blocks are named by slot or place, and the zone with its blocks named by number.
 

@@ -1,11 +1,5 @@
-use Rattle.std.proofs.Common.{◌≡◌, ℕ, Option, Some, None, Result, List, sym, ap}
-use Rattle.mac_words.specs.declared.code.OsErr.{OsErr}
-use Rattle.heap_calls.specs.Answer.{silent}
-use Rattle.heap_calls.specs.Busy.{unless_silent}
-use Rattle.heap_calls.specs.Contents.{shown}
-use Rattle.heap_calls.specs.Pointers.{show_pointer}
-use Rattle.heap_calls.specs.State.{Memory}
-use Rattle.zone_replay.specs.Shown.{unless_barred}
+use Rattle.zone_replay.proofs.Cited.{◌≡◌, ℕ, Option, Some, None, Result, List, sym, ap, OsErr, silent, unless_silent, shown, show_pointer}
+use Rattle.zone_replay.proofs.Cited.{Memory, unless_barred}
 
 -- The bytes of a pointer's block.
 

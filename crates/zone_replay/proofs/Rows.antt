@@ -1,11 +1,7 @@
 -- Worked rows, by computation.
-use Rattle.std.proofs.Common.{◌≡◌, List, [], ◌∷◌, Some, None, map, replicate, refl, codes}
-use Rattle.block_store.specs.Block.{Free, Nonrelocatable, Masters, Relocatable, no_flags}
-use Rattle.applications.specs.Names.{Bindings}
+use Rattle.zone_replay.proofs.Cited.{◌≡◌, List, [], ◌∷◌, Some, None, map, replicate, refl, codes, Free, Nonrelocatable, Masters}
+use Rattle.zone_replay.proofs.Cited.{Relocatable, no_flags, Bindings, step_told, name_of, zone_lines}
 use Rattle.zone_drawing.specs.Line.{Line}
-use Rattle.zone_replay.specs.Behind.{step_told}
-use Rattle.zone_replay.specs.Known.{name_of}
-use Rattle.zone_replay.specs.Shown.{zone_lines}
 
 -- the step that a transcript ends with: its values are left out
 last-step : step_told (codes "launch 0 1024\n1 NewHandle 0\n2 FreeMem 0 624\n") ≡ codes "2 FreeMem 0"

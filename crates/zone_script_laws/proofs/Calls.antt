@@ -1,20 +1,10 @@
-use Rattle.std.proofs.Common.{◌≡◌, ℕ, ◌-◌, ◌≤◌, ◌<◌, Bool, true, false, List, [], ◌∷◌, ◌++◌, refl, ◌∙◌, ap, cond}
-use Rattle.std.proofs.Common.{Some, None, Ok, arith, length, replicate, nat_le, nat_lt}
-use Rattle.std.specs.Prelude.{is_some, unwrap_or}
-use Rattle.std.proofs.lemmas.Bool.{cond-true}
-use Rattle.std.proofs.lemmas.Bool.Decides.{nat_tests}
-use Rattle.std.proofs.lemmas.List.{length-replicate}
-use Rattle.mac_words.specs.Size.{padded, phys}
-use Rattle.block_store.specs.Block.{Block, Nonrelocatable, Masters, Relocatable, size, free, tidy, no_flags}
-use Rattle.block_store.specs.Room.{purge, count_of}
-use Rattle.block_store.specs.Compact.{least_or_last}
-use Rattle.block_store.specs.Inner.Stretch.{is_free}
-use Rattle.moves.specs.Moves.{Move, Search, Purge, Put, Base, did, moved}
-use Rattle.moves.specs.Seeking.{Sought, sought, seek, if_fits, seek_slot, then_seek, no_room}
-use Rattle.heap_calls.specs.State.{State, Handle, Pointer, Plain, used_slots, all_slots}
-use Rattle.heap_calls.specs.Answer.{nothing}
+use Rattle.zone_script_laws.proofs.Cited.{◌≡◌, ℕ, ◌-◌, ◌≤◌, ◌<◌, Bool, true, false, List, [], ◌∷◌, ◌++◌, refl, ◌∙◌, ap, cond, Some, None}
+use Rattle.zone_script_laws.proofs.Cited.{Ok, arith, length, replicate, nat_le, nat_lt, is_some, unwrap_or, cond-true, nat_tests}
+use Rattle.zone_script_laws.proofs.Cited.{length-replicate, padded, phys, Block, Nonrelocatable, Masters, Relocatable, size, free, tidy}
+use Rattle.zone_script_laws.proofs.Cited.{no_flags, purge, count_of, least_or_last, is_free, Move, Search, Purge, Put, Base, did, moved}
+use Rattle.zone_script_laws.proofs.Cited.{Sought, sought, seek, if_fits, seek_slot, then_seek, no_room, State, Handle, Pointer, Plain}
+use Rattle.zone_script_laws.proofs.Cited.{used_slots, all_slots, nothing, heap_after}
 use Rattle.heap_calls.specs.Rows as rows
-use Rattle.heap_calls.specs.Rows.{heap_after}
 use Rattle.zone_script_laws.proofs.Fixed.{Stay, stay-tidy, stay-count, put-above, base-above}
 
 -- The calls that make a block, where the block stands above all others.

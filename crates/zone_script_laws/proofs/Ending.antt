@@ -1,20 +1,9 @@
-use Rattle.std.proofs.Common.{◌≡◌, ℕ, ◌<◌, suc, Bool, true, false, List, [], ◌∷◌, ◌++◌, refl, sym, ◌∙◌, ap, cond, subst, map}
-use Rattle.std.proofs.Common.{Some, arith, length, replicate, slice_get, slice_set, append_assoc}
-use Rattle.std.specs.Prelude.{flat_map}
-use Rattle.std.proofs.lemmas.List.{length-replicate}
-use Rattle.mac_words.specs.Size.{padded}
-use Rattle.mac_words.specs.Told.{Done}
-use Rattle.block_store.specs.Block.{Block, Free, Nonrelocatable, Relocatable, free, tidy, is_nonrelocatable}
-use Rattle.block_store.specs.Run.{has}
-use Rattle.block_store.specs.Grow.{freed}
-use Rattle.block_store.specs.Room.{spot}
-use Rattle.block_store.proofs.Zone.Parted.{tidy-parted}
-use Rattle.heap_calls.specs.State.{State, Memory, Meaning, Disposed}
+use Rattle.zone_script_laws.proofs.Cited.{◌≡◌, ℕ, ◌<◌, suc, Bool, true, false, List, [], ◌∷◌, ◌++◌, refl, sym, ◌∙◌, ap, cond, subst, map}
+use Rattle.zone_script_laws.proofs.Cited.{Some, arith, length, replicate, slice_get, slice_set, append_assoc, flat_map, length-replicate}
+use Rattle.zone_script_laws.proofs.Cited.{padded, Done, Block, Free, Nonrelocatable, Relocatable, free, tidy, is_nonrelocatable, has, freed}
+use Rattle.zone_script_laws.proofs.Cited.{spot, tidy-parted, State, Memory, Meaning, Disposed, Bindings, bound_to, Part, Relocated, Fixed}
+use Rattle.zone_script_laws.proofs.Cited.{Gap, numbered, block_of, Line, HUnlock, DisposePtr, name_of, ending, Runs}
 use Rattle.heap_calls.specs.Asked as asks
-use Rattle.applications.specs.Names.{Bindings, bound_to}
-use Rattle.zone_scripts.specs.Parts.{Part, Relocated, Fixed, Gap, numbered, block_of}
-use Rattle.zone_scripts.specs.Lines.{Line, HUnlock, DisposePtr, name_of, ending}
-use Rattle.zone_script_laws.specs.Runs.{Runs}
 use Rattle.zone_script_laws.proofs.Parted.{spot-relocatable, spot-nonrelocatable, freed-nonrelocatable}
 use Rattle.zone_script_laws.proofs.Serving.{Serves, serves-dispose}
 use Rattle.zone_script_laws.proofs.Steps.{Stands, step, AllBound, get-after-set}

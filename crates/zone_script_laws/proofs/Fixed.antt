@@ -1,16 +1,9 @@
-use Rattle.std.proofs.Common.{◌≡◌, ℕ, ◌+◌, ◌-◌, ◌≤◌, ◌<◌, zero, suc, Bool, true, false, not, List, [], ◌∷◌, ◌++◌, refl}
-use Rattle.std.proofs.Common.{◌∙◌, ap, arith, Option, Some, nat_le, append-nil}
-use Rattle.std.specs.Option.{option_map, option_or}
-use Rattle.std.specs.Prelude.{option_and_then}
-use Rattle.std.proofs.lemmas.Bool.{cond-true, cond-false}
-use Rattle.std.proofs.lemmas.Bool.Decides.{nat_tests}
-use Rattle.block_store.specs.Block.{Block, Free, Nonrelocatable, Masters, Relocatable, size, free, add, tidy, is_room}
-use Rattle.block_store.specs.Run.{in_run, RunSpot, Segments, segments, lowest_run, run_spot, run_raised, has_free, low, change_run, settle}
-use Rattle.block_store.specs.Room.{Spot, spot, raised, filled, put_in_place, put_at_base, may_be_purged, count_of}
-use Rattle.block_store.specs.Inner.Stretch.{is_free}
-use Rattle.block_store.proofs.Zone.Apart.{barrier-alone}
-use Rattle.block_store.proofs.Zone.Joining.{stands}
-use Rattle.block_store.proofs.Zone.Spots.{free-some}
+use Rattle.zone_script_laws.proofs.Cited.{◌≡◌, ℕ, ◌+◌, ◌-◌, ◌≤◌, ◌<◌, zero, suc, Bool, true, false, not, List, [], ◌∷◌, ◌++◌, refl, ◌∙◌, ap}
+use Rattle.zone_script_laws.proofs.Cited.{arith, Option, Some, nat_le, append-nil, option_map, option_or, option_and_then, cond-true}
+use Rattle.zone_script_laws.proofs.Cited.{cond-false, nat_tests, Block, Free, Nonrelocatable, Masters, Relocatable, size, free, add, tidy}
+use Rattle.zone_script_laws.proofs.Cited.{is_room, in_run, RunSpot, Segments, segments, lowest_run, run_spot, run_raised, has_free, low}
+use Rattle.zone_script_laws.proofs.Cited.{change_run, settle, Spot, spot, raised, filled, put_in_place, put_at_base, may_be_purged}
+use Rattle.zone_script_laws.proofs.Cited.{count_of, is_free, barrier-alone, stands, free-some}
 
 -- Blocks that stay where they are, with free bytes above them.
 

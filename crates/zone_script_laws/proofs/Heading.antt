@@ -1,15 +1,9 @@
-use Rattle.std.proofs.Common.{◌≡◌, ℕ, ◌+◌, ◌-◌, ◌≤◌, suc, Bool, true, false, ◌==◌, ◌&&◌, not, nat_lt, List, [], ◌∷◌, ◌++◌, refl, ◌∙◌, ap}
-use Rattle.std.proofs.Common.{map, Ok, Err, arith, length, take, append_assoc, length-append, codes, decimal}
-use Rattle.std.specs.List.{list_all, slice_split}
-use Rattle.std.specs.Str.Lines.{lines, strip_carriage_return}
-use Rattle.std.proofs.lemmas.Bool.{and_parts, cond-true, cond-false, eqb-true, not-true, le-ltb}
-use Rattle.real_zone.specs.declared.form.Form.{Form}
+use Rattle.zone_script_laws.proofs.Cited.{◌≡◌, ℕ, ◌+◌, ◌-◌, ◌≤◌, suc, Bool, true, false, ◌==◌, ◌&&◌, not, nat_lt, List, [], ◌∷◌, ◌++◌, refl}
+use Rattle.zone_script_laws.proofs.Cited.{◌∙◌, ap, map, Ok, Err, arith, length, take, append_assoc, length-append, codes, decimal, list_all}
+use Rattle.zone_script_laws.proofs.Cited.{slice_split, lines, strip_carriage_return, and_parts, cond-true, cond-false, eqb-true, not-true}
+use Rattle.zone_script_laws.proofs.Cited.{le-ltb, Form, LongLine, is_blank, after_blanks, Above, with_text, longest_line, read_at}
+use Rattle.zone_script_laws.proofs.Cited.{read_from, at_line, hex_text, bits_phrase, zone_phrase, size_phrase, head_text, notes_text}
 use Rattle.real_zone.specs.declared.form.Form.TheVariants as form
-use Rattle.script_text.specs.declared.fault.FaultKind.TheVariants.{LongLine}
-use Rattle.script_text.specs.Token.{is_blank, after_blanks}
-use Rattle.script_text.specs.Script.{Above, with_text, longest_line, read_at, read_from, at_line}
-use Rattle.zone_scripts.specs.Hex.{hex_text}
-use Rattle.zone_scripts.specs.Text.{bits_phrase, zone_phrase, size_phrase, head_text, notes_text}
 use Rattle.zone_script_laws.proofs.Letters.{is_plain, all-plain}
 use Rattle.zone_script_laws.proofs.Lines.{ends, lines-before}
 use Rattle.zone_script_laws.proofs.Tokens.{after-none}

@@ -1,9 +1,5 @@
-use Rattle.std.proofs.Common.{◌≡◌, ℕ, Bool, true, false, ◌==◌, ◌&&◌, ◌||◌, not, List, [], ◌∷◌, refl, sym, ◌∙◌, ap}
-use Rattle.std.proofs.Common.{true≢false}
-use Rattle.std.specs.List.{list_all}
-use Rattle.std.proofs.lemmas.Bool.{and_parts, eqb-true, false_from_ne_true}
-use Rattle.script_text.specs.Token.{is_blank}
-use Rattle.script_text.specs.Argument.{is_label_byte}
+use Rattle.zone_script_laws.proofs.Cited.{◌≡◌, ℕ, Bool, true, false, ◌==◌, ◌&&◌, ◌||◌, not, List, [], ◌∷◌, refl, sym, ◌∙◌, ap, true≢false}
+use Rattle.zone_script_laws.proofs.Cited.{list_all, and_parts, eqb-true, false_from_ne_true, is_blank, is_label_byte}
 
 -- Letters, digits and underscores, of which the tokens of a written line are made.
 

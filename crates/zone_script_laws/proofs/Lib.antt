@@ -1,3 +1,4 @@
+mod Cited
 pub mod Fixed
 pub mod Parted
 pub mod Calls

@@ -1,10 +1,7 @@
-use Rattle.std.proofs.Common.{◌≡◌, ℕ, ◌-◌, ◌<◌, zero, suc, Bool, true, false, ◌==◌, not, List, [], ◌∷◌, ◌++◌, refl, ◌∙◌, ap, cond, map}
-use Rattle.std.proofs.Common.{arith, length, take}
-use Rattle.std.specs.Prelude.{slice_index}
-use Rattle.std.specs.List.{list_all, slice_split, onto_first}
-use Rattle.std.specs.Str.Lines.{lines, lines_of_parts, strip_carriage_return}
-use Rattle.std.proofs.lemmas.Bool.{and_parts, cond-false, not-true}
-use Rattle.std.proofs.lemmas.List.Splits.{slice_split-cons_no, length-slice_split}
+use Rattle.zone_script_laws.proofs.Cited.{◌≡◌, ℕ, ◌-◌, ◌<◌, zero, suc, Bool, true, false, ◌==◌, not, List, [], ◌∷◌, ◌++◌, refl, ◌∙◌, ap}
+use Rattle.zone_script_laws.proofs.Cited.{cond, map, arith, length, take, slice_index, list_all, slice_split, onto_first, lines}
+use Rattle.zone_script_laws.proofs.Cited.{lines_of_parts, strip_carriage_return, and_parts, cond-false, not-true, slice_split-cons_no}
+use Rattle.zone_script_laws.proofs.Cited.{length-slice_split}
 use Rattle.zone_script_laws.proofs.Letters.{is_plain}
 
 -- The lines of a text that is written line by line.

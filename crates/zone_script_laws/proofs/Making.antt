@@ -1,23 +1,14 @@
-use Rattle.std.proofs.Common.{◌≡◌, ℕ, ◌+◌, ◌-◌, ◌*◌, ◌≤◌, zero, suc, Bool, true, false, List, [], ◌∷◌, ◌++◌, refl, sym, ◌∙◌, ap, cond}
-use Rattle.std.proofs.Common.{subst, map, Some, None, arith, length, replicate, nat_lt, slice_get, append_assoc, append-nil, count_by}
-use Rattle.std.specs.Prelude.{flat_map}
-use Rattle.std.proofs.lemmas.Bool.Decides.{nat_tests}
+use Rattle.zone_script_laws.proofs.Cited.{◌≡◌, ℕ, ◌+◌, ◌-◌, ◌*◌, ◌≤◌, zero, suc, Bool, true, false, List, [], ◌∷◌, ◌++◌, refl, sym, ◌∙◌, ap}
+use Rattle.zone_script_laws.proofs.Cited.{cond, subst, map, Some, None, arith, length, replicate, nat_lt, slice_get, append_assoc}
+use Rattle.zone_script_laws.proofs.Cited.{append-nil, count_by, flat_map, nat_tests, sum_by_push, padded, Done, Given, Flags, Block}
+use Rattle.zone_script_laws.proofs.Cited.{Nonrelocatable, Masters, Relocatable, count, free, is_relocatable, is_masters, no_flags, Spot}
+use Rattle.zone_script_laws.proofs.Cited.{spot, State, Memory, Meaning, Handle, Pointer, Plain, used_slots, all_slots, uses_slot, pushed}
+use Rattle.zone_script_laws.proofs.Cited.{Bindings, bound_to, bind, Part, Relocated, Fixed, Gap, numbered, physical, bytes_of, handle_of}
+use Rattle.zone_script_laws.proofs.Cited.{handles, Line, MoreMasters, NewHandle, NewPtr, HLock, HPurge, HUnlock, name_of, making}
+use Rattle.zone_script_laws.proofs.Cited.{NamesDiffer, Runs, spot-parted}
 use Rattle.std.proofs.lemmas.List.{length-append}
-use Rattle.std.proofs.lemmas.List.Sums.{sum_by_push}
-use Rattle.mac_words.specs.Size.{padded}
-use Rattle.mac_words.specs.Told.{Done, Given}
-use Rattle.block_store.specs.declared.flags.Flags.{Flags}
-use Rattle.block_store.specs.Block.{Block, Nonrelocatable, Masters, Relocatable, count, free, is_relocatable, is_masters, no_flags}
-use Rattle.block_store.specs.Room.{Spot, spot}
-use Rattle.heap_calls.specs.State.{State, Memory, Meaning, Handle, Pointer, Plain, used_slots, all_slots, uses_slot}
 use Rattle.heap_calls.specs.Asked as asks
-use Rattle.heap_calls.proofs.Promises.Knowing.{pushed}
-use Rattle.applications.specs.Names.{Bindings, bound_to, bind}
-use Rattle.zone_scripts.specs.Parts.{Part, Relocated, Fixed, Gap, numbered, physical, bytes_of, handle_of, handles}
-use Rattle.zone_scripts.specs.Lines.{Line, MoreMasters, NewHandle, NewPtr, HLock, HPurge, HUnlock, name_of, making, NamesDiffer}
-use Rattle.zone_script_laws.specs.Runs.{Runs}
 use Rattle.zone_script_laws.proofs.Fixed.{Stay, stay-append}
-use Rattle.heap_calls.proofs.Exchanged.{spot-parted}
 use Rattle.zone_script_laws.proofs.Calls.{more_masters-done, new_pointer-done, new_handle-done}
 use Rattle.zone_script_laws.proofs.Serving.{Serves, serves-more_masters, serves-new_pointer, serves-new_handle, serves-lock, serves-unlock}
 use Rattle.zone_script_laws.proofs.Serving.{serves-purge}

@@ -1,29 +1,13 @@
-use Rattle.std.proofs.Common.{◌≡◌, ℕ, ◌+◌, ◌-◌, ◌/◌, ◌%◌, ◌≤◌, ◌<◌, zero, suc, Bool, true, false, ◌==◌, ◌&&◌, not, nat_le, nat_lt, List, []}
-use Rattle.std.proofs.Common.{◌∷◌, ◌++◌, refl, sym, ◌∙◌, ap, cond, subst, map, arith, length, get_or, bytes_eq, Option, Some, None}
-use Rattle.std.specs.List.{list_all}
-use Rattle.std.specs.Option.{option_to_list}
-use Rattle.std.proofs.lemmas.Bool.{cond-true, cond-false, and_parts, leb-true, eqb-true, eqb-false, false_from_ne_true}
-use Rattle.std.proofs.lemmas.Bool.Decides.{nat_tests}
-use Rattle.std.proofs.lemmas.Option.{none-some}
-use Rattle.std.proofs.lemmas.Slice.Eq.{bytes_eq-Decides}
-use Rattle.real_zone.specs.Lists.{is_empty}
-use Rattle.real_zone.specs.Form.{header_size}
-use Rattle.real_zone.specs.Header.{tag_at, owner_at}
-use Rattle.real_zone.specs.Blocks.{has_room, is_passable, places}
-use Rattle.real_zone.specs.Rules.{is_master_place, master_at, length_rule, kind_rule, owner_rule, handle_rule, block_rules, keeps_rules}
-use Rattle.real_zone.specs.Seen.{block_at, kind_of, master_of}
-use Rattle.real_zone.specs.Zone.{is_zone}
-use Rattle.real_zone.specs.declared.form.Form.{Form}
-use Rattle.real_zone.specs.declared.form.Tag.{Tag}
+use Rattle.zone_script_laws.proofs.Cited.{◌≡◌, ℕ, ◌+◌, ◌-◌, ◌/◌, ◌%◌, ◌≤◌, ◌<◌, zero, suc, Bool, true, false, ◌==◌, ◌&&◌, not, nat_le}
+use Rattle.zone_script_laws.proofs.Cited.{nat_lt, List, [], ◌∷◌, ◌++◌, refl, sym, ◌∙◌, ap, cond, subst, map, arith, length, get_or}
+use Rattle.zone_script_laws.proofs.Cited.{bytes_eq, Option, Some, None, list_all, option_to_list, cond-true, cond-false, and_parts}
+use Rattle.zone_script_laws.proofs.Cited.{leb-true, eqb-true, eqb-false, false_from_ne_true, nat_tests, none-some, bytes_eq-Decides}
+use Rattle.zone_script_laws.proofs.Cited.{is_empty, header_size, tag_at, owner_at, has_room, is_passable, places, is_master_place}
+use Rattle.zone_script_laws.proofs.Cited.{master_at, length_rule, kind_rule, owner_rule, handle_rule, block_rules, keeps_rules, block_at}
+use Rattle.zone_script_laws.proofs.Cited.{kind_of, master_of, is_zone, Form, Tag, Rule, passes, next, zone_keeps, hex_digit, digit_at}
+use Rattle.zone_script_laws.proofs.Cited.{hex_text, part_as, part_of, parts_of, parts_in, Part, named, name_of, Others, NamesDiffer}
 use Rattle.real_zone.specs.declared.form.Tag.TheVariants as tag
-use Rattle.real_zone.specs.declared.fault.Rule.{Rule}
 use Rattle.real_zone.specs.declared.fault.Rule.TheVariants as rule
-use Rattle.real_zone.proofs.Walking.{passes, next}
-use Rattle.real_zone.proofs.Zones.{zone_keeps}
-use Rattle.zone_scripts.specs.Hex.{hex_digit, digit_at, hex_text}
-use Rattle.zone_scripts.specs.Copied.{part_as, part_of, parts_of, parts_in}
-use Rattle.zone_scripts.specs.Parts.{Part}
-use Rattle.zone_scripts.specs.Lines.{named, name_of, Others, NamesDiffer}
 
 -- The names of the blocks of a zone differ.
 

@@ -1,13 +1,7 @@
-use Rattle.std.proofs.Common.{◌≡◌, ℕ, ◌+◌, ◌≤◌, ◌<◌, zero, suc, true, false, ◌==◌, List, [], ◌∷◌, ◌++◌, refl, ◌∙◌, cond}
-use Rattle.std.proofs.Common.{arith, replicate}
-use Rattle.std.proofs.lemmas.Bool.{ne_eqb, or_from}
-use Rattle.std.proofs.lemmas.Bool.Decides.{Decides-eqb}
-use Rattle.block_store.specs.Block.{Block, Nonrelocatable, Masters, Relocatable, size, count, free, is_relocatable, is_nonrelocatable}
-use Rattle.block_store.specs.Block.{is_masters}
-use Rattle.block_store.specs.Run.{has}
-use Rattle.block_store.proofs.Zone.Totals.{total-append}
-use Rattle.block_store.proofs.Zone.Passing.{none-append}
-use Rattle.zone_scripts.specs.Parts.{Part, Relocated, Fixed, Gap, numbered, block_of}
+use Rattle.zone_script_laws.proofs.Cited.{◌≡◌, ℕ, ◌+◌, ◌≤◌, ◌<◌, zero, suc, true, false, ◌==◌, List, [], ◌∷◌, ◌++◌, refl, ◌∙◌, cond, arith}
+use Rattle.zone_script_laws.proofs.Cited.{replicate, ne_eqb, or_from, Decides-eqb, Block, Nonrelocatable, Masters, Relocatable, size, count}
+use Rattle.zone_script_laws.proofs.Cited.{free, is_relocatable, is_nonrelocatable, is_masters, has, total-append, none-append, Part}
+use Rattle.zone_script_laws.proofs.Cited.{Relocated, Fixed, Gap, numbered, block_of}
 use Rattle.zone_script_laws.proofs.Fixed.{Stay}
 
 -- The blocks of parts by their numbers.

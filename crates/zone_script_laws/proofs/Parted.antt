@@ -1,20 +1,7 @@
-use Rattle.std.proofs.Common.{◌≡◌, ℕ, ◌+◌, Bool, true, false, List, [], ◌∷◌, ◌++◌, refl, ◌∙◌, ap, cond}
-use Rattle.std.proofs.Common.{Some}
-use Rattle.std.specs.Option.{option_map}
-use Rattle.std.proofs.lemmas.Bool.{cond-true, cond-false, or_parts}
-use Rattle.std.proofs.lemmas.List.{map-append}
-use Rattle.block_store.specs.declared.flags.Flags.{Flags}
-use Rattle.block_store.specs.Block.{Block, Free, Nonrelocatable, Relocatable, size, add, tidy, is_relocatable, is_nonrelocatable}
-use Rattle.block_store.specs.Run.{has}
-use Rattle.block_store.specs.Room.{spot, raised}
-use Rattle.block_store.specs.Grow.{freed}
-use Rattle.block_store.proofs.Zone.Apart.{tidy-tidy}
-use Rattle.block_store.proofs.Zone.Parted.{tidy-parted}
-use Rattle.block_store.proofs.Zone.Tidy.{has-tidy}
-use Rattle.block_store.proofs.Regroup.Packed.{tidy-below}
-use Rattle.block_store.proofs.Zone.Absence.{freed-absent}
-use Rattle.heap_calls.proofs.Room.Packing.{tidy-left}
-use Rattle.heap_calls.proofs.Exchanged.{spot-parted}
+use Rattle.zone_script_laws.proofs.Cited.{◌≡◌, ℕ, ◌+◌, Bool, true, false, List, [], ◌∷◌, ◌++◌, refl, ◌∙◌, ap, cond, Some, option_map}
+use Rattle.zone_script_laws.proofs.Cited.{cond-true, cond-false, or_parts, map-append, Flags, Block, Free, Nonrelocatable, Relocatable}
+use Rattle.zone_script_laws.proofs.Cited.{size, add, tidy, is_relocatable, is_nonrelocatable, has, spot, raised, freed, tidy-tidy}
+use Rattle.zone_script_laws.proofs.Cited.{tidy-parted, has-tidy, tidy-below, freed-absent, tidy-left, spot-parted}
 
 -- One block of a zone, found by its name and changed.
 

@@ -1,21 +1,10 @@
-use Rattle.std.proofs.Common.{◌≡◌, ℕ, true, false, ◌∷◌, ◌++◌, refl, ◌∙◌, ap}
-use Rattle.std.proofs.Common.{Option, Some, None, Ok, Result, slice_get, slice_set}
-use Rattle.std.specs.Option.{option_map, ok_or}
-use Rattle.mac_words.specs.Told.{Told, Done, Given}
-use Rattle.mac_words.specs.declared.code.OsErr.{OsErr}
-use Rattle.mac_words.specs.declared.code.TheConstants.OsErr.{NIL_HANDLE}
-use Rattle.block_store.specs.declared.flags.Flags.{Flags}
-use Rattle.block_store.specs.Block.{tidy, is_relocatable, is_nonrelocatable}
-use Rattle.block_store.specs.Room.{Spot, spot}
-use Rattle.block_store.specs.Grow.{freed}
-use Rattle.heap_calls.specs.State.{State, Memory, Handle, Pointer, Disposed, Plain}
-use Rattle.heap_calls.specs.Answer.{Answer, Held, held_at, known_as, for_found, change_flags, flagged}
-use Rattle.heap_calls.specs.Pointers.{pointed, dispose_pointer}
-use Rattle.heap_calls.specs.Asked.{Asked, Zeros, NewHandle, NewPtr, MoreMasters, HLock, HUnlock, HPurge, DisposePtr, telling}
-use Rattle.heap_calls.specs.Answer.{noting}
-use Rattle.heap_calls.specs.Busy.{idle, known_bars, pointer_bars, unless}
+use Rattle.zone_script_laws.proofs.Cited.{◌≡◌, ℕ, true, false, ◌∷◌, ◌++◌, refl, ◌∙◌, ap, Option, Some, None, Ok, Result, slice_get}
+use Rattle.zone_script_laws.proofs.Cited.{slice_set, option_map, ok_or, Told, Done, Given, OsErr, NIL_HANDLE, Flags, tidy, is_relocatable}
+use Rattle.zone_script_laws.proofs.Cited.{is_nonrelocatable, Spot, spot, freed, State, Memory, Handle, Pointer, Disposed, Plain, Answer}
+use Rattle.zone_script_laws.proofs.Cited.{Held, held_at, known_as, for_found, change_flags, flagged, pointed, dispose_pointer, Asked, Zeros}
+use Rattle.zone_script_laws.proofs.Cited.{telling, noting, idle, known_bars, pointer_bars, unless, served, done}
+use Rattle.heap_calls.specs.Asked.{NewHandle, NewPtr, MoreMasters, HLock, HUnlock, HPurge, DisposePtr}
 use Rattle.heap_calls.specs.Rows as rows
-use Rattle.heap_calls.specs.Table.{served, done}
 use Rattle.zone_script_laws.proofs.Calls.{Leaves}
 
 -- The calls of a script as they are answered where no name is busy.

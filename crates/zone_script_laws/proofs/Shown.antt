@@ -1,18 +1,9 @@
-use Rattle.std.proofs.Common.{◌≡◌, ℕ, ◌+◌, ◌-◌, ◌≤◌, Bool, true, false, ◌&&◌, nat_le, nat_lt, List, refl, sym, cond, arith}
-use Rattle.std.proofs.Common.{Option, Some, None, length, take, length-drop, length-take-le}
-use Rattle.std.proofs.lemmas.Bool.{and_parts, leb-true, ltb-false}
-use Rattle.std.proofs.lemmas.Option.{none-some}
-use Rattle.real_zone.specs.Lists.{first}
-use Rattle.real_zone.specs.Zone.{is_zone, is_zone_at, damages, has_record, has_limit, from_zone, limit_of, zone_bytes}
-use Rattle.real_zone.specs.declared.fault.Damage.{Damage}
-use Rattle.real_zone.specs.declared.form.Form.{Form}
+use Rattle.zone_script_laws.proofs.Cited.{◌≡◌, ℕ, ◌+◌, ◌-◌, ◌≤◌, Bool, true, false, ◌&&◌, nat_le, nat_lt, List, refl, sym, cond, arith}
+use Rattle.zone_script_laws.proofs.Cited.{Option, Some, None, length, take, length-drop, length-take-le, and_parts, leb-true, ltb-false}
+use Rattle.zone_script_laws.proofs.Cited.{none-some, first, is_zone, is_zone_at, damages, has_record, has_limit, from_zone, limit_of}
+use Rattle.zone_script_laws.proofs.Cited.{zone_bytes, Damage, Form, form_for, fault_to, dump_fault, room_fault, damage_or, DumpFault}
+use Rattle.zone_script_laws.proofs.Cited.{TooLong, TooLarge, Place, parts_in, fits, asks_script, parts_at}
 use Rattle.real_zone.proofs.Zones.{stands}
-use Rattle.real_zone_view.specs.Answers.{form_for, fault_to, dump_fault, room_fault, damage_or}
-use Rattle.real_zone_view.specs.declared.dump.DumpFault.{DumpFault}
-use Rattle.real_zone_view.specs.declared.dump.DumpFault.TheVariants.{TooLong, TooLarge}
-use Rattle.real_zone_view.specs.declared.dump.Place.{Place}
-use Rattle.zone_scripts.specs.Copied.{parts_in, fits}
-use Rattle.zone_script_laws.specs.Shown.{asks_script, parts_at}
 
 -- Where a script of a zone is shown, the zone keeps all rules, and has room in a partition.
 

@@ -1,34 +1,18 @@
-use Rattle.std.proofs.Common.{◌≡◌, ℕ, Bool, true, false, List, [], ◌∷◌, refl, sym, ◌∙◌, ap, add-one}
-use Rattle.std.proofs.Common.{Option, Some, None, subst}
-use Rattle.std.proofs.lemmas.Bool.{cond-false}
-use Rattle.mac_words.specs.Told.{Told}
-use Rattle.mac_words.specs.declared.code.TheConstants.OsErr.{NO_ERR}
-use Rattle.mac_words.specs.declared.call.Call.{Call}
+use Rattle.zone_script_laws.proofs.Cited.{◌≡◌, ℕ, Bool, true, false, List, [], ◌∷◌, refl, sym, ◌∙◌, ap, add-one, Option, Some, None, subst}
+use Rattle.zone_script_laws.proofs.Cited.{cond-false, Told, NO_ERR, Call, HeapCall, ControlCall, ResourceCall, SegmentCall, Value, Letters}
+use Rattle.zone_script_laws.proofs.Cited.{Number, Said, Makes, said_as, CallWord, sizes, Memory, served, Bindings, Running, Blocks, once}
+use Rattle.zone_script_laws.proofs.Cited.{code_told, is_full, Course, Ends, step, step_in, continued, ended, asked_for, after_asking}
+use Rattle.zone_script_laws.proofs.Cited.{names_given, number_given, course_of, unless_over, joined, Line, MoreMasters, NewHandle, NewPtr}
+use Rattle.zone_script_laws.proofs.Cited.{HLock, HPurge, HUnlock, DisposePtr, Runs, asked_by, bound_by, bound_anew, said_of, States}
+use Rattle.zone_script_laws.proofs.Cited.{AllDone}
 use Rattle.mac_words.specs.declared.call.Call.TheVariants as call
-use Rattle.mac_words.specs.declared.call.HeapCall.{HeapCall}
 use Rattle.mac_words.specs.declared.call.HeapCall.TheVariants as heap
 use Rattle.mac_words.specs.declared.name.Label.{Label}
-use Rattle.mac_words.specs.declared.call.ControlCall.{ControlCall}
 use Rattle.mac_words.specs.declared.call.ControlCall.TheVariants as control
-use Rattle.mac_words.specs.declared.resource_call.ResourceCall.{ResourceCall}
 use Rattle.mac_words.specs.declared.resource_call.ResourceCall.TheVariants as resource
-use Rattle.mac_words.specs.declared.segment_call.SegmentCall.{SegmentCall}
 use Rattle.mac_words.specs.declared.segment_call.SegmentCall.TheVariants as segment
-use Rattle.script_text.specs.Argument.{Value, Letters, Number}
-use Rattle.script_text.specs.Script.{Said, Makes, said_as}
 use Rattle.script_text.specs.declared.script.Line.{Line as Step}
-use Rattle.script_text.specs.declared.word.CallWord.{CallWord}
 use Rattle.script_text.specs.declared.word.CallWord.TheVariants as word
-use Rattle.block_store.specs.Block.{sizes}
-use Rattle.heap_calls.specs.State.{Memory}
-use Rattle.heap_calls.specs.Table.{served}
-use Rattle.applications.specs.Names.{Bindings}
-use Rattle.applications.specs.Trying.{Running, Blocks, once, code_told, is_full}
-use Rattle.applications.specs.Step.{Course, Ends, step, step_in, continued, ended, asked_for, after_asking}
-use Rattle.applications.specs.Step.{names_given, number_given, course_of, unless_over, joined}
-use Rattle.zone_scripts.specs.Lines.{Line, MoreMasters, NewHandle, NewPtr, HLock, HPurge, HUnlock, DisposePtr}
-use Rattle.zone_script_laws.specs.Runs.{Runs, asked_by, bound_by, bound_anew}
-use Rattle.zone_script_laws.specs.Spoken.{said_of, States, AllDone}
 
 -- A script whose steps state calls takes the steps of these calls.
 

@@ -1,19 +1,7 @@
-use Rattle.std.proofs.Common.{◌≡◌, ℕ, ◌<◌, zero, suc, Bool, true, false, List, [], ◌∷◌, ◌++◌, refl, sym, ◌∙◌, ap, cond, subst}
-use Rattle.std.proofs.Common.{Some, None, arith, slice_get, slice_set, bytes_eq}
-use Rattle.std.proofs.lemmas.Bool.{cond-true, cond-false}
-use Rattle.std.proofs.lemmas.Option.{none-some}
-use Rattle.std.proofs.lemmas.Slice.Eq.{bytes_eq-Decides}
-use Rattle.mac_words.specs.Told.{Told}
-use Rattle.mac_words.specs.declared.code.TheConstants.OsErr.{NO_ERR}
-use Rattle.block_store.specs.Block.{Block}
-use Rattle.heap_calls.specs.State.{State, Memory, Meaning}
-use Rattle.heap_calls.specs.Busy.{idle}
-use Rattle.heap_calls.specs.Table.{served}
-use Rattle.applications.specs.Names.{Bindings, bound_to, bind}
-use Rattle.applications.specs.Trying.{code_told}
-use Rattle.zone_scripts.specs.Parts.{Part}
-use Rattle.zone_scripts.specs.Lines.{Line, name_of, Others, NamesDiffer}
-use Rattle.zone_script_laws.specs.Runs.{Runs, asked_by, bound_by}
+use Rattle.zone_script_laws.proofs.Cited.{◌≡◌, ℕ, ◌<◌, zero, suc, Bool, true, false, List, [], ◌∷◌, ◌++◌, refl, sym, ◌∙◌, ap, cond, subst}
+use Rattle.zone_script_laws.proofs.Cited.{Some, None, arith, slice_get, slice_set, bytes_eq, cond-true, cond-false, none-some}
+use Rattle.zone_script_laws.proofs.Cited.{bytes_eq-Decides, Told, NO_ERR, Block, State, Memory, Meaning, idle, served, Bindings, bound_to}
+use Rattle.zone_script_laws.proofs.Cited.{bind, code_told, Part, Line, name_of, Others, NamesDiffer, Runs, asked_by, bound_by}
 use Rattle.zone_script_laws.proofs.Serving.{Serves}
 
 -- Steps of a script, and the names that they bind.

@@ -1,22 +1,12 @@
-use Rattle.std.proofs.Common.{◌≡◌, ℕ, ◌+◌, ◌≤◌, zero, suc, Bool, true, false, List, [], ◌∷◌, ◌++◌, refl, sym, ◌∙◌, ap, cond, map}
-use Rattle.std.proofs.Common.{Some, None, Result, Ok, Err, arith, replicate, append_assoc}
-use Rattle.std.specs.Prelude.{flat_map, find}
-use Rattle.std.specs.List.{AllByRecursion}
-use Rattle.std.specs.Option.{option_map}
-use Rattle.std.specs.Str.Lines.{lines}
-use Rattle.std.proofs.lemmas.Bool.{cond-false}
-use Rattle.plain_laws.proofs.Elements.{each-append}
-use Rattle.real_zone.specs.declared.form.Form.{Form}
-use Rattle.script_text.specs.declared.fault.FaultKind.{FaultKind}
+use Rattle.zone_script_laws.proofs.Cited.{◌≡◌, ℕ, ◌+◌, ◌≤◌, zero, suc, Bool, true, false, List, [], ◌∷◌, ◌++◌, refl, sym, ◌∙◌, ap, cond}
+use Rattle.zone_script_laws.proofs.Cited.{map, Some, None, Result, Ok, Err, arith, replicate, append_assoc, flat_map, find, AllByRecursion}
+use Rattle.zone_script_laws.proofs.Cited.{option_map, lines, cond-false, each-append, Form, FaultKind, ScriptParts, Said, Statement}
+use Rattle.zone_script_laws.proofs.Cited.{Spelled, Above, statement, said_as, spelled, sets_missing, lesser, unless_unfinished, after_all}
+use Rattle.zone_script_laws.proofs.Cited.{no_lines, read_from, script_of, Part, Relocated, Fixed, Gap, logical, bytes_of, partition_of}
+use Rattle.zone_script_laws.proofs.Cited.{more_masters, Line, MoreMasters, NewHandle, NewPtr, HLock, HPurge, HUnlock, DisposePtr, named}
+use Rattle.zone_script_laws.proofs.Cited.{making, ending, lines_of, notes_text, head_text, lines_text, script_text, said_of, States}
+use Rattle.zone_script_laws.proofs.Cited.{stated_from, first_line}
 use Rattle.script_text.specs.declared.script.Line.{Line as Step}
-use Rattle.script_text.specs.Script.{ScriptParts, Said, Statement, Spelled, Above, statement, said_as, spelled}
-use Rattle.script_text.specs.Script.{sets_missing, lesser, unless_unfinished, after_all, no_lines, read_from, script_of}
-use Rattle.zone_scripts.specs.Parts.{Part, Relocated, Fixed, Gap, logical, bytes_of, partition_of, more_masters}
-use Rattle.zone_scripts.specs.Lines.{Line, MoreMasters, NewHandle, NewPtr, HLock, HPurge, HUnlock, DisposePtr}
-use Rattle.zone_scripts.specs.Lines.{named, making, ending, lines_of}
-use Rattle.zone_scripts.specs.Text.{notes_text, head_text, lines_text, script_text}
-use Rattle.zone_script_laws.specs.Spoken.{said_of, States}
-use Rattle.zone_script_laws.specs.Stated.{stated_from, first_line}
 use Rattle.zone_script_laws.proofs.Words.{IsName, named-so}
 use Rattle.zone_script_laws.proofs.Written.{Readable, above, all-read}
 use Rattle.zone_script_laws.proofs.Heading.{notes-read, head-read}

@@ -1,15 +1,10 @@
-use Rattle.std.proofs.Common.{◌≡◌, ℕ, ◌+◌, ◌≤◌, Bool, true, false, ◌==◌, ◌&&◌, not, nat_le, nat_lt, List, [], ◌∷◌, ◌++◌, refl, ◌∙◌, ap}
-use Rattle.std.proofs.Common.{cond, subst, Some, None, Result, Ok, Err, arith, length, take, drop, append-nil, length-append}
-use Rattle.std.specs.Prelude.{Option, unwrap_or}
-use Rattle.std.specs.List.{list_all, position_or_len}
-use Rattle.std.specs.Option.{ok_or}
-use Rattle.std.proofs.Math.Seq.{take-append_seam, drop-append_seam}
-use Rattle.std.proofs.lemmas.Bool.{and_parts, cond-true, cond-false, le-leb, ltb-false}
-use Rattle.script_text.specs.declared.fault.FaultKind.{FaultKind}
-use Rattle.script_text.specs.declared.fault.FaultKind.TheVariants.{BadArgument}
-use Rattle.script_text.specs.Reading.{◌>>=◌}
-use Rattle.script_text.specs.Token.{place, is_blank, after_blanks, token_len, may_end, cut_token, token_at}
-use Rattle.script_text.specs.Argument.{Kind, Value, value, is_label_byte, argument, arguments}
+use Rattle.zone_script_laws.proofs.Cited.{◌≡◌, ℕ, ◌+◌, ◌≤◌, Bool, true, false, ◌==◌, ◌&&◌, not, nat_le, nat_lt, List, [], ◌∷◌, ◌++◌, refl}
+use Rattle.zone_script_laws.proofs.Cited.{◌∙◌, ap, cond, subst, Some, None, Result, Ok, Err, arith, length, take, drop, append-nil}
+use Rattle.zone_script_laws.proofs.Cited.{length-append, unwrap_or, list_all, position_or_len, ok_or, take-append_seam, drop-append_seam}
+use Rattle.zone_script_laws.proofs.Cited.{and_parts, cond-true, cond-false, le-leb, ltb-false, FaultKind, BadArgument, ◌>>=◌, place}
+use Rattle.zone_script_laws.proofs.Cited.{is_blank, after_blanks, token_len, may_end, cut_token, token_at, Kind, Value, value}
+use Rattle.zone_script_laws.proofs.Cited.{is_label_byte, argument, arguments}
+use Rattle.std.specs.Prelude.{Option}
 use Rattle.zone_script_laws.proofs.Letters.{letter-not, letter-blank, no-blanks}
 
 -- The tokens of a line are found again, and are read as arguments.

@@ -1,26 +1,12 @@
-use Rattle.std.proofs.Common.{◌≡◌, ℕ, ◌+◌, ◌-◌, ◌*◌, ◌≤◌, suc, List, [], ◌∷◌, ◌++◌, refl, sym, ◌∙◌, ap, subst, map}
-use Rattle.std.proofs.Common.{None, Ok, arith, replicate, append_assoc}
-use Rattle.std.specs.Prelude.{flat_map, length, true}
-use Rattle.std.proofs.lemmas.Bool.{leb-true}
-use Rattle.real_zone.specs.Zone.{is_zone, zone_bytes}
-use Rattle.real_zone.specs.declared.form.Form.{Form}
-use Rattle.real_zone_view.specs.Answers.{form_for, answer_text, dump_fault}
-use Rattle.real_zone_view.specs.declared.dump.Place.{Place}
-use Rattle.zone_scripts.specs.Copied.{parts_in, fits}
-use Rattle.zone_scripts.specs.Text.{script_text}
+use Rattle.zone_script_laws.proofs.Cited.{◌≡◌, ℕ, ◌+◌, ◌-◌, ◌*◌, ◌≤◌, suc, List, [], ◌∷◌, ◌++◌, refl, sym, ◌∙◌, ap, subst, map, None, Ok}
+use Rattle.zone_script_laws.proofs.Cited.{arith, replicate, append_assoc, flat_map, leb-true, is_zone, zone_bytes, Form, form_for}
+use Rattle.zone_script_laws.proofs.Cited.{answer_text, dump_fault, Place, parts_in, fits, script_text, Block, Masters, count, free, tidy}
+use Rattle.zone_script_laws.proofs.Cited.{is_masters, Site, Memory, fresh_memory, Bindings, Part, numbered, block_of, bytes_of, handles}
+use Rattle.zone_script_laws.proofs.Cited.{more_masters, needed, partition_of, zone_of, MoreMasters, making, ending, lines_of, NamesDiffer}
+use Rattle.zone_script_laws.proofs.Cited.{ScriptParts, spelled, script_of, run_alone, nowhere, launched, Runs, States, Leaves, asks_script}
+use Rattle.zone_script_laws.proofs.Cited.{parts_at}
+use Rattle.std.specs.Prelude.{length, true}
 use Rattle.zone_script_laws.proofs.Names.{names_of_zone}
-use Rattle.block_store.specs.Block.{Block, Masters, count, free, tidy, is_masters}
-use Rattle.block_store.specs.Rest.{Site}
-use Rattle.heap_calls.specs.State.{Memory, fresh_memory}
-use Rattle.applications.specs.Names.{Bindings}
-use Rattle.zone_scripts.specs.Parts.{Part, numbered, block_of, bytes_of, handles, more_masters, needed, partition_of, zone_of}
-use Rattle.zone_scripts.specs.Lines.{MoreMasters, making, ending, lines_of, NamesDiffer}
-use Rattle.script_text.specs.Script.{ScriptParts, spelled, script_of}
-use Rattle.applications.specs.Alone.{run_alone}
-use Rattle.applications.specs.Trying.{nowhere, launched}
-use Rattle.zone_script_laws.specs.Runs.{Runs}
-use Rattle.zone_script_laws.specs.Spoken.{States, Leaves}
-use Rattle.zone_script_laws.specs.Shown.{asks_script, parts_at}
 use Rattle.zone_script_laws.proofs.Texts.{text-states}
 use Rattle.zone_script_laws.proofs.Shown.{shown}
 use Rattle.zone_script_laws.proofs.Spoken.{course-kept}

@@ -1,15 +1,9 @@
-use Rattle.std.proofs.Common.{◌≡◌, ℕ, ◌+◌, ◌/◌, ◌%◌, ◌^◌, ◌<◌, ◌≤◌, suc, Bool, true, false, ◌==◌, ◌&&◌, ◌||◌, nat_le, nat_lt, List}
-use Rattle.std.proofs.Common.{refl, ◌∙◌, ap, cond, Some, None, arith, length, decimal}
-use Rattle.std.specs.List.{list_all}
-use Rattle.std.specs.Option.{option_map}
-use Rattle.std.specs.Char.{is_ascii_digit, is_ascii_alphabetic}
-use Rattle.std.proofs.lemmas.Bool.{and_from, le-leb, ltb-true, ltb-false}
-use Rattle.std.proofs.lemmas.Bool.Decides.{nat_tests}
-use Rattle.std.proofs.lemmas.Fmt.{digits_decimal, digits_value-decimal, decimal_nonempty, length-decimal-le}
-use Rattle.script_text.specs.Argument.{Letters, Number, Label, Size, is_label_byte, begins_label, number_from, number_within, value}
-use Rattle.script_text.proofs.Numerals.{numerals}
-use Rattle.zone_scripts.specs.Hex.{hex_digit, digit_at, hex_text}
-use Rattle.zone_scripts.specs.Lines.{named}
+use Rattle.zone_script_laws.proofs.Cited.{◌≡◌, ℕ, ◌+◌, ◌/◌, ◌%◌, ◌^◌, ◌<◌, ◌≤◌, suc, Bool, true, false, ◌==◌, ◌&&◌, ◌||◌, nat_le, nat_lt}
+use Rattle.zone_script_laws.proofs.Cited.{List, refl, ◌∙◌, ap, cond, Some, None, arith, length, decimal, list_all, option_map}
+use Rattle.zone_script_laws.proofs.Cited.{is_ascii_digit, is_ascii_alphabetic, and_from, le-leb, ltb-true, ltb-false, nat_tests}
+use Rattle.zone_script_laws.proofs.Cited.{digits_decimal, digits_value-decimal, decimal_nonempty, length-decimal-le, Letters, Number, Label}
+use Rattle.zone_script_laws.proofs.Cited.{Size, is_label_byte, begins_label, number_from, number_within, value, numerals, hex_digit}
+use Rattle.zone_script_laws.proofs.Cited.{digit_at, hex_text, named}
 use Rattle.zone_script_laws.proofs.Letters.{all-weaker}
 
 -- Names and decimal numbers, as a script of a zone writes them, are the values of arguments.

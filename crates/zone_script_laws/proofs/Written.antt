@@ -1,27 +1,13 @@
-use Rattle.std.proofs.Common.{◌≡◌, ℕ, ◌+◌, ◌≤◌, true, false, ◌==◌, nat_lt, List, [], ◌∷◌, ◌++◌, refl, sym, ◌∙◌, ap, subst}
-use Rattle.std.proofs.Common.{Some, None, Result, Ok, Err, arith, length, take, drop, append_assoc, append-nil, length-append}
-use Rattle.std.proofs.Common.{bytes_eq, codes, decimal}
-use Rattle.std.specs.List.{list_all, AllByRecursion}
-use Rattle.std.specs.Option.{ok_or}
-use Rattle.std.specs.Str.Lines.{lines}
-use Rattle.std.proofs.Math.Seq.{take-append_seam, drop-append_seam}
-use Rattle.std.proofs.lemmas.Bool.{and_parts, and_from, cond-false, le-ltb}
-use Rattle.std.proofs.lemmas.List.Folds.{list_all-append}
-use Rattle.script_text.specs.declared.fault.FaultKind.{FaultKind}
-use Rattle.script_text.specs.declared.fault.FaultKind.TheVariants.{UnknownCall, LongLine}
-use Rattle.script_text.specs.declared.word.CallWord.{CallWord}
+use Rattle.zone_script_laws.proofs.Cited.{◌≡◌, ℕ, ◌+◌, ◌≤◌, true, false, ◌==◌, nat_lt, List, [], ◌∷◌, ◌++◌, refl, sym, ◌∙◌, ap, subst, Some}
+use Rattle.zone_script_laws.proofs.Cited.{None, Result, Ok, Err, arith, length, take, drop, append_assoc, append-nil, length-append}
+use Rattle.zone_script_laws.proofs.Cited.{bytes_eq, codes, decimal, list_all, AllByRecursion, ok_or, lines, take-append_seam}
+use Rattle.zone_script_laws.proofs.Cited.{drop-append_seam, and_parts, and_from, cond-false, le-ltb, list_all-append, FaultKind}
+use Rattle.zone_script_laws.proofs.Cited.{UnknownCall, LongLine, CallWord, ◌>>=◌, place, is_blank, after_blanks, may_end, Label, Size}
+use Rattle.zone_script_laws.proofs.Cited.{Value, Letters, Number, is_label_byte, arguments, value, kinds, meant, word_spelled, Above}
+use Rattle.zone_script_laws.proofs.Cited.{Statement, with_statement, with_token, with_text, longest_line, read_at, read_from, at_line, says}
+use Rattle.zone_script_laws.proofs.Cited.{Line, MoreMasters, NewHandle, NewPtr, HLock, HPurge, HUnlock, DisposePtr, named_text, sized_text}
+use Rattle.zone_script_laws.proofs.Cited.{line_text, lines_text, said_of, stated_from}
 use Rattle.script_text.specs.declared.word.CallWord.TheVariants as word
-use Rattle.script_text.specs.Reading.{◌>>=◌}
-use Rattle.script_text.specs.Token.{place, is_blank, after_blanks, may_end}
-use Rattle.script_text.specs.Argument.{Label, Size, Value, Letters, Number, is_label_byte, arguments, value}
-use Rattle.script_text.specs.Call.{kinds, meant, word_spelled}
-use Rattle.script_text.specs.Script.{Above, Statement, with_statement, with_token, with_text, longest_line}
-use Rattle.script_text.specs.Script.{read_at, read_from, at_line}
-use Rattle.script_text.proofs.Rows.{says}
-use Rattle.zone_scripts.specs.Lines.{Line, MoreMasters, NewHandle, NewPtr, HLock, HPurge, HUnlock, DisposePtr}
-use Rattle.zone_scripts.specs.Text.{named_text, sized_text, line_text, lines_text}
-use Rattle.zone_script_laws.specs.Spoken.{said_of}
-use Rattle.zone_script_laws.specs.Stated.{stated_from}
 use Rattle.zone_script_laws.proofs.Letters.{letter-not, letter-blank, is_plain, all-plain}
 use Rattle.zone_script_laws.proofs.Lines.{line-first}
 use Rattle.zone_script_laws.proofs.Tokens.{after-none, place-blank, one-argument, two-arguments}

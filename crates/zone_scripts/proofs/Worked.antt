@@ -1,8 +1,6 @@
-use Rattle.std.proofs.Common.{◌≡◌, List, [], ◌∷◌, true, false, codes, replicate, refl}
-use Rattle.block_store.specs.Block.{Free, Nonrelocatable, Masters, Relocatable}
-use Rattle.zone_scripts.specs.Hex.{hex_text, digit_at}
-use Rattle.zone_scripts.specs.Parts.{Part, Relocated, Fixed, Gap, partition_of, zone_of}
-use Rattle.zone_scripts.specs.Lines.{NewHandle, NewPtr, HLock, HPurge, HUnlock, DisposePtr, named, lines_of}
+use Rattle.zone_scripts.proofs.Cited.{◌≡◌, List, [], ◌∷◌, true, false, codes, replicate, refl, Free, Nonrelocatable, Masters, Relocatable}
+use Rattle.zone_scripts.proofs.Cited.{hex_text, digit_at, Part, Relocated, Fixed, Gap, partition_of, zone_of, NewHandle, NewPtr, HLock}
+use Rattle.zone_scripts.proofs.Cited.{HPurge, HUnlock, DisposePtr, named, lines_of}
 
 -- A worked zone: a nonrelocatable block of 16 bytes, a locked block of 6, a free block of 16 bytes with its header, and a purgeable block
 -- of 4.

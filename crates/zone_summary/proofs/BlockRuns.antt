@@ -1,21 +1,12 @@
 -- The run of the block of a master pointer, after purges: it stays where it is. As few purges serve as are below it,
 -- and as few of its own as free what it lacks.
-use Rattle.std.proofs.Common.{◌≡◌, ℕ, ◌+◌, ◌-◌, ◌≤◌, ◌<◌, ◌⊎◌, Bool, true, false, ◌&&◌, Option, Some, None, nat_le}
-use Rattle.std.proofs.Common.{List, [], ◌∷◌, ◌++◌, is_some, option_map, arith, inl, inr}
-use Rattle.std.proofs.lemmas.Bool.{cases_Bool}
-use Rattle.block_store.specs.Block.{Block, size, sizes, free_of, count, is_relocatable}
-use Rattle.block_store.specs.Fewest.{serves_block, IsFewest}
-use Rattle.block_store.specs.Find.{FindsLowestRun}
-use Rattle.block_store.specs.Inner.RunScan.{scan_runs}
-use Rattle.block_store.specs.Room.{count_of, lowest_purged, may_be_purged}
-use Rattle.block_store.specs.Run.{RunSpot, has, has_free, in_run, run_spot}
-use Rattle.block_store.specs.Sparing.{opened, purged, spared}
-use Rattle.block_store.specs.declared.sparing.Sparing.{Sparing}
+use Rattle.zone_summary.proofs.Cited.{◌≡◌, ℕ, ◌+◌, ◌-◌, ◌≤◌, ◌<◌, ◌⊎◌, Bool, true, false, ◌&&◌, Option, Some, None, nat_le, List, [], ◌∷◌}
+use Rattle.zone_summary.proofs.Cited.{◌++◌, is_some, option_map, arith, inl, inr, cases_Bool, Block, size, sizes, free_of, count}
+use Rattle.zone_summary.proofs.Cited.{is_relocatable, serves_block, IsFewest, FindsLowestRun, scan_runs, count_of, lowest_purged}
+use Rattle.zone_summary.proofs.Cited.{may_be_purged, RunSpot, has, has_free, in_run, run_spot, opened, purged, spared, Sparing}
+use Rattle.zone_summary.proofs.Cited.{lowest_purged-none, scan-end, scan-is, scan_kept, suits-slot, purges_for, run_purges_for, prefix}
+use Rattle.zone_summary.proofs.Cited.{stretch_of}
 use Rattle.block_store.specs.declared.sparing.Sparing.TheVariants as sparing
-use Rattle.block_store.proofs.Purged.Rising.{lowest_purged-none}
-use Rattle.block_store.proofs.Regroup.RunScans.{scan-end, scan-is, scan_kept, suits-slot}
-use Rattle.zone_summary.specs.Fewest.{purges_for, run_purges_for}
-use Rattle.zone_summary.specs.Stretches.{prefix, stretch_of}
 use Rattle.zone_summary.proofs.Purges.{freed, gain, gains, own-is}
 
 -- a walk that counts purges looks at one block

@@ -1,9 +1,6 @@
 -- Worked examples of what stretches come to, by the definitions alone.
-use Rattle.std.proofs.Common.{◌≡◌, true, false, List, [], ◌∷◌, ◌++◌, replicate, refl}
-use Rattle.block_store.specs.Block.{Block, Free, Masters, Relocatable, no_flags}
-use Rattle.block_store.specs.declared.flags.Flags.{Flags}
-use Rattle.zone_summary.specs.Stretches.{best, join, stretch_of}
-use Rattle.zone_summary.specs.declared.stretch.Stretch.TheVariants.{Ended}
+use Rattle.zone_summary.proofs.Cited.{◌≡◌, true, false, List, [], ◌∷◌, ◌++◌, replicate, refl, Block, Free, Masters, Relocatable, no_flags}
+use Rattle.zone_summary.proofs.Cited.{Flags, best, join, stretch_of, Ended}
 
 abbrev locked : Flags
 locked = record { locked = true; purgeable = false }

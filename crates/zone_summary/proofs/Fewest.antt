@@ -1,27 +1,12 @@
 -- The least number of purges after which a run has enough free bytes: all blocks below the run that is the first to
 -- have them, and as few of its own as serve.
-use Rattle.std.proofs.Common.{◌≡◌, ℕ, ◌+◌, ◌-◌, ◌≤◌, ◌<◌, ◌⊎◌, zero, Bool, true, false, Some, None, List, []}
-use Rattle.std.proofs.Common.{◌∷◌, ◌++◌, map, is_some, ◌∙◌, arith, inl, inr}
-use Rattle.std.proofs.lemmas.Bool.{cases_Bool, cases_lt, le-leb, leb-false, lt-leb}
-use Rattle.std.proofs.lemmas.List.{map-append}
-use Rattle.block_store.specs.Block.{Block, size, sizes, free_of}
-use Rattle.block_store.specs.Fewest.{serves, IsFewest}
-use Rattle.block_store.specs.Find.{FindsLowestRun}
-use Rattle.block_store.specs.Inner.Stretch.{opened_block}
-use Rattle.block_store.specs.Room.{count_of, lowest_purged, may_be_purged}
-use Rattle.block_store.specs.Run.{has_free, in_run}
-use Rattle.block_store.specs.Sparing.{most_purges, opened, purged, spared}
-use Rattle.block_store.specs.declared.sparing.Sparing.{Sparing}
+use Rattle.zone_summary.proofs.Cited.{◌≡◌, ℕ, ◌+◌, ◌-◌, ◌≤◌, ◌<◌, ◌⊎◌, zero, Bool, true, false, Some, None, List, [], ◌∷◌, ◌++◌, map}
+use Rattle.zone_summary.proofs.Cited.{is_some, ◌∙◌, arith, inl, inr, cases_Bool, cases_lt, le-leb, leb-false, lt-leb, map-append, Block}
+use Rattle.zone_summary.proofs.Cited.{size, sizes, free_of, serves, IsFewest, FindsLowestRun, opened_block, count_of, lowest_purged}
+use Rattle.zone_summary.proofs.Cited.{may_be_purged, has_free, in_run, most_purges, opened, purged, spared, Sparing, none-before}
+use Rattle.zone_summary.proofs.Cited.{purged-all, run-rises, scan-is, all_purged, emptied, count_within, purges_for, run_purges_for}
+use Rattle.zone_summary.proofs.Cited.{found_from, best, join, prefix, stretch_of, Stretch, Whole}
 use Rattle.block_store.specs.declared.sparing.Sparing.TheVariants as sparing
-use Rattle.block_store.proofs.Plain.Trials.{none-before}
-use Rattle.block_store.proofs.Purged.Rising.{purged-all, run-rises}
-use Rattle.block_store.proofs.Regroup.RunScans.{scan-is}
-use Rattle.zone_summary.specs.Emptied.{all_purged, emptied}
-use Rattle.zone_summary.specs.Fewest.{count_within, purges_for, run_purges_for}
-use Rattle.zone_summary.specs.Searches.{found_from}
-use Rattle.zone_summary.specs.Stretches.{best, join, prefix, stretch_of}
-use Rattle.zone_summary.specs.declared.stretch.Stretch.{Stretch}
-use Rattle.zone_summary.specs.declared.stretch.Stretch.TheVariants.{Whole}
 use Rattle.zone_summary.proofs.Monoid.{join-unit_left, stretch_of-append}
 use Rattle.zone_summary.proofs.Purges.{all-purged, serves-is, freed, gains, others}
 

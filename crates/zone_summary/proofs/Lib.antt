@@ -1,3 +1,4 @@
+mod Cited
 pub mod Monoid
 pub mod Sums
 pub mod Searching

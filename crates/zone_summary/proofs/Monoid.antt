@@ -1,11 +1,6 @@
 -- Stretches are a monoid, to which lists of blocks go by a homomorphism.
-use Rattle.std.proofs.Common.{◌≡◌, List, [], ◌∷◌, ◌++◌, arith}
-use Rattle.block_store.specs.Block.{Block}
-use Rattle.zone_summary.specs.Stretches.{join, stretch_by, stretch_of}
-use Rattle.zone_summary.specs.declared.stretch.Counting.{Counting}
+use Rattle.zone_summary.proofs.Cited.{◌≡◌, List, [], ◌∷◌, ◌++◌, arith, Block, join, stretch_by, stretch_of, Counting, Stretch, Whole}
 use Rattle.zone_summary.specs.declared.stretch.Counting.TheVariants as counting
-use Rattle.zone_summary.specs.declared.stretch.Stretch.{Stretch}
-use Rattle.zone_summary.specs.declared.stretch.Stretch.TheVariants.{Whole}
 
 pub join-unit_left : (s : Stretch) → join (Whole 0) s ≡ s
 join-unit_left s = grind arith

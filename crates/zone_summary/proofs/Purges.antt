@@ -1,22 +1,10 @@
 -- The most of a stretch is that of its runs, or of its spaces. What blocks come to after purges: all those below a
 -- place, and some of those above it; what purges of the lowest run of blocks free.
-use Rattle.std.proofs.Common.{◌≡◌, ℕ, ◌+◌, zero, suc, Bool, List, [], ◌∷◌, ◌++◌, map, nat_le, refl, arith, append-nil}
-use Rattle.std.proofs.Common.{add-zero, ◌-◌, ◌≤◌, ◌&&◌, ◌⊎◌, true, false, Some, inl, inr, is_some, cond}
-use Rattle.block_store.specs.Block.{free_sum, Block, size, tidy}
-use Rattle.block_store.specs.Compact.{largest, largest_run, largest_free}
-use Rattle.block_store.specs.Run.{segments, in_run}
-use Rattle.block_store.specs.declared.sparing.Sparing.TheVariants.{Nothing}
-use Rattle.block_store.specs.Room.{lowest_purged, may_be_purged, count_of}
-use Rattle.block_store.specs.Fewest.{serves}
-use Rattle.block_store.specs.Sparing.{opened, spared}
-use Rattle.block_store.specs.declared.sparing.Sparing.{Sparing}
-use Rattle.block_store.proofs.Purged.PurgedSums.{largest_stretch, largest-purged}
-use Rattle.block_store.proofs.Purged.Rising.{lowest_purged-none}
-use Rattle.block_store.proofs.Regroup.MostRoom.{run-there}
-use Rattle.zone_summary.specs.Emptied.{emptied, all_purged}
-use Rattle.zone_summary.specs.Stretches.{spaces_of, prefix, beyond, stretch_of, join, best}
-use Rattle.zone_summary.specs.declared.stretch.Stretch.TheVariants.{Whole}
-use Rattle.zone_summary.specs.Fewest.{purges_for, run_purges_for}
+use Rattle.zone_summary.proofs.Cited.{◌≡◌, ℕ, ◌+◌, zero, suc, Bool, List, [], ◌∷◌, ◌++◌, map, nat_le, refl, arith, append-nil, add-zero}
+use Rattle.zone_summary.proofs.Cited.{◌-◌, ◌≤◌, ◌&&◌, ◌⊎◌, true, false, Some, inl, inr, is_some, cond, free_sum, Block, size, tidy, largest}
+use Rattle.zone_summary.proofs.Cited.{largest_run, largest_free, segments, in_run, Nothing, lowest_purged, may_be_purged, count_of, serves}
+use Rattle.zone_summary.proofs.Cited.{opened, spared, Sparing, largest_stretch, largest-purged, lowest_purged-none, run-there, emptied}
+use Rattle.zone_summary.proofs.Cited.{all_purged, spaces_of, prefix, beyond, stretch_of, join, best, Whole, purges_for, run_purges_for}
 use Rattle.zone_summary.proofs.Monoid.{join-assoc, join-unit_left, stretch_of-append}
 
 -- the most of a stretch is that of the runs of its blocks

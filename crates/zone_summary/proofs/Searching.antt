@@ -1,13 +1,7 @@
 -- The search for a run passes blocks by what they come to.
-use Rattle.std.proofs.Common.{◌≡◌, ℕ, ◌+◌, ◌<◌, ◌≤◌, Bool, true, false, None, Some, List, [], ◌∷◌, ◌++◌, map, refl, arith}
-use Rattle.block_store.specs.Block.{Block, is_relocatable, sizes}
-use Rattle.block_store.specs.Inner.RunScan.{scan_runs}
-use Rattle.block_store.specs.Room.{count_of}
-use Rattle.block_store.specs.Run.{has}
-use Rattle.zone_summary.specs.Emptied.{emptied}
-use Rattle.zone_summary.specs.Searches.{begun_in, found_from}
-use Rattle.zone_summary.specs.Stretches.{join, best, is_ended, stretch_of, suffix}
-use Rattle.zone_summary.specs.declared.stretch.Stretch.TheVariants.{Whole}
+use Rattle.zone_summary.proofs.Cited.{◌≡◌, ℕ, ◌+◌, ◌<◌, ◌≤◌, Bool, true, false, None, Some, List, [], ◌∷◌, ◌++◌, map, refl, arith, Block}
+use Rattle.zone_summary.proofs.Cited.{is_relocatable, sizes, scan_runs, count_of, has, emptied, begun_in, found_from, join, best, is_ended}
+use Rattle.zone_summary.proofs.Cited.{stretch_of, suffix, Whole}
 
 -- where a run began
 pub begun-append : (start place : ℕ) (low high : List Block) → begun_in start place (low ++ high)

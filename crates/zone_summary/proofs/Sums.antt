@@ -1,9 +1,6 @@
 -- What stretches hold in sum.
-use Rattle.std.proofs.Common.{◌+◌, ◌≤◌, List, [], ◌∷◌, arith}
-use Rattle.block_store.specs.Block.{Block, sizes}
-use Rattle.zone_summary.specs.Stretches.{join, load, prefix, suffix, stretch_by}
-use Rattle.zone_summary.specs.declared.stretch.Counting.{Counting}
-use Rattle.zone_summary.specs.declared.stretch.Stretch.{Stretch}
+use Rattle.zone_summary.proofs.Cited.{◌+◌, ◌≤◌, List, [], ◌∷◌, arith, Block, sizes, join, load, prefix, suffix, stretch_by, Counting}
+use Rattle.zone_summary.proofs.Cited.{Stretch}
 
 pub load-join : (s t : Stretch) → load (join s t) ≤ load s + load t
 load-join s t = grind arith

@@ -1,6 +1,4 @@
-use Rattle.std.proofs.Common.{◌≡◌, ℕ, ◌≤◌, List, length, take}
-use Rattle.std.proofs.Common.{arith}
-use Rattle.std.proofs.lemmas.List.{length-take}
+use Rattle.block_store.proofs.Cited.{◌≡◌, ℕ, ◌≤◌, List, length, take, arith, length-take}
 
 -- Bytes of one entry written into another.
 

@@ -1,22 +1,9 @@
-use Rattle.std.proofs.Common.{◌≡◌, ℕ, ◌+◌, ◌-◌, ◌*◌, ◌≤◌, ◌<◌, ◌⊎◌, inl, inr, Bool, true, false, ◌==◌, List, ◌∷◌, ◌++◌}
-use Rattle.std.proofs.Common.{length, refl, sym, ◌∙◌, ap, cond, subst, arith, Option, Some, None, Result, Ok, Err}
-use Rattle.std.proofs.Common.{replicate}
-use Rattle.std.proofs.lemmas.List.{length-replicate}
-use Rattle.std.proofs.lemmas.Bool.Decides.{Decides-eqb}
-use Rattle.std.specs.Result.{OnOk, OnErr}
-use Rattle.std.proofs.lemmas.Bool.Decides.{Decides-eqb}
-use Rattle.mac_words.specs.Size.{padded}
-use Rattle.std.proofs.lemmas.Option.{same_Some}
-use Rattle.std.specs.Option.{IfSome, IsSome, IsSomeAnd}
-use Rattle.block_store.specs.Block.{Block, Free, Nonrelocatable, Masters, Relocatable, size, sizes, count, is_room}
-use Rattle.block_store.specs.Block.{is_masters, is_relocatable, no_flags, tidy, with_content, content_of, resized}
-use Rattle.memory_windows.specs.Writes.{written}
-use Rattle.block_store.specs.Run.{has}
-use Rattle.block_store.specs.Room.{Spot, spot, spot_at, filled}
-use Rattle.block_store.specs.Grow.{grow_up, freed}
-use Rattle.block_store.specs.Seen.{moved_away}
-use Rattle.block_store.specs.Slot.{Slot, is_used}
-use Rattle.block_store.specs.Compact.{Aligned, Placed}
+use Rattle.block_store.proofs.Cited.{◌≡◌, ℕ, ◌+◌, ◌-◌, ◌*◌, ◌≤◌, ◌<◌, ◌⊎◌, inl, inr, Bool, true, false, ◌==◌, List, ◌∷◌, ◌++◌, length, refl}
+use Rattle.block_store.proofs.Cited.{sym, ◌∙◌, ap, cond, subst, arith, Option, Some, None, Result, Ok, Err, replicate, length-replicate}
+use Rattle.block_store.proofs.Cited.{Decides-eqb, OnOk, OnErr, padded, same_Some, IfSome, IsSome, IsSomeAnd, Block, Free, Nonrelocatable}
+use Rattle.block_store.proofs.Cited.{Masters, Relocatable, size, sizes, count, is_room, is_masters, is_relocatable, no_flags, tidy}
+use Rattle.block_store.proofs.Cited.{with_content, content_of, resized, written, has, Spot, spot, spot_at, filled, grow_up, freed}
+use Rattle.block_store.proofs.Cited.{moved_away, Slot, is_used, Aligned, Placed}
 use Rattle.block_store.proofs.Zone.Tidy.{total-tidy, spot-passes, has-freed}
 use Rattle.block_store.proofs.Zone.Apart.{tidy-tidy, tidy-content}
 use Rattle.block_store.proofs.Zone.Spots.{room-size, sizes-carved, sizes-same, size-content, length-written}

@@ -1,9 +1,4 @@
-use Rattle.std.proofs.Common.{ℕ, ◌≤◌}
-use Rattle.std.proofs.Common.{Option, None, Some}
-use Rattle.std.specs.Option.{IsSomeAnd}
-use Rattle.std.specs.Bool.{IsTrue}
-use Rattle.block_store.specs.Block.{size, is_room}
-use Rattle.block_store.specs.Room.{Spot}
+use Rattle.block_store.proofs.Cited.{ℕ, ◌≤◌, Option, None, Some, IsSomeAnd, IsTrue, size, is_room, Spot}
 use Rattle.block_store.proofs.Zone.Spots.{room-size}
 
 -- The entry at a place, and a block that fits into it.

@@ -1,23 +1,11 @@
-use Rattle.std.proofs.Common.{◌≡◌, ℕ, ◌+◌, ◌-◌, ◌≤◌, ◌<◌, ◌==◌, zero, suc, Bool, true, false, List, [], ◌∷◌, ◌++◌}
-use Rattle.std.proofs.Common.{length, take, drop, replicate, filter, min, refl, sym, ◌∙◌, ap, cond, subst, arith}
-use Rattle.std.proofs.Common.{Option, Some, None, IsTrue, ◌⊎◌, inl, inr}
-use Rattle.std.proofs.lemmas.Bool.{false≢true}
-use Rattle.std.proofs.lemmas.Bool.Decides.{nat_tests}
-use Rattle.std.proofs.lemmas.Option.{none-some}
-use Rattle.std.proofs.lemmas.List.{length-replicate, length-take, take_all, drop-replicate, map-append}
-use Rattle.std.proofs.lemmas.List.Elements.{filter-append}
-use Rattle.std.specs.Option.{option_map, IfSome, IsSome, IsSomeAnd}
-use Rattle.mac_words.specs.Size.{padded}
-use Rattle.memory_windows.specs.Writes.{written}
-use Rattle.block_store.specs.Block.{Block, Free, Nonrelocatable, Masters, Relocatable, size, sizes, is_room, resized}
-use Rattle.block_store.specs.Block.{is_relocatable, is_nonrelocatable, content_of, with_content, resized_content, tidy}
-use Rattle.block_store.specs.Block.{add}
-use Rattle.block_store.specs.Run.{has}
-use Rattle.block_store.specs.Room.{Spot, spot, spot_at, filled}
-use Rattle.block_store.specs.Grow.{freed}
-use Rattle.block_store.specs.Find.{FindsLowest}
-use Rattle.block_store.specs.Seen.{seen, moved_away}
-use Rattle.block_store.specs.declared.flags.Flags.{Flags}
+use Rattle.block_store.proofs.Cited.{◌≡◌, ℕ, ◌+◌, ◌-◌, ◌≤◌, ◌<◌, ◌==◌, zero, suc, Bool, true, false, List, [], ◌∷◌, ◌++◌, length, take}
+use Rattle.block_store.proofs.Cited.{drop, replicate, filter, min, refl, sym, ◌∙◌, ap, cond, subst, arith, Option, Some, None, ◌⊎◌, inl}
+use Rattle.block_store.proofs.Cited.{inr, false≢true, nat_tests, none-some, length-replicate, length-take, take_all, drop-replicate}
+use Rattle.block_store.proofs.Cited.{map-append, filter-append, option_map, IfSome, IsSome, IsSomeAnd, padded, written, Block, Free}
+use Rattle.block_store.proofs.Cited.{Nonrelocatable, Masters, Relocatable, size, sizes, is_room, resized, is_relocatable, is_nonrelocatable}
+use Rattle.block_store.proofs.Cited.{content_of, with_content, resized_content, tidy, add, has, Spot, spot, spot_at, filled, freed}
+use Rattle.block_store.proofs.Cited.{FindsLowest, seen, moved_away, Flags}
+use Rattle.std.proofs.Common.{IsTrue}
 use Rattle.block_store.specs.declared.sparing.Seen.TheVariants as see
 use Rattle.block_store.proofs.Zone.Tidy.{add-joined, total-tidy, has-released}
 use Rattle.block_store.proofs.Zone.Apart.{Apart, apart-tidy}

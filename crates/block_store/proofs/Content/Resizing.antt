@@ -1,24 +1,14 @@
-use Rattle.std.proofs.Common.{◌≡◌, ℕ, ◌+◌, ◌-◌, ◌≤◌, ◌<◌, zero, suc, Bool, true, false, ◌==◌, List, [], ◌∷◌, ◌++◌}
-use Rattle.std.proofs.Common.{length, take, drop, refl, sym, ◌∙◌, ap, cond, subst, arith}
-use Rattle.std.proofs.Common.{Option, Some, None, Result, Ok, Err, nat_le, ◌⊎◌, inl, inr}
-use Rattle.std.proofs.lemmas.Option.{none-some, same_Some}
-use Rattle.std.proofs.lemmas.Bool.{cond-true, or_parts}
-use Rattle.std.proofs.lemmas.Bool.Decides.{nat_tests, Decides-eqb}
-use Rattle.std.proofs.lemmas.List.{map-append, length-take, length-append}
-use Rattle.std.proofs.lemmas.List.{length-replicate, take-append-drop}
-use Rattle.std.specs.Option.{option_map, IfSome, IsSome}
-use Rattle.std.specs.Result.{OnOk}
-use Rattle.block_store.specs.Block.{Block, Free, Nonrelocatable, Masters, Relocatable, size, sizes, free, is_room, add}
-use Rattle.block_store.specs.Block.{is_relocatable, is_masters, resized, resized_content, content_of, with_content}
-use Rattle.block_store.specs.Block.{count, total, tidy}
-use Rattle.block_store.specs.Room.{Spot, spot, raised}
-use Rattle.block_store.specs.Run.{has}
-use Rattle.block_store.specs.Grow.{taken, growth, grow_up, freed}
+use Rattle.block_store.proofs.Cited.{◌≡◌, ℕ, ◌+◌, ◌-◌, ◌≤◌, ◌<◌, zero, suc, Bool, true, false, ◌==◌, List, [], ◌∷◌, ◌++◌, length, take}
+use Rattle.block_store.proofs.Cited.{drop, refl, sym, ◌∙◌, ap, cond, subst, arith, Option, Some, None, Result, Ok, Err, nat_le, ◌⊎◌, inl}
+use Rattle.block_store.proofs.Cited.{inr, none-some, same_Some, cond-true, or_parts, nat_tests, Decides-eqb, map-append, length-take}
+use Rattle.block_store.proofs.Cited.{length-append, length-replicate, take-append-drop, option_map, IfSome, IsSome, OnOk, Block, Free}
+use Rattle.block_store.proofs.Cited.{Nonrelocatable, Masters, Relocatable, size, sizes, free, is_room, add, is_relocatable, is_masters}
+use Rattle.block_store.proofs.Cited.{resized, resized_content, content_of, with_content, count, total, tidy, Spot, spot, raised, has, taken}
+use Rattle.block_store.proofs.Cited.{growth, grow_up, freed, padded}
 use Rattle.block_store.proofs.Zone.Totals.{total-append}
 use Rattle.block_store.proofs.Zone.Tidy.{told-past, spot-passes, total-tidy}
 use Rattle.block_store.proofs.Zone.Apart.{Apart, apart-tidied, tidy-apart, tidy-content, apart-shrunk}
 use Rattle.block_store.proofs.Zone.Leading.{masters-released}
-use Rattle.mac_words.specs.Size.{padded}
 use Rattle.block_store.proofs.Zone.Spots.{room-size}
 
 -- Blocks at another size.

@@ -1,12 +1,8 @@
 -- A block in the place of another, with what is left of the bytes of both and of the Free block above.
-use Rattle.std.proofs.Common.{◌≡◌, ℕ, ◌+◌, ◌-◌, ◌≤◌, ◌<◌, zero, suc, true, false, List, [], ◌∷◌, ◌++◌, length}
-use Rattle.std.proofs.Common.{refl, sym, ◌∙◌, ap, subst, arith, Some, Bool, cond}
+use Rattle.block_store.proofs.Cited.{◌≡◌, ℕ, ◌+◌, ◌-◌, ◌≤◌, ◌<◌, zero, suc, true, false, List, [], ◌∷◌, ◌++◌, length, refl, sym, ◌∙◌, ap}
+use Rattle.block_store.proofs.Cited.{subst, arith, Some, Bool, cond, Block, Free, Nonrelocatable, Masters, Relocatable, size, free, free_of}
+use Rattle.block_store.proofs.Cited.{free_sum, add, tidy, total, count, Spot, filled, grow_up, growth, is_free}
 use Rattle.block_store.proofs.Zone.Tidy.{total-tidy}
-use Rattle.block_store.specs.Block.{Block, Free, Nonrelocatable, Masters, Relocatable, size, free, free_of, free_sum}
-use Rattle.block_store.specs.Block.{add, tidy, total, count}
-use Rattle.block_store.specs.Room.{Spot, filled}
-use Rattle.block_store.specs.Grow.{grow_up, growth}
-use Rattle.block_store.specs.Inner.Stretch.{is_free}
 use Rattle.block_store.proofs.Zone.Apart.{Apart, longer, more-apart, apart-above, apart-next, tidy-apart}
 use Rattle.block_store.proofs.Zone.Totals.{total-append}
 use Rattle.block_store.proofs.Regroup.Packed.{tidy-below}

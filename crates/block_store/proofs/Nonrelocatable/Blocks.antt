@@ -1,16 +1,8 @@
-use Rattle.std.proofs.Common.{◌≡◌, ℕ, ◌+◌, ◌-◌, ◌*◌, ◌≤◌, Bool, true, false, ◌==◌, List, [], ◌∷◌, ◌++◌, length, take}
-use Rattle.std.proofs.Common.{refl, sym, ◌∙◌, ap, cond, drop, subst, arith, Result, Ok, Err, replicate}
-use Rattle.std.proofs.lemmas.List.{length-replicate, length-take-le, length-drop}
-use Rattle.std.specs.Result.{OnOk, OnErr}
-use Rattle.std.specs.Option.{IfSome, IsSomeAnd}
-use Rattle.mac_words.specs.Size.{padded}
-use Rattle.block_store.specs.Block.{Block, Free, Nonrelocatable, Masters, Relocatable, size, sizes, count, is_room}
-use Rattle.block_store.specs.Block.{is_masters, is_relocatable, is_nonrelocatable, tidy, with_content, content_of}
-use Rattle.memory_windows.specs.Writes.{written}
-use Rattle.block_store.specs.Room.{spot_at, filled}
-use Rattle.block_store.specs.Grow.{freed}
-use Rattle.block_store.specs.Slot.{Slot, is_used}
-use Rattle.block_store.specs.Compact.{Aligned, Placed}
+use Rattle.block_store.proofs.Cited.{◌≡◌, ℕ, ◌+◌, ◌-◌, ◌*◌, ◌≤◌, Bool, true, false, ◌==◌, List, [], ◌∷◌, ◌++◌, length, take, refl, sym, ◌∙◌}
+use Rattle.block_store.proofs.Cited.{ap, cond, drop, subst, arith, Result, Ok, Err, replicate, length-replicate, length-take-le}
+use Rattle.block_store.proofs.Cited.{length-drop, OnOk, OnErr, IfSome, IsSomeAnd, padded, Block, Free, Nonrelocatable, Masters, Relocatable}
+use Rattle.block_store.proofs.Cited.{size, sizes, count, is_room, is_masters, is_relocatable, is_nonrelocatable, tidy, with_content}
+use Rattle.block_store.proofs.Cited.{content_of, written, spot_at, filled, freed, Slot, is_used, Aligned, Placed}
 use Rattle.block_store.proofs.Zone.Tidy.{total-tidy}
 use Rattle.block_store.proofs.Zone.Apart.{tidy-tidy}
 use Rattle.block_store.proofs.Zone.Listing.{size-freed}

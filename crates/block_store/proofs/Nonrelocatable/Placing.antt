@@ -1,19 +1,10 @@
-use Rattle.std.proofs.Common.{◌≡◌, ℕ, ◌+◌, ◌-◌, ◌≤◌, zero, suc, Bool, true, false, ◌&&◌, not, ◌==◌, List, [], ◌∷◌, ◌++◌}
-use Rattle.std.proofs.Common.{filter, length, refl, sym, ◌∙◌, ap, cond, subst, arith, Option, Some, None, nat_le}
-use Rattle.std.proofs.lemmas.Option.{none-some, same_Some}
-use Rattle.std.proofs.lemmas.Bool.Decides.{nat_tests}
-use Rattle.std.specs.Option.{option_map}
-use Rattle.block_store.specs.Block.{Block, Free, Nonrelocatable, Masters, Relocatable, size, sizes, free, free_sum}
-use Rattle.block_store.specs.Block.{is_mover, is_relocatable, add, tidy, content_of, with_content, resized}
-use Rattle.block_store.specs.Run.{RunSpot, in_run, run_at, with_run, movers, others, settle, low, high, has_free}
-use Rattle.block_store.specs.Room.{Spot, raised, spot_at, filled, may_be_purged, lowest_purged}
-use Rattle.block_store.specs.Grow.{growth, taken, grow_up, freed}
-use Rattle.block_store.specs.Sparing.{spared, opened}
-use Rattle.block_store.specs.Compact.{Placed}
-use Rattle.block_store.specs.Seen.{with_flags}
-use Rattle.block_store.specs.Inner.Packing.{Loose}
-use Rattle.block_store.specs.declared.flags.Flags.{Flags}
-use Rattle.block_store.specs.declared.sparing.Sparing.{Sparing}
+use Rattle.block_store.proofs.Cited.{◌≡◌, ℕ, ◌+◌, ◌-◌, ◌≤◌, zero, suc, Bool, true, false, ◌&&◌, not, ◌==◌, List, [], ◌∷◌, ◌++◌, filter}
+use Rattle.block_store.proofs.Cited.{length, refl, sym, ◌∙◌, ap, cond, subst, arith, Option, Some, None, nat_le, none-some, same_Some}
+use Rattle.block_store.proofs.Cited.{nat_tests, option_map, Block, Free, Nonrelocatable, Masters, Relocatable, size, sizes, free, free_sum}
+use Rattle.block_store.proofs.Cited.{is_mover, is_relocatable, add, tidy, content_of, with_content, resized, RunSpot, in_run, run_at}
+use Rattle.block_store.proofs.Cited.{with_run, movers, others, settle, low, high, has_free, Spot, raised, spot_at, filled, may_be_purged}
+use Rattle.block_store.proofs.Cited.{lowest_purged, growth, taken, grow_up, freed, spared, opened, Placed, with_flags, Loose, Flags}
+use Rattle.block_store.proofs.Cited.{Sparing}
 use Rattle.block_store.specs.declared.sparing.Sparing.TheVariants as sparing
 use Rattle.block_store.proofs.Regroup.RunLists.{run_at-parts, run_at-is}
 use Rattle.block_store.proofs.Zone.Aligned.{spot_at-is}

@@ -1,5 +1,4 @@
-use Rattle.std.proofs.Common.{◌≡◌, ℕ, arith}
-use Rattle.block_store.specs.Rest.{counted}
+use Rattle.block_store.proofs.Cited.{◌≡◌, ℕ, arith, counted}
 
 -- a counter is the same after none more
 pub counted-none : (n : ℕ) → counted n 0 ≡ n

@@ -1,6 +1,5 @@
-use Rattle.std.proofs.Common.{◌≡◌, true, false, Option, Some, None, ℕ, refl, sym, ◌∙◌, ap}
-use Rattle.std.proofs.lemmas.Option.{same_Some}
-use Rattle.std.specs.Option.{option_map, IsSome, IsSomeAnd, IfSome, MatchOption}
+use Rattle.block_store.proofs.Cited.{◌≡◌, true, false, Option, Some, None, ℕ, refl, sym, ◌∙◌, ap, same_Some, option_map, IsSome, IsSomeAnd}
+use Rattle.block_store.proofs.Cited.{IfSome, MatchOption}
 
 -- Whether there is a value.
 

@@ -1,11 +1,7 @@
-use Rattle.std.proofs.Common.{◌≡◌, ℕ, ◌≤◌, ◌<◌, ◌⊎◌, inl, inr, zero, suc, Bool, true, false, nat_lt, Option, Some, None}
-use Rattle.std.proofs.Common.{refl, sym, ◌∙◌, ap, cond, arith, min, nat_le, ◌||◌, MatchOption}
-use Rattle.std.proofs.lemmas.Bool.{true≢false, false_from_ne_true}
-use Rattle.std.proofs.lemmas.Bool.Decides.{nat_tests}
-use Rattle.std.specs.Option.{option_map, option_or}
-use Rattle.block_store.specs.Room.{least}
-use Rattle.block_store.specs.Compact.{least_or_last}
-use Rattle.block_store.specs.Fewest.{smaller, IsFewest}
+use Rattle.block_store.proofs.Cited.{◌≡◌, ℕ, ◌≤◌, ◌<◌, ◌⊎◌, inl, inr, zero, suc, Bool, true, false, nat_lt, Option, Some, None, refl, sym}
+use Rattle.block_store.proofs.Cited.{◌∙◌, ap, cond, arith, min, nat_le, ◌||◌, true≢false, false_from_ne_true, nat_tests, option_map}
+use Rattle.block_store.proofs.Cited.{option_or, least, least_or_last, smaller, IsFewest}
+use Rattle.std.proofs.Common.{MatchOption}
 
 -- The least of 0 .. n that passes, or has an answer.
 

@@ -1,10 +1,5 @@
-use Rattle.std.proofs.Common.{◌≡◌, ◌&&◌, ℕ, ◌≤◌, ◌<◌, Bool, true, false, List, nat_lt, refl, sym, ◌∙◌, ap, is_some, arith}
-use Rattle.std.proofs.lemmas.Bool.Decides.{nat_tests}
-use Rattle.block_store.specs.Block.{Block, is_relocatable}
-use Rattle.block_store.specs.Run.{has, has_free, run_spot}
-use Rattle.block_store.specs.Fewest.{serves, serves_block}
-use Rattle.block_store.specs.Sparing.{most_purges, purged}
-use Rattle.block_store.specs.declared.sparing.Sparing.{Sparing}
+use Rattle.block_store.proofs.Cited.{◌≡◌, ◌&&◌, ℕ, ◌≤◌, ◌<◌, Bool, true, false, List, nat_lt, refl, sym, ◌∙◌, ap, is_some, arith, nat_tests}
+use Rattle.block_store.proofs.Cited.{Block, is_relocatable, has, has_free, run_spot, serves, serves_block, most_purges, purged, Sparing}
 use Rattle.block_store.proofs.Purged.Rising.{purged-all}
 
 -- The least number of purges that serves.

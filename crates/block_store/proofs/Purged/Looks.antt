@@ -1,16 +1,8 @@
-use Rattle.std.proofs.Common.{◌≡◌, ℕ, ◌+◌, ◌-◌, zero, suc, Bool, true, false, List, [], ◌∷◌, ◌++◌}
-use Rattle.std.proofs.Common.{refl, sym, ◌∙◌, ap, cond, arith, Option, Some, None, is_some}
-use Rattle.std.proofs.lemmas.Option.{none-some, same_Some}
-use Rattle.std.proofs.lemmas.Bool.{cond-true, cond-false}
-use Rattle.std.specs.Option.{option_map, IfSome}
-use Rattle.block_store.specs.Block.{Block, Free, Nonrelocatable, Masters, Relocatable, size, sizes, free, is_room, add}
-use Rattle.block_store.specs.Block.{tidy}
+use Rattle.block_store.proofs.Cited.{◌≡◌, ℕ, ◌+◌, ◌-◌, zero, suc, Bool, true, false, List, [], ◌∷◌, ◌++◌, refl, sym, ◌∙◌, ap, cond, arith}
+use Rattle.block_store.proofs.Cited.{Option, Some, None, is_some, none-some, same_Some, cond-true, cond-false, option_map, IfSome, Block}
+use Rattle.block_store.proofs.Cited.{Free, Nonrelocatable, Masters, Relocatable, size, sizes, free, is_room, add, tidy, Spot, spot}
+use Rattle.block_store.proofs.Cited.{may_be_purged, lowest_purged, taken, spared, opened, purged, opened_block, Sparing}
 use Rattle.block_store.specs.declared.sparing.Sparing.TheVariants as sparing
-use Rattle.block_store.specs.Room.{Spot, spot, may_be_purged, lowest_purged}
-use Rattle.block_store.specs.Grow.{taken}
-use Rattle.block_store.specs.Sparing.{spared, opened, purged}
-use Rattle.block_store.specs.Inner.Stretch.{opened_block}
-use Rattle.block_store.specs.declared.sparing.Sparing.{Sparing}
 use Rattle.block_store.proofs.Zone.Listing.{spot-here, spot-above}
 use Rattle.block_store.proofs.Purged.Stretches.{opened-more, size-opened}
 

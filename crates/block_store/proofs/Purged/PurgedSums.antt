@@ -1,12 +1,6 @@
-use Rattle.std.proofs.Common.{◌≡◌, ℕ, ◌+◌, ◌≤◌, zero, suc, List, [], ◌∷◌, length, refl}
-use Rattle.std.proofs.Common.{◌∙◌, ap, cond, arith, max, if◌then◌else◌}
-use Rattle.block_store.specs.Block.{Block, Free, Nonrelocatable, Masters, Relocatable, size, free_of, free_sum, add}
-use Rattle.block_store.specs.Block.{tidy}
-use Rattle.block_store.specs.declared.sparing.Sparing.{Sparing}
-use Rattle.block_store.specs.Room.{lowest_purged}
-use Rattle.block_store.specs.Sparing.{spared, opened, purged}
-use Rattle.block_store.specs.Inner.Stretch.{is_free}
-use Rattle.block_store.specs.Compact.{largest_free}
+use Rattle.block_store.proofs.Cited.{◌≡◌, ℕ, ◌+◌, ◌≤◌, zero, suc, List, [], ◌∷◌, length, refl, ◌∙◌, ap, cond, arith, max, if◌then◌else◌}
+use Rattle.block_store.proofs.Cited.{Block, Free, Nonrelocatable, Masters, Relocatable, size, free_of, free_sum, add, tidy, Sparing}
+use Rattle.block_store.proofs.Cited.{lowest_purged, spared, opened, purged, is_free, largest_free}
 use Rattle.block_store.proofs.Zone.Tidy.{total-tidy, add-joined}
 use Rattle.block_store.proofs.Zone.Apart.{Apart, apart-tidy}
 use Rattle.block_store.proofs.Purged.Looks.{top_free}

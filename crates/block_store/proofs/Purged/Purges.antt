@@ -1,27 +1,15 @@
-use Rattle.std.proofs.Common.{◌≡◌, ℕ, ◌+◌, ◌-◌, ◌*◌, ◌≤◌, ◌<◌, zero, suc, Bool, true, false, ◌&&◌, List, [], ◌∷◌, ◌++◌}
-use Rattle.std.proofs.Common.{length, take, drop, refl, sym, ◌∙◌, ap, cond, arith, Option, Some, None, nat_lt}
-use Rattle.std.proofs.Common.{subst}
-use Rattle.std.proofs.lemmas.Option.{none-some, same_Some}
-use Rattle.std.proofs.lemmas.Bool.{cond-true, cond-false, lt-ltb}
-use Rattle.std.specs.Option.{IfSome, IsSome}
-use Rattle.block_store.specs.Block.{Block, Free, Nonrelocatable, Masters, Relocatable, size, sizes, total, count, tidy}
-use Rattle.block_store.specs.Block.{is_masters, is_relocatable, add}
-use Rattle.block_store.specs.Room.{spot_at, may_be_purged, lowest_purged}
-use Rattle.block_store.specs.Seen.{with_flags}
-use Rattle.block_store.specs.Slot.{Slot}
-use Rattle.block_store.specs.declared.flags.Flags.{Flags}
-use Rattle.block_store.specs.Grow.{freed}
-use Rattle.block_store.specs.Sparing.{spared, opened, purged}
-use Rattle.block_store.specs.Inner.Stretch.{is_free, opened_block}
-use Rattle.block_store.specs.Inner.Purging.{left_past}
-use Rattle.block_store.specs.declared.sparing.Sparing.{Sparing}
+use Rattle.block_store.proofs.Cited.{◌≡◌, ℕ, ◌+◌, ◌-◌, ◌*◌, ◌≤◌, ◌<◌, zero, suc, Bool, true, false, ◌&&◌, List, [], ◌∷◌, ◌++◌, length, take}
+use Rattle.block_store.proofs.Cited.{drop, refl, sym, ◌∙◌, ap, cond, arith, Option, Some, None, nat_lt, subst, none-some, same_Some}
+use Rattle.block_store.proofs.Cited.{cond-true, cond-false, lt-ltb, IfSome, IsSome, Block, Free, Nonrelocatable, Masters, Relocatable, size}
+use Rattle.block_store.proofs.Cited.{sizes, total, count, tidy, is_masters, is_relocatable, add, spot_at, may_be_purged, lowest_purged}
+use Rattle.block_store.proofs.Cited.{with_flags, Slot, Flags, freed, spared, opened, purged, is_free, opened_block, left_past, Sparing}
+use Rattle.block_store.proofs.Cited.{Aligned, Placed}
 use Rattle.block_store.specs.declared.sparing.Sparing.TheVariants as sparing
 use Rattle.block_store.proofs.Zone.Listing.{size-freed}
 use Rattle.block_store.proofs.Zone.Tidy.{total-tidy}
 use Rattle.block_store.proofs.Zone.Apart.{Apart, apart-tidied, tidy-apart, tidy-tidy}
 use Rattle.block_store.proofs.Zone.Spots.{sizes-same}
 use Rattle.block_store.proofs.Zone.Leading.{count-freed, count-same, count-none, none-count, masters-released}
-use Rattle.block_store.specs.Compact.{Aligned, Placed}
 use Rattle.block_store.proofs.Content.Filling.{Lawful}
 use Rattle.block_store.proofs.Zone.Aligned.{spot_at-is, aligned-append, aligned-below, aligned-above, aligned-tidy}
 use Rattle.block_store.proofs.Zone.Aligned.{aligned-lowest_purged, aligned-opened, aligned-spot, aligned-same}

@@ -1,14 +1,8 @@
-use Rattle.std.proofs.Common.{◌≡◌, ℕ, ◌+◌, ◌≤◌, ◌<◌, zero, suc, Bool, true, false, ◌||◌, List, [], ◌∷◌}
-use Rattle.std.proofs.Common.{refl, sym, ◌∙◌, ap, cond, arith, Option, Some, None, is_some, nat_le, max}
-use Rattle.std.proofs.lemmas.Bool.{le-leb, leb-true, cond-true, cond-false}
-use Rattle.block_store.specs.Block.{Block, Free, Nonrelocatable, Masters, Relocatable, size, is_room, free_of, add}
-use Rattle.block_store.specs.Block.{free_sum, tidy}
-use Rattle.block_store.specs.Run.{in_run, has, has_free, run_spot, segments, Segments}
-use Rattle.block_store.specs.Room.{may_be_purged, lowest_purged, purge, count_of}
-use Rattle.block_store.specs.Compact.{has_room, largest_free, largest_run}
-use Rattle.block_store.specs.Sparing.{spared, opened, purged, most_purges}
-use Rattle.block_store.specs.declared.sparing.Sparing.{Sparing}
-use Rattle.block_store.specs.Inner.Stretch.{is_free}
+use Rattle.block_store.proofs.Cited.{◌≡◌, ℕ, ◌+◌, ◌≤◌, ◌<◌, zero, suc, Bool, true, false, ◌||◌, List, [], ◌∷◌, refl, sym, ◌∙◌, ap, cond}
+use Rattle.block_store.proofs.Cited.{arith, Option, Some, None, is_some, nat_le, max, le-leb, leb-true, cond-true, cond-false, Block, Free}
+use Rattle.block_store.proofs.Cited.{Nonrelocatable, Masters, Relocatable, size, is_room, free_of, add, free_sum, tidy, in_run, has}
+use Rattle.block_store.proofs.Cited.{has_free, run_spot, segments, Segments, may_be_purged, lowest_purged, purge, count_of, has_room}
+use Rattle.block_store.proofs.Cited.{largest_free, largest_run, spared, opened, purged, most_purges, Sparing, is_free}
 use Rattle.block_store.proofs.Zone.Tidy.{total-tidy, add-joined}
 use Rattle.block_store.proofs.Zone.Apart.{Apart, apart-size, apart-tidy}
 use Rattle.block_store.proofs.Purged.PurgedSums.{largest_stretch, largest-purged}

@@ -1,19 +1,13 @@
-use Rattle.std.proofs.Common.{◌≡◌, ℕ, ◌+◌, ◌-◌, zero, suc, Bool, true, false, not, ◌&&◌, List, [], ◌∷◌, ◌++◌, refl, sym}
-use Rattle.std.proofs.Common.{◌∙◌, ap, cond, Option, Some, None, filter}
-use Rattle.std.specs.Option.{option_map, option_or}
-use Rattle.std.specs.Prelude.{option_and_then}
-use Rattle.std.proofs.lemmas.Option.{none-some, same_Some}
-use Rattle.std.proofs.lemmas.List.Elements.{filter-append}
-use Rattle.block_store.specs.Block.{Block, Free, Nonrelocatable, Masters, Relocatable, size, free_sum, free, add, tidy}
-use Rattle.block_store.specs.Block.{is_room, is_purgeable}
-use Rattle.block_store.specs.Run.{RunSpot, run_spot, with_run, change_run, has_free, settle, low, movers}
-use Rattle.block_store.specs.Room.{Spot, spot, raised, may_be_purged, lowest_purged, purge, count_of, room, place}
-use Rattle.block_store.specs.Room.{put_at_base, put_in_place, filled}
+use Rattle.block_store.proofs.Cited.{◌≡◌, ℕ, ◌+◌, ◌-◌, zero, suc, Bool, true, false, not, ◌&&◌, List, [], ◌∷◌, ◌++◌, refl, sym, ◌∙◌, ap}
+use Rattle.block_store.proofs.Cited.{cond, Option, Some, None, filter, option_map, option_or, option_and_then, none-some, same_Some}
+use Rattle.block_store.proofs.Cited.{filter-append, Block, Free, Nonrelocatable, Masters, Relocatable, size, free_sum, free, add, tidy}
+use Rattle.block_store.proofs.Cited.{is_room, is_purgeable, RunSpot, run_spot, with_run, change_run, has_free, settle, low, movers, Spot}
+use Rattle.block_store.proofs.Cited.{spot, raised, may_be_purged, lowest_purged, purge, count_of, room, place, put_at_base, put_in_place}
+use Rattle.block_store.proofs.Cited.{filled, Loose}
 use Rattle.block_store.proofs.Zone.Tidy.{spot-is, add-joined}
 use Rattle.block_store.proofs.Regroup.HavingRoom.{place-room}
 use Rattle.block_store.proofs.Regroup.RunLists.{run_spot-parts}
 use Rattle.block_store.proofs.Plain.Trials.{least-some}
-use Rattle.block_store.specs.Inner.Packing.{Loose}
 use Rattle.block_store.proofs.Zone.Absence.{NoFree}
 
 -- Making room keeps the blocks that it spares.

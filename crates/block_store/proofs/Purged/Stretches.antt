@@ -1,9 +1,5 @@
-use Rattle.std.proofs.Common.{◌≡◌, Bool, true, false, List, ◌∷◌}
-use Rattle.std.proofs.Common.{refl, cond}
-use Rattle.block_store.specs.Block.{Block, Free, size, is_relocatable}
-use Rattle.block_store.specs.Sparing.{opened}
-use Rattle.block_store.specs.Inner.Stretch.{opened_block}
-use Rattle.block_store.specs.declared.sparing.Sparing.{Sparing}
+use Rattle.block_store.proofs.Cited.{◌≡◌, Bool, true, false, List, ◌∷◌, refl, cond, Block, Free, size, is_relocatable, opened, opened_block}
+use Rattle.block_store.proofs.Cited.{Sparing}
 use Rattle.block_store.specs.declared.sparing.Sparing.TheVariants as sparing
 
 -- a search looks at one block, then at those above it

@@ -1,14 +1,7 @@
-use Rattle.std.proofs.Common.{◌≡◌, ℕ, ◌+◌, ◌≤◌, zero, suc, false, List, [], ◌∷◌, ◌++◌, map, nat_lt}
-use Rattle.std.proofs.Common.{append_assoc, refl, sym, ◌∙◌, ap, cond, subst, arith}
-use Rattle.std.proofs.lemmas.Bool.{cond-false}
-use Rattle.std.proofs.lemmas.Bool.Decides.{nat_tests}
-use Rattle.std.proofs.lemmas.List.{append-nil}
-use Rattle.block_store.specs.Block.{Block, size, sizes, total, count, free, free_sum, is_relocatable, tidy}
-use Rattle.block_store.specs.Run.{Stretch, segments, runs, joined, movers, settle}
-use Rattle.block_store.specs.Rest.{lowered_in_run}
-use Rattle.block_store.specs.Compact.{distance, stands_lower, lowered, settled_runs, settled, lowered_in_runs}
-use Rattle.block_store.specs.Compact.{NoneRises}
-use Rattle.block_store.specs.Inner.Packing.{Loose}
+use Rattle.block_store.proofs.Cited.{◌≡◌, ℕ, ◌+◌, ◌≤◌, zero, suc, false, List, [], ◌∷◌, ◌++◌, map, nat_lt, append_assoc, refl, sym, ◌∙◌, ap}
+use Rattle.block_store.proofs.Cited.{cond, subst, arith, cond-false, nat_tests, append-nil, Block, size, sizes, total, count, free}
+use Rattle.block_store.proofs.Cited.{free_sum, is_relocatable, tidy, Stretch, segments, runs, joined, movers, settle, lowered_in_run}
+use Rattle.block_store.proofs.Cited.{distance, stands_lower, lowered, settled_runs, settled, lowered_in_runs, NoneRises, Loose}
 use Rattle.block_store.proofs.Zone.Apart.{apart-tidied}
 use Rattle.block_store.proofs.Zone.Totals.{total-append}
 use Rattle.block_store.proofs.Zone.Zones.{joined-segments}

@@ -1,9 +1,5 @@
 -- What lies behind the first run of some blocks.
-use Rattle.std.proofs.Common.{◌≡◌, cond, List, [], ◌∷◌, ◌++◌, refl, ◌∙◌, ap}
-use Rattle.block_store.specs.Block.{Block}
-use Rattle.block_store.specs.Compact.{beyond}
-use Rattle.block_store.specs.Run.{Segments, segments}
-use Rattle.block_store.specs.Inner.Packing.{Loose}
+use Rattle.block_store.proofs.Cited.{◌≡◌, cond, List, [], ◌∷◌, ◌++◌, refl, ◌∙◌, ap, Block, beyond, Segments, segments, Loose}
 use Rattle.block_store.proofs.Regroup.Ends.{Stops}
 use Rattle.block_store.proofs.Zone.Zones.{joined-segments}
 

@@ -1,13 +1,8 @@
 -- Where a run of a zone ends, and that a packed one leaves the zone tidy.
-use Rattle.std.proofs.Common.{◌≡◌, ℕ, ◌-◌, ◌==◌, nat_le, zero, suc, Bool, true, false, not, cond, Option, Some, None}
-use Rattle.std.proofs.Common.{List, [], ◌∷◌, ◌++◌, refl, sym, ◌∙◌, ap, subst, append_assoc}
-use Rattle.std.proofs.lemmas.Bool.{false≢true}
-use Rattle.std.proofs.lemmas.Option.{none-some, same_Some}
-use Rattle.std.specs.Option.{option_map}
-use Rattle.block_store.specs.Block.{Block, Free, Nonrelocatable, Masters, Relocatable, sizes, free_sum, free, tidy}
-use Rattle.block_store.specs.Run.{in_run, Stretch, Segments, segments, joined, RunSpot, run_raised, run_from, run_at}
-use Rattle.block_store.specs.Run.{movers, settle}
-use Rattle.block_store.specs.Inner.Packing.{Loose}
+use Rattle.block_store.proofs.Cited.{◌≡◌, ℕ, ◌-◌, ◌==◌, nat_le, zero, suc, Bool, true, false, not, cond, Option, Some, None, List, [], ◌∷◌}
+use Rattle.block_store.proofs.Cited.{◌++◌, refl, sym, ◌∙◌, ap, subst, append_assoc, false≢true, none-some, same_Some, option_map, Block}
+use Rattle.block_store.proofs.Cited.{Free, Nonrelocatable, Masters, Relocatable, sizes, free_sum, free, tidy, in_run, Stretch, Segments}
+use Rattle.block_store.proofs.Cited.{segments, joined, RunSpot, run_raised, run_from, run_at, movers, settle, Loose}
 use Rattle.block_store.proofs.Zone.Apart.{Apart, apart-above, apart-next, apart-tidied, barrier-alone, tidy-apart}
 use Rattle.block_store.proofs.Regroup.Packed.{first-stop, first-more}
 use Rattle.block_store.proofs.Regroup.RunLists.{run_at-is}

@@ -1,13 +1,7 @@
-use Rattle.std.proofs.Common.{◌≡◌, ℕ, ◌+◌, ◌≤◌, ◌<◌, zero, suc, Bool, true, false, ◌||◌, List, [], ◌∷◌, ◌++◌, refl, ◌∙◌}
-use Rattle.std.proofs.Common.{arith, Option, Some, None, nat_le}
-use Rattle.std.proofs.lemmas.Option.{none-some}
-use Rattle.std.proofs.lemmas.Bool.{le-leb, leb-true, lt-leb}
-use Rattle.std.specs.Option.{option_map, option_or}
-use Rattle.std.specs.Prelude.{option_and_then}
-use Rattle.block_store.specs.Block.{Block, Free, Nonrelocatable, Masters, Relocatable, free_sum, free, is_room, add}
-use Rattle.block_store.specs.Block.{tidy}
-use Rattle.block_store.specs.Run.{has, has_free, movers, settle, with_run, change_run, RunSpot}
-use Rattle.block_store.specs.Room.{Spot, spot, place}
+use Rattle.block_store.proofs.Cited.{◌≡◌, ℕ, ◌+◌, ◌≤◌, ◌<◌, zero, suc, Bool, true, false, ◌||◌, List, [], ◌∷◌, ◌++◌, refl, ◌∙◌, arith}
+use Rattle.block_store.proofs.Cited.{Option, Some, None, nat_le, none-some, le-leb, leb-true, lt-leb, option_map, option_or}
+use Rattle.block_store.proofs.Cited.{option_and_then, Block, Free, Nonrelocatable, Masters, Relocatable, free_sum, free, is_room, add, tidy}
+use Rattle.block_store.proofs.Cited.{has, has_free, movers, settle, with_run, change_run, RunSpot, Spot, spot, place}
 use Rattle.block_store.proofs.Zone.Tidy.{spot-passes}
 use Rattle.block_store.proofs.Zone.Passing.{has-append, has-front}
 

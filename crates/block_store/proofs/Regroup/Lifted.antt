@@ -1,14 +1,9 @@
 -- A run that is raised, and one of which a block is moved to the top.
-use Rattle.std.proofs.Common.{◌≡◌, ℕ, ◌+◌, ◌-◌, ◌<◌, ◌≤◌, ◌||◌, zero, suc, Bool, true, false, not, cond}
-use Rattle.std.proofs.Common.{List, [], ◌∷◌, ◌++◌, Some, inl, inr, refl, sym, ◌∙◌, ap, subst, arith, append_assoc}
-use Rattle.std.proofs.lemmas.List.Elements.{filter-append}
-use Rattle.std.proofs.lemmas.Bool.{false≢true}
-use Rattle.std.proofs.lemmas.Bool.Decides.{eqb_tells}
-use Rattle.block_store.specs.declared.flags.Flags.{Flags}
-use Rattle.block_store.specs.Block.{Block, Free, Nonrelocatable, Masters, Relocatable, is_mover, is_relocatable}
-use Rattle.block_store.specs.Block.{total, count, free, free_of, free_sum, sizes, add, tidy}
-use Rattle.block_store.specs.Run.{RunSpot, in_run, has, movers, settle, low, high, with_run, run_at}
-use Rattle.block_store.specs.Inner.Packing.{Loose}
+use Rattle.block_store.proofs.Cited.{◌≡◌, ℕ, ◌+◌, ◌-◌, ◌<◌, ◌≤◌, ◌||◌, zero, suc, Bool, true, false, not, cond, List, [], ◌∷◌, ◌++◌, Some}
+use Rattle.block_store.proofs.Cited.{inl, inr, refl, sym, ◌∙◌, ap, subst, arith, append_assoc, filter-append, false≢true, eqb_tells, Flags}
+use Rattle.block_store.proofs.Cited.{Block, Free, Nonrelocatable, Masters, Relocatable, is_mover, is_relocatable, total, count, free}
+use Rattle.block_store.proofs.Cited.{free_of, free_sum, sizes, add, tidy, RunSpot, in_run, has, movers, settle, low, high, with_run, run_at}
+use Rattle.block_store.proofs.Cited.{Loose}
 use Rattle.block_store.proofs.Zone.Apart.{Apart}
 use Rattle.block_store.proofs.Zone.Tidy.{Adds, total-tidy}
 use Rattle.block_store.proofs.Zone.Totals.{total-append}

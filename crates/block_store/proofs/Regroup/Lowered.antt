@@ -1,17 +1,9 @@
-use Rattle.std.proofs.Common.{◌≡◌, ℕ, ◌+◌, ◌≤◌, ◌<◌, Bool, true, false, not, List, [], ◌∷◌, ◌++◌}
-use Rattle.std.proofs.Common.{append_assoc, refl, sym, ◌∙◌, ap, cond, subst, arith, Option, Some, None, nat_lt}
-use Rattle.std.proofs.lemmas.Bool.{cond-true, cond-false, or_parts}
-use Rattle.std.proofs.lemmas.Bool.Decides.{Decides-eqb, nat_tests}
-use Rattle.std.proofs.lemmas.List.{append-nil}
-use Rattle.std.specs.Option.{option_map, IfSome}
-use Rattle.block_store.specs.declared.flags.Flags.{Flags}
-use Rattle.block_store.specs.Block.{Block, Free, Nonrelocatable, Masters, Relocatable, size, sizes, total, count, free}
-use Rattle.block_store.specs.Block.{free_sum, is_mover, is_relocatable, add, tidy}
-use Rattle.block_store.specs.Run.{RunSpot, has, movers, settle, with_run, run_at}
-use Rattle.block_store.specs.Room.{Spot, raised, spot}
-use Rattle.block_store.specs.Rest.{lowered_in_run}
-use Rattle.block_store.specs.Compact.{distance, is_less, stands_lower, lowered}
-use Rattle.block_store.specs.Inner.Packing.{Loose}
+use Rattle.block_store.proofs.Cited.{◌≡◌, ℕ, ◌+◌, ◌≤◌, ◌<◌, Bool, true, false, not, List, [], ◌∷◌, ◌++◌, append_assoc, refl, sym, ◌∙◌, ap}
+use Rattle.block_store.proofs.Cited.{cond, subst, arith, Option, Some, None, nat_lt, cond-true, cond-false, or_parts, Decides-eqb}
+use Rattle.block_store.proofs.Cited.{nat_tests, append-nil, option_map, IfSome, Flags, Block, Free, Nonrelocatable, Masters, Relocatable}
+use Rattle.block_store.proofs.Cited.{size, sizes, total, count, free, free_sum, is_mover, is_relocatable, add, tidy, RunSpot, has, movers}
+use Rattle.block_store.proofs.Cited.{settle, with_run, run_at, Spot, raised, spot, lowered_in_run, distance, is_less, stands_lower, lowered}
+use Rattle.block_store.proofs.Cited.{Loose}
 use Rattle.block_store.proofs.Zone.Totals.{total-append}
 use Rattle.block_store.proofs.Zone.Apart.{Apart, apart-size, apart-tidied}
 use Rattle.block_store.proofs.Zone.Leading.{none-count, count-none}

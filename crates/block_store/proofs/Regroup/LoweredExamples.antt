@@ -1,10 +1,6 @@
-use Rattle.std.proofs.Common.{◌≡◌, true, false, List, [], ◌∷◌, replicate, refl, Some}
-use Rattle.std.specs.Option.{option_map}
-use Rattle.block_store.specs.declared.flags.Flags.{Flags}
-use Rattle.block_store.specs.Block.{Block, Free, Masters, Relocatable, no_flags, tidy}
-use Rattle.block_store.specs.Run.{RunSpot, run_at, runs, settle, with_run}
-use Rattle.block_store.specs.Rest.{lowered_in_run}
-use Rattle.block_store.specs.Compact.{lowered, distance, settled, lowered_in_runs}
+use Rattle.block_store.proofs.Cited.{◌≡◌, true, false, List, [], ◌∷◌, replicate, refl, Some, option_map, Flags, Block, Free, Masters}
+use Rattle.block_store.proofs.Cited.{Relocatable, no_flags, tidy, RunSpot, run_at, runs, settle, with_run, lowered_in_run, lowered}
+use Rattle.block_store.proofs.Cited.{distance, settled, lowered_in_runs}
 
 -- Worked examples of what settling counts, by the definitions alone.
 

@@ -1,16 +1,9 @@
-use Rattle.std.proofs.Common.{◌≡◌, ℕ, ◌+◌, ◌-◌, ◌%◌, ◌≤◌, ◌<◌, Bool, true, false, List, [], ◌∷◌, ◌++◌, refl, sym, ◌∙◌}
-use Rattle.std.proofs.Common.{ap, cond, map, arith, ◌||◌, Option, Some, None, is_some, max, nat_le}
-use Rattle.std.proofs.lemmas.Bool.{le-leb, leb-true, leb-false, lt-leb, cond-true, cond-false}
-use Rattle.std.proofs.lemmas.Bool.Decides.{nat_tests}
-use Rattle.std.specs.Prelude.{option_and_then}
-use Rattle.std.specs.Option.{option_map, option_or, IfSome, IsSome}
-use Rattle.mac_words.specs.Size.{phys, padded}
-use Rattle.block_store.specs.Block.{Block, Free, Nonrelocatable, Masters, Relocatable, free_of, free_sum, is_room}
-use Rattle.block_store.specs.Block.{tidy, rename}
-use Rattle.block_store.specs.Run.{in_run, Stretch, Segments, segments, runs, joined, RunSpot, run_raised, lowest_run}
-use Rattle.block_store.specs.Run.{has, run_spot, with_run, change_run, has_free, settle}
-use Rattle.block_store.specs.Room.{Spot, raised, rename_spot, spot, place}
-use Rattle.block_store.specs.Compact.{largest, largest_free, largest_run, Aligned}
+use Rattle.block_store.proofs.Cited.{◌≡◌, ℕ, ◌+◌, ◌-◌, ◌%◌, ◌≤◌, ◌<◌, Bool, true, false, List, [], ◌∷◌, ◌++◌, refl, sym, ◌∙◌, ap, cond, map}
+use Rattle.block_store.proofs.Cited.{arith, ◌||◌, Option, Some, None, is_some, max, nat_le, le-leb, leb-true, leb-false, lt-leb, cond-true}
+use Rattle.block_store.proofs.Cited.{cond-false, nat_tests, option_and_then, option_map, option_or, IfSome, IsSome, phys, padded, Block}
+use Rattle.block_store.proofs.Cited.{Free, Nonrelocatable, Masters, Relocatable, free_of, free_sum, is_room, tidy, rename, in_run, Stretch}
+use Rattle.block_store.proofs.Cited.{Segments, segments, runs, joined, RunSpot, run_raised, lowest_run, has, run_spot, with_run, change_run}
+use Rattle.block_store.proofs.Cited.{has_free, settle, Spot, raised, rename_spot, spot, place, largest, largest_free, largest_run, Aligned}
 use Rattle.block_store.proofs.Renamed.Renaming.{place-rename}
 use Rattle.block_store.proofs.Zone.Aligned.{free_sum-aligned}
 use Rattle.block_store.proofs.Regroup.RunSpots.{run_spot-passes}

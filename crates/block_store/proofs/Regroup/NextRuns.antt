@@ -1,13 +1,7 @@
-use Rattle.std.proofs.Common.{◌≡◌, ℕ, ◌+◌, ◌<◌, ◌≤◌, zero, suc, List, [], ◌∷◌, ◌++◌, refl, sym, ◌∙◌, ap, subst, arith}
-use Rattle.std.proofs.Common.{Option, Some, None}
-use Rattle.std.proofs.lemmas.Option.{none-some, same_Some}
-use Rattle.std.specs.Option.{option_map, IfSome}
-use Rattle.block_store.specs.Block.{Block, size, sizes}
-use Rattle.block_store.specs.Find.{IsEdge}
-use Rattle.block_store.specs.Run.{Stretch, Segments, joined, RunSpot, run_raised, run_at, segments, settle}
-use Rattle.block_store.specs.Compact.{beyond, place_behind, next_run, settled_runs, settled}
-use Rattle.block_store.specs.Inner.NthRun.{nth_run_of, nth_run, FindsRun}
-use Rattle.block_store.specs.Inner.Packing.{Loose}
+use Rattle.block_store.proofs.Cited.{◌≡◌, ℕ, ◌+◌, ◌<◌, ◌≤◌, zero, suc, List, [], ◌∷◌, ◌++◌, refl, sym, ◌∙◌, ap, subst, arith, Option, Some}
+use Rattle.block_store.proofs.Cited.{None, none-some, same_Some, option_map, IfSome, Block, size, sizes, IsEdge, Stretch, Segments, joined}
+use Rattle.block_store.proofs.Cited.{RunSpot, run_raised, run_at, segments, settle, beyond, place_behind, next_run, settled_runs, settled}
+use Rattle.block_store.proofs.Cited.{nth_run_of, nth_run, FindsRun, Loose}
 use Rattle.block_store.proofs.Nonrelocatable.Placing.{sizes-settle}
 use Rattle.block_store.proofs.Regroup.Parts.{AreParts, in-parts, in-settle, segments-alone, segments-joined}
 use Rattle.block_store.proofs.Regroup.Parts.{segments-part}

@@ -1,22 +1,10 @@
-use Rattle.std.proofs.Common.{◌≡◌, ℕ, ◌+◌, ◌-◌, ◌≤◌, ◌<◌, zero, suc, Bool, true, false, not, ◌&&◌, ◌==◌, List, []}
-use Rattle.std.proofs.Common.{◌∷◌, ◌++◌, length, take, drop, map, refl, sym, ◌∙◌, ap, cond, subst, arith}
-use Rattle.std.proofs.Common.{Option, Some, append_assoc, filter, nat_le}
-use Rattle.std.proofs.lemmas.List.{append-nil, take-append-drop}
-use Rattle.std.proofs.lemmas.List.{length-append, drop-drop}
-use Rattle.std.proofs.lemmas.List.Elements.{filter-append}
-use Rattle.std.proofs.lemmas.Bool.{cond-true, cond-false, or_parts}
-use Rattle.std.specs.Option.{IsSomeAnd}
-use Rattle.std.proofs.lemmas.Bool.Decides.{nat_tests}
-use Rattle.std.specs.Bool.{IsTrue}
-use Rattle.block_store.specs.Block.{Block, Free, Nonrelocatable, Masters, Relocatable, sizes, total, count, free, size}
-use Rattle.block_store.specs.Block.{free_of, free_sum, is_mover, is_relocatable, add, tidy}
-use Rattle.block_store.specs.Run.{in_run, segments, Segments, has, movers, others, settle, high, low, has_free, run_at}
-use Rattle.block_store.specs.Run.{RunSpot, with_run}
-use Rattle.block_store.specs.Compact.{beyond}
-use Rattle.block_store.specs.Rest.{lowered_in_run}
-use Rattle.block_store.specs.Inner.Stretch.{is_free}
-use Rattle.block_store.specs.Room.{Spot}
-use Rattle.block_store.specs.Inner.Packing.{Loose, cleared, cleared_first, packed, run_of_index, run_between}
+use Rattle.block_store.proofs.Cited.{◌≡◌, ℕ, ◌+◌, ◌-◌, ◌≤◌, ◌<◌, zero, suc, Bool, true, false, not, ◌&&◌, ◌==◌, List, [], ◌∷◌, ◌++◌, length}
+use Rattle.block_store.proofs.Cited.{take, drop, map, refl, sym, ◌∙◌, ap, cond, subst, arith, Option, Some, append_assoc, filter, nat_le}
+use Rattle.block_store.proofs.Cited.{append-nil, take-append-drop, length-append, drop-drop, filter-append, cond-true, cond-false, or_parts}
+use Rattle.block_store.proofs.Cited.{IsSomeAnd, nat_tests, IsTrue, Block, Free, Nonrelocatable, Masters, Relocatable, sizes, total, count}
+use Rattle.block_store.proofs.Cited.{free, size, free_of, free_sum, is_mover, is_relocatable, add, tidy, in_run, segments, Segments, has}
+use Rattle.block_store.proofs.Cited.{movers, others, settle, high, low, has_free, run_at, RunSpot, with_run, beyond, lowered_in_run}
+use Rattle.block_store.proofs.Cited.{is_free, Spot, Loose, cleared, cleared_first, packed, run_of_index, run_between}
 use Rattle.block_store.proofs.Zone.Totals.{total-append, total-le}
 use Rattle.block_store.proofs.Zone.Tidy.{Adds, total-tidy}
 use Rattle.block_store.proofs.Zone.Zones.{joined-segments}

@@ -1,8 +1,5 @@
-use Rattle.std.proofs.Common.{ℕ, ◌+◌, ◌==◌, Bool, List, Option, Some, None, cond, map, length}
-use Rattle.block_store.specs.Block.{Block, count, is_mover}
-use Rattle.block_store.specs.Run.{Segments, Stretch}
-use Rattle.block_store.specs.Rest.{lowered_in_run}
-use Rattle.block_store.specs.Compact.{lowered_in_runs, has_block, stretches}
+use Rattle.block_store.proofs.Cited.{ℕ, ◌+◌, ◌==◌, Bool, List, Option, Some, None, cond, map, length, Block, count, is_mover, Segments}
+use Rattle.block_store.proofs.Cited.{Stretch, lowered_in_run, lowered_in_runs, has_block, stretches}
 
 -- What a walk counts of packed runs.
 

@@ -1,9 +1,6 @@
-use Rattle.std.proofs.Common.{◌≡◌, ℕ, zero, suc, Bool, true, false, List, [], ◌∷◌, ◌++◌, refl, sym, ◌∙◌, ap, cond}
-use Rattle.std.proofs.lemmas.List.{append-nil}
-use Rattle.std.proofs.lemmas.Bool.{cond-true, cond-false}
-use Rattle.block_store.specs.Block.{Block, Free, Nonrelocatable, Masters, Relocatable, free_sum, free, is_mover}
-use Rattle.block_store.specs.Run.{in_run, Stretch, Segments, put_below, segments, joined, movers, settle}
-use Rattle.block_store.specs.Inner.Packing.{Loose}
+use Rattle.block_store.proofs.Cited.{◌≡◌, ℕ, zero, suc, Bool, true, false, List, [], ◌∷◌, ◌++◌, refl, sym, ◌∙◌, ap, cond, append-nil}
+use Rattle.block_store.proofs.Cited.{cond-true, cond-false, Block, Free, Nonrelocatable, Masters, Relocatable, free_sum, free, is_mover}
+use Rattle.block_store.proofs.Cited.{in_run, Stretch, Segments, put_below, segments, joined, movers, settle, Loose}
 
 -- A zone as its runs and the blocks that end them.
 

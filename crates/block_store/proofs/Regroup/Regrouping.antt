@@ -1,19 +1,13 @@
-use Rattle.std.proofs.Common.{◌≡◌, ℕ, ◌-◌, zero, suc, Bool, true, false, not, ◌&&◌, ◌==◌, List, [], ◌∷◌, ◌++◌, refl}
-use Rattle.std.proofs.Common.{sym, ◌∙◌, ap, subst, cond, Option, Some, None, filter, nat_le, append_assoc}
-use Rattle.std.proofs.lemmas.List.{append-nil}
-use Rattle.std.proofs.lemmas.Option.{none-some, same_Some}
-use Rattle.std.proofs.lemmas.Bool.{cond-true, cond-false}
-use Rattle.std.specs.Option.{option_map}
-use Rattle.block_store.specs.Block.{Block, Free, Nonrelocatable, Masters, Relocatable, sizes, free_sum, free, is_mover}
-use Rattle.block_store.specs.Block.{add, tidy}
-use Rattle.block_store.specs.Run.{in_run, others, high, settle, RunSpot, run_raised, run_from, run_at, segments}
-use Rattle.block_store.specs.Run.{Segments, joined, Stretch}
+use Rattle.block_store.proofs.Cited.{◌≡◌, ℕ, ◌-◌, zero, suc, Bool, true, false, not, ◌&&◌, ◌==◌, List, [], ◌∷◌, ◌++◌, refl, sym, ◌∙◌, ap}
+use Rattle.block_store.proofs.Cited.{subst, cond, Option, Some, None, filter, nat_le, append_assoc, append-nil, none-some, same_Some}
+use Rattle.block_store.proofs.Cited.{cond-true, cond-false, option_map, Block, Free, Nonrelocatable, Masters, Relocatable, sizes, free_sum}
+use Rattle.block_store.proofs.Cited.{free, is_mover, add, tidy, in_run, others, high, settle, RunSpot, run_raised, run_from, run_at}
+use Rattle.block_store.proofs.Cited.{segments, Segments, joined, Stretch, Loose}
 use Rattle.block_store.proofs.Zone.Apart.{Apart, tidy-apart, apart-tidied, apart-next, longer, barrier-alone}
 use Rattle.block_store.proofs.Zone.Apart.{apart-above}
 use Rattle.block_store.proofs.Zone.Zones.{joined-segments}
 use Rattle.block_store.proofs.Regroup.Parts.{AreParts, in-parts, segments-part, segments-joined, in-free}
 use Rattle.block_store.proofs.Regroup.Packed.{loose-append}
-use Rattle.block_store.specs.Inner.Packing.{Loose}
 use Rattle.block_store.proofs.Zone.Passing.{filter-keeps}
 use Rattle.block_store.proofs.Zone.Joining.{apart-front}
 

@@ -1,17 +1,9 @@
-use Rattle.std.proofs.Common.{◌≡◌, ℕ, ◌+◌, ◌*◌, ◌%◌, ◌≤◌, zero, suc, Bool, true, false, not, List, [], ◌∷◌, ◌++◌}
-use Rattle.std.proofs.Common.{append_assoc, refl, sym, ◌∙◌, ap, cond, subst, arith, Option, Some, None, Result, Ok, Err}
-use Rattle.std.proofs.lemmas.Bool.{cond-true}
-use Rattle.std.proofs.lemmas.Option.{none-some, same_Some}
-use Rattle.std.specs.Option.{option_map, IsSome, IfSome, IsSomeAnd}
-use Rattle.std.specs.Result.{OnOk, OnErr}
-use Rattle.std.specs.Bool.{IsTrue}
-use Rattle.block_store.specs.Block.{Block, Free, Nonrelocatable, Masters, Relocatable, size, sizes, total, count, free}
-use Rattle.block_store.specs.Block.{free_sum, is_masters, is_relocatable, add, tidy}
-use Rattle.block_store.specs.Run.{RunSpot, has, has_free, movers, settle, low, high, with_run, run_at}
-use Rattle.block_store.specs.Room.{Spot, raised, spot}
-use Rattle.block_store.specs.Compact.{distance, NoneRises, Aligned, Placed}
-use Rattle.block_store.specs.Slot.{Slot}
-use Rattle.block_store.specs.Inner.Packing.{Loose}
+use Rattle.block_store.proofs.Cited.{◌≡◌, ℕ, ◌+◌, ◌*◌, ◌%◌, ◌≤◌, zero, suc, Bool, true, false, not, List, [], ◌∷◌, ◌++◌, append_assoc, refl}
+use Rattle.block_store.proofs.Cited.{sym, ◌∙◌, ap, cond, subst, arith, Option, Some, None, Result, Ok, Err, cond-true, none-some, same_Some}
+use Rattle.block_store.proofs.Cited.{option_map, IsSome, IfSome, IsSomeAnd, OnOk, OnErr, IsTrue, Block, Free, Nonrelocatable, Masters}
+use Rattle.block_store.proofs.Cited.{Relocatable, size, sizes, total, count, free, free_sum, is_masters, is_relocatable, add, tidy, RunSpot}
+use Rattle.block_store.proofs.Cited.{has, has_free, movers, settle, low, high, with_run, run_at, Spot, raised, spot, distance, NoneRises}
+use Rattle.block_store.proofs.Cited.{Aligned, Placed, Slot, Loose}
 use Rattle.block_store.proofs.Zone.Tidy.{Adds, total-tidy, add-joined}
 use Rattle.block_store.proofs.Zone.Apart.{tidy-tidy}
 use Rattle.block_store.proofs.Zone.Leading.{count-none, none-count}

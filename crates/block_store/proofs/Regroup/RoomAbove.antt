@@ -1,14 +1,8 @@
-use Rattle.std.proofs.Common.{◌≡◌, ℕ, ◌+◌, ◌-◌, nat_le, Bool, true, false, ◌&&◌, ◌||◌, List, [], ◌∷◌, ◌++◌, refl, sym}
-use Rattle.std.proofs.Common.{◌∙◌, ap, cond, arith, Option, Some, None, is_some}
-use Rattle.std.proofs.lemmas.Bool.{true≢false, and_parts, and_from, le-leb, leb-true}
-use Rattle.std.proofs.lemmas.Option.{none-some, same_Some}
-use Rattle.std.specs.Option.{option_map}
-use Rattle.mac_words.proofs.Plain.{is_some-map}
-use Rattle.block_store.specs.Block.{Block, Free, Nonrelocatable, Masters, Relocatable, free_of, free_sum, free}
-use Rattle.block_store.specs.Run.{has, has_free, in_run, segments, joined, Stretch, RunSpot, run_raised, lowest_run}
-use Rattle.block_store.specs.Run.{run_spot}
-use Rattle.block_store.specs.Room.{Spot, raised, spot}
-use Rattle.block_store.specs.Grow.{taken}
+use Rattle.block_store.proofs.Cited.{◌≡◌, ℕ, ◌+◌, ◌-◌, nat_le, Bool, true, false, ◌&&◌, ◌||◌, List, [], ◌∷◌, ◌++◌, refl, sym, ◌∙◌, ap, cond}
+use Rattle.block_store.proofs.Cited.{arith, Option, Some, None, is_some, true≢false, and_parts, and_from, le-leb, leb-true, none-some}
+use Rattle.block_store.proofs.Cited.{same_Some, option_map, is_some-map, Block, Free, Nonrelocatable, Masters, Relocatable, free_of}
+use Rattle.block_store.proofs.Cited.{free_sum, free, has, has_free, in_run, segments, joined, Stretch, RunSpot, run_raised, lowest_run}
+use Rattle.block_store.proofs.Cited.{run_spot, Spot, raised, spot, taken}
 
 -- Room above a block is room in its run.
 

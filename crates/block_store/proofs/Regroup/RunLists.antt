@@ -1,14 +1,7 @@
-use Rattle.std.proofs.Common.{◌≡◌, ℕ, ◌+◌, ◌-◌, ◌≤◌, ◌<◌, Bool, true, false, not, ◌==◌, List, [], ◌∷◌, ◌++◌, refl, sym}
-use Rattle.std.proofs.Common.{◌∙◌, ap, cond, subst, arith, Option, Some, None, nat_le, append_assoc}
-use Rattle.std.proofs.lemmas.List.{append-nil}
-use Rattle.std.proofs.lemmas.Bool.{cond-true, cond-false}
-use Rattle.std.proofs.lemmas.Bool.Decides.{nat_tests}
-use Rattle.std.proofs.lemmas.Option.{none-some, same_Some}
-use Rattle.std.specs.Option.{option_map}
-use Rattle.block_store.specs.Block.{Block, size, sizes}
-use Rattle.block_store.specs.Run.{in_run, Stretch, Segments, segments, joined, RunSpot, run_raised, run_from, run_at}
-use Rattle.block_store.specs.Run.{lowest_run, run_spot}
-use Rattle.block_store.specs.Inner.Packing.{Loose}
+use Rattle.block_store.proofs.Cited.{◌≡◌, ℕ, ◌+◌, ◌-◌, ◌≤◌, ◌<◌, Bool, true, false, not, ◌==◌, List, [], ◌∷◌, ◌++◌, refl, sym, ◌∙◌, ap}
+use Rattle.block_store.proofs.Cited.{cond, subst, arith, Option, Some, None, nat_le, append_assoc, append-nil, cond-true, cond-false}
+use Rattle.block_store.proofs.Cited.{nat_tests, none-some, same_Some, option_map, Block, size, sizes, in_run, Stretch, Segments, segments}
+use Rattle.block_store.proofs.Cited.{joined, RunSpot, run_raised, run_from, run_at, lowest_run, run_spot, Loose}
 use Rattle.block_store.proofs.Zone.Zones.{joined-segments}
 
 -- the runs of the parts are made of what runs may have

@@ -1,9 +1,5 @@
-use Rattle.std.proofs.Common.{ℕ, ◌+◌, Bool, List}
-use Rattle.std.proofs.Common.{map, Option, max}
-use Rattle.block_store.specs.Block.{Block, sizes, free_sum}
-use Rattle.block_store.specs.Run.{segments, Segments, Stretch}
-use Rattle.block_store.specs.Room.{lowest_purged, count_of}
-use Rattle.block_store.specs.Compact.{largest, place_behind, beyond}
+use Rattle.block_store.proofs.Cited.{ℕ, ◌+◌, Bool, List, map, Option, max, Block, sizes, free_sum, segments, Segments, Stretch}
+use Rattle.block_store.proofs.Cited.{lowest_purged, count_of, largest, place_behind, beyond}
 
 -- where the run above the lowest one begins, seen from a place on
 abbrev pub run_behind : ℕ → List Block → Option ℕ

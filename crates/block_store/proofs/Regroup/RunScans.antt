@@ -1,17 +1,9 @@
-use Rattle.std.proofs.Common.{◌≡◌, ℕ, ◌+◌, zero, suc, Bool, true, false, ◌&&◌, ◌||◌, List, [], ◌∷◌, ◌++◌, refl, sym}
-use Rattle.std.proofs.Common.{◌∙◌, ap, cond, arith, Option, Some, None, nat_le, append_assoc, is_some, not}
-use Rattle.std.proofs.lemmas.Bool.{and_parts, and_from, le-leb, leb-true, cond-true}
-use Rattle.std.proofs.lemmas.List.{append-nil}
-use Rattle.std.proofs.lemmas.List.Folds.{list_any-append}
-use Rattle.std.specs.Option.{option_map}
-use Rattle.block_store.specs.Block.{Block, Free, Nonrelocatable, Masters, Relocatable, is_relocatable, size, sizes}
-use Rattle.block_store.specs.Block.{free_of, free_sum, add, tidy}
-use Rattle.block_store.specs.Run.{in_run, has, has_free, RunSpot, run_raised, lowest_run, run_spot, segments, Segments}
-use Rattle.block_store.specs.Run.{joined}
-use Rattle.block_store.specs.Room.{may_be_purged, lowest_purged}
-use Rattle.block_store.specs.Sparing.{spared, opened, purged}
-use Rattle.block_store.specs.Inner.RunScan.{is_number, is_wanted, any_run, meets, suits, met_after, scan_runs}
-use Rattle.block_store.specs.declared.sparing.Sparing.{Sparing}
+use Rattle.block_store.proofs.Cited.{◌≡◌, ℕ, ◌+◌, zero, suc, Bool, true, false, ◌&&◌, ◌||◌, List, [], ◌∷◌, ◌++◌, refl, sym, ◌∙◌, ap, cond}
+use Rattle.block_store.proofs.Cited.{arith, Option, Some, None, nat_le, append_assoc, is_some, not, and_parts, and_from, le-leb, leb-true}
+use Rattle.block_store.proofs.Cited.{cond-true, append-nil, list_any-append, option_map, Block, Free, Nonrelocatable, Masters, Relocatable}
+use Rattle.block_store.proofs.Cited.{is_relocatable, size, sizes, free_of, free_sum, add, tidy, in_run, has, has_free, RunSpot, run_raised}
+use Rattle.block_store.proofs.Cited.{lowest_run, run_spot, segments, Segments, joined, may_be_purged, lowest_purged, spared, opened, purged}
+use Rattle.block_store.proofs.Cited.{is_number, is_wanted, any_run, meets, suits, met_after, scan_runs, Sparing}
 use Rattle.block_store.proofs.Zone.Totals.{total-append}
 
 -- where the blocks end

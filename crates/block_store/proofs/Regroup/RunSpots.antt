@@ -1,14 +1,8 @@
-use Rattle.std.proofs.Common.{◌≡◌, ℕ, ◌+◌, ◌-◌, ◌<◌, zero, suc, Bool, true, false, ◌==◌, List, [], ◌∷◌, ◌++◌}
-use Rattle.std.proofs.Common.{drop, ◌≤◌, refl, sym, ◌∙◌, ap, cond, arith, Option, Some, None, nat_le}
-use Rattle.std.proofs.lemmas.Option.{none-some, same_Some}
-use Rattle.std.proofs.lemmas.Bool.{cond-true, cond-false}
-use Rattle.std.proofs.lemmas.Bool.Decides.{nat_tests}
-use Rattle.std.specs.Option.{option_map}
-use Rattle.block_store.specs.Block.{Block, Free, Nonrelocatable, Masters, Relocatable, size, sizes}
-use Rattle.block_store.specs.Run.{in_run, RunSpot, run_raised, lowest_run, run_spot, run_from, run_at, segments}
-use Rattle.block_store.specs.Run.{Segments, Stretch, joined}
-use Rattle.block_store.specs.Find.{FindsLowestRun}
-use Rattle.block_store.specs.Inner.NthRun.{nth_run_of, nth_run, FindsRun}
+use Rattle.block_store.proofs.Cited.{◌≡◌, ℕ, ◌+◌, ◌-◌, ◌<◌, zero, suc, Bool, true, false, ◌==◌, List, [], ◌∷◌, ◌++◌, drop, ◌≤◌, refl, sym}
+use Rattle.block_store.proofs.Cited.{◌∙◌, ap, cond, arith, Option, Some, None, nat_le, none-some, same_Some, cond-true, cond-false}
+use Rattle.block_store.proofs.Cited.{nat_tests, option_map, Block, Free, Nonrelocatable, Masters, Relocatable, size, sizes, in_run, RunSpot}
+use Rattle.block_store.proofs.Cited.{run_raised, lowest_run, run_spot, run_from, run_at, segments, Segments, Stretch, joined}
+use Rattle.block_store.proofs.Cited.{FindsLowestRun, nth_run_of, nth_run, FindsRun}
 use Rattle.block_store.proofs.Zone.Totals.{total-append}
 use Rattle.block_store.proofs.Plain.Options.{has_place}
 

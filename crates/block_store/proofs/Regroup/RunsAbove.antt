@@ -1,14 +1,7 @@
-use Rattle.std.proofs.Common.{◌≡◌, ℕ, ◌+◌, ◌-◌, ◌≤◌, ◌==◌, nat_le, Bool, true, false, cond, Option, Some, None}
-use Rattle.std.proofs.Common.{List, [], ◌∷◌, ◌++◌, take, drop, refl, sym, ◌∙◌, ap, subst, arith}
-use Rattle.std.proofs.lemmas.Option.{none-some, same_Some}
-use Rattle.std.proofs.lemmas.Bool.{leb-true}
-use Rattle.std.proofs.lemmas.Bool.Decides.{nat_tests}
-use Rattle.std.proofs.lemmas.List.{take-append-drop}
-use Rattle.std.specs.Option.{option_map, IfSome}
-use Rattle.block_store.specs.Block.{Block, size, sizes}
-use Rattle.block_store.specs.Run.{Stretch, RunSpot, run_raised, run_from, run_at, joined, segments}
-use Rattle.block_store.specs.Compact.{beyond, place_behind, next_run}
-use Rattle.block_store.specs.Inner.Packing.{run_of_index}
+use Rattle.block_store.proofs.Cited.{◌≡◌, ℕ, ◌+◌, ◌-◌, ◌≤◌, ◌==◌, nat_le, Bool, true, false, cond, Option, Some, None, List, [], ◌∷◌, ◌++◌}
+use Rattle.block_store.proofs.Cited.{take, drop, refl, sym, ◌∙◌, ap, subst, arith, none-some, same_Some, leb-true, nat_tests}
+use Rattle.block_store.proofs.Cited.{take-append-drop, option_map, IfSome, Block, size, sizes, Stretch, RunSpot, run_raised, run_from}
+use Rattle.block_store.proofs.Cited.{run_at, joined, segments, beyond, place_behind, next_run, run_of_index}
 use Rattle.block_store.proofs.Zone.Totals.{total-append}
 use Rattle.block_store.proofs.Zone.Zones.{joined-segments, joined-is}
 

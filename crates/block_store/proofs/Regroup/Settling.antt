@@ -1,25 +1,16 @@
-use Rattle.std.proofs.Common.{◌≡◌, ℕ, ◌+◌, ◌≤◌, ◌<◌, zero, suc, Bool, true, false, ◌||◌, ◌⊎◌, inl, inr, List, [], ◌∷◌}
-use Rattle.std.proofs.Common.{◌++◌, length, refl, sym, ◌∙◌, ap, cond, map, arith, Option, Some, None, subst, is_some}
-use Rattle.std.proofs.Common.{◌==◌}
-use Rattle.std.proofs.lemmas.List.{append-nil, append_assoc}
-use Rattle.std.proofs.lemmas.Option.{none-some, same_Some}
-use Rattle.std.proofs.lemmas.Bool.Decides.{nat_tests}
-use Rattle.std.specs.Option.{option_map, IfSome}
-use Rattle.block_store.specs.Block.{Block, Free, Nonrelocatable, Masters, Relocatable, size, sizes, free_sum, free}
-use Rattle.block_store.specs.Block.{tidy}
-use Rattle.block_store.specs.Run.{in_run, Stretch, Segments, segments, runs, joined, RunSpot, run_raised, run_at, has}
-use Rattle.block_store.specs.Run.{with_run, movers, settle}
-use Rattle.block_store.specs.Room.{Spot, raised, spot}
-use Rattle.block_store.specs.Find.{FindsLowest}
-use Rattle.block_store.specs.Rest.{Rest, IsRest, KeepsSlots, with_moves, counted, lowered_in_run}
-use Rattle.block_store.specs.Compact.{beyond, settled_runs, settled, lowered_in_runs, has_room, runs_settled}
-use Rattle.block_store.specs.Inner.NthRun.{nth_run_of, nth_run, FindsRun}
+use Rattle.block_store.proofs.Cited.{◌≡◌, ℕ, ◌+◌, ◌≤◌, ◌<◌, zero, suc, Bool, true, false, ◌||◌, ◌⊎◌, inl, inr, List, [], ◌∷◌, ◌++◌, length}
+use Rattle.block_store.proofs.Cited.{refl, sym, ◌∙◌, ap, cond, map, arith, Option, Some, None, subst, is_some, ◌==◌, append-nil, none-some}
+use Rattle.block_store.proofs.Cited.{same_Some, nat_tests, option_map, IfSome, Block, Free, Nonrelocatable, Masters, Relocatable, size}
+use Rattle.block_store.proofs.Cited.{sizes, free_sum, free, tidy, in_run, Stretch, Segments, segments, runs, joined, RunSpot, run_raised}
+use Rattle.block_store.proofs.Cited.{run_at, has, with_run, movers, settle, Spot, raised, spot, FindsLowest, Rest, IsRest, KeepsSlots}
+use Rattle.block_store.proofs.Cited.{with_moves, counted, lowered_in_run, beyond, settled_runs, settled, lowered_in_runs, has_room}
+use Rattle.block_store.proofs.Cited.{runs_settled, nth_run_of, nth_run, FindsRun, Loose}
+use Rattle.std.proofs.lemmas.List.{append_assoc}
 use Rattle.block_store.proofs.Zone.Apart.{Apart, tidy-apart, apart-tidied, barrier-alone, apart-above}
 use Rattle.block_store.proofs.Zone.Totals.{total-append}
 use Rattle.block_store.proofs.Zone.Zones.{joined-segments}
 use Rattle.block_store.proofs.Regroup.Parts.{AreParts, in-parts, segments-part, segments-alone, segments-joined}
 use Rattle.block_store.proofs.Regroup.Parts.{in-settle}
-use Rattle.block_store.specs.Inner.Packing.{Loose}
 use Rattle.block_store.proofs.Plain.Trials.{least_or_last-at}
 use Rattle.block_store.proofs.Regroup.Ends.{apart-movers}
 

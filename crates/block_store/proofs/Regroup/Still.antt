@@ -1,12 +1,7 @@
-use Rattle.std.proofs.Common.{◌≡◌, ℕ, ◌+◌, zero, suc, true, false, not, Some, List, [], ◌∷◌, ◌++◌, length, map, refl}
-use Rattle.std.proofs.Common.{sym, ap, ◌∙◌, arith, append_assoc}
-use Rattle.std.proofs.lemmas.List.{append-nil}
-use Rattle.std.proofs.lemmas.Bool.{cond-true}
-use Rattle.block_store.specs.Block.{Block, Free, Relocatable, add, count, free, free_sum, is_mover, tidy}
-use Rattle.block_store.specs.Rest.{lowered_in_run}
-use Rattle.block_store.specs.Run.{RunSpot, Stretch, joined, movers, run_at, runs, segments, settle, with_run}
-use Rattle.block_store.specs.Compact.{lowered_in_runs, settled, settled_runs}
-use Rattle.block_store.specs.Inner.Packing.{Loose}
+use Rattle.block_store.proofs.Cited.{◌≡◌, ℕ, ◌+◌, zero, suc, true, false, not, Some, List, [], ◌∷◌, ◌++◌, length, map, refl, sym, ap, ◌∙◌}
+use Rattle.block_store.proofs.Cited.{arith, append_assoc, append-nil, cond-true, Block, Free, Relocatable, add, count, free, free_sum}
+use Rattle.block_store.proofs.Cited.{is_mover, tidy, lowered_in_run, RunSpot, Stretch, joined, movers, run_at, runs, segments, settle}
+use Rattle.block_store.proofs.Cited.{with_run, lowered_in_runs, settled, settled_runs, Loose}
 use Rattle.block_store.proofs.Regroup.Packed.{tidy-below, tidy-free}
 use Rattle.block_store.proofs.Regroup.Parts.{AreParts, in-parts}
 use Rattle.block_store.proofs.Regroup.RunLists.{run_at-is, run_at-parts}

@@ -1,13 +1,8 @@
-use Rattle.std.proofs.Common.{◌≡◌, ℕ, ◌-◌, Bool, true, false, List, ◌∷◌, ◌++◌, refl, sym, ◌∙◌, ap, cond, map, Option}
-use Rattle.std.proofs.Common.{Some, None, nat_le}
-use Rattle.std.proofs.lemmas.List.{map-append}
-use Rattle.std.specs.Option.{option_map, option_or}
-use Rattle.std.specs.Prelude.{option_and_then}
-use Rattle.block_store.specs.Block.{Block, Free, Nonrelocatable, Masters, Relocatable, size, free_sum, free_of, free}
-use Rattle.block_store.specs.Block.{rename, rename_block, is_mover, resized}
-use Rattle.block_store.specs.Run.{Stretch, segments, joined, has_free, movers}
-use Rattle.block_store.specs.Room.{Spot, rename_spot, spot, filled, room}
-use Rattle.block_store.specs.Grow.{growth, grow_up, taken_low, grow_nonrelocatable, grow_mover, grow_at, grow}
+use Rattle.block_store.proofs.Cited.{◌≡◌, ℕ, ◌-◌, Bool, true, false, List, ◌∷◌, ◌++◌, refl, sym, ◌∙◌, ap, cond, map, Option, Some, None}
+use Rattle.block_store.proofs.Cited.{nat_le, map-append, option_map, option_or, option_and_then, Block, Free, Nonrelocatable, Masters}
+use Rattle.block_store.proofs.Cited.{Relocatable, size, free_sum, free_of, free, rename, rename_block, is_mover, resized, Stretch, segments}
+use Rattle.block_store.proofs.Cited.{joined, has_free, movers, Spot, rename_spot, spot, filled, room, growth, grow_up, taken_low}
+use Rattle.block_store.proofs.Cited.{grow_nonrelocatable, grow_mover, grow_at, grow}
 use Rattle.block_store.proofs.Renamed.Renaming.{size-rename, free_of-rename, is_mover-rename, total-rename}
 use Rattle.block_store.proofs.Renamed.Renaming.{filter-rename, free-rename, spot-rename, filled-rename, rename_stretch}
 use Rattle.block_store.proofs.Renamed.Renaming.{segments-rename, joined-rename, has_free-rename, room-rename}

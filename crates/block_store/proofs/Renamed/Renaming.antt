@@ -1,15 +1,10 @@
-use Rattle.std.proofs.Common.{◌≡◌, ℕ, ◌-◌, zero, suc, Bool, true, false, not, ◌&&◌, List, [], ◌∷◌, ◌++◌, refl, sym, ◌∙◌}
-use Rattle.std.proofs.Common.{ap, cond, map, Option, Some, None, filter}
-use Rattle.std.proofs.lemmas.List.{map-append}
-use Rattle.std.specs.Option.{option_map, option_or}
-use Rattle.std.specs.Prelude.{option_and_then}
-use Rattle.block_store.specs.Block.{Block, Free, Nonrelocatable, Masters, Relocatable, size, total, free_sum, free_of}
-use Rattle.block_store.specs.Block.{rename, rename_block, free, is_mover, is_room, is_purgeable, add, tidy}
-use Rattle.block_store.specs.Run.{settle, in_run, Stretch, Segments, segments, joined, RunSpot, run_raised, lowest_run}
-use Rattle.block_store.specs.Run.{run_spot, with_run, change_run, has_free, has, others}
-use Rattle.block_store.specs.Room.{Spot, rename_spot, spot, raised, filled, place, put_in_place, lowest_purged, purge}
-use Rattle.block_store.specs.Room.{count_of, least, room}
-use Rattle.block_store.specs.Grow.{growth, taken, grow_up, freed, move_away, grow_last, grow_mover}
+use Rattle.block_store.proofs.Cited.{◌≡◌, ℕ, ◌-◌, zero, suc, Bool, true, false, not, ◌&&◌, List, [], ◌∷◌, ◌++◌, refl, sym, ◌∙◌, ap, cond}
+use Rattle.block_store.proofs.Cited.{map, Option, Some, None, filter, map-append, option_map, option_or, option_and_then, Block, Free}
+use Rattle.block_store.proofs.Cited.{Nonrelocatable, Masters, Relocatable, size, total, free_sum, free_of, rename, rename_block, free}
+use Rattle.block_store.proofs.Cited.{is_mover, is_room, is_purgeable, add, tidy, settle, in_run, Stretch, Segments, segments, joined}
+use Rattle.block_store.proofs.Cited.{RunSpot, run_raised, lowest_run, run_spot, with_run, change_run, has_free, has, others, Spot}
+use Rattle.block_store.proofs.Cited.{rename_spot, spot, raised, filled, place, put_in_place, lowest_purged, purge, count_of, least, room}
+use Rattle.block_store.proofs.Cited.{growth, taken, grow_up, freed, move_away, grow_last, grow_mover}
 
 -- renaming leaves what a block takes
 pub size-rename : (f g : ℕ → ℕ) (b : Block) → size (rename_block f g b) ≡ size b

@@ -1,10 +1,6 @@
 -- What a walk over blocks told.
-use Rattle.std.proofs.Common.{◌≡◌, ◌+◌, List, [], ◌∷◌, refl, sym, ◌∙◌, ap, arith, Option, Some, None}
-use Rattle.std.proofs.lemmas.Option.{none-some, same_Some}
-use Rattle.block_store.specs.Block.{Block, Free, Nonrelocatable, Masters, Relocatable, size, sizes}
-use Rattle.block_store.specs.Seen.{seen}
-use Rattle.block_store.specs.Walk.{Tells, seen_size}
-use Rattle.block_store.specs.declared.sparing.Seen.{Seen}
+use Rattle.block_store.proofs.Cited.{◌≡◌, ◌+◌, List, [], ◌∷◌, refl, sym, ◌∙◌, ap, arith, Option, Some, None, none-some, same_Some, Block}
+use Rattle.block_store.proofs.Cited.{Free, Nonrelocatable, Masters, Relocatable, size, sizes, seen, Tells, seen_size, Seen}
 
 -- one block was told
 pub record ReadBlock (before : List Block) (told : Seen) (after : List Block) : Type 0 where

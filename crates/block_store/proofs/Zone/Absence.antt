@@ -1,13 +1,7 @@
-use Rattle.std.proofs.Common.{◌≡◌, ℕ, zero, suc, Bool, true, false, ◌||◌, List, [], ◌∷◌, ◌++◌, refl, sym, ◌∙◌, ap, cond}
-use Rattle.std.proofs.Common.{Some, filter}
-use Rattle.std.proofs.lemmas.Bool.{or_parts}
-use Rattle.std.proofs.lemmas.List.Folds.{list_any-append}
-use Rattle.block_store.specs.Block.{Block, Free, size, free_sum, free, tidy, is_mover, is_relocatable}
-use Rattle.block_store.specs.Run.{has, settle, with_run, RunSpot, run_spot}
-use Rattle.block_store.specs.Room.{may_be_purged, lowest_purged}
-use Rattle.block_store.specs.Grow.{freed}
-use Rattle.block_store.specs.Sparing.{spared, opened, purged}
-use Rattle.block_store.specs.declared.sparing.Sparing.{Sparing}
+use Rattle.block_store.proofs.Cited.{◌≡◌, ℕ, zero, suc, Bool, true, false, ◌||◌, List, [], ◌∷◌, ◌++◌, refl, sym, ◌∙◌, ap, cond, Some}
+use Rattle.block_store.proofs.Cited.{filter, or_parts, list_any-append, Block, Free, size, free_sum, free, tidy, is_mover, is_relocatable}
+use Rattle.block_store.proofs.Cited.{has, settle, with_run, RunSpot, run_spot, may_be_purged, lowest_purged, freed, spared, opened, purged}
+use Rattle.block_store.proofs.Cited.{Sparing}
 use Rattle.block_store.specs.declared.sparing.Sparing.TheVariants as sparing
 use Rattle.block_store.proofs.Zone.Tidy.{has-tidy}
 use Rattle.block_store.proofs.Zone.Passing.{none-append}

@@ -1,18 +1,9 @@
-use Rattle.std.proofs.Common.{◌≡◌, ℕ, ◌+◌, ◌-◌, ◌%◌, zero, suc, Bool, true, false, ◌&&◌, not, ◌==◌, List, [], ◌∷◌, ◌++◌}
-use Rattle.std.proofs.Common.{filter, length, refl, sym, ◌∙◌, ap, cond, subst, arith, Option, Some, None, nat_le}
-use Rattle.std.proofs.lemmas.Option.{none-some, same_Some}
-use Rattle.std.specs.Option.{option_map}
-use Rattle.mac_words.specs.Size.{padded}
-use Rattle.block_store.specs.Block.{Block, Free, Nonrelocatable, Masters, Relocatable, size, free, free_of, free_sum}
-use Rattle.block_store.specs.Block.{is_room, is_mover, is_relocatable, add, tidy, with_content, resized}
-use Rattle.block_store.specs.Run.{RunSpot, run_at, with_run, movers, others, settle, low, high}
-use Rattle.block_store.specs.Room.{Spot, raised, spot_at, filled, may_be_purged, lowest_purged}
-use Rattle.block_store.specs.Grow.{growth, taken, grow_up, freed}
-use Rattle.block_store.specs.Sparing.{spared, opened}
-use Rattle.block_store.specs.Compact.{Aligned}
-use Rattle.block_store.specs.Seen.{with_flags}
-use Rattle.block_store.specs.declared.flags.Flags.{Flags}
-use Rattle.block_store.specs.declared.sparing.Sparing.{Sparing}
+use Rattle.block_store.proofs.Cited.{◌≡◌, ℕ, ◌+◌, ◌-◌, ◌%◌, zero, suc, Bool, true, false, ◌&&◌, not, ◌==◌, List, [], ◌∷◌, ◌++◌, filter}
+use Rattle.block_store.proofs.Cited.{length, refl, sym, ◌∙◌, ap, cond, subst, arith, Option, Some, None, nat_le, none-some, same_Some}
+use Rattle.block_store.proofs.Cited.{option_map, padded, Block, Free, Nonrelocatable, Masters, Relocatable, size, free, free_of, free_sum}
+use Rattle.block_store.proofs.Cited.{is_room, is_mover, is_relocatable, add, tidy, with_content, resized, RunSpot, run_at, with_run, movers}
+use Rattle.block_store.proofs.Cited.{others, settle, low, high, Spot, raised, spot_at, filled, may_be_purged, lowest_purged, growth, taken}
+use Rattle.block_store.proofs.Cited.{grow_up, freed, spared, opened, Aligned, with_flags, Flags, Sparing}
 use Rattle.block_store.specs.declared.sparing.Sparing.TheVariants as sparing
 use Rattle.block_store.proofs.Regroup.RunLists.{run_at-is}
 use Rattle.block_store.proofs.Zone.Passing.{filter-keeps}

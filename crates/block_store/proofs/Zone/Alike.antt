@@ -1,23 +1,16 @@
-use Rattle.std.proofs.Common.{◌≡◌, ℕ, ◌+◌, ◌-◌, ◌≤◌, zero, suc, Bool, true, false, not, ◌&&◌, List, [], ◌∷◌, ◌++◌, refl}
-use Rattle.std.proofs.Common.{sym, ◌∙◌, ap, cond, arith, Option, Some, None, filter, ◌⊎◌, inl, inr}
-use Rattle.std.proofs.lemmas.Bool.{cond-true, cond-false, and_parts, leb-true}
-use Rattle.std.proofs.lemmas.Option.{option_and_then_some}
-use Rattle.std.specs.Option.{option_map, option_or}
-use Rattle.block_store.specs.Block.{Block, Free, Nonrelocatable, Masters, Relocatable, size, sizes, total, count, free}
-use Rattle.block_store.specs.Block.{free_sum, is_mover, is_room, is_relocatable, add, tidy, resized}
-use Rattle.block_store.specs.Run.{in_run, Stretch, segments, joined, change_run, has, has_free, movers, others, settle}
-use Rattle.block_store.specs.Run.{high, low}
-use Rattle.block_store.specs.Room.{Spot, spot, raised, filled, place, put_in_place, put_at_base, lowest_purged, purge}
-use Rattle.block_store.specs.Room.{may_be_purged, room}
-use Rattle.block_store.specs.Grow.{growth, taken, taken_low, grow_up, grow_nonrelocatable, freed, move_away, grow_last}
-use Rattle.block_store.specs.Grow.{grow_mover, grow}
-use Rattle.block_store.specs.Compact.{settled_runs, settled}
+use Rattle.block_store.proofs.Cited.{◌≡◌, ℕ, ◌+◌, ◌-◌, ◌≤◌, zero, suc, Bool, true, false, not, ◌&&◌, List, [], ◌∷◌, ◌++◌, refl, sym, ◌∙◌}
+use Rattle.block_store.proofs.Cited.{ap, cond, arith, Option, Some, None, filter, ◌⊎◌, inl, inr, cond-true, cond-false, and_parts, leb-true}
+use Rattle.block_store.proofs.Cited.{option_and_then_some, option_map, option_or, Block, Free, Nonrelocatable, Masters, Relocatable, size}
+use Rattle.block_store.proofs.Cited.{sizes, total, count, free, free_sum, is_mover, is_room, is_relocatable, add, tidy, resized, in_run}
+use Rattle.block_store.proofs.Cited.{Stretch, segments, joined, change_run, has, has_free, movers, others, settle, high, low, Spot, spot}
+use Rattle.block_store.proofs.Cited.{raised, filled, place, put_in_place, put_at_base, lowest_purged, purge, may_be_purged, room, growth}
+use Rattle.block_store.proofs.Cited.{taken, taken_low, grow_up, grow_nonrelocatable, freed, move_away, grow_last, grow_mover, grow}
+use Rattle.block_store.proofs.Cited.{settled_runs, settled, Loose}
 use Rattle.block_store.proofs.Zone.Tidy.{spot-is, spot-passes}
 use Rattle.block_store.proofs.Zone.Totals.{total-append, total-le}
 use Rattle.block_store.proofs.Zone.Zones.{joined-segments}
 use Rattle.block_store.proofs.Zone.Passing.{has-count}
 use Rattle.block_store.proofs.Regroup.RunLists.{AreLoose, segments-loose}
-use Rattle.block_store.specs.Inner.Packing.{Loose}
 use Rattle.block_store.proofs.Zone.Views.{map-some, or-some, room-some, change_run-some, place-some, taken-some}
 use Rattle.block_store.proofs.Zone.Views.{taken_low-some, grow-some}
 use Rattle.block_store.proofs.Zone.Keeping.{counts-free, apart, purged-le, filtered, freely, settle-le, high-le, three}

@@ -1,8 +1,5 @@
-use Rattle.std.proofs.Common.{◌≡◌, ℕ, ◌+◌, ◌<◌, zero, suc, true, false, List, [], ◌∷◌, ◌++◌, length, refl, ◌∙◌, ap}
-use Rattle.std.proofs.Common.{subst, arith}
-use Rattle.block_store.specs.Block.{Block, Free, Nonrelocatable, Masters, Relocatable, size, free, add, tidy}
-use Rattle.block_store.specs.Block.{with_content}
-use Rattle.block_store.specs.Run.{in_run}
+use Rattle.block_store.proofs.Cited.{◌≡◌, ℕ, ◌+◌, ◌<◌, zero, suc, true, false, List, [], ◌∷◌, ◌++◌, length, refl, ◌∙◌, ap, subst, arith}
+use Rattle.block_store.proofs.Cited.{Block, Free, Nonrelocatable, Masters, Relocatable, size, free, add, tidy, with_content, in_run}
 
 -- each block stands apart from the next: it takes bytes, and isn't a Free one below a Free one
 abbrev pub Apart : List Block → Type 0

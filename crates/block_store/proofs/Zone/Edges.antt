@@ -1,14 +1,8 @@
-use Rattle.std.proofs.Common.{◌≡◌, ℕ, ◌+◌, ◌-◌, ◌==◌, Bool, true, false, List, [], ◌∷◌, ◌++◌, refl, sym, ◌∙◌, ap}
-use Rattle.std.proofs.Common.{subst, arith, Option, Some, None, nat_le, is_some, inl, inr}
+use Rattle.block_store.proofs.Cited.{◌≡◌, ℕ, ◌+◌, ◌-◌, ◌==◌, Bool, true, false, List, [], ◌∷◌, ◌++◌, refl, sym, ◌∙◌, ap, subst, arith}
+use Rattle.block_store.proofs.Cited.{Option, Some, None, nat_le, is_some, inl, inr, cond-true, cond-false, le-leb, option_map, IsSome}
+use Rattle.block_store.proofs.Cited.{IsSomeAnd, IsTrue, Block, size, sizes, is_relocatable, IsEdge, has, Spot, raised, spot, spot_at, Slot}
+use Rattle.block_store.proofs.Cited.{is_used}
 use Rattle.std.proofs.lemmas.List.{append_assoc}
-use Rattle.std.proofs.lemmas.Bool.{cond-true, cond-false, le-leb}
-use Rattle.std.specs.Option.{option_map, IsSome, IsSomeAnd}
-use Rattle.std.specs.Bool.{IsTrue}
-use Rattle.block_store.specs.Block.{Block, size, sizes, is_relocatable}
-use Rattle.block_store.specs.Find.{IsEdge}
-use Rattle.block_store.specs.Run.{has}
-use Rattle.block_store.specs.Room.{Spot, raised, spot, spot_at}
-use Rattle.block_store.specs.Slot.{Slot, is_used}
 use Rattle.block_store.proofs.Nonrelocatable.Placing.{spot_at-below}
 use Rattle.block_store.proofs.Plain.Options.{some_and}
 use Rattle.block_store.proofs.Regroup.Settling.{has-spot}

@@ -1,10 +1,7 @@
 -- Free neighbours that are made one.
-use Rattle.std.proofs.Common.{◌≡◌, ℕ, ◌+◌, ◌<◌, zero, suc, false, List, [], ◌∷◌, ◌++◌, refl, sym, ◌∙◌, ap}
-use Rattle.std.proofs.Common.{subst, arith, append_assoc}
-use Rattle.std.proofs.lemmas.Bool.{false≢true}
-use Rattle.block_store.specs.Block.{Block, Free, Nonrelocatable, Masters, Relocatable, free, add, tidy}
-use Rattle.block_store.specs.Inner.Stretch.{is_free}
-use Rattle.block_store.specs.Inner.Joining.{last_free, Closed}
+use Rattle.block_store.proofs.Cited.{◌≡◌, ℕ, ◌+◌, ◌<◌, zero, suc, false, List, [], ◌∷◌, ◌++◌, refl, sym, ◌∙◌, ap, subst, arith}
+use Rattle.block_store.proofs.Cited.{append_assoc, false≢true, Block, Free, Nonrelocatable, Masters, Relocatable, free, add, tidy, is_free}
+use Rattle.block_store.proofs.Cited.{last_free, Closed}
 use Rattle.block_store.proofs.Zone.Apart.{Apart, longer, two, apart-next, apart-tidied, apart-tidy, tidy-apart}
 use Rattle.block_store.proofs.Zone.Spots.{free-some}
 use Rattle.block_store.proofs.Regroup.Packed.{tidy-below, tidy-free}

@@ -1,17 +1,10 @@
-use Rattle.std.proofs.Common.{◌≡◌, ℕ, ◌+◌, ◌-◌, ◌≤◌, zero, suc, Bool, true, false, not, ◌&&◌, List, [], ◌∷◌, ◌++◌, refl}
-use Rattle.std.proofs.Common.{sym, ◌∙◌, ap, subst, cond, arith, Option, Some, filter, ◌⊎◌, inl, inr}
-use Rattle.std.proofs.lemmas.Bool.{cond-true, and_parts}
-use Rattle.std.proofs.lemmas.Option.{same_Some, option_and_then_some}
-use Rattle.std.specs.Option.{option_map, option_or}
-use Rattle.block_store.specs.Block.{Block, Free, size, total, count, free, free_sum, is_mover, is_room, resized, tidy}
-use Rattle.block_store.specs.Run.{Stretch, segments, joined, change_run, has, has_free, movers, others, settle, high}
-use Rattle.block_store.specs.Run.{low, RunSpot}
-use Rattle.block_store.specs.Inner.Packing.{Loose}
-use Rattle.block_store.specs.Room.{Spot, spot, filled, place, put_in_place, put_at_base, lowest_purged, purge, room}
-use Rattle.block_store.specs.Room.{may_be_purged}
-use Rattle.block_store.specs.Grow.{growth, taken, taken_low, grow_up, grow_nonrelocatable, freed, move_away, grow_last}
-use Rattle.block_store.specs.Grow.{grow_mover, grow}
-use Rattle.block_store.specs.Compact.{settled_runs, settled}
+use Rattle.block_store.proofs.Cited.{◌≡◌, ℕ, ◌+◌, ◌-◌, ◌≤◌, zero, suc, Bool, true, false, not, ◌&&◌, List, [], ◌∷◌, ◌++◌, refl, sym, ◌∙◌}
+use Rattle.block_store.proofs.Cited.{ap, subst, cond, arith, Option, Some, filter, ◌⊎◌, inl, inr, cond-true, and_parts, same_Some}
+use Rattle.block_store.proofs.Cited.{option_and_then_some, option_map, option_or, Block, Free, size, total, count, free, free_sum, is_mover}
+use Rattle.block_store.proofs.Cited.{is_room, resized, tidy, Stretch, segments, joined, change_run, has, has_free, movers, others, settle}
+use Rattle.block_store.proofs.Cited.{high, low, RunSpot, Loose, Spot, spot, filled, place, put_in_place, put_at_base, lowest_purged, purge}
+use Rattle.block_store.proofs.Cited.{room, may_be_purged, growth, taken, taken_low, grow_up, grow_nonrelocatable, freed, move_away}
+use Rattle.block_store.proofs.Cited.{grow_last, grow_mover, grow, settled_runs, settled}
 use Rattle.block_store.proofs.Zone.Tidy.{total-tidy, spot-is, spot-passes}
 use Rattle.block_store.proofs.Zone.Totals.{total-append, total-le}
 use Rattle.block_store.proofs.Zone.Zones.{joined-segments}

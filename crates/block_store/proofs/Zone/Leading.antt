@@ -1,13 +1,7 @@
-use Rattle.std.proofs.Common.{◌≡◌, ℕ, ◌+◌, ◌*◌, ◌≤◌, Bool, true, false, ◌||◌, ◌==◌, List, [], ◌∷◌, ◌++◌, length, refl}
-use Rattle.std.proofs.Common.{sym, ◌∙◌, ap, cond, arith, ◌⊎◌, inl, inr}
-use Rattle.std.proofs.lemmas.Bool.{cond-false, cases_eq, false_from_ne_true, or_parts}
-use Rattle.std.proofs.lemmas.Bool.Decides.{Decides-eqb}
-use Rattle.mac_words.specs.Size.{padded}
-use Rattle.block_store.specs.Block.{Block, Free, Nonrelocatable, Masters, Relocatable, size, sizes, total, count, tidy}
-use Rattle.block_store.specs.Block.{is_relocatable, is_masters, with_content}
-use Rattle.block_store.specs.Run.{has}
-use Rattle.block_store.specs.Grow.{freed}
-use Rattle.block_store.specs.Slot.{Slot, NoSlot, Unused, Used, set_slot, is_used}
+use Rattle.block_store.proofs.Cited.{◌≡◌, ℕ, ◌+◌, ◌*◌, ◌≤◌, Bool, true, false, ◌||◌, ◌==◌, List, [], ◌∷◌, ◌++◌, length, refl, sym, ◌∙◌, ap}
+use Rattle.block_store.proofs.Cited.{cond, arith, ◌⊎◌, inl, inr, cond-false, cases_eq, false_from_ne_true, or_parts, Decides-eqb, padded}
+use Rattle.block_store.proofs.Cited.{Block, Free, Nonrelocatable, Masters, Relocatable, size, sizes, total, count, tidy, is_relocatable}
+use Rattle.block_store.proofs.Cited.{is_masters, with_content, has, freed, Slot, NoSlot, Unused, Used, set_slot, is_used}
 use Rattle.block_store.proofs.Zone.Totals.{total-append}
 use Rattle.block_store.proofs.Zone.Tidy.{total-tidy}
 

@@ -1,14 +1,7 @@
-use Rattle.std.proofs.Common.{◌≡◌, ℕ, ◌+◌, ◌-◌, ◌≤◌, ◌<◌, zero, suc, Bool, true, false, ◌==◌, List, [], ◌∷◌, ◌++◌}
-use Rattle.std.proofs.Common.{length, take, drop, refl, sym, ◌∙◌, ap, cond, arith, Option, Some, None}
-use Rattle.std.proofs.Common.{nat_le, append_assoc}
-use Rattle.std.proofs.lemmas.List.{take-append-drop}
-use Rattle.std.proofs.lemmas.Bool.{cond-true, cond-false}
-use Rattle.std.proofs.lemmas.Bool.Decides.{nat_tests}
-use Rattle.std.specs.Option.{option_map}
-use Rattle.block_store.specs.Block.{Block, Free, Nonrelocatable, Masters, Relocatable, size, sizes, free_of, add, tidy}
-use Rattle.block_store.specs.Block.{tidy_top}
-use Rattle.block_store.specs.Room.{Spot, spot, raised, spot_at}
-use Rattle.block_store.specs.Grow.{freed}
+use Rattle.block_store.proofs.Cited.{◌≡◌, ℕ, ◌+◌, ◌-◌, ◌≤◌, ◌<◌, zero, suc, Bool, true, false, ◌==◌, List, [], ◌∷◌, ◌++◌, length, take}
+use Rattle.block_store.proofs.Cited.{drop, refl, sym, ◌∙◌, ap, cond, arith, Option, Some, None, nat_le, append_assoc, take-append-drop}
+use Rattle.block_store.proofs.Cited.{cond-true, cond-false, nat_tests, option_map, Block, Free, Nonrelocatable, Masters, Relocatable, size}
+use Rattle.block_store.proofs.Cited.{sizes, free_of, add, tidy, tidy_top, Spot, spot, raised, spot_at, freed}
 use Rattle.block_store.proofs.Zone.Totals.{total-append}
 use Rattle.block_store.proofs.Zone.Tidy.{total-tidy}
 

@@ -1,11 +1,6 @@
-use Rattle.std.proofs.Common.{◌≡◌, ◌+◌, ◌-◌, zero, suc, true, false, ◌==◌, List, [], ◌∷◌, ◌++◌, refl, None}
-use Rattle.std.proofs.Common.{◌∙◌, ap, arith, Some, nat_le}
-use Rattle.std.proofs.lemmas.Bool.{cond-true, cond-false}
-use Rattle.std.proofs.lemmas.Bool.Decides.{nat_tests}
-use Rattle.std.specs.Option.{option_map}
-use Rattle.block_store.specs.Block.{Block, Free, Nonrelocatable, Masters, Relocatable, size, sizes, add, tidy}
-use Rattle.block_store.specs.Room.{raised, spot_at}
-use Rattle.block_store.specs.Inner.Stretch.{is_free}
+use Rattle.block_store.proofs.Cited.{◌≡◌, ◌+◌, ◌-◌, zero, suc, true, false, ◌==◌, List, [], ◌∷◌, ◌++◌, refl, None, ◌∙◌, ap, arith, Some}
+use Rattle.block_store.proofs.Cited.{nat_le, cond-true, cond-false, nat_tests, option_map, Block, Free, Nonrelocatable, Masters}
+use Rattle.block_store.proofs.Cited.{Relocatable, size, sizes, add, tidy, raised, spot_at, is_free}
 use Rattle.block_store.proofs.Zone.Apart.{Apart, apart-above, apart-size, apart-tidied, tidy-apart}
 use Rattle.block_store.proofs.Zone.Joining.{apart-front}
 

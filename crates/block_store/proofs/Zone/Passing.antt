@@ -1,9 +1,5 @@
-use Rattle.std.proofs.Common.{◌≡◌, ℕ, ◌+◌, ◌≤◌, Bool, true, false, ◌||◌, List, [], ◌∷◌, ◌++◌, filter, refl, ◌∙◌, cond}
-use Rattle.std.proofs.Common.{arith}
-use Rattle.std.proofs.lemmas.Bool.{cond-false, or_parts}
-use Rattle.std.proofs.lemmas.List.Folds.{list_any-append}
-use Rattle.block_store.specs.Block.{Block, count}
-use Rattle.block_store.specs.Run.{has}
+use Rattle.block_store.proofs.Cited.{◌≡◌, ℕ, ◌+◌, ◌≤◌, Bool, true, false, ◌||◌, List, [], ◌∷◌, ◌++◌, filter, refl, ◌∙◌, cond, arith}
+use Rattle.block_store.proofs.Cited.{cond-false, or_parts, list_any-append, Block, count, has}
 
 -- Whether a block passes a test.
 

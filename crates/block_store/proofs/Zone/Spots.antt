@@ -1,17 +1,8 @@
-use Rattle.std.proofs.Common.{◌≡◌, ℕ, ◌+◌, ◌-◌, ◌≤◌, ◌<◌, zero, suc, Bool, true, false, ◌==◌, List, [], ◌∷◌, ◌++◌}
-use Rattle.std.proofs.Common.{length, refl, sym, ◌∙◌, ap, cond, arith, Option, Some, None}
-use Rattle.std.proofs.Common.{nat_le}
-use Rattle.std.proofs.lemmas.Option.{none-some, same_Some}
-use Rattle.std.proofs.lemmas.Bool.{cond-true, cond-false}
-use Rattle.std.proofs.lemmas.Bool.Decides.{nat_tests}
-use Rattle.std.specs.Option.{option_map}
-use Rattle.std.proofs.lemmas.List.{length-append, length-take, length-drop}
-use Rattle.mac_words.specs.Size.{padded}
-use Rattle.block_store.specs.Block.{Block, Free, Nonrelocatable, Masters, Relocatable, size, sizes, is_room, free}
-use Rattle.block_store.specs.Block.{content_of, with_content}
-use Rattle.memory_windows.specs.Writes.{written}
-use Rattle.block_store.specs.Room.{Spot, spot, raised, spot_at}
-use Rattle.block_store.specs.Find.{FindsLowest}
+use Rattle.block_store.proofs.Cited.{◌≡◌, ℕ, ◌+◌, ◌-◌, ◌≤◌, ◌<◌, zero, suc, Bool, true, false, ◌==◌, List, [], ◌∷◌, ◌++◌, length, refl, sym}
+use Rattle.block_store.proofs.Cited.{◌∙◌, ap, cond, arith, Option, Some, None, nat_le, none-some, same_Some, cond-true, cond-false}
+use Rattle.block_store.proofs.Cited.{nat_tests, option_map, length-append, length-take, length-drop, padded, Block, Free, Nonrelocatable}
+use Rattle.block_store.proofs.Cited.{Masters, Relocatable, size, sizes, is_room, free, content_of, with_content, written, Spot, spot}
+use Rattle.block_store.proofs.Cited.{raised, spot_at, FindsLowest}
 use Rattle.block_store.proofs.Zone.Totals.{total-append}
 use Rattle.block_store.proofs.Zone.Apart.{Apart, apart-size}
 use Rattle.block_store.proofs.Plain.Options.{has_place}

@@ -1,22 +1,14 @@
-use Rattle.std.proofs.Common.{◌≡◌, ℕ, ◌+◌, ◌-◌, ◌≤◌, zero, suc, Bool, true, false, not, ◌&&◌, List, [], ◌∷◌, ◌++◌, refl}
-use Rattle.std.proofs.Common.{sym, ap, cond, arith, Option, Some, filter, ◌⊎◌, inl, inr}
-use Rattle.std.proofs.lemmas.Bool.{cond-true, and_parts}
-use Rattle.std.proofs.lemmas.Option.{option_and_then_some}
-use Rattle.std.specs.Option.{option_map, option_or}
-use Rattle.block_store.specs.Block.{Block, Free, Nonrelocatable, Masters, Relocatable, size, total, count, free, tidy}
-use Rattle.block_store.specs.Block.{free_sum, is_mover, is_room, is_purgeable, resized}
-use Rattle.block_store.specs.Run.{in_run, Stretch, segments, joined, change_run, has_free, movers, others, settle, low}
-use Rattle.block_store.specs.Run.{high}
-use Rattle.block_store.specs.Room.{Spot, spot, filled, place, put_in_place, put_at_base, lowest_purged, purge, room}
-use Rattle.block_store.specs.Room.{may_be_purged}
-use Rattle.block_store.specs.Grow.{growth, taken, taken_low, grow_up, grow_nonrelocatable, move_away, grow_last, grow}
-use Rattle.block_store.specs.Grow.{grow_mover}
-use Rattle.block_store.specs.Compact.{settled_runs, settled}
+use Rattle.block_store.proofs.Cited.{◌≡◌, ℕ, ◌+◌, ◌-◌, ◌≤◌, zero, suc, Bool, true, false, not, ◌&&◌, List, [], ◌∷◌, ◌++◌, refl, sym, ap}
+use Rattle.block_store.proofs.Cited.{cond, arith, Option, Some, filter, ◌⊎◌, inl, inr, cond-true, and_parts, option_and_then_some}
+use Rattle.block_store.proofs.Cited.{option_map, option_or, Block, Free, Nonrelocatable, Masters, Relocatable, size, total, count, free}
+use Rattle.block_store.proofs.Cited.{tidy, free_sum, is_mover, is_room, is_purgeable, resized, in_run, Stretch, segments, joined}
+use Rattle.block_store.proofs.Cited.{change_run, has_free, movers, others, settle, low, high, Spot, spot, filled, place, put_in_place}
+use Rattle.block_store.proofs.Cited.{put_at_base, lowest_purged, purge, room, may_be_purged, growth, taken, taken_low, grow_up}
+use Rattle.block_store.proofs.Cited.{grow_nonrelocatable, move_away, grow_last, grow, grow_mover, settled_runs, settled, Loose}
 use Rattle.block_store.proofs.Zone.Tidy.{spot-is, spot-passes}
 use Rattle.block_store.proofs.Zone.Totals.{total-append}
 use Rattle.block_store.proofs.Zone.Zones.{joined-segments}
 use Rattle.block_store.proofs.Regroup.RunLists.{AreLoose, segments-loose}
-use Rattle.block_store.specs.Inner.Packing.{Loose}
 use Rattle.block_store.proofs.Zone.Views.{map-some, or-some, room-some, change_run-some, place-some, taken-some}
 use Rattle.block_store.proofs.Zone.Views.{grow-some}
 use Rattle.block_store.proofs.Zone.Keeping.{unless, unless-free, unless-le, unless-none, apart, purged-le, tidied}

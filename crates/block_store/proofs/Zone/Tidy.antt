@@ -1,13 +1,7 @@
-use Rattle.std.proofs.Common.{◌≡◌, ℕ, ◌+◌, zero, suc, Bool, true, false, ◌||◌, ◌==◌, List, [], ◌∷◌, ◌++◌, refl, sym}
-use Rattle.std.proofs.Common.{◌∙◌, ap, cond, arith, Option, Some, None}
-use Rattle.block_store.specs.Block.{Block, Free, Nonrelocatable, Masters, Relocatable, size, total, rename, add, tidy}
-use Rattle.block_store.specs.Block.{is_relocatable}
-use Rattle.block_store.specs.Run.{has}
-use Rattle.block_store.specs.Room.{Spot, spot, raised}
-use Rattle.block_store.specs.Grow.{freed}
-use Rattle.std.specs.Option.{option_map}
-use Rattle.std.proofs.lemmas.Option.{none-some, same_Some}
-use Rattle.std.proofs.lemmas.Bool.{or_parts, cond-false}
+use Rattle.block_store.proofs.Cited.{◌≡◌, ℕ, ◌+◌, zero, suc, Bool, true, false, ◌||◌, ◌==◌, List, [], ◌∷◌, ◌++◌, refl, sym, ◌∙◌, ap, cond}
+use Rattle.block_store.proofs.Cited.{arith, Option, Some, None, Block, Free, Nonrelocatable, Masters, Relocatable, size, total, rename, add}
+use Rattle.block_store.proofs.Cited.{tidy, is_relocatable, has, Spot, spot, raised, freed, option_map, none-some, same_Some, or_parts}
+use Rattle.block_store.proofs.Cited.{cond-false}
 
 -- a measure of blocks for which two Free blocks are as much as one of their bytes
 abbrev pub Adds : (Block → ℕ) → Type 0

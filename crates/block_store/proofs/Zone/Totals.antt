@@ -1,5 +1,4 @@
-use Rattle.std.proofs.Common.{◌≡◌, ℕ, ◌+◌, ◌≤◌, List, [], ◌∷◌, ◌++◌, arith}
-use Rattle.block_store.specs.Block.{Block, total, free, free_sum}
+use Rattle.block_store.proofs.Cited.{◌≡◌, ℕ, ◌+◌, ◌≤◌, List, [], ◌∷◌, ◌++◌, arith, Block, total, free, free_sum}
 
 -- what blocks and others above them come to
 pub total-append : (of : Block → ℕ) (below above : List Block)

@@ -1,21 +1,14 @@
-use Rattle.std.proofs.Common.{◌≡◌, ℕ, ◌≤◌, ◌<◌, ◌-◌, Bool, true, false, List, [], ◌∷◌, ◌++◌, refl, sym, ◌∙◌, ap, subst}
-use Rattle.std.proofs.Common.{cond, Option, Some, None, nat_le, append_assoc, ◌⊎◌, inl, inr, arith}
-use Rattle.std.proofs.lemmas.Option.{none-some, same_Some, option_and_then_some}
-use Rattle.std.proofs.lemmas.Bool.{leb-true}
-use Rattle.std.proofs.lemmas.Bool.Decides.{nat_tests}
-use Rattle.std.specs.Option.{option_map, option_or}
-use Rattle.std.specs.Prelude.{option_and_then, if◌then◌else◌}
-use Rattle.block_store.specs.Block.{Block, size, free, free_sum, tidy, is_mover, is_room, resized}
-use Rattle.block_store.specs.Run.{Stretch, segments, joined, RunSpot, run_spot, with_run, change_run, has_free, movers}
-use Rattle.block_store.specs.Run.{settle}
-use Rattle.block_store.specs.Room.{Spot, spot, filled, place, purge, count_of, room}
+use Rattle.block_store.proofs.Cited.{◌≡◌, ℕ, ◌≤◌, ◌<◌, ◌-◌, Bool, true, false, List, [], ◌∷◌, ◌++◌, refl, sym, ◌∙◌, ap, subst, cond, Option}
+use Rattle.block_store.proofs.Cited.{Some, None, nat_le, append_assoc, ◌⊎◌, inl, inr, arith, none-some, same_Some, option_and_then_some}
+use Rattle.block_store.proofs.Cited.{leb-true, nat_tests, option_map, option_or, option_and_then, Block, size, free, free_sum, tidy}
+use Rattle.block_store.proofs.Cited.{is_mover, is_room, resized, Stretch, segments, joined, RunSpot, run_spot, with_run, change_run}
+use Rattle.block_store.proofs.Cited.{has_free, movers, settle, Spot, spot, filled, place, purge, count_of, room, Loose, taken, taken_low}
+use Rattle.block_store.proofs.Cited.{grow_mover, grow_nonrelocatable, grow_at, grow, beyond}
+use Rattle.std.specs.Prelude.{if◌then◌else◌}
 use Rattle.block_store.proofs.Zone.Zones.{joined-segments, joined-is}
 use Rattle.block_store.proofs.Regroup.RunLists.{segments-loose, run_spot-parts}
 use Rattle.block_store.proofs.Regroup.RunSpots.{run_spot-passes}
 use Rattle.block_store.proofs.Plain.Trials.{least-found}
-use Rattle.block_store.specs.Inner.Packing.{Loose}
-use Rattle.block_store.specs.Grow.{taken, taken_low, grow_mover, grow_nonrelocatable, grow_at, grow}
-use Rattle.block_store.specs.Compact.{beyond}
 
 -- What was found, as a way to see the zone it was found in.
 

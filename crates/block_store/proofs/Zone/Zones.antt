@@ -1,8 +1,5 @@
-use Rattle.std.proofs.Common.{◌≡◌, true, false, List, [], ◌∷◌, ◌++◌, refl, sym, ◌∙◌, ap, cond}
-use Rattle.std.proofs.lemmas.List.{append-nil}
-use Rattle.block_store.specs.Block.{Block}
-use Rattle.block_store.specs.Run.{segments, joined, in_run, put_below, Segments, Stretch}
-use Rattle.block_store.specs.Compact.{beyond}
+use Rattle.block_store.proofs.Cited.{◌≡◌, true, false, List, [], ◌∷◌, ◌++◌, refl, sym, ◌∙◌, ap, cond, append-nil, Block, segments, joined}
+use Rattle.block_store.proofs.Cited.{in_run, put_below, Segments, Stretch, beyond}
 
 joined-cons : (b : Block) (run : List Block) (rest : List Stretch) → joined (b ∷ run) rest ≡ b ∷ joined run rest
 joined-cons b run [] = refl

@@ -1,22 +1,8 @@
-use Rattle.std.proofs.Common.{◌≡◌, ℕ, false, true, List, length, refl, sym, ◌∙◌, ap, subst, Some, None}
-use Rattle.std.proofs.Common.{Ok}
-use Rattle.std.proofs.Common.{Err, Result, slice_get, slice_set}
-use Rattle.mac_words.specs.declared.code.OsErr.{OsErr}
-use Rattle.mac_words.specs.declared.code.TheConstants.OsErr.{MEM_FULL}
-use Rattle.block_store.specs.declared.flags.Flags.{Flags}
-use Rattle.block_store.specs.Block.{Block}
-use Rattle.block_store.specs.Slot.{Used}
-use Rattle.block_store.specs.Rest.{Rest, IsRest, with_slot}
-use Rattle.heap_calls.specs.declared.log.Log.{Log}
-use Rattle.heap_calls.specs.declared.anchor.Anchor.{Anchor}
+use Rattle.heap_calls.proofs.Cited.{◌≡◌, ℕ, false, true, List, length, refl, sym, ◌∙◌, ap, subst, Some, None, Ok, Err, Result, slice_get}
+use Rattle.heap_calls.proofs.Cited.{slice_set, OsErr, MEM_FULL, Flags, Block, Used, Rest, IsRest, with_slot, Log, Anchor, Code, Memory}
+use Rattle.heap_calls.proofs.Cited.{Plain, Resource, cast, inside, new_inside, number_if, IsNext, state_of, memory_of, Agrees, entered}
 use Rattle.heap_calls.specs.declared.anchor.Anchor.TheVariants.{Handle}
-use Rattle.heap_calls.specs.declared.refusal.Refusal.TheVariants.{Code}
-use Rattle.heap_calls.specs.State.{Memory, Plain, Resource}
-use Rattle.heap_calls.specs.Inside.{cast, inside, new_inside, number_if}
-use Rattle.heap_calls.specs.Inner.Filling.{IsNext}
-use Rattle.heap_calls.specs.Inner.Numbered.{state_of, memory_of, Agrees}
 use Rattle.heap_calls.proofs.Filled.Owned.{get-last, set-last, owned-answer}
-use Rattle.heap_calls.specs.Inner.Naming.{entered}
 use Rattle.heap_calls.proofs.Numbering.Roles.{agrees-cast, cast-done, inside-done}
 
 -- New resources one after another.

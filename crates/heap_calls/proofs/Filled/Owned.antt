@@ -1,25 +1,10 @@
-use Rattle.std.proofs.Common.{◌≡◌, ℕ, zero, suc, Bool, true, false, List, [], ◌∷◌, ◌++◌, length, refl, sym, ◌∙◌, ap}
-use Rattle.std.proofs.Common.{cond}
-use Rattle.std.proofs.Common.{Option, Some, None, Result, Ok, Err, is_some, slice_get, slice_set}
-use Rattle.std.proofs.lemmas.Option.{none-some}
-use Rattle.mac_words.specs.Size.{phys}
-use Rattle.mac_words.specs.declared.code.OsErr.{OsErr}
-use Rattle.mac_words.specs.declared.code.TheConstants.OsErr.{MEM_FULL}
-use Rattle.block_store.specs.declared.flags.Flags.{Flags}
-use Rattle.block_store.specs.Block.{Block, Relocatable}
-use Rattle.block_store.specs.Room.{room, put_in_place}
-use Rattle.block_store.specs.Rest.{counted}
-use Rattle.heap_calls.specs.State.{Role, Plain, Meaning, Handle, Pointer, Disposed, State, Memory}
-use Rattle.heap_calls.specs.Answer.{Answer, nothing, given, refused, known_as}
-use Rattle.heap_calls.specs.Slots.{slotted, if_ready, made}
-use Rattle.heap_calls.specs.Moves.{new_handle_moves}
-use Rattle.heap_calls.specs.Searches.{new_handle_searches, new_empty_handle_searches}
-use Rattle.heap_calls.specs.Inside.{new_filled, new_empty, new_inside, new_empty_inside, inside, cast, cast_as}
-use Rattle.heap_calls.specs.Inside.{resource_role, owned_as, guarded_as}
-use Rattle.heap_calls.specs.Inner.Filling.{owned_by}
-use Rattle.heap_calls.specs.Inner.Given.{IsAnswer}
-use Rattle.heap_calls.specs.declared.refusal.Refusal.{Refusal}
-use Rattle.heap_calls.specs.declared.refusal.Refusal.TheVariants.{Code, HostMemory}
+use Rattle.heap_calls.proofs.Cited.{◌≡◌, ℕ, zero, suc, Bool, true, false, List, [], ◌∷◌, ◌++◌, length, refl, sym, ◌∙◌, ap, cond, Option}
+use Rattle.heap_calls.proofs.Cited.{Some, None, Result, Ok, Err, is_some, slice_get, slice_set, none-some, phys, OsErr, MEM_FULL, Flags}
+use Rattle.heap_calls.proofs.Cited.{Block, Relocatable, room, put_in_place, counted, Role, Plain, Meaning, Handle, Pointer, Disposed, State}
+use Rattle.heap_calls.proofs.Cited.{Memory, Answer, nothing, given, refused, known_as, slotted, if_ready, made, new_handle_moves}
+use Rattle.heap_calls.proofs.Cited.{new_handle_searches, new_empty_handle_searches, new_filled, new_empty, new_inside, new_empty_inside}
+use Rattle.heap_calls.proofs.Cited.{inside, cast, cast_as, resource_role, owned_as, guarded_as, owned_by, IsAnswer, Refusal, Code}
+use Rattle.heap_calls.proofs.Cited.{HostMemory}
 
 -- A new handle gets its role after it was made.
 

@@ -1,43 +1,19 @@
-use Rattle.std.proofs.Common.{◌≡◌, ℕ, ◌≤◌, Bool, true, false, List, length, refl, sym, ◌∙◌, ap}
-use Rattle.std.proofs.Common.{cond, Option, Some, None, Result, Ok, Err, is_some}
-use Rattle.std.specs.Option.{option_map, MatchOption}
-use Rattle.std.proofs.lemmas.Option.{none-some}
-use Rattle.std.proofs.lemmas.Bool.{cond-true}
-use Rattle.std.proofs.lemmas.List.{length-replicate}
-use Rattle.mac_words.specs.Size.{phys, padded}
-use Rattle.mac_words.specs.declared.code.OsErr.{OsErr}
-use Rattle.mac_words.specs.declared.code.TheConstants.OsErr.{MEM_FULL}
-use Rattle.block_store.specs.declared.flags.Flags.{Flags}
-use Rattle.block_store.specs.Block.{Block, Relocatable, count, is_relocatable, rename, rename_block}
-use Rattle.block_store.specs.Run.{has}
-use Rattle.block_store.specs.Room.{room, put_in_place}
-use Rattle.block_store.specs.Grow.{freed}
-use Rattle.block_store.specs.Rest.{Rest, counted}
-use Rattle.block_store.proofs.Plain.Counters.{counted-none}
+use Rattle.heap_calls.proofs.Cited.{◌≡◌, ℕ, ◌≤◌, Bool, true, false, List, length, refl, sym, ◌∙◌, ap, cond, Option, Some, None, Result, Ok}
+use Rattle.heap_calls.proofs.Cited.{Err, is_some, option_map, MatchOption, none-some, cond-true, length-replicate, phys, padded, OsErr}
+use Rattle.heap_calls.proofs.Cited.{MEM_FULL, Flags, Block, Relocatable, count, is_relocatable, rename, rename_block, has, room}
+use Rattle.heap_calls.proofs.Cited.{put_in_place, freed, Rest, counted, counted-none, room-rename, put_in_place-rename, has-rename}
+use Rattle.heap_calls.proofs.Cited.{freed-absent, Anchor, Log, Room, State, Memory, Answer, Known, nothing, for_found, rebuilt, refused}
+use Rattle.heap_calls.proofs.Cited.{silent, searching, moving, handle_at, has_block, refill, refill_searches, refill_moves, refill_inside}
+use Rattle.heap_calls.proofs.Cited.{for_known, slot_of, put_moves, room_searches, IsFresh, IsReplaced, IsRefilling, refilled}
+use Rattle.heap_calls.proofs.Cited.{refilled_searches, refilled_moves, renewed, renewed_searches, renewed_moves, fresh_block}
+use Rattle.heap_calls.proofs.Cited.{zone_with_block, state_of, memory_of, handle_number, pointer_number, sized_reply}
 use Rattle.block_store.specs.declared.sparing.Sparing.TheVariants as sparing
-use Rattle.block_store.proofs.Renamed.Renaming.{room-rename, put_in_place-rename, has-rename}
-use Rattle.block_store.proofs.Zone.Absence.{freed-absent}
-use Rattle.heap_calls.specs.declared.anchor.Anchor.{Anchor}
-use Rattle.heap_calls.specs.declared.log.Log.{Log}
-use Rattle.heap_calls.specs.declared.search.Room.{Room}
-use Rattle.heap_calls.specs.State.{State, Memory}
-use Rattle.heap_calls.specs.Answer.{Answer, Known, nothing, for_found, rebuilt, refused, silent, searching, moving, handle_at}
-use Rattle.heap_calls.specs.Inside.{has_block, refill, refill_searches, refill_moves, refill_inside, for_known}
-use Rattle.heap_calls.specs.Inner.Given.{slot_of}
-use Rattle.heap_calls.specs.Moves.{put_moves}
-use Rattle.heap_calls.specs.Searches.{room_searches}
-use Rattle.heap_calls.specs.Inner.Filling.{IsFresh, IsReplaced, IsRefilling, refilled, refilled_searches}
-use Rattle.heap_calls.specs.Inner.Filling.{refilled_moves}
-use Rattle.heap_calls.specs.Inner.Loose.{renewed, renewed_searches, renewed_moves}
-use Rattle.heap_calls.specs.Inner.NewBlock.{fresh_block, zone_with_block}
-use Rattle.heap_calls.specs.Inner.Numbered.{state_of, memory_of, handle_number, pointer_number}
 use Rattle.heap_calls.proofs.Made.{no_room-alike}
 use Rattle.heap_calls.proofs.Filled.Replaced.{new-fresh, put-replaced}
 use Rattle.heap_calls.proofs.Numbering.Changing.{silent-kept, unmoved, unmoved-is}
 use Rattle.heap_calls.proofs.Numbering.Answering.{handle_at-refused}
 use Rattle.heap_calls.proofs.Numbering.Looking.{room_searches-rename}
 use Rattle.heap_calls.proofs.Numbering.MoveNames.{put_moves-rename}
-use Rattle.heap_calls.specs.Inner.Reaching.{sized_reply}
 
 -- A block for an empty handle.
 

@@ -1,32 +1,12 @@
-use Rattle.std.proofs.Common.{◌≡◌, ℕ, ◌+◌, ◌-◌, ◌≤◌, zero, suc, Bool, true, false, ◌==◌, List, [], ◌∷◌, ◌++◌, length}
-use Rattle.std.proofs.Common.{replicate, refl, sym, ◌∙◌, ap, cond, subst, map, arith, Option, Some, None, nat_le, drop}
-use Rattle.std.proofs.Common.{filter}
-use Rattle.std.specs.Option.{option_map, IfSome, IsSome, IsSomeAnd}
-use Rattle.std.proofs.lemmas.Option.{none-some, same_Some}
-use Rattle.std.proofs.lemmas.Bool.{or_parts}
-use Rattle.std.proofs.lemmas.List.{map-append, append-nil, length-replicate}
-use Rattle.std.proofs.Math.Seq.{drop-length}
-use Rattle.std.proofs.lemmas.List.Elements.{filter-append}
-use Rattle.mac_words.specs.Size.{padded}
-use Rattle.memory_windows.specs.Writes.{written}
-use Rattle.block_store.specs.declared.flags.Flags.{Flags}
-use Rattle.block_store.specs.declared.sparing.Sparing.{Sparing}
-use Rattle.block_store.specs.Block.{Block, Free, Nonrelocatable, Masters, Relocatable, size, count, add, tidy, is_relocatable}
-use Rattle.block_store.specs.Block.{is_nonrelocatable, no_flags, content_of, with_content}
-use Rattle.block_store.specs.Seen.{with_flags}
-use Rattle.block_store.specs.Run.{has}
-use Rattle.block_store.specs.Room.{Spot, spot, spot_at, raised, filled, room, put_in_place}
-use Rattle.block_store.specs.Find.{FindsLowest}
-use Rattle.block_store.specs.Sparing.{spared, opened}
-use Rattle.block_store.proofs.Zone.Tidy.{total-tidy, spot-is, spot-passes}
-use Rattle.block_store.proofs.Zone.Passing.{filter-none}
-use Rattle.block_store.proofs.Regroup.Packed.{once-below}
-use Rattle.block_store.proofs.Plain.Options.{some_and}
-use Rattle.block_store.proofs.Purged.Sparing.{filter-tidy, spot-lowest, lowest, mapped}
-use Rattle.heap_calls.specs.Inner.Search.{placement}
-use Rattle.heap_calls.specs.Inner.NewBlock.{fresh_block, zone_with_block}
-use Rattle.heap_calls.specs.Inner.Filling.{IsFresh, IsReplaced}
-use Rattle.heap_calls.specs.Inner.Numbered.{KeepsNonrelocatable}
+use Rattle.heap_calls.proofs.Cited.{◌≡◌, ℕ, ◌+◌, ◌-◌, ◌≤◌, zero, suc, Bool, true, false, ◌==◌, List, [], ◌∷◌, ◌++◌, length, replicate, refl}
+use Rattle.heap_calls.proofs.Cited.{sym, ◌∙◌, ap, cond, subst, map, arith, Option, Some, None, nat_le, drop, filter, option_map, IfSome}
+use Rattle.heap_calls.proofs.Cited.{IsSome, IsSomeAnd, none-some, same_Some, or_parts, map-append, length-replicate, drop-length}
+use Rattle.heap_calls.proofs.Cited.{filter-append, padded, written, Flags, Sparing, Block, Free, Nonrelocatable, Masters, Relocatable, size}
+use Rattle.heap_calls.proofs.Cited.{count, add, tidy, is_relocatable, is_nonrelocatable, no_flags, content_of, with_content, with_flags}
+use Rattle.heap_calls.proofs.Cited.{has, Spot, spot, spot_at, raised, filled, room, put_in_place, FindsLowest, spared, opened, total-tidy}
+use Rattle.heap_calls.proofs.Cited.{spot-is, spot-passes, filter-none, once-below, some_and, filter-tidy, spot-lowest, lowest, mapped}
+use Rattle.heap_calls.proofs.Cited.{placement, fresh_block, zone_with_block, IsFresh, IsReplaced, KeepsNonrelocatable}
+use Rattle.std.proofs.lemmas.List.{append-nil}
 use Rattle.heap_calls.proofs.Numbering.Numbers.{leads_to-same}
 use Rattle.heap_calls.proofs.Numbering.Changing.{nonrelocatable-at}
 use Rattle.heap_calls.proofs.Room.Placements.{room-placement}

@@ -1,16 +1,7 @@
-use Rattle.std.proofs.Common.{◌≡◌, ℕ, ◌+◌, ◌<◌, Bool, true, List, [], ◌∷◌, ◌++◌, length, take, Option, inl, inr, refl, sym, ◌∙◌, ap}
-use Rattle.std.proofs.Common.{append_assoc, append-nil, subst, map, get_or}
-use Rattle.std.proofs.Math.ListN.{get_or-map}
-use Rattle.std.proofs.lemmas.List.{take_more, length-map}
-use Rattle.block_store.specs.declared.flags.Flags.{Flags}
-use Rattle.heap_calls.specs.State.{Memory, Resource}
-use Rattle.heap_calls.specs.Answer.{nothing}
-use Rattle.heap_calls.specs.Gone.{Gone, Tells, slot_gone, made_gone, all_gone}
-use Rattle.heap_calls.specs.Inside.{new_inside, new_all, number_if}
-use Rattle.heap_calls.specs.Refused.{LeavesMasters}
-use Rattle.heap_calls.specs.Preloaded.{LeavesUnmade, MadeSome}
-use Rattle.heap_calls.specs.Inner.Filling.{IsNext, wanted_as}
-use Rattle.heap_calls.specs.declared.filling.Filling.{Filling}
+use Rattle.heap_calls.proofs.Cited.{◌≡◌, ℕ, ◌+◌, ◌<◌, Bool, true, List, [], ◌∷◌, ◌++◌, length, take, Option, inl, inr, refl, sym, ◌∙◌, ap}
+use Rattle.heap_calls.proofs.Cited.{append_assoc, append-nil, subst, map, get_or, get_or-map, take_more, length-map, Flags, Memory}
+use Rattle.heap_calls.proofs.Cited.{Resource, nothing, Gone, Tells, slot_gone, made_gone, all_gone, new_inside, new_all, number_if}
+use Rattle.heap_calls.proofs.Cited.{LeavesMasters, LeavesUnmade, MadeSome, IsNext, wanted_as, Filling}
 
 -- New resources one after another, as far as they were made, and what a sink was told of them.
 

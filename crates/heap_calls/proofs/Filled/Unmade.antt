@@ -1,18 +1,7 @@
-use Rattle.std.proofs.Common.{◌≡◌, ◌⊎◌, Some, ℕ, ◌*◌, List, length, inl, inr, refl, sym, ◌∙◌, ap, subst}
-use Rattle.block_store.specs.Block.{Block, count, is_masters, rename}
-use Rattle.block_store.specs.Rest.{Rest, IsRest}
-use Rattle.block_store.specs.declared.sparing.Sparing.TheVariants.{Nothing}
-use Rattle.heap_calls.specs.declared.anchor.Anchor.{Anchor}
-use Rattle.heap_calls.specs.declared.log.Log.{Log}
-use Rattle.heap_calls.specs.State.{Memory, CountedMemory}
-use Rattle.heap_calls.specs.Answer.{nothing}
-use Rattle.heap_calls.specs.Gone.{Gone, Tells, TellsNothing, slot_gone, made_gone}
-use Rattle.heap_calls.specs.Preloaded.{LeavesUnmade}
-use Rattle.heap_calls.specs.Refused.{LeavesMasters}
-use Rattle.heap_calls.specs.Slots.{slotted_zone}
-use Rattle.heap_calls.specs.Inner.Numbered.{memory_of, heap_of, handle_number, pointer_number, Agrees}
-use Rattle.heap_calls.specs.Inner.NewSlot.{zone_slotted, HasMore}
-use Rattle.heap_calls.specs.Inner.Telling.{zone_slot_gone, new_gone, LeavesSlot}
+use Rattle.heap_calls.proofs.Cited.{◌≡◌, ◌⊎◌, Some, ℕ, ◌*◌, List, length, inl, inr, refl, sym, ◌∙◌, ap, subst, Block, count, is_masters}
+use Rattle.heap_calls.proofs.Cited.{rename, Rest, IsRest, Nothing, Anchor, Log, Memory, CountedMemory, nothing, Gone, Tells, TellsNothing}
+use Rattle.heap_calls.proofs.Cited.{slot_gone, made_gone, LeavesUnmade, LeavesMasters, slotted_zone, memory_of, heap_of, handle_number}
+use Rattle.heap_calls.proofs.Cited.{pointer_number, Agrees, zone_slotted, HasMore, zone_slot_gone, new_gone, LeavesSlot}
 use Rattle.heap_calls.proofs.GoneBlocks.{slot_gone-is}
 use Rattle.heap_calls.proofs.GonePlaces.{new_gone-is, slotted_zone-is}
 use Rattle.heap_calls.proofs.NewBlocks.NewHandles.{kept-still}

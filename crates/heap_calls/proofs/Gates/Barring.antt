@@ -1,13 +1,5 @@
-use Rattle.std.proofs.Common.{◌≡◌, ℕ, List, Option, Result, Ok, Err, ap, sym}
-use Rattle.std.specs.Prelude.{is_ok}
-use Rattle.mac_words.specs.declared.code.OsErr.{OsErr}
-use Rattle.block_store.specs.Block.{Block}
-use Rattle.block_store.specs.Slot.{Slot}
-use Rattle.heap_calls.specs.Answer.{Held, look_up}
-use Rattle.heap_calls.specs.Inner.Given.{FindsBlock}
-use Rattle.heap_calls.specs.Inner.Numbered.{state_of}
-use Rattle.heap_calls.specs.Inner.Pointing.{FindsHeld}
-use Rattle.heap_calls.specs.declared.anchor.Anchor.{Anchor}
+use Rattle.heap_calls.proofs.Cited.{◌≡◌, ℕ, List, Option, Result, Ok, Err, ap, sym, is_ok, OsErr, Block, Slot, Held, look_up, FindsBlock}
+use Rattle.heap_calls.proofs.Cited.{state_of, FindsHeld, Anchor}
 
 -- What bars a call, as a store's names and slots say it.
 

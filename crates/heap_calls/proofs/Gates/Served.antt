@@ -1,14 +1,7 @@
-use Rattle.std.proofs.Common.{◌≡◌, ◌∙◌, Option, Some, None, Result, true, false, refl, sym}
-use Rattle.mac_words.specs.declared.code.OsErr.{OsErr}
-use Rattle.mac_words.specs.Told.{Told}
-use Rattle.block_store.specs.Block.{Block}
-use Rattle.std.proofs.Common.{List}
-use Rattle.heap_calls.specs.State.{State, Memory}
-use Rattle.heap_calls.specs.Answer.{noting, silent}
-use Rattle.heap_calls.specs.Asked.{Asked, telling, seeking}
-use Rattle.heap_calls.specs.Rows.{doing}
-use Rattle.heap_calls.specs.Busy.{unless, unless_silent}
-use Rattle.heap_calls.specs.Table.{Row, row, bar_of, barred_by, notes_code, answer_of, serve, gated_row, gate, gated, served}
+use Rattle.heap_calls.proofs.Cited.{◌≡◌, ◌∙◌, Option, Some, None, Result, true, false, refl, sym, OsErr, Told, Block, List, State, Memory}
+use Rattle.heap_calls.proofs.Cited.{noting, silent, Asked, telling, seeking, doing, unless_silent, Row, row, bar_of, barred_by, notes_code}
+use Rattle.heap_calls.proofs.Cited.{answer_of, serve, gated_row, gate, gated, served}
+use Rattle.heap_calls.specs.Busy.{unless}
 use Rattle.heap_calls.specs.Table as table
 
 -- A call as its method answers it is the call of the table after its gate.

@@ -1,14 +1,7 @@
-use Rattle.std.proofs.Common.{◌≡◌, ℕ, List, refl, ◌∙◌, ap, Option}
-use Rattle.std.specs.Option.{option_map}
-use Rattle.block_store.specs.Block.{Block, rename}
-use Rattle.block_store.specs.Run.{RunSpot, run_spot, has_free}
-use Rattle.block_store.specs.Room.{least}
-use Rattle.block_store.specs.Sparing.{spared, purged, most_purges}
+use Rattle.heap_calls.proofs.Cited.{◌≡◌, ℕ, List, refl, ◌∙◌, ap, Option, option_map, Block, rename, RunSpot, run_spot, has_free, least}
+use Rattle.heap_calls.proofs.Cited.{spared, purged, most_purges, has_free-rename, purge-rename, run_spot-rename, rename_run_spot, least-map}
+use Rattle.heap_calls.proofs.Cited.{tries, base, base_searches}
 use Rattle.block_store.specs.declared.sparing.Sparing.TheVariants as sparing
-use Rattle.block_store.proofs.Renamed.Renaming.{has_free-rename, purge-rename, run_spot-rename, rename_run_spot}
-use Rattle.block_store.proofs.Plain.Trials.{least-map}
-use Rattle.heap_calls.specs.Inner.Search.{tries}
-use Rattle.heap_calls.specs.Inner.Base.{base, base_searches}
 use Rattle.heap_calls.proofs.NewBlocks.NewHandles.{tries-same}
 use Rattle.heap_calls.proofs.Numbering.Looking.{count_of-rename}
 

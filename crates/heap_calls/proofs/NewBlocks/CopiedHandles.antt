@@ -1,41 +1,15 @@
-use Rattle.std.proofs.Common.{◌≡◌, ℕ, ◌*◌, ◌≤◌, ◌<◌, zero, suc, Bool, true, false, List, [], ◌∷◌, ◌++◌, length, refl, sym}
-use Rattle.std.proofs.Common.{◌∙◌, ap, subst, cond, arith, Option, Some, None, is_some, slice_get, Ok, Err}
-use Rattle.std.specs.Option.{option_map, ok_or, IfSome}
-use Rattle.std.specs.Prelude.{unwrap_or}
-use Rattle.std.proofs.lemmas.Option.{none-some}
-use Rattle.std.proofs.lemmas.Bool.{le-leb}
-use Rattle.mac_words.specs.Size.{phys, padded}
-use Rattle.mac_words.specs.declared.code.OsErr.{OsErr}
-use Rattle.mac_words.specs.declared.code.TheConstants.OsErr.{NIL_HANDLE}
-use Rattle.block_store.specs.Block.{Block, Relocatable, count, is_masters, sizes, is_relocatable, no_flags, content_of}
-use Rattle.block_store.specs.Block.{rename, rename_block}
-use Rattle.block_store.specs.Room.{Spot, spot, rename_spot, room, put_in_place}
-use Rattle.block_store.specs.Run.{has}
-use Rattle.block_store.specs.Slot.{is_used}
-use Rattle.block_store.specs.Rest.{Rest, counted}
+use Rattle.heap_calls.proofs.Cited.{◌≡◌, ℕ, ◌*◌, ◌≤◌, ◌<◌, zero, suc, Bool, true, false, List, [], ◌∷◌, ◌++◌, length, refl, sym, ◌∙◌, ap}
+use Rattle.heap_calls.proofs.Cited.{subst, cond, arith, Option, Some, None, is_some, slice_get, Ok, Err, option_map, ok_or, IfSome}
+use Rattle.heap_calls.proofs.Cited.{unwrap_or, none-some, le-leb, phys, padded, OsErr, NIL_HANDLE, Block, Relocatable, count, is_masters}
+use Rattle.heap_calls.proofs.Cited.{sizes, is_relocatable, no_flags, content_of, rename, rename_block, Spot, spot, rename_spot, room}
+use Rattle.heap_calls.proofs.Cited.{put_in_place, has, is_used, Rest, counted, GREATEST_ZONE, spot-passes, Put, seek, no_room, State}
+use Rattle.heap_calls.proofs.Cited.{Memory, Held, look_up, copying_zone, copy_slot_gone, found_gone, slot_gone, doing_silently, purges_made}
+use Rattle.heap_calls.proofs.Cited.{purged_by, next_block, hand_to_hand, Anchor, Found, Log, IsCopy, slot_of, entered, number_of}
+use Rattle.heap_calls.proofs.Cited.{new_searches, zone_slotted, state_of, memory_of, handle_number, pointer_number, no_number, Agrees}
+use Rattle.heap_calls.proofs.Cited.{Packs, new_moves, new_gone, zone_slot_gone}
 use Rattle.block_store.specs.declared.sparing.Sparing.TheVariants as sparing
-use Rattle.block_store.specs.declared.measures.TheConstants.{GREATEST_ZONE}
-use Rattle.block_store.proofs.Zone.Tidy.{spot-passes}
-use Rattle.moves.specs.Moves.{Put}
-use Rattle.moves.specs.Seeking.{seek, no_room}
-use Rattle.heap_calls.specs.State.{State, Memory}
-use Rattle.heap_calls.specs.Answer.{Held, look_up}
-use Rattle.heap_calls.specs.Copying.{copying_zone}
-use Rattle.heap_calls.specs.Gone.{copy_slot_gone, found_gone, slot_gone}
-use Rattle.heap_calls.specs.Rows.{doing_silently, purges_made, purged_by, refused, for_found, made, next_block}
-use Rattle.heap_calls.specs.Rows.{hand_to_hand}
-use Rattle.heap_calls.specs.declared.anchor.Anchor.{Anchor}
+use Rattle.heap_calls.specs.Rows.{refused, for_found, made}
 use Rattle.heap_calls.specs.declared.anchor.Anchor.TheVariants.{Handle}
-use Rattle.heap_calls.specs.declared.anchor.Found.{Found}
-use Rattle.heap_calls.specs.declared.log.Log.{Log}
-use Rattle.heap_calls.specs.Inner.Copied.{IsCopy}
-use Rattle.heap_calls.specs.Inner.Given.{slot_of}
-use Rattle.heap_calls.specs.Inner.Naming.{entered, number_of}
-use Rattle.heap_calls.specs.Inner.NewBlock.{new_searches}
-use Rattle.heap_calls.specs.Inner.NewSlot.{zone_slotted}
-use Rattle.heap_calls.specs.Inner.Numbered.{state_of, memory_of, handle_number, pointer_number, no_number, Agrees}
-use Rattle.heap_calls.specs.Inner.Packed.{Packs, new_moves}
-use Rattle.heap_calls.specs.Inner.Telling.{new_gone, zone_slot_gone}
 use Rattle.heap_calls.proofs.GoneBlocks.{slot_gone-is}
 use Rattle.heap_calls.proofs.GonePlaces.{new_gone-is, slotted_zone-is}
 use Rattle.heap_calls.proofs.Made.{Slotted, some_left, seek_new, new-slotted, takes-kept, unmade-follows, made-follows}

@@ -1,28 +1,13 @@
-use Rattle.std.proofs.Common.{◌≡◌, ℕ, ◌+◌, ◌≤◌, zero, suc, true, false, ◌==◌, List, ◌∷◌, ◌++◌}
-use Rattle.std.proofs.Common.{length, take, drop, refl, sym, ◌∙◌, ap, subst, arith, Option, Some}
-use Rattle.std.proofs.Common.{None, filter}
-use Rattle.std.specs.Option.{option_map, IfSome, IsSomeAnd}
-use Rattle.std.specs.Bool.{IsTrue}
-use Rattle.std.proofs.lemmas.Option.{none-some, same_Some}
-use Rattle.std.proofs.lemmas.Bool.{false_from_ne_true}
-use Rattle.std.proofs.lemmas.Bool.Decides.{Decides-eqb}
-use Rattle.std.proofs.lemmas.List.{append-nil, length-replicate}
-use Rattle.std.proofs.Math.Seq.{take-length, drop-length}
-use Rattle.block_store.specs.Block.{Block, Masters, Relocatable, count, is_relocatable}
-use Rattle.block_store.specs.Block.{no_flags, content_of, with_content}
-use Rattle.memory_windows.specs.Writes.{written}
-use Rattle.block_store.specs.Room.{Spot, spot, spot_at, room, put_in_place}
-use Rattle.block_store.specs.Find.{FindsLowest}
-use Rattle.block_store.specs.Slot.{Unused, is_used}
-use Rattle.block_store.specs.Rest.{Rest, IsRest}
+use Rattle.heap_calls.proofs.Cited.{◌≡◌, ℕ, ◌+◌, ◌≤◌, zero, suc, true, false, ◌==◌, List, ◌∷◌, ◌++◌, length, take, drop, refl, sym, ◌∙◌, ap}
+use Rattle.heap_calls.proofs.Cited.{subst, arith, Option, Some, None, filter, option_map, IfSome, IsSomeAnd, IsTrue, none-some, same_Some}
+use Rattle.heap_calls.proofs.Cited.{false_from_ne_true, Decides-eqb, length-replicate, take-length, drop-length, Block, Masters}
+use Rattle.heap_calls.proofs.Cited.{Relocatable, count, is_relocatable, no_flags, content_of, with_content, written, Spot, spot, spot_at}
+use Rattle.heap_calls.proofs.Cited.{room, put_in_place, FindsLowest, Unused, is_used, Rest, IsRest, some_and, zone_slotted, fresh_block}
+use Rattle.heap_calls.proofs.Cited.{IsPut, IsNewBlock, IsCopied, filter-room_base, filter-room_place, here-same}
+use Rattle.std.proofs.lemmas.List.{append-nil}
 use Rattle.block_store.specs.declared.sparing.Sparing.TheVariants as sparing
-use Rattle.block_store.proofs.Plain.Options.{some_and}
-use Rattle.heap_calls.specs.Inner.NewSlot.{zone_slotted}
-use Rattle.heap_calls.specs.Inner.NewBlock.{fresh_block, IsPut, IsNewBlock}
-use Rattle.heap_calls.specs.Inner.Copied.{IsCopied}
 use Rattle.heap_calls.proofs.Filled.Replaced as replacing
 use Rattle.heap_calls.proofs.Filled.Replaced.{put-replaced}
-use Rattle.block_store.proofs.Purged.Sparing.{filter-room_base, filter-room_place, here-same}
 
 -- A copy of a block: a new block of as many bytes 0, into which the bytes are written.
 

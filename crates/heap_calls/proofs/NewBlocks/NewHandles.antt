@@ -1,31 +1,12 @@
-use Rattle.block_store.specs.Slot.{is_used}
-use Rattle.std.proofs.Common.{◌≡◌, ℕ, ◌-◌, ◌*◌, ◌<◌, zero, suc, Bool, true, false, List, ◌∷◌, ◌++◌}
-use Rattle.std.proofs.Common.{refl, sym, ◌∙◌, ap, subst, map, arith, Option, Some, None}
-use Rattle.std.proofs.Common.{nat_lt, count_by}
-use Rattle.std.proofs.lemmas.List.{map-append}
-use Rattle.std.proofs.lemmas.Bool.{cond-true, cond-false, false_from_ne_true}
-use Rattle.std.proofs.lemmas.Bool.Decides.{Decides-ltb}
-use Rattle.std.specs.Option.{option_map}
-use Rattle.block_store.specs.Block.{Block, Masters, size, count, free_of, free_sum, free, rename}
-use Rattle.block_store.specs.Block.{rename_block, is_mover, is_masters, tidy}
-use Rattle.block_store.specs.Run.{low, movers, has_free, change_run}
-use Rattle.block_store.specs.Room.{room, put_at_base}
-use Rattle.block_store.specs.Rest.{Rest}
-use Rattle.block_store.specs.Sparing.{spared, opened}
-use Rattle.block_store.specs.declared.sparing.Sparing.{Sparing}
-use Rattle.block_store.proofs.Renamed.Renaming.{size-rename, free_of-rename, free-rename, total-rename, filter-rename}
-use Rattle.block_store.proofs.Renamed.Renaming.{is_mover-rename, tidy-rename, change_run-rename, has_free-rename}
-use Rattle.block_store.proofs.Renamed.Renaming.{room-rename}
-use Rattle.heap_calls.specs.declared.log.Log.{Log}
-use Rattle.heap_calls.specs.declared.anchor.Anchor.{Anchor}
-use Rattle.heap_calls.specs.State.{State, Memory, used_slots, all_slots, uses_slot}
-use Rattle.heap_calls.specs.Slots.{more_masters, slotted}
-use Rattle.heap_calls.specs.Inner.Search.{tries}
-use Rattle.heap_calls.specs.Searches.{room_searches}
-use Rattle.heap_calls.specs.Inner.Base.{base_searches}
-use Rattle.heap_calls.specs.Inner.NewSlot.{zone_with_masters, zone_slotted, HasMore}
-use Rattle.heap_calls.specs.Inner.Numbered.{state_of, memory_of, name_of, handle_number, pointer_number, KeepsNonrelocatable}
-use Rattle.heap_calls.specs.Inner.Numbered.{Agrees}
+use Rattle.heap_calls.proofs.Cited.{is_used, ◌≡◌, ℕ, ◌-◌, ◌*◌, ◌<◌, zero, suc, Bool, true, false, List, ◌∷◌, ◌++◌, refl, sym, ◌∙◌, ap}
+use Rattle.heap_calls.proofs.Cited.{subst, map, arith, Option, Some, None, nat_lt, count_by, map-append, cond-true, cond-false}
+use Rattle.heap_calls.proofs.Cited.{false_from_ne_true, Decides-ltb, option_map, Block, Masters, size, count, free_of, free_sum, free}
+use Rattle.heap_calls.proofs.Cited.{rename, rename_block, is_mover, is_masters, tidy, low, movers, has_free, change_run, room, put_at_base}
+use Rattle.heap_calls.proofs.Cited.{Rest, spared, opened, Sparing, size-rename, free_of-rename, free-rename, total-rename, filter-rename}
+use Rattle.heap_calls.proofs.Cited.{is_mover-rename, tidy-rename, change_run-rename, has_free-rename, room-rename, Log, Anchor, State}
+use Rattle.heap_calls.proofs.Cited.{Memory, used_slots, all_slots, uses_slot, more_masters, slotted, tries, room_searches, base_searches}
+use Rattle.heap_calls.proofs.Cited.{zone_with_masters, zone_slotted, HasMore, state_of, memory_of, name_of, handle_number, pointer_number}
+use Rattle.heap_calls.proofs.Cited.{KeepsNonrelocatable, Agrees}
 use Rattle.heap_calls.proofs.NewBlocks.NewSlots.{tries-map, searches-base}
 use Rattle.heap_calls.proofs.Numbering.Changing.{names-same, masters-rename, es'}
 use Rattle.heap_calls.proofs.Numbering.Looking.{room_searches-rename}

@@ -1,55 +1,24 @@
-use Rattle.block_store.specs.Slot.{is_used}
-use Rattle.std.proofs.Common.{◌≡◌, ℕ, ◌+◌, ◌-◌, Bool, true, false, ◌||◌, List, [], ◌∷◌, ◌++◌, length, refl, sym}
-use Rattle.std.proofs.Common.{◌∙◌, ap, cond, map, arith, Option, Some, None, slice_get, count_by}
-use Rattle.std.proofs.Common.{subst, ◌⊎◌, inl, inr, is_some}
-use Rattle.std.proofs.lemmas.List.{map_push, length-map, length-replicate}
-use Rattle.std.proofs.lemmas.List.Sums.{sum_by_push}
-use Rattle.std.proofs.lemmas.Option.{same_Some}
-use Rattle.std.proofs.lemmas.Bool.{false_from_ne_true}
-use Rattle.std.specs.Option.{option_map, IfSome, IsSomeAnd}
-use Rattle.std.specs.Bool.{IsTrue}
-use Rattle.mac_words.specs.Size.{phys, padded}
-use Rattle.block_store.specs.Block.{Block, Free, size, rename, is_nonrelocatable, is_room, tidy}
-use Rattle.block_store.specs.Run.{has}
-use Rattle.block_store.specs.Compact.{Placed}
-use Rattle.block_store.specs.Rest.{Rest, KeepsSlots}
-use Rattle.block_store.specs.Room.{Spot, spot_at, filled, room, put_at_base}
+use Rattle.heap_calls.proofs.Cited.{is_used, ◌≡◌, ℕ, ◌+◌, ◌-◌, Bool, true, false, ◌||◌, List, [], ◌∷◌, ◌++◌, length, refl, sym, ◌∙◌, ap}
+use Rattle.heap_calls.proofs.Cited.{cond, map, arith, Option, Some, None, slice_get, count_by, subst, ◌⊎◌, inl, inr, is_some, map_push}
+use Rattle.heap_calls.proofs.Cited.{length-map, length-replicate, sum_by_push, same_Some, false_from_ne_true, option_map, IfSome, IsSomeAnd}
+use Rattle.heap_calls.proofs.Cited.{IsTrue, phys, padded, Block, Free, size, rename, is_nonrelocatable, is_room, tidy, has, Placed, Rest}
+use Rattle.heap_calls.proofs.Cited.{KeepsSlots, Spot, spot_at, filled, room, put_at_base, apart-tidied, spot-passes}
+use Rattle.heap_calls.proofs.Cited.{not_nonrelocatable-room, State, Memory, uses_slot, nothing, IsBaseAt, base, base_searches}
+use Rattle.heap_calls.proofs.Cited.{fresh_nonrelocatable, nonrelocatable_searches, IsNonrelocatablePut, is_some-map, unwrap_or, run_spot}
+use Rattle.heap_calls.proofs.Cited.{has_free, counted, Base, Sought, no_room, seek, if_fits, rename_sought, along-if, along-seek, Names}
+use Rattle.heap_calls.proofs.Cited.{PathNames, seek-rename, Log, room_gone, doing_silently, purges_made, reply_of, new_pointer}
+use Rattle.heap_calls.proofs.Cited.{room_searches, IsNewNonrelocatable, memory_of, KeepsAllButPlaced, base_gone, pointer_gone, Anchor}
+use Rattle.heap_calls.proofs.Cited.{state_of, name_of, handle_number, pointer_number, leads_to, points_to, KeepsNonrelocatable, Agrees}
 use Rattle.block_store.specs.declared.sparing.Sparing.TheVariants as sparing
-use Rattle.block_store.proofs.Zone.Apart.{apart-tidied}
-use Rattle.block_store.proofs.Zone.Tidy.{spot-passes}
-use Rattle.block_store.proofs.Nonrelocatable.Counts.{not_nonrelocatable-room}
-use Rattle.heap_calls.specs.State.{State, Memory, uses_slot}
 use Rattle.heap_calls.specs.State as names
-use Rattle.heap_calls.specs.Answer.{nothing}
-use Rattle.heap_calls.specs.Inner.Base.{IsBaseAt, base, base_searches}
-use Rattle.heap_calls.specs.Inner.NewPointer.{fresh_nonrelocatable, nonrelocatable_searches, IsNonrelocatablePut}
-use Rattle.mac_words.proofs.Plain.{is_some-map}
-use Rattle.std.specs.Prelude.{unwrap_or}
-use Rattle.block_store.specs.Run.{run_spot, has_free}
-use Rattle.block_store.specs.Rest.{counted}
-use Rattle.moves.specs.Moves.{Base}
-use Rattle.moves.specs.Seeking.{Sought, no_room, seek, if_fits, rename_sought}
-use Rattle.moves.proofs.Paths.{along-if, along-seek}
-use Rattle.moves.proofs.Renamed.{Names, PathNames}
-use Rattle.moves.proofs.Searches.{seek-rename}
-use Rattle.heap_calls.specs.declared.log.Log.{Log}
-use Rattle.heap_calls.specs.Gone.{room_gone}
-use Rattle.heap_calls.specs.Rows.{doing_silently, purges_made, reply_of, given, new_pointer}
-use Rattle.heap_calls.specs.Searches.{room_searches}
-use Rattle.heap_calls.specs.Inner.NewPointer.{IsNewNonrelocatable}
-use Rattle.heap_calls.specs.Inner.Numbered.{memory_of}
-use Rattle.heap_calls.specs.Inner.Packed.{KeepsAllButPlaced}
-use Rattle.heap_calls.specs.Inner.Telling.{base_gone, pointer_gone}
+use Rattle.heap_calls.specs.Rows.{given}
 use Rattle.heap_calls.proofs.GoneBlocks.{base_gone-any}
 use Rattle.heap_calls.proofs.Numbering.Changing.{slots_kept}
 use Rattle.heap_calls.proofs.NewBlocks.NewSlots.{put_at_base-is}
 use Rattle.heap_calls.proofs.Same.Agreeing.{agrees-if}
 use Rattle.heap_calls.proofs.Same.NewBlocks.{base-agrees}
 use Rattle.heap_calls.proofs.Went.{Follows, follows-none, given-is, path-names, seek-any, fits-rename}
-use Rattle.heap_calls.specs.declared.anchor.Anchor.{Anchor}
 use Rattle.heap_calls.specs.declared.anchor.Anchor.TheVariants.{Handle, Pointer}
-use Rattle.heap_calls.specs.Inner.Numbered.{state_of, name_of, handle_number, pointer_number, leads_to, points_to}
-use Rattle.heap_calls.specs.Inner.Numbered.{KeepsNonrelocatable, Agrees}
 use Rattle.heap_calls.proofs.Numbering.Numbers.{flipped, leads_to-same}
 use Rattle.heap_calls.proofs.Numbering.Changing.{number_from-push, number_from-new, slice_get-push, names-same}
 use Rattle.heap_calls.proofs.Numbering.Changing.{spot_at-is}

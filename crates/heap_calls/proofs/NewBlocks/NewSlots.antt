@@ -1,22 +1,10 @@
-use Rattle.std.proofs.Common.{◌≡◌, ℕ, ◌+◌, zero, suc, List, refl, sym, ◌∙◌, ap, subst, cond, arith, Option, Some, None}
-use Rattle.std.proofs.Common.{is_some}
-use Rattle.std.specs.Option.{option_map, IfSome, IsSomeAnd}
-use Rattle.std.specs.Bool.{IsTrue}
-use Rattle.block_store.specs.Block.{Block, Masters, size, is_room, tidy}
-use Rattle.block_store.specs.Run.{RunSpot, run_spot, has_free, with_run, low}
-use Rattle.block_store.specs.Room.{Spot, spot_at, filled, least, room, put_at_base}
-use Rattle.block_store.specs.Slot.{is_used}
-use Rattle.block_store.specs.Rest.{Rest, IsRest, KeepsSlots}
-use Rattle.heap_calls.specs.Inner.Packed.{KeepsAllButPlaced}
+use Rattle.heap_calls.proofs.Cited.{◌≡◌, ℕ, ◌+◌, zero, suc, List, refl, sym, ◌∙◌, ap, subst, cond, arith, Option, Some, None, is_some}
+use Rattle.heap_calls.proofs.Cited.{option_map, IfSome, IsSomeAnd, IsTrue, Block, Masters, size, is_room, tidy, RunSpot, run_spot, has_free}
+use Rattle.heap_calls.proofs.Cited.{with_run, low, Spot, spot_at, filled, least, room, put_at_base, is_used, Rest, IsRest, KeepsSlots}
+use Rattle.heap_calls.proofs.Cited.{KeepsAllButPlaced, spared, opened, purged, most_purges, Sparing, least-map, tries, room_searches, base}
+use Rattle.heap_calls.proofs.Cited.{base_searches, IsBaseAt, zone_with_masters, zone_slotted, HasMore, IsMade, TakesSlot, IsAdded}
+use Rattle.heap_calls.proofs.Cited.{HasOnlySlot, HasNoRoom}
 use Rattle.heap_calls.proofs.Numbering.Changing.{slots_kept}
-use Rattle.block_store.specs.Sparing.{spared, opened, purged, most_purges}
-use Rattle.block_store.specs.declared.sparing.Sparing.{Sparing}
-use Rattle.block_store.proofs.Plain.Trials.{least-map}
-use Rattle.heap_calls.specs.Inner.Search.{tries}
-use Rattle.heap_calls.specs.Searches.{room_searches}
-use Rattle.heap_calls.specs.Inner.Base.{base, base_searches, IsBaseAt}
-use Rattle.heap_calls.specs.Inner.NewSlot.{zone_with_masters, zone_slotted, HasMore, IsMade, TakesSlot}
-use Rattle.heap_calls.specs.Inner.NewBlock.{IsAdded, HasOnlySlot, HasNoRoom}
 use Rattle.heap_calls.proofs.Room.Placements.{slot-back}
 
 -- Room at the base of a run, and new slots there.

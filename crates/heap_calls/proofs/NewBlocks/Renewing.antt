@@ -1,54 +1,24 @@
-use Rattle.std.proofs.Common.{◌≡◌, ℕ, ◌<◌, Bool, true, false, List, [], length, ◌∷◌, ◌++◌, refl, sym, ◌∙◌, ap, cond, Option, Some}
-use Rattle.std.proofs.Common.{None, Ok, Err, slice_get, subst, is_some, ◌-◌}
-use Rattle.std.proofs.lemmas.Option.{none-some}
-use Rattle.std.specs.Option.{option_map, option_or, IfSome, IsSomeAnd}
-use Rattle.std.specs.Prelude.{option_and_then}
-use Rattle.std.specs.Bool.{IsTrue}
-use Rattle.mac_words.specs.Size.{phys, padded}
-use Rattle.mac_words.specs.declared.code.OsErr.{OsErr}
-use Rattle.block_store.specs.Block.{Block, size, rename, rename_block, is_relocatable, is_room, tidy}
-use Rattle.block_store.specs.Run.{has, has_free, settle, with_run, change_run, run_spot, RunSpot}
-use Rattle.block_store.specs.Room.{Spot, spot, spot_at, filled, place, put_in_place, room, lowest_purged}
-use Rattle.block_store.specs.Grow.{freed}
-use Rattle.block_store.specs.Rest.{Rest}
-use Rattle.block_store.specs.Sparing.{spared, purged, most_purges}
+use Rattle.heap_calls.proofs.Cited.{◌≡◌, ℕ, ◌<◌, Bool, true, false, List, [], length, ◌∷◌, ◌++◌, refl, sym, ◌∙◌, ap, cond, Option, Some}
+use Rattle.heap_calls.proofs.Cited.{None, Ok, Err, slice_get, subst, is_some, ◌-◌, none-some, option_map, option_or, IfSome, IsSomeAnd}
+use Rattle.heap_calls.proofs.Cited.{option_and_then, IsTrue, phys, padded, OsErr, Block, size, rename, rename_block, is_relocatable}
+use Rattle.heap_calls.proofs.Cited.{is_room, tidy, has, has_free, settle, with_run, change_run, run_spot, RunSpot, Spot, spot, spot_at}
+use Rattle.heap_calls.proofs.Cited.{filled, place, put_in_place, room, lowest_purged, freed, Rest, spared, purged, most_purges}
+use Rattle.heap_calls.proofs.Cited.{freed-rename, has-tidy, has-freed, spot-is, is_some-map, place-room, least-map, least-some, Log, Room}
+use Rattle.heap_calls.proofs.Cited.{Anchor, State, Memory, nothing, fresh_block, placement, placement_searches, IsAt, room_searches}
+use Rattle.heap_calls.proofs.Cited.{place_moves, put_moves, placement_moves, reallocated, loose_at, renewed, renewed_searches, IsRenewal}
+use Rattle.heap_calls.proofs.Cited.{renewed_moves, state_of, memory_of, handle_number, pointer_number, no_number, none-lowest_purged}
+use Rattle.heap_calls.proofs.Cited.{none-settled, unwrap_or, counted, Packs, sized_reply, Put, Drop, Sought, seek, if_fits, around}
+use Rattle.heap_calls.proofs.Cited.{rename_sought, PathNames, seek-rename, Done, doing_silently, purges_made, purged_by, changed}
+use Rattle.heap_calls.proofs.Cited.{reallocate_handle, FindsLoose, renewed_gone}
 use Rattle.block_store.specs.declared.sparing.Sparing.TheVariants as sparing
-use Rattle.block_store.proofs.Renamed.Renaming.{freed-rename}
-use Rattle.block_store.proofs.Zone.Tidy.{has-tidy, has-freed, spot-is}
-use Rattle.mac_words.proofs.Plain.{is_some-map}
-use Rattle.block_store.proofs.Regroup.HavingRoom.{place-room}
-use Rattle.block_store.proofs.Plain.Trials.{least-map, least-some}
-use Rattle.heap_calls.specs.declared.log.Log.{Log}
-use Rattle.heap_calls.specs.declared.search.Room.{Room}
-use Rattle.heap_calls.specs.declared.anchor.Anchor.{Anchor}
 use Rattle.heap_calls.specs.declared.anchor.Anchor.TheVariants.{Handle}
-use Rattle.heap_calls.specs.State.{State, Memory}
-use Rattle.heap_calls.specs.Answer.{nothing}
-use Rattle.heap_calls.specs.Inner.NewBlock.{fresh_block}
-use Rattle.heap_calls.specs.Inner.Search.{placement, placement_searches, IsAt}
-use Rattle.heap_calls.specs.Searches.{room_searches}
-use Rattle.heap_calls.specs.Moves.{place_moves, put_moves}
-use Rattle.heap_calls.specs.Inner.Packed.{placement_moves}
-use Rattle.heap_calls.specs.Purging.{reallocated}
-use Rattle.heap_calls.specs.Inner.Loose.{loose_at, renewed, renewed_searches, IsRenewal, renewed_moves}
-use Rattle.heap_calls.specs.Inner.Numbered.{state_of, memory_of, handle_number, pointer_number, no_number}
 use Rattle.heap_calls.proofs.Numbering.Numbers.{Apart, is_relocatable-number, handle_number-at}
-use Rattle.block_store.proofs.Zone.Absence.{none-lowest_purged, none-settled}
 use Rattle.heap_calls.proofs.Room.Placements.{fresh-size}
 use Rattle.heap_calls.proofs.Numbering.Changing.{spot_at-is, phys-some, names-same}
-use Rattle.std.specs.Prelude.{unwrap_or, MatchOption}
-use Rattle.block_store.specs.Rest.{counted}
-use Rattle.heap_calls.specs.Inner.Packed.{Packs}
+use Rattle.std.specs.Prelude.{MatchOption}
 use Rattle.heap_calls.proofs.Numbering.Loosening.{known}
 use Rattle.heap_calls.proofs.Numbering.Looking.{tries-same}
-use Rattle.heap_calls.specs.Inner.Reaching.{sized_reply}
-use Rattle.moves.specs.Moves.{Put, Drop}
-use Rattle.moves.specs.Seeking.{Sought, seek, if_fits, around, rename_sought}
-use Rattle.moves.proofs.Renamed.{PathNames}
-use Rattle.moves.proofs.Searches.{seek-rename}
-use Rattle.heap_calls.specs.Rows.{Done, doing_silently, purges_made, purged_by, refused, changed, reallocate_handle}
-use Rattle.heap_calls.specs.Inner.Loose.{FindsLoose}
-use Rattle.heap_calls.specs.Inner.Telling.{renewed_gone}
+use Rattle.heap_calls.specs.Rows.{refused}
 use Rattle.heap_calls.proofs.GonePlaces.{renewed_gone-is}
 use Rattle.heap_calls.proofs.Numbering.Loosening.{reallocate-loose}
 use Rattle.heap_calls.proofs.Same.Resizing.{again, renewed-agrees}

@@ -1,28 +1,12 @@
-use Rattle.std.proofs.Common.{Bool}
-use Rattle.std.proofs.Common.{◌≡◌, ℕ, ◌+◌, ◌≤◌, ◌<◌, true, List, ◌∷◌, ◌++◌, length, refl, sym, ◌∙◌, ap, arith, Option}
-use Rattle.std.proofs.Common.{Some, None, Result, Ok, Err, slice_get, subst}
-use Rattle.std.proofs.lemmas.Option.{slice_get-map}
-use Rattle.std.specs.Option.{option_map, ok_or, IfSome}
-use Rattle.mac_words.specs.declared.code.OsErr.{OsErr}
-use Rattle.heap_calls.specs.declared.log.Log.{Log}
-use Rattle.mac_words.specs.declared.code.TheConstants.OsErr.{NIL_HANDLE, WRONG_ZONE}
-use Rattle.block_store.specs.Block.{Block, Free, Nonrelocatable, Masters, Relocatable, size, sizes, rename, rename_block}
-use Rattle.block_store.specs.Block.{is_relocatable, content_of, with_content}
-use Rattle.block_store.specs.Slot.{Slot}
-use Rattle.block_store.specs.Rest.{Rest}
-use Rattle.block_store.specs.Room.{Spot, spot, spot_at, rename_spot}
-use Rattle.block_store.proofs.Renamed.Renaming.{spot-rename, total-rename, size-rename}
-use Rattle.block_store.proofs.Zone.Tidy.{spot-is}
-use Rattle.block_store.proofs.Zone.Totals.{total-append}
-use Rattle.heap_calls.specs.State.{State, Memory}
-use Rattle.heap_calls.specs.Answer.{Answer, Held, look_up, held_at, handle_at, known_as, for_found, on_block, noting}
-use Rattle.heap_calls.specs.Answer.{silent, code_of}
-use Rattle.heap_calls.specs.Inner.Given.{slot_at, slot_of, found, FindsBlock}
-use Rattle.heap_calls.specs.Inner.Pointing.{FindsHeld}
-use Rattle.heap_calls.specs.declared.anchor.Found.{Found}
-use Rattle.heap_calls.specs.declared.anchor.Anchor.{Anchor}
+use Rattle.heap_calls.proofs.Cited.{Bool, ◌≡◌, ℕ, ◌+◌, ◌≤◌, ◌<◌, true, List, ◌∷◌, ◌++◌, length, refl, sym, ◌∙◌, ap, arith, Option, Some}
+use Rattle.heap_calls.proofs.Cited.{None, Result, Ok, Err, slice_get, subst, slice_get-map, option_map, ok_or, IfSome, OsErr, Log}
+use Rattle.heap_calls.proofs.Cited.{NIL_HANDLE, WRONG_ZONE, Block, Free, Nonrelocatable, Masters, Relocatable, size, sizes, rename}
+use Rattle.heap_calls.proofs.Cited.{rename_block, is_relocatable, content_of, with_content, Slot, Rest, Spot, spot, spot_at, rename_spot}
+use Rattle.heap_calls.proofs.Cited.{spot-rename, total-rename, size-rename, spot-is, total-append, State, Memory, Answer, Held, look_up}
+use Rattle.heap_calls.proofs.Cited.{held_at, handle_at, known_as, for_found, on_block, noting, silent, code_of, slot_at, slot_of, found}
+use Rattle.heap_calls.proofs.Cited.{FindsBlock, FindsHeld, Found, Anchor, state_of, memory_of, name_of, handle_number, pointer_number}
+use Rattle.heap_calls.proofs.Cited.{no_number}
 use Rattle.heap_calls.specs.declared.anchor.Anchor.TheVariants.{Handle, Pointer, Disposed}
-use Rattle.heap_calls.specs.Inner.Numbered.{state_of, memory_of, name_of, handle_number, pointer_number, no_number}
 use Rattle.heap_calls.proofs.Numbering.Numbers.{Apart, is_relocatable-number}
 
 -- a call that was noted: the code of its answer is kept

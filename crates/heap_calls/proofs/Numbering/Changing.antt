@@ -1,40 +1,22 @@
-use Rattle.std.proofs.Common.{◌≡◌, ℕ, ◌+◌, ◌-◌, ◌*◌, ◌≤◌, ◌<◌, zero, suc, Bool, true, false, ◌==◌, List, [], ◌∷◌, ◌++◌}
-use Rattle.std.proofs.Common.{length, refl, sym, ◌∙◌, ap, cond, map, arith, Option, Some, None, Result, Ok, Err}
-use Rattle.std.proofs.Common.{slice_get, slice_set, get_or, count_by, subst, ◌⊎◌, inl, inr, nat_le, OnOk, OnErr}
-use Rattle.std.proofs.lemmas.List.{map-append, map_push, map-set, length-map}
-use Rattle.std.proofs.lemmas.List.Sums.{sum_by_push, sum_by-set}
-use Rattle.std.proofs.lemmas.Option.{none-some, same_Some, slice_get_within, slice_get-map, get_or_from_slice_get}
-use Rattle.std.proofs.lemmas.Bool.{cond-true, cond-false, false_from_ne_true}
-use Rattle.std.proofs.lemmas.Bool.Decides.{Decides-eqb, nat_tests}
+use Rattle.heap_calls.proofs.Cited.{◌≡◌, ℕ, ◌+◌, ◌-◌, ◌*◌, ◌≤◌, ◌<◌, zero, suc, Bool, true, false, ◌==◌, List, [], ◌∷◌, ◌++◌, length, refl}
+use Rattle.heap_calls.proofs.Cited.{sym, ◌∙◌, ap, cond, map, arith, Option, Some, None, Result, Ok, Err, slice_get, slice_set, get_or}
+use Rattle.heap_calls.proofs.Cited.{count_by, subst, ◌⊎◌, inl, inr, nat_le, OnOk, map-append, map_push, map-set, length-map, sum_by_push}
+use Rattle.heap_calls.proofs.Cited.{sum_by-set, none-some, same_Some, slice_get_within, slice_get-map, get_or_from_slice_get, cond-true}
+use Rattle.heap_calls.proofs.Cited.{cond-false, false_from_ne_true, Decides-eqb, nat_tests, option_map, IfSome, IsSomeAnd, IsTrue, phys}
+use Rattle.heap_calls.proofs.Cited.{padded, OsErr, Log, PROFILE, Block, Free, Nonrelocatable, Masters, Relocatable, size, count, free_sum}
+use Rattle.heap_calls.proofs.Cited.{free_of, rename, rename_block, is_nonrelocatable, is_relocatable, is_room, content_of, with_content}
+use Rattle.heap_calls.proofs.Cited.{is_masters, tidy, written, has, Slot, Unused, Used, set_slot, AreSlots, is_used, Rest, IsRest}
+use Rattle.heap_calls.proofs.Cited.{KeepsSlots, with_placed, KeepsAllButPlaced, Spot, spot_at, raised, rename_spot, filled, freed}
+use Rattle.heap_calls.proofs.Cited.{total-rename, free_of-rename, freed-rename, tidy-rename, rename-unless, rename_nonrelocatable-unless}
+use Rattle.heap_calls.proofs.Cited.{has-released, not_nonrelocatable-room, State, Memory, CountedMemory, Meaning, Plain, uses_slot, Answer}
+use Rattle.heap_calls.proofs.Cited.{Held, refused, without, written_at, for_found, silent, Anchor, state_of, memory_of, heap_of, name_of}
+use Rattle.heap_calls.proofs.Cited.{handle_number, pointer_number, number_from, leads_to, points_to, no_number, role_of}
+use Rattle.heap_calls.proofs.Cited.{KeepsNonrelocatable, Agrees}
+use Rattle.std.proofs.Common.{OnErr}
 use Rattle.std.specs.Prelude.{is_some}
-use Rattle.std.specs.Option.{option_map, IfSome, IsSomeAnd}
-use Rattle.std.specs.Bool.{IsTrue}
-use Rattle.mac_words.specs.Size.{phys, padded}
-use Rattle.mac_words.specs.declared.code.OsErr.{OsErr}
-use Rattle.heap_calls.specs.declared.log.Log.{Log}
-use Rattle.mac_words.specs.declared.code.TheConstants.OsErr.{PROFILE}
-use Rattle.block_store.specs.Block.{Block, Free, Nonrelocatable, Masters, Relocatable, size, count, free_sum, free_of, rename}
-use Rattle.block_store.specs.Block.{rename_block, is_nonrelocatable, is_relocatable, is_room, content_of, with_content}
-use Rattle.block_store.specs.Block.{is_masters, tidy}
-use Rattle.memory_windows.specs.Writes.{written}
-use Rattle.block_store.specs.Run.{has}
-use Rattle.block_store.specs.Slot.{Slot, Unused, Used, set_slot, AreSlots, is_used}
-use Rattle.block_store.specs.Rest.{Rest, IsRest, KeepsSlots, with_placed}
-use Rattle.heap_calls.specs.Inner.Packed.{KeepsAllButPlaced}
-use Rattle.block_store.specs.Room.{Spot, spot_at, raised, rename_spot, filled}
-use Rattle.block_store.specs.Grow.{freed}
-use Rattle.block_store.proofs.Renamed.Renaming.{total-rename, free_of-rename, freed-rename, tidy-rename}
-use Rattle.block_store.proofs.Zone.Tidy.{rename-unless, rename_nonrelocatable-unless, has-released}
-use Rattle.block_store.proofs.Nonrelocatable.Counts.{not_nonrelocatable-room}
-use Rattle.heap_calls.specs.State.{State, Memory, CountedMemory, Meaning, Plain, uses_slot}
 use Rattle.heap_calls.specs.State as names
-use Rattle.heap_calls.specs.Answer.{Answer, Held, refused, without, written_at, for_found}
-use Rattle.heap_calls.specs.Answer.{silent}
-use Rattle.heap_calls.specs.declared.anchor.Anchor.{Anchor}
 use Rattle.heap_calls.specs.declared.anchor.Anchor.TheVariants.{Handle, Pointer, Disposed}
-use Rattle.heap_calls.specs.Inner.Numbered.{state_of, memory_of, heap_of, name_of, handle_number, pointer_number, number_from}
 use Rattle.heap_calls.proofs.Numbering.Memories.{counted_as}
-use Rattle.heap_calls.specs.Inner.Numbered.{leads_to, points_to, no_number, role_of, KeepsNonrelocatable, Agrees}
 use Rattle.heap_calls.proofs.Numbering.Answering.{content_of-rename, with_content-rename, held}
 use Rattle.heap_calls.proofs.Room.Staying.{nonrelocatable-released, nonrelocatable-filled}
 use Rattle.heap_calls.proofs.Numbering.Numbers.{is_relocatable-number, leads_to-same, leads_to-is, flipped}

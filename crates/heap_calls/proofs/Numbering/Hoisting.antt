@@ -1,32 +1,15 @@
-use Rattle.std.proofs.Common.{◌≡◌, ℕ, ◌<◌, Bool, true, false, ◌&&◌, List, ◌∷◌, ◌++◌, refl, sym, ◌∙◌, ap, cond, Option}
-use Rattle.std.proofs.Common.{Some, None, Ok, Err, slice_get, subst, filter, unwrap_or, arith}
-use Rattle.std.proofs.lemmas.List.{map-append}
-use Rattle.std.proofs.lemmas.Option.{none-some, same_Some}
-use Rattle.std.proofs.lemmas.Bool.{le-leb}
-use Rattle.std.specs.Option.{option_map, ok_or, IfSome, IsSomeAnd}
-use Rattle.std.specs.Bool.{IsTrue}
-use Rattle.heap_calls.specs.declared.log.Log.{Log}
-use Rattle.mac_words.specs.declared.code.TheConstants.OsErr.{NIL_HANDLE, LOCKED}
-use Rattle.block_store.specs.declared.flags.Flags.{Flags}
-use Rattle.block_store.specs.Block.{Block, Free, Nonrelocatable, Masters, Relocatable, free_of, free_sum, free, rename}
-use Rattle.block_store.specs.Block.{rename_block, is_relocatable, is_mover, tidy}
-use Rattle.block_store.specs.Run.{RunSpot, run_spot, run_at, change_run, with_run, has, has_free, others, high}
-use Rattle.block_store.specs.Seen.{seen, with_flags}
-use Rattle.block_store.specs.Rest.{Rest, IsRest}
-use Rattle.heap_calls.specs.Inner.Packed.{KeepsAllButPlaced}
-use Rattle.block_store.specs.Room.{Spot, spot, spot_at, rename_spot}
-use Rattle.block_store.specs.Find.{FindsLowestRun}
-use Rattle.block_store.proofs.Renamed.Renaming.{change_run-rename, has-rename, others-rename, filter-rename}
-use Rattle.block_store.proofs.Renamed.Renaming.{free-rename, total-rename, free_of-rename, tidy-rename, is_mover-rename}
-use Rattle.block_store.proofs.Regroup.RunSpots.{run_spot-passes}
-use Rattle.heap_calls.specs.State.{State, Memory}
-use Rattle.heap_calls.specs.Answer.{Answer, Held, look_up, for_found, refused, flagged, change_flags, hoisted}
-use Rattle.heap_calls.specs.Answer.{move_h_hi}
-use Rattle.heap_calls.specs.Answer.{silent}
-use Rattle.heap_calls.specs.Inner.Given.{seen_flags, seen_mover}
-use Rattle.heap_calls.specs.declared.anchor.Anchor.{Anchor}
+use Rattle.heap_calls.proofs.Cited.{◌≡◌, ℕ, ◌<◌, Bool, true, false, ◌&&◌, List, ◌∷◌, ◌++◌, refl, sym, ◌∙◌, ap, cond, Option, Some, None, Ok}
+use Rattle.heap_calls.proofs.Cited.{Err, slice_get, subst, filter, arith, map-append, none-some, same_Some, le-leb, option_map, ok_or}
+use Rattle.heap_calls.proofs.Cited.{IfSome, IsSomeAnd, IsTrue, Log, NIL_HANDLE, LOCKED, Flags, Block, Free, Nonrelocatable, Masters}
+use Rattle.heap_calls.proofs.Cited.{Relocatable, free_of, free_sum, free, rename, rename_block, is_relocatable, is_mover, tidy, RunSpot}
+use Rattle.heap_calls.proofs.Cited.{run_spot, run_at, change_run, with_run, has, has_free, others, high, seen, with_flags, Rest, IsRest}
+use Rattle.heap_calls.proofs.Cited.{KeepsAllButPlaced, Spot, spot, spot_at, rename_spot, FindsLowestRun, change_run-rename, has-rename}
+use Rattle.heap_calls.proofs.Cited.{others-rename, filter-rename, free-rename, total-rename, free_of-rename, tidy-rename, is_mover-rename}
+use Rattle.heap_calls.proofs.Cited.{run_spot-passes, State, Memory, Answer, Held, look_up, for_found, refused, flagged, change_flags}
+use Rattle.heap_calls.proofs.Cited.{hoisted, move_h_hi, silent, seen_flags, seen_mover, Anchor, state_of, memory_of, handle_number}
+use Rattle.heap_calls.proofs.Cited.{pointer_number, no_number}
+use Rattle.std.proofs.Common.{unwrap_or}
 use Rattle.heap_calls.specs.declared.anchor.Anchor.TheVariants.{Handle}
-use Rattle.heap_calls.specs.Inner.Numbered.{state_of, memory_of, handle_number, pointer_number, no_number}
 use Rattle.heap_calls.proofs.Numbering.Answering.{look_up-by, held}
 use Rattle.heap_calls.proofs.Numbering.Numbers.{Apart, is_relocatable-number}
 use Rattle.heap_calls.proofs.Numbering.Changing.{silent-kept, silent-refused, unplaced, unplaced-is}

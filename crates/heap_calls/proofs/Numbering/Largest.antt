@@ -1,22 +1,10 @@
-use Rattle.std.proofs.Common.{◌≡◌, ℕ, ◌-◌, zero, suc, Bool, List, [], ◌∷◌, ◌++◌, length, refl, sym, ◌∙◌, ap, map}
-use Rattle.std.proofs.Common.{Option, Some, None, max, Result, Ok}
-use Rattle.std.proofs.lemmas.List.{map-append, length-map}
-use Rattle.block_store.specs.Block.{Block, free_of, free_sum, is_room, rename, rename_block}
-use Rattle.block_store.specs.Run.{Stretch, Segments, segments, runs, settle}
-use Rattle.block_store.specs.Compact.{largest, largest_free, largest_run, settled_runs, settled, least_or_last}
-use Rattle.block_store.specs.Compact.{has_room, runs_settled, compacted}
-use Rattle.block_store.proofs.Renamed.Renaming.{free_of-rename, total-rename, is_room-rename, has-rename, settle-rename}
-use Rattle.block_store.proofs.Renamed.Renaming.{joined-rename, segments-rename, rename_stretch}
-use Rattle.block_store.specs.Rest.{Rest, IsRest}
-use Rattle.mac_words.specs.Size.{phys}
-use Rattle.heap_calls.specs.declared.log.Log.{Log}
-use Rattle.mac_words.specs.declared.code.OsErr.{OsErr}
-use Rattle.mac_words.specs.declared.code.TheConstants.OsErr.{NO_ERR}
-use Rattle.heap_calls.specs.State.{State, Memory}
-use Rattle.heap_calls.specs.Answer.{Answer, compact_mem, noting, code_of}
-use Rattle.heap_calls.specs.declared.anchor.Anchor.{Anchor}
-use Rattle.block_store.specs.Compact.{stretches}
-use Rattle.heap_calls.specs.Inner.Numbered.{state_of, memory_of, handle_number, pointer_number}
+use Rattle.heap_calls.proofs.Cited.{◌≡◌, ℕ, ◌-◌, zero, suc, Bool, List, [], ◌∷◌, ◌++◌, length, refl, sym, ◌∙◌, ap, map, Option, Some, None}
+use Rattle.heap_calls.proofs.Cited.{max, Result, Ok, map-append, length-map, Block, free_of, free_sum, is_room, rename, rename_block}
+use Rattle.heap_calls.proofs.Cited.{Stretch, Segments, segments, runs, settle, largest, largest_free, largest_run, settled_runs, settled}
+use Rattle.heap_calls.proofs.Cited.{least_or_last, has_room, runs_settled, compacted, free_of-rename, total-rename, is_room-rename}
+use Rattle.heap_calls.proofs.Cited.{has-rename, settle-rename, joined-rename, segments-rename, rename_stretch, Rest, IsRest, phys, Log}
+use Rattle.heap_calls.proofs.Cited.{OsErr, NO_ERR, State, Memory, Answer, compact_mem, noting, code_of, Anchor, stretches, state_of}
+use Rattle.heap_calls.proofs.Cited.{memory_of, handle_number, pointer_number}
 use Rattle.heap_calls.proofs.Room.Stretches.{stretches-rename}
 use Rattle.heap_calls.proofs.Numbering.Changing.{silent-kept}
 

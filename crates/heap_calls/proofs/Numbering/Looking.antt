@@ -1,13 +1,6 @@
-use Rattle.std.proofs.Common.{◌≡◌, ℕ, zero, suc, Bool, List, refl, ◌∙◌, ap, cond, Option}
-use Rattle.std.proofs.Common.{is_some}
-use Rattle.std.specs.Option.{option_map}
-use Rattle.block_store.specs.Block.{Block, rename, rename_block}
-use Rattle.block_store.specs.Room.{purge, count_of, may_be_purged}
-use Rattle.block_store.proofs.Renamed.Renaming.{total-rename, is_purgeable-rename}
-use Rattle.block_store.proofs.Renamed.Renaming.{purge-rename}
-use Rattle.mac_words.proofs.Plain.{is_some-map}
-use Rattle.heap_calls.specs.Inner.Search.{tries}
-use Rattle.heap_calls.specs.Searches.{room_searches}
+use Rattle.heap_calls.proofs.Cited.{◌≡◌, ℕ, zero, suc, Bool, List, refl, ◌∙◌, ap, cond, Option, is_some, option_map, Block, rename}
+use Rattle.heap_calls.proofs.Cited.{rename_block, purge, count_of, may_be_purged, total-rename, is_purgeable-rename, purge-rename}
+use Rattle.heap_calls.proofs.Cited.{is_some-map, tries, room_searches}
 
 -- How often a call searches for room sees no names.
 

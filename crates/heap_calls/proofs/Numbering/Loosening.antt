@@ -1,31 +1,13 @@
-use Rattle.std.proofs.Common.{◌≡◌, ℕ, ◌+◌, ◌<◌, Bool, true, false, List, [], ◌∷◌, refl, sym, ◌∙◌, ap, cond, Option}
-use Rattle.std.proofs.Common.{Some, None, Result, Ok, Err, slice_get, subst}
-use Rattle.std.proofs.lemmas.Option.{slice_get-map, none-some}
-use Rattle.std.specs.Option.{option_map}
-use Rattle.mac_words.specs.declared.code.OsErr.{OsErr}
-use Rattle.mac_words.specs.declared.code.TheConstants.OsErr.{PURGED}
-use Rattle.block_store.specs.Block.{Block, Free, Nonrelocatable, Masters, Relocatable, size, rename, rename_block}
-use Rattle.block_store.specs.Block.{is_relocatable, is_mover, tidy}
-use Rattle.block_store.specs.Slot.{Slot}
-use Rattle.block_store.specs.Room.{Spot, spot, raised, rename_spot}
-use Rattle.block_store.specs.Rest.{Rest, IsRest}
-use Rattle.block_store.specs.Seen.{seen}
-use Rattle.block_store.specs.Grow.{freed}
-use Rattle.block_store.proofs.Renamed.Renaming.{spot-rename, is_mover-rename, tidy-rename, freed-rename}
-use Rattle.heap_calls.specs.declared.log.Log.{Log}
-use Rattle.heap_calls.specs.State.{State, Memory}
-use Rattle.heap_calls.specs.Answer.{Answer, Known, Held, handle_at, known_as, held_at, for_found, on_block, refused}
-use Rattle.heap_calls.specs.Answer.{nothing, silent}
-use Rattle.heap_calls.specs.Inner.Given.{seen_flags}
-use Rattle.heap_calls.specs.Purging.{bit, is_resource, block_bits, h_get_state, is_loose, emptied_at, empty_handle}
-use Rattle.heap_calls.specs.Inside.{is_owned}
+use Rattle.heap_calls.proofs.Cited.{◌≡◌, ℕ, ◌+◌, ◌<◌, Bool, true, false, List, [], ◌∷◌, refl, sym, ◌∙◌, ap, cond, Option, Some, None}
+use Rattle.heap_calls.proofs.Cited.{Result, Ok, Err, slice_get, subst, slice_get-map, none-some, option_map, OsErr, PURGED, Block, Free}
+use Rattle.heap_calls.proofs.Cited.{Nonrelocatable, Masters, Relocatable, size, rename, rename_block, is_relocatable, is_mover, tidy, Slot}
+use Rattle.heap_calls.proofs.Cited.{Spot, spot, raised, rename_spot, Rest, IsRest, seen, freed, spot-rename, is_mover-rename, tidy-rename}
+use Rattle.heap_calls.proofs.Cited.{freed-rename, Log, State, Memory, Answer, Known, Held, handle_at, known_as, held_at, for_found}
+use Rattle.heap_calls.proofs.Cited.{on_block, refused, nothing, silent, seen_flags, bit, is_resource, block_bits, h_get_state, is_loose}
+use Rattle.heap_calls.proofs.Cited.{emptied_at, empty_handle, is_owned, Done, changed, reallocate_handle, FindsLoose, bits_of, loose}
+use Rattle.heap_calls.proofs.Cited.{loose_at, state_of, memory_of, name_of, role_of, handle_number, pointer_number, no_number, Anchor}
 use Rattle.heap_calls.specs.Rows as rows
-use Rattle.heap_calls.specs.Rows.{Done, changed, reallocate_handle}
 use Rattle.heap_calls.proofs.Same.Resizing.{again}
-use Rattle.heap_calls.specs.Inner.Loose.{FindsLoose, bits_of, loose, loose_at}
-use Rattle.heap_calls.specs.Inner.Numbered.{state_of, memory_of, name_of, role_of, handle_number, pointer_number}
-use Rattle.heap_calls.specs.Inner.Numbered.{no_number}
-use Rattle.heap_calls.specs.declared.anchor.Anchor.{Anchor}
 use Rattle.heap_calls.specs.declared.anchor.Anchor.TheVariants.{Handle}
 use Rattle.heap_calls.proofs.Numbering.Numbers.{Apart, is_relocatable-number}
 use Rattle.heap_calls.proofs.Numbering.Changing.{silent-kept, silent-refused}

@@ -1,6 +1,4 @@
-use Rattle.std.proofs.Common.{◌≡◌, ◌∙◌, ap, Result}
-use Rattle.mac_words.specs.declared.code.OsErr.{OsErr}
-use Rattle.heap_calls.specs.State.{Memory, CountedMemory}
+use Rattle.heap_calls.proofs.Cited.{◌≡◌, ◌∙◌, ap, Result, OsErr, Memory, CountedMemory}
 
 -- A heap's memory, where the heap is known with the count of its placings.
 

@@ -1,21 +1,10 @@
-use Rattle.std.proofs.Common.{◌≡◌, ℕ, ◌+◌, ◌-◌, zero, suc, Bool, List, [], ◌∷◌, length, refl, ◌∙◌, ap}
-use Rattle.std.proofs.Common.{cond, map, Option, Some, None, is_some}
-use Rattle.std.proofs.lemmas.List.{length-map}
-use Rattle.std.specs.Option.{option_map}
-use Rattle.block_store.specs.Block.{Block, Free, Nonrelocatable, Masters, Relocatable, size, rename, rename_block}
-use Rattle.block_store.specs.Block.{is_mover, is_room}
-use Rattle.block_store.specs.Run.{RunSpot, run_spot, runs, has_free}
-use Rattle.block_store.specs.Room.{rename_spot, spot, purge, put_in_place}
-use Rattle.block_store.specs.Compact.{lowered_in_runs, runs_settled}
-use Rattle.block_store.specs.Rest.{lowered_in_run}
-use Rattle.block_store.proofs.Renamed.Renaming.{size-rename, total-rename, is_mover-rename, is_room-rename, spot-rename}
-use Rattle.block_store.proofs.Renamed.Renaming.{run_spot-rename, rename_run_spot, has_free-rename}
-use Rattle.block_store.proofs.Renamed.Renaming.{purge-rename, put_in_place-rename}
-use Rattle.mac_words.proofs.Plain.{is_some-map}
-use Rattle.heap_calls.specs.Moves.{run_moves, as_it_is, place_moves, room_moves, put_moves}
-use Rattle.heap_calls.specs.Moves.{all_moves}
-use Rattle.heap_calls.specs.Purging.{purged_all}
-use Rattle.heap_calls.specs.Searches.{room_searches}
+use Rattle.heap_calls.proofs.Cited.{◌≡◌, ℕ, ◌+◌, ◌-◌, zero, suc, Bool, List, [], ◌∷◌, length, refl, ◌∙◌, ap, cond, map, Option, Some, None}
+use Rattle.heap_calls.proofs.Cited.{is_some, length-map, option_map, Block, Free, Nonrelocatable, Masters, Relocatable, size, rename}
+use Rattle.heap_calls.proofs.Cited.{rename_block, is_mover, is_room, RunSpot, run_spot, runs, has_free, rename_spot, spot, purge}
+use Rattle.heap_calls.proofs.Cited.{put_in_place, lowered_in_runs, runs_settled, lowered_in_run, size-rename, total-rename, is_mover-rename}
+use Rattle.heap_calls.proofs.Cited.{is_room-rename, spot-rename, run_spot-rename, rename_run_spot, has_free-rename, purge-rename}
+use Rattle.heap_calls.proofs.Cited.{put_in_place-rename, is_some-map, run_moves, as_it_is, place_moves, room_moves, put_moves, all_moves}
+use Rattle.heap_calls.proofs.Cited.{purged_all, room_searches}
 use Rattle.heap_calls.proofs.Numbering.Largest.{runs-rename, runs_settled-rename}
 use Rattle.heap_calls.proofs.Numbering.Looking.{room_searches-rename}
 use Rattle.heap_calls.proofs.Numbering.PurgeTrials.{purged_all-rename}

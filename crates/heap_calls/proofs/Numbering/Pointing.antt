@@ -1,40 +1,17 @@
-use Rattle.block_store.specs.Slot.{is_used}
-use Rattle.std.proofs.Common.{◌≡◌, ℕ, ◌+◌, ◌-◌, ◌≤◌, ◌<◌, Bool, true, false, ◌||◌, ◌==◌, List, [], ◌∷◌, ◌++◌, length}
-use Rattle.std.proofs.Common.{refl, sym, ◌∙◌, ap, map, arith, Option, Some, None, Result, Ok, Err, slice_get}
-use Rattle.std.proofs.Common.{slice_set, count_by, subst, nat_le}
-use Rattle.std.proofs.lemmas.List.{map-set}
-use Rattle.std.proofs.lemmas.Option.{same_Some, slice_get-map}
-use Rattle.std.proofs.lemmas.Bool.{cond-true, cond-false, false≢true, or_parts}
-use Rattle.std.proofs.lemmas.Bool.Decides.{Decides-eqb, nat_tests}
-use Rattle.std.specs.Option.{option_map, ok_or, IsSome, IfSome}
-use Rattle.mac_words.specs.declared.code.OsErr.{OsErr}
-use Rattle.mac_words.specs.declared.code.TheConstants.OsErr.{NIL_HANDLE, WRONG_ZONE}
-use Rattle.block_store.specs.Block.{Block, Free, Nonrelocatable, Masters, Relocatable, size, sizes, tidy, rename, rename_block}
-use Rattle.block_store.specs.Block.{is_nonrelocatable, content_of}
-use Rattle.block_store.specs.Run.{has}
-use Rattle.block_store.specs.Compact.{Placed}
-use Rattle.block_store.specs.Slot.{Slot}
-use Rattle.block_store.specs.Rest.{Rest, KeepsSlots}
-use Rattle.block_store.specs.Room.{Spot, spot, spot_at, raised, rename_spot}
-use Rattle.block_store.specs.Grow.{freed}
-use Rattle.block_store.specs.declared.measures.TheConstants.{GREATEST_ZONE}
-use Rattle.block_store.proofs.Zone.Apart.{Apart, apart-tidied, apart-size}
-use Rattle.block_store.proofs.Renamed.Renaming.{spot-rename, freed-rename, tidy-rename}
-use Rattle.block_store.proofs.Zone.Tidy.{has-tidy, has-freed, spot-passes, spot-is}
-use Rattle.block_store.proofs.Zone.Totals.{total-append}
-use Rattle.block_store.proofs.Nonrelocatable.Counts.{not_nonrelocatable-other}
-use Rattle.heap_calls.specs.State.{State, Memory, uses_slot}
+use Rattle.heap_calls.proofs.Cited.{is_used, ◌≡◌, ℕ, ◌+◌, ◌-◌, ◌≤◌, ◌<◌, Bool, true, false, ◌||◌, ◌==◌, List, [], ◌∷◌, ◌++◌, length, refl}
+use Rattle.heap_calls.proofs.Cited.{sym, ◌∙◌, ap, map, arith, Option, Some, None, Result, Ok, Err, slice_get, slice_set, count_by, subst}
+use Rattle.heap_calls.proofs.Cited.{nat_le, map-set, same_Some, slice_get-map, cond-true, cond-false, false≢true, or_parts, Decides-eqb}
+use Rattle.heap_calls.proofs.Cited.{nat_tests, option_map, ok_or, IsSome, IfSome, OsErr, NIL_HANDLE, WRONG_ZONE, Block, Free}
+use Rattle.heap_calls.proofs.Cited.{Nonrelocatable, Masters, Relocatable, size, sizes, tidy, rename, rename_block, is_nonrelocatable}
+use Rattle.heap_calls.proofs.Cited.{content_of, has, Placed, Slot, Rest, KeepsSlots, Spot, spot, spot_at, raised, rename_spot, freed}
+use Rattle.heap_calls.proofs.Cited.{GREATEST_ZONE, Apart, apart-tidied, apart-size, spot-rename, freed-rename, tidy-rename, has-tidy}
+use Rattle.heap_calls.proofs.Cited.{has-freed, spot-passes, spot-is, total-append, not_nonrelocatable-other, State, Memory, uses_slot, Held}
+use Rattle.heap_calls.proofs.Cited.{look_up, for_found, silent, pointed, pointed_at, named_block, block_named, dispose_pointer}
+use Rattle.heap_calls.proofs.Cited.{get_pointer_size, pointer_zone, target, target_at, target_of, FindsHeld, Log, Anchor, state_of}
+use Rattle.heap_calls.proofs.Cited.{memory_of, name_of, handle_number, pointer_number, leads_to, points_to, no_number, Agrees}
 use Rattle.heap_calls.specs.State as names
-use Rattle.heap_calls.specs.Answer.{Held, look_up, for_found, silent}
-use Rattle.heap_calls.specs.Pointers.{pointed, pointed_at, named_block, block_named, dispose_pointer, get_pointer_size}
-use Rattle.heap_calls.specs.Pointers.{pointer_zone}
-use Rattle.heap_calls.specs.Inner.Pointing.{target, target_at, target_of, FindsHeld}
-use Rattle.heap_calls.specs.declared.log.Log.{Log}
 use Rattle.heap_calls.specs.declared.anchor.Target.{Target}
-use Rattle.heap_calls.specs.declared.anchor.Anchor.{Anchor}
 use Rattle.heap_calls.specs.declared.anchor.Anchor.TheVariants.{Handle, Pointer, Disposed}
-use Rattle.heap_calls.specs.Inner.Numbered.{state_of, memory_of, name_of, handle_number, pointer_number, leads_to}
-use Rattle.heap_calls.specs.Inner.Numbered.{points_to, no_number, Agrees}
 use Rattle.heap_calls.proofs.Numbering.Answering.{held, at_place, content_of-rename, on_held}
 use Rattle.heap_calls.proofs.Numbering.Numbers.{flipped, same_test, number_from-at, number_from-found, leads_to-same}
 use Rattle.heap_calls.proofs.Numbering.Changing.{number_from-set, names-same, state-left, without-other, handle-stays}

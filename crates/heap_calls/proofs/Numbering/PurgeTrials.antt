@@ -1,32 +1,15 @@
-use Rattle.std.proofs.Common.{◌≡◌, ℕ, ◌+◌, ◌-◌, ◌≤◌, Bool, List, length, refl, sym, ◌∙◌, ap, cond, arith, Option}
-use Rattle.std.proofs.Common.{None, Result, Ok, subst}
-use Rattle.mac_words.specs.Size.{phys}
-use Rattle.mac_words.specs.declared.code.OsErr.{OsErr}
-use Rattle.mac_words.specs.declared.code.TheConstants.OsErr.{NO_ERR}
-use Rattle.block_store.specs.Block.{Block, sizes, free_sum, rename}
-use Rattle.block_store.specs.Run.{runs}
-use Rattle.block_store.specs.Room.{purge, may_be_purged}
-use Rattle.block_store.specs.Compact.{least_or_last, runs_settled, has_room, largest_free, settled, compacted}
-use Rattle.block_store.specs.Rest.{Rest, counted, IsRest}
-use Rattle.block_store.proofs.Purged.Rising.{purge-all}
-use Rattle.block_store.proofs.Renamed.Renaming.{total-rename, is_purgeable-rename, purge-rename}
-use Rattle.block_store.proofs.Plain.Trials.{least_or_last-le, least_or_last-none}
-use Rattle.heap_calls.specs.declared.log.Log.{Log}
-use Rattle.heap_calls.specs.declared.anchor.Anchor.{Anchor}
-use Rattle.heap_calls.specs.State.{State, Memory}
-use Rattle.heap_calls.specs.Answer.{nothing, silent, noting, searching}
-use Rattle.heap_calls.specs.Purging.{purgeable, blocks_purged, purged_all, purge_mem, purge_space, max_mem}
-use Rattle.heap_calls.specs.Searches.{purge_mem_searches}
-use Rattle.heap_calls.specs.Inner.Numbered.{state_of, memory_of, handle_number, pointer_number}
+use Rattle.heap_calls.proofs.Cited.{◌≡◌, ℕ, ◌+◌, ◌-◌, ◌≤◌, Bool, List, length, refl, sym, ◌∙◌, ap, cond, arith, Option, None, Result, Ok}
+use Rattle.heap_calls.proofs.Cited.{subst, phys, OsErr, NO_ERR, Block, sizes, free_sum, rename, runs, purge, may_be_purged, least_or_last}
+use Rattle.heap_calls.proofs.Cited.{runs_settled, has_room, largest_free, settled, compacted, Rest, counted, IsRest, purge-all}
+use Rattle.heap_calls.proofs.Cited.{total-rename, is_purgeable-rename, purge-rename, least_or_last-le, least_or_last-none, Log, Anchor}
+use Rattle.heap_calls.proofs.Cited.{State, Memory, nothing, silent, noting, searching, purgeable, blocks_purged, purged_all, purge_mem}
+use Rattle.heap_calls.proofs.Cited.{purge_space, max_mem, purge_mem_searches, state_of, memory_of, handle_number, pointer_number}
+use Rattle.heap_calls.proofs.Cited.{GREATEST_ZONE, runs-few, sized_reply, length-map}
 use Rattle.block_store.specs.declared.sparing.Sparing.TheVariants as sparing
-use Rattle.block_store.specs.declared.measures.TheConstants.{GREATEST_ZONE}
 use Rattle.heap_calls.proofs.Room.Searching.{most-le}
-use Rattle.block_store.proofs.Regroup.Settling.{runs-few}
 use Rattle.heap_calls.proofs.Numbering.Largest.{has_room-rename, largest_free-rename, runs-rename, settled-rename}
 use Rattle.heap_calls.proofs.Numbering.Changing.{silent-kept, free_sum-rename}
 use Rattle.heap_calls.proofs.Numbering.Largest.{told_most, most-told}
-use Rattle.heap_calls.specs.Inner.Reaching.{sized_reply}
-use Rattle.std.proofs.lemmas.List.{length-map}
 
 -- Purging sees no names.
 

@@ -1,6 +1,4 @@
-use Rattle.std.proofs.Common.{◌≡◌, ◌≤◌, ap, vec_capacity}
-use Rattle.std.proofs.Math.Bridge.{le_prop}
-use Rattle.heap_calls.specs.declared.heap.Heap.TheInside.{Inside}
+use Rattle.heap_calls.proofs.Cited.{◌≡◌, ◌≤◌, ap, vec_capacity, le_prop, Inside}
 
 -- A heap that was only looked at is what it was: that its reserved numbers have room has one proof.
 

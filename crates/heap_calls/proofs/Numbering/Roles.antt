@@ -1,31 +1,13 @@
-use Rattle.std.proofs.Common.{◌≡◌, ℕ, ◌+◌, ◌<◌, Bool, true, false, ◌==◌, ◌||◌, List, [], ◌∷◌, refl, sym, ◌∙◌, ap, cond}
-use Rattle.std.proofs.Common.{map, arith, Option, Some, None, Ok, Err, slice_get, slice_set, get_or, count_by}
-use Rattle.std.proofs.Common.{subst, inl, inr, length, is_some, zero, suc}
-use Rattle.std.proofs.lemmas.List.{map-set, length-map}
-use Rattle.std.proofs.lemmas.List.Sums.{sum_by-set}
-use Rattle.std.proofs.lemmas.Option.{same_Some, slice_get_within, slice_get-map, get_or_from_slice_get}
-use Rattle.std.proofs.lemmas.Bool.{cond-true, cond-false, false_from_ne_true}
-use Rattle.std.proofs.lemmas.Bool.Decides.{Decides-eqb}
-use Rattle.std.specs.Option.{option_map}
-use Rattle.block_store.specs.Block.{Block, Free, Nonrelocatable, Masters, Relocatable, rename, is_relocatable}
-use Rattle.block_store.specs.Run.{has}
-use Rattle.block_store.specs.Room.{spot}
-use Rattle.block_store.specs.Find.{FindsLowest}
-use Rattle.block_store.specs.Slot.{Slot, NoSlot, Unused, Used, set_slot, AreSlots, is_used}
-use Rattle.block_store.specs.Rest.{Rest}
-use Rattle.block_store.proofs.Renamed.Renaming.{has-rename}
-use Rattle.block_store.proofs.Regroup.Settling.{has-spot}
-use Rattle.heap_calls.specs.State.{State, Memory, Meaning, Role, uses_slot}
+use Rattle.heap_calls.proofs.Cited.{◌≡◌, ℕ, ◌+◌, ◌<◌, Bool, true, false, ◌==◌, ◌||◌, List, [], ◌∷◌, refl, sym, ◌∙◌, ap, cond, map, arith}
+use Rattle.heap_calls.proofs.Cited.{Option, Some, None, Ok, Err, slice_get, slice_set, get_or, count_by, subst, inl, inr, length, is_some}
+use Rattle.heap_calls.proofs.Cited.{zero, suc, map-set, length-map, sum_by-set, same_Some, slice_get_within, slice_get-map}
+use Rattle.heap_calls.proofs.Cited.{get_or_from_slice_get, cond-true, cond-false, false_from_ne_true, Decides-eqb, option_map, Block, Free}
+use Rattle.heap_calls.proofs.Cited.{Nonrelocatable, Masters, Relocatable, rename, is_relocatable, has, spot, FindsLowest, Slot, NoSlot}
+use Rattle.heap_calls.proofs.Cited.{Unused, Used, set_slot, AreSlots, is_used, Rest, has-rename, has-spot, State, Memory, Meaning, Role}
+use Rattle.heap_calls.proofs.Cited.{uses_slot, without, inside, cast, cast_as, owned_as, guarded_as, released, released_as, slot_of}
+use Rattle.heap_calls.proofs.Cited.{slot_at, state_of, memory_of, name_of, handle_number, pointer_number, number_from, leads_to, points_to}
+use Rattle.heap_calls.proofs.Cited.{no_number, role_of, Agrees, Log, OsErr, Found, Anchor}
 use Rattle.heap_calls.specs.State as names
-use Rattle.heap_calls.specs.Answer.{without}
-use Rattle.heap_calls.specs.Inside.{inside, cast, cast_as, owned_as, guarded_as, released, released_as}
-use Rattle.heap_calls.specs.Inner.Given.{slot_of, slot_at}
-use Rattle.heap_calls.specs.Inner.Numbered.{state_of, memory_of, name_of, handle_number, pointer_number, number_from}
-use Rattle.heap_calls.specs.Inner.Numbered.{leads_to, points_to, no_number, role_of, Agrees}
-use Rattle.heap_calls.specs.declared.log.Log.{Log}
-use Rattle.mac_words.specs.declared.code.OsErr.{OsErr}
-use Rattle.heap_calls.specs.declared.anchor.Found.{Found}
-use Rattle.heap_calls.specs.declared.anchor.Anchor.{Anchor}
 use Rattle.heap_calls.specs.declared.anchor.Anchor.TheVariants.{Handle, Pointer, Disposed}
 use Rattle.heap_calls.proofs.Numbering.Numbers.{is_relocatable-number, leads_to-is, leads_to-same, number_from-found}
 use Rattle.heap_calls.proofs.Numbering.Answering.{slot_of-ok}

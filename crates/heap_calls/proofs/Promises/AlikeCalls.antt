@@ -1,48 +1,25 @@
-use Rattle.std.proofs.Common.{◌≡◌, ℕ, ◌+◌, ◌/◌, ◌%◌, ◌≤◌, Bool, true, false, ◌==◌, List, ◌∷◌, ◌++◌}
-use Rattle.std.proofs.Common.{length, slice_set, refl, sym, ◌∙◌, ap, subst, cond, Option, Some, None, Result, Ok}
-use Rattle.std.proofs.Common.{Err, nat_le, nat_lt}
-use Rattle.std.proofs.Common.{take, drop}
-use Rattle.std.proofs.lemmas.Bool.{leb-true}
-use Rattle.std.proofs.lemmas.Option.{same_Some}
-use Rattle.std.specs.Option.{option_map}
-use Rattle.std.specs.Prelude.{unwrap_or, if◌then◌else◌}
-use Rattle.mac_words.specs.Size.{phys}
-use Rattle.mac_words.specs.declared.code.OsErr.{OsErr}
-use Rattle.mac_words.specs.declared.code.TheConstants.OsErr.{LOCKED, PROFILE, PURGED}
-use Rattle.block_store.specs.declared.flags.Flags.{Flags}
-use Rattle.block_store.specs.Block.{Block, Free, Nonrelocatable, Masters, Relocatable, size, sizes, is_mover}
-use Rattle.block_store.specs.Block.{is_relocatable, is_nonrelocatable, content_of, with_content, tidy, resized}
-use Rattle.memory_windows.specs.Writes.{written}
-use Rattle.block_store.specs.Run.{in_run, change_run, has, high, runs}
-use Rattle.block_store.specs.Room.{Spot, spot, put_at_base, room}
-use Rattle.block_store.specs.Grow.{freed}
-use Rattle.block_store.specs.Compact.{runs_settled, settled}
-use Rattle.block_store.proofs.Zone.Tidy.{spot-is, spot-passes}
-use Rattle.heap_calls.specs.State.{State, Memory, Meaning, Role, Plain, Resource, SystemResource, used_slots, all_slots}
+use Rattle.heap_calls.proofs.Cited.{◌≡◌, ℕ, ◌+◌, ◌/◌, ◌%◌, ◌≤◌, Bool, true, false, ◌==◌, List, ◌∷◌, ◌++◌, length, slice_set, refl, sym, ◌∙◌}
+use Rattle.heap_calls.proofs.Cited.{ap, subst, cond, Option, Some, None, Result, Ok, Err, nat_le, nat_lt, take, drop, leb-true, same_Some}
+use Rattle.heap_calls.proofs.Cited.{option_map, unwrap_or, if◌then◌else◌, phys, OsErr, LOCKED, PROFILE, PURGED, Flags, Block, Free}
+use Rattle.heap_calls.proofs.Cited.{Nonrelocatable, Masters, Relocatable, size, sizes, is_mover, is_relocatable, is_nonrelocatable}
+use Rattle.heap_calls.proofs.Cited.{content_of, with_content, tidy, resized, written, in_run, change_run, has, high, runs, Spot, spot}
+use Rattle.heap_calls.proofs.Cited.{put_at_base, room, freed, runs_settled, settled, spot-is, spot-passes, State, Memory, Meaning, Role}
+use Rattle.heap_calls.proofs.Cited.{Plain, Resource, SystemResource, used_slots, all_slots, Answer, Held, nothing, given, refused}
+use Rattle.heap_calls.proofs.Cited.{disposed_of, rebuilt, flagged, change_flags, hoisted, move_h_hi, look_up, handle_at, for_found}
+use Rattle.heap_calls.proofs.Cited.{written_at, on_block, slotted, more_masters, pointed_at, block_named, moved_into, emptied_at, is_loose}
+use Rattle.heap_calls.proofs.Cited.{blocks_purged, purgeable, purged_all, Asked, answered, row, may_purge, OneBlockEach, map-some, stands}
+use Rattle.heap_calls.proofs.Cited.{Alike, alike-refl, alike-then, alike-append, alike-cons, alike-tidy, alike-purged, alike-freed}
+use Rattle.heap_calls.proofs.Cited.{alike-changed, alike-high, alike-compacted, alike-based, alike-room}
 use Rattle.heap_calls.specs.State as names
-use Rattle.heap_calls.specs.Answer.{Answer, Held, nothing, given, refused, disposed_of, rebuilt, flagged, change_flags}
-use Rattle.heap_calls.specs.Answer.{hoisted, move_h_hi, look_up, handle_at, for_found, written_at, on_block}
 use Rattle.heap_calls.specs.Answer as calls
-use Rattle.heap_calls.specs.Slots.{slotted, more_masters}
-use Rattle.heap_calls.specs.Pointers.{pointed_at}
-use Rattle.heap_calls.specs.Pointers.{block_named, moved_into}
-use Rattle.heap_calls.specs.Purging.{emptied_at, is_loose, blocks_purged}
-use Rattle.heap_calls.specs.Purging.{purgeable, purged_all}
-use Rattle.heap_calls.specs.Asked.{Asked}
-use Rattle.heap_calls.specs.Table.{answered, row, may_purge}
 use Rattle.moves.proofs.Steady.{Stays}
 use Rattle.heap_calls.proofs.Rows.Kinds.{by-kind}
 use Rattle.heap_calls.proofs.Rows.Along.{row-along}
 use Rattle.heap_calls.proofs.Rows.Standing.{allows-stays, row-steady, written-size}
 use Rattle.heap_calls.specs.Asked as asked
-use Rattle.heap_calls.specs.Locked.{OneBlockEach}
-use Rattle.block_store.proofs.Zone.Views.{map-some}
 use Rattle.heap_calls.proofs.Promises.Knowing.{look_up-spot, pointed_at-spot}
 use Rattle.heap_calls.proofs.Promises.Knowing.{handle_at-name}
 use Rattle.heap_calls.proofs.Rows.Reads.{quiet-same}
-use Rattle.block_store.proofs.Zone.Alike.{stands, Alike, alike-refl, alike-then, alike-append, alike-cons, alike-tidy}
-use Rattle.block_store.proofs.Zone.Alike.{alike-purged, alike-freed, alike-changed, alike-high, alike-compacted}
-use Rattle.block_store.proofs.Zone.Alike.{alike-based, alike-room}
 use Rattle.heap_calls.proofs.Promises.NamedBlocks.{named-spot}
 
 -- What each call leaves of the lowest block that passes a test, where no block of a run does.

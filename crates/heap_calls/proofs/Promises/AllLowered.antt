@@ -1,17 +1,7 @@
-use Rattle.std.proofs.Common.{ℕ, ◌≤◌, Bool, List, length, refl, arith, cond}
-use Rattle.mac_words.specs.Size.{phys}
-use Rattle.block_store.specs.Block.{Block, count, is_relocatable}
-use Rattle.block_store.specs.Run.{runs}
-use Rattle.block_store.specs.Room.{lowest_purged}
-use Rattle.block_store.specs.Compact.{runs_settled}
-use Rattle.block_store.proofs.Zone.Apart.{tidy-tidy}
-use Rattle.block_store.proofs.Zone.Keeping.{counts-free, purged-le}
-use Rattle.block_store.proofs.Regroup.AllLowered.{settled_lowered, settled_none_rises}
-use Rattle.heap_calls.specs.State.{State}
-use Rattle.heap_calls.specs.Answer.{nothing}
-use Rattle.heap_calls.specs.Locked.{OneBlockEach}
-use Rattle.heap_calls.specs.Lowering.{CompactCountsLowered, CompactRaisesNone, MaxCountsLowered, MaxRaisesNone}
-use Rattle.heap_calls.specs.Purging.{purged_all, purgeable}
+use Rattle.heap_calls.proofs.Cited.{ℕ, ◌≤◌, Bool, List, length, refl, arith, cond, phys, Block, count, is_relocatable, runs, lowest_purged}
+use Rattle.heap_calls.proofs.Cited.{runs_settled, tidy-tidy, counts-free, purged-le, settled_lowered, settled_none_rises, State, nothing}
+use Rattle.heap_calls.proofs.Cited.{OneBlockEach, CompactCountsLowered, CompactRaisesNone, MaxCountsLowered, MaxRaisesNone, purged_all}
+use Rattle.heap_calls.proofs.Cited.{purgeable}
 
 -- Compaction counts the blocks that stand lower afterwards, and leaves none higher.
 

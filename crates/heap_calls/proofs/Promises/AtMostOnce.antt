@@ -1,15 +1,7 @@
-use Rattle.std.proofs.Common.{ℕ, ◌+◌, ◌≤◌, zero, suc, Bool, true, false, List, [], ◌∷◌, refl, cond, arith, map, length}
-use Rattle.mac_words.specs.Size.{phys}
-use Rattle.block_store.specs.Block.{Block, Free, Nonrelocatable, Masters, Relocatable, size, count, is_mover}
-use Rattle.block_store.specs.Run.{in_run, Stretch, Segments, segments, runs}
-use Rattle.block_store.specs.Room.{may_be_purged, lowest_purged, purge}
-use Rattle.block_store.specs.Compact.{lowered_in_runs, runs_settled}
-use Rattle.block_store.specs.Rest.{lowered_in_run}
-use Rattle.block_store.proofs.Zone.Tidy.{total-tidy}
-use Rattle.heap_calls.specs.State.{State}
-use Rattle.heap_calls.specs.Answer.{nothing}
-use Rattle.heap_calls.specs.Moves.{compact_mem_moves, max_mem_moves}
-use Rattle.heap_calls.specs.Purging.{purged_all, purgeable}
+use Rattle.heap_calls.proofs.Cited.{ℕ, ◌+◌, ◌≤◌, zero, suc, Bool, true, false, List, [], ◌∷◌, refl, cond, arith, map, length, phys, Block}
+use Rattle.heap_calls.proofs.Cited.{Free, Nonrelocatable, Masters, Relocatable, size, count, is_mover, in_run, Stretch, Segments, segments}
+use Rattle.heap_calls.proofs.Cited.{runs, may_be_purged, lowest_purged, purge, lowered_in_runs, runs_settled, lowered_in_run, total-tidy}
+use Rattle.heap_calls.proofs.Cited.{State, nothing, compact_mem_moves, max_mem_moves, purged_all, purgeable}
 
 -- Compaction moves each block at most once: it moves no more than may be moved.
 

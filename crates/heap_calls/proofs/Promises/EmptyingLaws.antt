@@ -1,61 +1,31 @@
-use Rattle.std.proofs.Common.{◌≡◌, ℕ, ◌+◌, ◌/◌, ◌%◌, ◌≤◌, Bool, true, false, not, ◌&&◌, ◌||◌, ◌==◌, List, [], ◌∷◌, ◌++◌}
-use Rattle.std.proofs.Common.{length, slice_set, refl, sym, ◌∙◌, ap, subst, cond, arith, Option, Some, None, Result, Ok}
-use Rattle.std.proofs.Common.{Err, replicate, nat_le, nat_lt, append-nil}
-use Rattle.std.proofs.Common.{take, drop}
-use Rattle.std.proofs.lemmas.Bool.{cond-false}
-use Rattle.std.proofs.lemmas.Bool.Decides.{Decides-eqb}
-use Rattle.std.proofs.lemmas.Option.{same_Some}
-use Rattle.std.specs.Prelude.{is_some, if◌then◌else◌}
-use Rattle.mac_words.specs.Size.{phys}
-use Rattle.mac_words.specs.declared.code.OsErr.{OsErr}
-use Rattle.mac_words.specs.declared.code.TheConstants.OsErr.{LOCKED, PROFILE, PURGED}
-use Rattle.block_store.specs.declared.flags.Flags.{Flags}
-use Rattle.block_store.specs.Block.{Block, Free, Nonrelocatable, Masters, Relocatable, total, count, is_mover}
-use Rattle.block_store.specs.Block.{is_purgeable, is_masters, is_relocatable, is_nonrelocatable, content_of, with_content}
-use Rattle.block_store.specs.Block.{no_flags, tidy, resized}
-use Rattle.memory_windows.specs.Writes.{written}
-use Rattle.block_store.specs.Run.{has, runs}
-use Rattle.block_store.specs.Room.{Spot, spot, put_at_base, room}
-use Rattle.block_store.specs.Grow.{freed}
-use Rattle.block_store.specs.Compact.{runs_settled}
-use Rattle.block_store.proofs.Zone.Tidy.{spot-is}
-use Rattle.block_store.proofs.Zone.Totals.{total-append, total-le}
-use Rattle.block_store.proofs.Zone.Leading.{count-none}
-use Rattle.block_store.proofs.Zone.Passing.{has-count}
-use Rattle.heap_calls.specs.State.{State, Memory, Role, Plain, Resource, SystemResource, used_slots, all_slots}
+use Rattle.heap_calls.proofs.Cited.{◌≡◌, ℕ, ◌+◌, ◌/◌, ◌%◌, ◌≤◌, Bool, true, false, not, ◌&&◌, ◌||◌, ◌==◌, List, [], ◌∷◌, ◌++◌, length}
+use Rattle.heap_calls.proofs.Cited.{slice_set, refl, sym, ◌∙◌, ap, subst, cond, arith, Option, Some, None, Result, Ok, Err, replicate}
+use Rattle.heap_calls.proofs.Cited.{nat_le, nat_lt, append-nil, take, drop, cond-false, Decides-eqb, same_Some, if◌then◌else◌, phys, OsErr}
+use Rattle.heap_calls.proofs.Cited.{LOCKED, PROFILE, PURGED, Flags, Block, Free, Nonrelocatable, Masters, Relocatable, total, count}
+use Rattle.heap_calls.proofs.Cited.{is_mover, is_purgeable, is_masters, is_relocatable, is_nonrelocatable, content_of, with_content}
+use Rattle.heap_calls.proofs.Cited.{no_flags, tidy, resized, written, has, runs, Spot, spot, put_at_base, room, freed, runs_settled}
+use Rattle.heap_calls.proofs.Cited.{spot-is, total-append, total-le, count-none, has-count, State, Memory, Role, Plain, Resource}
+use Rattle.heap_calls.proofs.Cited.{SystemResource, used_slots, all_slots, Answer, Held, nothing, given, refused, disposed_of, rebuilt}
+use Rattle.heap_calls.proofs.Cited.{flagged, change_flags, hoisted, move_h_hi, look_up, handle_at, for_found, written_at, on_block, slotted}
+use Rattle.heap_calls.proofs.Cited.{more_masters, pointed_at, block_named, moved_into, is_resource, block_bits, emptied_at, is_loose}
+use Rattle.heap_calls.proofs.Cited.{reallocated, blocks_purged, purgeable, Asked, answered, row, may_purge, Weighs, OneBlockEach}
+use Rattle.heap_calls.proofs.Cited.{has_purgeable, PurgesOnlyPurgeable, map-some, unless, tidied, freed-is, Move, Put, Drop, Did, did}
+use Rattle.heap_calls.proofs.Cited.{Sought, no_room, seek, around, Refuses, seek-refused, put-there, heap_after, settled-all, purged-all}
+use Rattle.heap_calls.proofs.Cited.{base-all}
+use Rattle.std.specs.Prelude.{is_some}
 use Rattle.heap_calls.specs.State as names
-use Rattle.heap_calls.specs.Answer.{Answer, Held, nothing, given, refused, disposed_of, rebuilt, flagged, change_flags}
-use Rattle.heap_calls.specs.Answer.{hoisted, move_h_hi, look_up, handle_at, for_found, written_at, on_block}
 use Rattle.heap_calls.specs.Answer as calls
-use Rattle.heap_calls.specs.Slots.{slotted, more_masters}
-use Rattle.heap_calls.specs.Pointers.{pointed_at}
-use Rattle.heap_calls.specs.Pointers.{block_named, moved_into}
-use Rattle.heap_calls.specs.Purging.{is_resource, block_bits, emptied_at, is_loose, reallocated, blocks_purged}
-use Rattle.heap_calls.specs.Purging.{purgeable}
 use Rattle.heap_calls.specs.Purging as purging
-use Rattle.heap_calls.specs.Asked.{Asked}
-use Rattle.heap_calls.specs.Table.{answered, row, may_purge}
 use Rattle.heap_calls.proofs.Rows.Kinds.{by-kind}
-use Rattle.moves.proofs.Conserved.{Weighs}
 use Rattle.heap_calls.proofs.Rows.Along.{row-along}
 use Rattle.heap_calls.proofs.Rows.Weighing.{Renews, allows-weighs, none-lost}
 use Rattle.heap_calls.specs.Asked as asked
-use Rattle.heap_calls.specs.Locked.{OneBlockEach}
-use Rattle.heap_calls.specs.Emptying.{has_purgeable, PurgesOnlyPurgeable}
-use Rattle.block_store.proofs.Zone.Views.{map-some}
-use Rattle.block_store.proofs.Zone.Keeping.{unless, tidied, freed-is}
 use Rattle.heap_calls.proofs.Promises.Knowing.{look_up-spot, pointed_at-spot}
-use Rattle.moves.specs.Moves.{Move, Put, Drop, Did, did}
-use Rattle.moves.specs.Seeking.{Sought, no_room, seek, around}
-use Rattle.moves.proofs.Refused.{Refuses, seek-refused}
-use Rattle.moves.proofs.Rows.{put-there}
 use Rattle.heap_calls.specs.Rows as rows
-use Rattle.heap_calls.specs.Rows.{heap_after}
 use Rattle.heap_calls.proofs.Promises.Knowing.{handle_at-name}
 use Rattle.heap_calls.proofs.Rows.Reads.{quiet-same}
 use Rattle.heap_calls.proofs.Promises.AlikeCalls.{flagged-number}
 use Rattle.heap_calls.proofs.Promises.KnownChanges.{hoisted-all}
-use Rattle.block_store.proofs.Zone.Surviving.{settled-all, purged-all, base-all}
 use Rattle.heap_calls.proofs.Promises.NamedBlocks.{named-spot}
 
 -- Each block that may not be purged is there after each call that doesn't let it go.

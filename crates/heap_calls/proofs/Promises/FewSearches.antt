@@ -1,55 +1,22 @@
-use Rattle.std.proofs.Common.{◌≡◌, ℕ, ◌+◌, ◌≤◌, ◌<◌, ◌^◌, zero, suc, Bool, true, false, ◌||◌, List, [], ◌∷◌, ◌++◌}
-use Rattle.std.proofs.Common.{length, refl, sym, ◌∙◌, ap, cond, map, arith, Option, Some, None, Result}
-use Rattle.std.proofs.Common.{Ok, Err, replicate, nat_lt}
-use Rattle.std.specs.Option.{option_map, option_or}
-use Rattle.std.specs.Prelude.{is_some, if◌then◌else◌}
-use Rattle.mac_words.specs.Size.{phys}
-use Rattle.mac_words.specs.declared.code.OsErr.{OsErr}
-use Rattle.block_store.specs.Block.{Block, Free, Nonrelocatable, Masters, Relocatable, size, count, fresh, is_masters}
-use Rattle.block_store.specs.Block.{is_relocatable, is_nonrelocatable, no_flags, content_of}
-use Rattle.block_store.specs.Run.{Stretch, Segments, in_run, has_free, segments, runs}
-use Rattle.block_store.specs.Room.{Spot, spot, put_at_base, put_in_place, purge, lowest_purged, may_be_purged, count_of}
-use Rattle.block_store.specs.Room.{least, room}
-use Rattle.block_store.specs.Grow.{freed}
-use Rattle.block_store.specs.Compact.{beyond, has_room, runs_settled}
-use Rattle.block_store.specs.Rest.{counted}
-use Rattle.block_store.proofs.Zone.Tidy.{spot-is}
-use Rattle.block_store.proofs.Zone.Zones.{joined-segments, joined-is}
-use Rattle.block_store.proofs.Plain.Trials.{least_or_last-le}
-use Rattle.heap_calls.specs.State.{State, Memory, used_slots, all_slots}
-use Rattle.heap_calls.specs.Answer.{Held, nothing, look_up, handle_at}
-use Rattle.heap_calls.specs.Slots.{slotted, more_masters}
-use Rattle.heap_calls.specs.Pointers.{pointed_at}
-use Rattle.heap_calls.specs.Purging.{is_loose, purgeable}
-use Rattle.heap_calls.specs.Inner.Search.{tries}
-use Rattle.heap_calls.specs.Searches.{room_searches, slot_searches, ready_searches, block_searches}
-use Rattle.block_store.specs.Compact.{stretches}
-use Rattle.heap_calls.specs.Searches.{compact_mem_searches}
-use Rattle.heap_calls.specs.Asked.{Asked}
+use Rattle.heap_calls.proofs.Cited.{◌≡◌, ℕ, ◌+◌, ◌≤◌, ◌<◌, ◌^◌, zero, suc, Bool, true, false, ◌||◌, List, [], ◌∷◌, ◌++◌, length, refl, sym}
+use Rattle.heap_calls.proofs.Cited.{◌∙◌, ap, cond, map, arith, Option, Some, None, Result, Ok, Err, replicate, nat_lt, option_map}
+use Rattle.heap_calls.proofs.Cited.{option_or, if◌then◌else◌, phys, OsErr, Block, Free, Nonrelocatable, Masters, Relocatable, size, count}
+use Rattle.heap_calls.proofs.Cited.{fresh, is_masters, is_relocatable, is_nonrelocatable, no_flags, content_of, Stretch, Segments, in_run}
+use Rattle.heap_calls.proofs.Cited.{has_free, segments, runs, Spot, spot, put_at_base, put_in_place, purge, lowest_purged, may_be_purged}
+use Rattle.heap_calls.proofs.Cited.{count_of, least, room, freed, beyond, has_room, runs_settled, counted, spot-is, joined-segments}
+use Rattle.heap_calls.proofs.Cited.{joined-is, least_or_last-le, State, Memory, used_slots, all_slots, Held, nothing, look_up, handle_at}
+use Rattle.heap_calls.proofs.Cited.{slotted, more_masters, pointed_at, is_loose, purgeable, tries, room_searches, slot_searches}
+use Rattle.heap_calls.proofs.Cited.{ready_searches, block_searches, stretches, compact_mem_searches, Asked, answered, Row, row, answer_of}
+use Rattle.heap_calls.proofs.Cited.{searches_of, counted-none, row_searches, append-nil, subst, ℤ, nat_le, ◌-◌, PURGED, PROFILE, total}
+use Rattle.heap_calls.proofs.Cited.{resized, total-append, Move, Put, Base, Drop, Write, Did, did, Sought, no_room, seek, if_fits}
+use Rattle.heap_calls.proofs.Cited.{seek_slot, seek_size, seek_resized, around, did-append, Refuses, seek-refused, fits-refused, seek-few}
+use Rattle.heap_calls.proofs.Cited.{resized-few, work, is_unused, tidied, freed-is, unless-le, based-le, found_in, behind, Occurrence}
+use Rattle.std.specs.Prelude.{is_some}
 use Rattle.heap_calls.specs.Table as table
-use Rattle.heap_calls.specs.Table.{answered, Row, row, answer_of, searches_of}
 use Rattle.heap_calls.specs.Asked as asked
-use Rattle.block_store.proofs.Zone.Zones.{joined-is}
-use Rattle.block_store.proofs.Plain.Counters.{counted-none}
-use Rattle.heap_calls.specs.Table.{row_searches}
-use Rattle.std.proofs.Common.{append-nil, subst}
-use Rattle.std.proofs.Common.{ℤ, nat_le, ◌-◌}
-use Rattle.mac_words.specs.declared.code.TheConstants.OsErr.{PURGED}
-use Rattle.mac_words.specs.declared.code.TheConstants.OsErr.{PROFILE}
-use Rattle.block_store.specs.Block.{total, resized}
-use Rattle.block_store.proofs.Zone.Totals.{total-append}
-use Rattle.moves.specs.Moves.{Move, Put, Base, Drop, Write, Did, did}
-use Rattle.moves.specs.Seeking.{Sought, no_room, seek, if_fits, seek_slot, seek_size, seek_resized, around}
-use Rattle.moves.proofs.Paths.{did-append}
-use Rattle.moves.proofs.Refused.{Refuses, seek-refused, fits-refused}
-use Rattle.moves.proofs.Rows.{seek-few, resized-few}
 use Rattle.heap_calls.specs.Rows as rows
-use Rattle.heap_calls.specs.Rows.{work, is_unused}
 use Rattle.heap_calls.proofs.Same.NewBlocks.{made-same}
 use Rattle.heap_calls.proofs.Same.Resizing.{held-spot, pointer-spot}
-use Rattle.block_store.proofs.Zone.Keeping.{tidied, freed-is, unless-le, based-le}
-use Rattle.heap_calls.specs.Munging.{found_in, behind}
-use Rattle.heap_calls.specs.declared.munging.Occurrence.{Occurrence}
 
 -- A call searches for room no more often than once for each block and once more.
 

@@ -1,24 +1,10 @@
-use Rattle.std.proofs.Common.{◌≡◌, ℕ, ◌<◌, zero, suc, Bool, true, false, replicate, refl, sym, ◌∙◌, ap, cond, arith}
-use Rattle.std.proofs.Common.{Some, None, Err, List, length, nat_le, nat_lt}
-use Rattle.std.proofs.lemmas.Bool.{leb-true, leb-false}
-use Rattle.std.proofs.lemmas.List.{length-replicate}
+use Rattle.heap_calls.proofs.Cited.{◌≡◌, ℕ, ◌<◌, zero, suc, Bool, true, false, replicate, refl, sym, ◌∙◌, ap, cond, arith, Some, None, Err}
+use Rattle.heap_calls.proofs.Cited.{List, length, nat_le, nat_lt, leb-true, leb-false, length-replicate, phys, padded, OsErr, MEM_FULL}
+use Rattle.heap_calls.proofs.Cited.{not_some, Block, filled, place, purge, put_in_place, largest_run, least_or_last, map-none, place-some}
+use Rattle.heap_calls.proofs.Cited.{Put, no_room, seek, if_fits, seek_slot, then_seek, State, used_slots, all_slots, Answer, nothing}
+use Rattle.heap_calls.proofs.Cited.{answer_made, reply_of, is_unused, next_block, purgeable, purged_all}
 use Rattle.std.specs.Prelude.{is_some}
-use Rattle.mac_words.specs.Size.{phys, padded}
-use Rattle.mac_words.specs.declared.code.OsErr.{OsErr}
-use Rattle.mac_words.specs.declared.code.TheConstants.OsErr.{MEM_FULL}
-use Rattle.mac_words.proofs.Plain.{not_some}
-use Rattle.block_store.specs.Block.{Block}
-use Rattle.block_store.specs.Room.{filled, place, purge, put_in_place}
-use Rattle.block_store.specs.Compact.{largest_run, least_or_last}
-use Rattle.block_store.proofs.Plain.Options.{map-none}
-use Rattle.block_store.proofs.Regroup.MostRoom.{place-some}
-use Rattle.moves.specs.Moves.{Put}
-use Rattle.moves.specs.Seeking.{no_room, seek, if_fits, seek_slot, then_seek}
-use Rattle.heap_calls.specs.State.{State, used_slots, all_slots}
-use Rattle.heap_calls.specs.Answer.{Answer, nothing}
 use Rattle.heap_calls.specs.Rows as rows
-use Rattle.heap_calls.specs.Rows.{answer_made, reply_of, is_unused, next_block}
-use Rattle.heap_calls.specs.Purging.{purgeable, purged_all}
 use Rattle.heap_calls.proofs.Numbering.Changing.{phys-some}
 
 -- NewHandle is refused for want of room only.

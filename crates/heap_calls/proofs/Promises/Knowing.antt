@@ -1,28 +1,13 @@
-use Rattle.std.proofs.Common.{◌≡◌, ℕ, ◌+◌, ◌-◌, ◌≤◌, zero, suc, Bool, true, false, ◌&&◌, ◌==◌, List, [], ◌∷◌, ◌++◌}
-use Rattle.std.proofs.Common.{length, refl, sym, ◌∙◌, ap, cond, arith, Option, Some, None, Ok, slice_get, slice_set}
-use Rattle.std.proofs.Common.{subst}
-use Rattle.std.proofs.lemmas.Bool.{cond-true, cond-false, false_from_ne_true, and_parts}
-use Rattle.std.proofs.lemmas.Bool.Decides.{Decides-eqb}
-use Rattle.std.proofs.lemmas.Option.{none-some, slice_get_past}
-use Rattle.std.proofs.lemmas.Slice.Eq.{bytes_eq-Decides}
-use Rattle.std.specs.Option.{option_map, ok_or}
-use Rattle.std.specs.Prelude.{bytes_eq}
-use Rattle.mac_words.specs.declared.code.OsErr.{OsErr}
-use Rattle.mac_words.specs.declared.code.TheConstants.OsErr.{NIL_HANDLE}
-use Rattle.block_store.specs.declared.flags.Flags.{Flags}
-use Rattle.block_store.specs.Block.{Block, Free, Nonrelocatable, Masters, Relocatable, total, count, free, is_relocatable}
-use Rattle.block_store.specs.Block.{is_nonrelocatable, content_of}
-use Rattle.block_store.specs.Room.{Spot, spot}
-use Rattle.block_store.proofs.Zone.Tidy.{spot-is, spot-passes}
-use Rattle.block_store.proofs.Zone.Totals.{total-append, total-le}
-use Rattle.heap_calls.specs.State.{State, Meaning, fresh_heap}
+use Rattle.heap_calls.proofs.Cited.{◌≡◌, ℕ, ◌+◌, ◌-◌, ◌≤◌, zero, suc, Bool, true, false, ◌&&◌, ◌==◌, List, [], ◌∷◌, ◌++◌, length, refl, sym}
+use Rattle.heap_calls.proofs.Cited.{◌∙◌, ap, cond, arith, Option, Some, None, Ok, slice_get, slice_set, subst, cond-true, cond-false}
+use Rattle.heap_calls.proofs.Cited.{false_from_ne_true, and_parts, Decides-eqb, none-some, slice_get_past, bytes_eq-Decides, option_map}
+use Rattle.heap_calls.proofs.Cited.{ok_or, bytes_eq, OsErr, NIL_HANDLE, Flags, Block, Free, Nonrelocatable, Masters, Relocatable, total}
+use Rattle.heap_calls.proofs.Cited.{count, free, is_relocatable, is_nonrelocatable, content_of, Spot, spot, spot-is, spot-passes}
+use Rattle.heap_calls.proofs.Cited.{total-append, total-le, State, Meaning, fresh_heap, Held, look_up, held_at, handle_at, pointed}
+use Rattle.heap_calls.proofs.Cited.{pointed_at, named_block, Holds, SeesNoFree, unless, unless-le}
 use Rattle.heap_calls.specs.State as names
-use Rattle.heap_calls.specs.Answer.{Held, look_up, held_at, handle_at}
 use Rattle.heap_calls.specs.Answer as calls
-use Rattle.heap_calls.specs.Pointers.{pointed, pointed_at, named_block}
-use Rattle.heap_calls.specs.LastPut.{Holds}
 use Rattle.heap_calls.proofs.Numbering.Numbers.{flipped}
-use Rattle.block_store.proofs.Zone.Keeping.{SeesNoFree, unless, unless-le}
 
 -- What is known of each block's bytes, and the changes that keep it.
 

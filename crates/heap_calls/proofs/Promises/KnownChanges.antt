@@ -1,32 +1,17 @@
-use Rattle.std.proofs.Common.{◌≡◌, ℕ, ◌+◌, ◌-◌, ◌≤◌, Bool, true, false, ◌==◌, List, [], ◌∷◌, ◌++◌, length}
-use Rattle.std.proofs.Common.{length-append, take, drop, replicate, refl, sym, ◌∙◌, ap, subst, cond, arith, Option}
-use Rattle.std.proofs.Common.{Some, None, Result, Ok, Err, slice_get, slice_set, nat_lt}
-use Rattle.std.proofs.lemmas.List.{take_all, drop_all, length-replicate, append-nil}
-use Rattle.std.proofs.Math.Seq.{take-append_seam}
-use Rattle.std.proofs.lemmas.Option.{none-some, same_Some}
-use Rattle.std.specs.Option.{option_map}
-use Rattle.std.specs.Prelude.{unwrap_or, if◌then◌else◌}
-use Rattle.mac_words.specs.declared.code.OsErr.{OsErr}
-use Rattle.mac_words.specs.declared.code.TheConstants.OsErr.{LOCKED}
-use Rattle.block_store.specs.declared.flags.Flags.{Flags}
-use Rattle.block_store.specs.Block.{Block, Free, Nonrelocatable, Masters, Relocatable, total, count, is_mover, is_relocatable}
-use Rattle.block_store.specs.Block.{is_nonrelocatable, content_of, with_content, no_flags, tidy, resized, resized_content}
-use Rattle.memory_windows.specs.Writes.{written}
-use Rattle.block_store.specs.Run.{change_run, has, high}
-use Rattle.block_store.specs.Room.{Spot, spot, raised, put_at_base, room}
-use Rattle.block_store.specs.Grow.{freed}
-use Rattle.heap_calls.specs.State.{State, Meaning, Role, used_slots, all_slots}
+use Rattle.heap_calls.proofs.Cited.{◌≡◌, ℕ, ◌+◌, ◌-◌, ◌≤◌, Bool, true, false, ◌==◌, List, [], ◌∷◌, ◌++◌, length, take, drop, replicate}
+use Rattle.heap_calls.proofs.Cited.{refl, sym, ◌∙◌, ap, subst, cond, arith, Option, Some, None, Result, Ok, Err, slice_get, slice_set}
+use Rattle.heap_calls.proofs.Cited.{nat_lt, take_all, drop_all, length-replicate, take-append_seam, none-some, same_Some, option_map}
+use Rattle.heap_calls.proofs.Cited.{unwrap_or, if◌then◌else◌, OsErr, LOCKED, Flags, Block, Free, Nonrelocatable, Masters, Relocatable}
+use Rattle.heap_calls.proofs.Cited.{total, count, is_mover, is_relocatable, is_nonrelocatable, content_of, with_content, no_flags, tidy}
+use Rattle.heap_calls.proofs.Cited.{resized, resized_content, written, change_run, has, high, Spot, spot, raised, put_at_base, room, freed}
+use Rattle.heap_calls.proofs.Cited.{State, Meaning, Role, used_slots, all_slots, Answer, Held, nothing, given, refused, rebuilt, flagged}
+use Rattle.heap_calls.proofs.Cited.{change_flags, hoisted, move_h_hi, look_up, for_found, written_at, slotted, more_masters, rewritten}
+use Rattle.heap_calls.proofs.Cited.{length-resized, map-some, SeesNoFree, unless, unless-le, unless-none, tidied, freed-is, changed-le}
+use Rattle.heap_calls.proofs.Cited.{high-le, base-le, swapped-le, changed-all, high-all}
+use Rattle.std.proofs.Common.{length-append}
+use Rattle.std.proofs.lemmas.List.{append-nil}
 use Rattle.heap_calls.specs.State as names
-use Rattle.heap_calls.specs.Answer.{Answer, Held, nothing, given, refused, rebuilt, flagged, change_flags, hoisted}
-use Rattle.heap_calls.specs.Answer.{move_h_hi, look_up, for_found, written_at}
 use Rattle.heap_calls.specs.Answer as calls
-use Rattle.heap_calls.specs.Slots.{slotted, more_masters}
-use Rattle.moves.specs.Moves.{rewritten}
-use Rattle.block_store.proofs.Content.Resizing.{length-resized}
-use Rattle.block_store.proofs.Zone.Views.{map-some}
-use Rattle.block_store.proofs.Zone.Keeping.{SeesNoFree, unless, unless-le, unless-none, tidied, freed-is, changed-le}
-use Rattle.block_store.proofs.Zone.Keeping.{high-le, base-le, swapped-le}
-use Rattle.block_store.proofs.Zone.Surviving.{changed-all, high-all}
 use Rattle.heap_calls.proofs.Promises.Knowing.{Known, for_handle, for_pointer, handle-only, pointer-only, look_up-spot}
 use Rattle.heap_calls.proofs.Promises.Knowing.{known-at, known-pointed, handle-changed, pointer-changed, known-more}
 use Rattle.heap_calls.proofs.Promises.Knowing.{known-less, GivesWay, none-handle, none-pointer, push-stands, pushed}

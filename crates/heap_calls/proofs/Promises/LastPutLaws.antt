@@ -1,43 +1,22 @@
-use Rattle.std.proofs.Common.{◌≡◌, ℕ, ◌+◌, ◌≤◌, ◌/◌, ◌%◌, ◌==◌, Bool, true, false, ◌||◌, List, [], ◌∷◌, ◌++◌, length}
-use Rattle.std.proofs.Common.{replicate, refl, sym, ◌∙◌, ap, subst, cond, arith, Option, Some, None, Result, Ok, Err}
-use Rattle.std.proofs.Common.{slice_get, slice_set, nat_le}
-use Rattle.std.proofs.Common.{ℤ, pos, negsuc, ◌-◌, take, drop}
-use Rattle.std.specs.Prelude.{is_some, if◌then◌else◌}
-use Rattle.mac_words.specs.Size.{phys}
-use Rattle.mac_words.specs.Told.{Told, Done, Given, Refused}
-use Rattle.mac_words.specs.Told.{Offset}
-use Rattle.mac_words.specs.declared.code.OsErr.{OsErr}
-use Rattle.mac_words.specs.declared.code.TheConstants.OsErr.{MEM_FULL, PROFILE, PURGED}
-use Rattle.memory_windows.specs.Writes.{written}
-use Rattle.block_store.specs.Block.{Block, Free, Nonrelocatable, Masters, Relocatable, total, is_mover}
-use Rattle.block_store.specs.Block.{is_relocatable}
-use Rattle.block_store.specs.Block.{is_nonrelocatable, content_of, with_content, resized_content, no_flags, tidy}
-use Rattle.block_store.specs.Run.{runs}
-use Rattle.block_store.specs.Room.{Spot, spot, purge}
-use Rattle.block_store.specs.Grow.{freed}
-use Rattle.block_store.specs.Compact.{compacted, runs_settled, settled}
-use Rattle.block_store.proofs.Zone.Keeping.{SeesNoFree, purged-le, settled-le}
-use Rattle.block_store.proofs.Zone.Tidy.{spot-passes}
-use Rattle.moves.specs.Moves.{Move, Put, Base, Drop, Write, Did, did}
-use Rattle.moves.specs.Seeking.{Sought, seek, if_fits, seek_slot, seek_size, around}
-use Rattle.moves.proofs.Paths.{did-append}
-use Rattle.moves.proofs.Refused.{Refuses, seek-refused, fits-refused, size-refused, around-refused}
-use Rattle.moves.proofs.Rows.{size-new, seek-more, if-more, again-more}
-use Rattle.heap_calls.specs.State.{State, Memory, Meaning, Role, Plain, Resource, SystemResource}
+use Rattle.heap_calls.proofs.Cited.{◌≡◌, ℕ, ◌+◌, ◌≤◌, ◌/◌, ◌%◌, ◌==◌, Bool, true, false, ◌||◌, List, [], ◌∷◌, ◌++◌, length, replicate, refl}
+use Rattle.heap_calls.proofs.Cited.{sym, ◌∙◌, ap, subst, cond, arith, Option, Some, None, Result, Ok, Err, slice_get, slice_set, nat_le, ℤ}
+use Rattle.heap_calls.proofs.Cited.{pos, negsuc, ◌-◌, take, drop, if◌then◌else◌, phys, Told, Given, Refused, Offset, OsErr, MEM_FULL}
+use Rattle.heap_calls.proofs.Cited.{PROFILE, PURGED, written, Block, Free, Nonrelocatable, Masters, Relocatable, total, is_mover}
+use Rattle.heap_calls.proofs.Cited.{is_relocatable, is_nonrelocatable, content_of, with_content, resized_content, no_flags, tidy, runs}
+use Rattle.heap_calls.proofs.Cited.{Spot, spot, purge, freed, compacted, runs_settled, settled, SeesNoFree, purged-le, settled-le}
+use Rattle.heap_calls.proofs.Cited.{spot-passes, Move, Put, Base, Drop, Write, Did, did, Sought, seek, if_fits, seek_slot, seek_size}
+use Rattle.heap_calls.proofs.Cited.{around, did-append, Refuses, seek-refused, fits-refused, size-refused, around-refused, size-new}
+use Rattle.heap_calls.proofs.Cited.{seek-more, if-more, again-more, State, Memory, Meaning, Role, Plain, Resource, SystemResource, Answer}
+use Rattle.heap_calls.proofs.Cited.{Held, nothing, refused, disposed_of, move_h_hi, look_up, handle_at, for_found, written_at, on_block}
+use Rattle.heap_calls.proofs.Cited.{pointed_at, pointed, block_named, named_block, moved_into, emptied_at, is_loose, blocks_purged}
+use Rattle.heap_calls.proofs.Cited.{purgeable, purged_all, Asked, told_as, heap_after, reply_of, is_unused, next_block, answered, put_by}
+use Rattle.heap_calls.proofs.Cited.{fun_ext, leb-true, Decides-eqb, found_in, behind, munged, Occurrence}
+use Rattle.std.specs.Prelude.{is_some}
+use Rattle.mac_words.specs.Told.{Done}
 use Rattle.heap_calls.specs.State as names
-use Rattle.heap_calls.specs.Answer.{Answer, Held, nothing, refused, disposed_of, move_h_hi, look_up}
-use Rattle.heap_calls.specs.Answer.{handle_at, for_found, written_at, on_block}
 use Rattle.heap_calls.specs.Answer as calls
-use Rattle.heap_calls.specs.Pointers.{pointed_at}
-use Rattle.heap_calls.specs.Pointers.{pointed, block_named, named_block, moved_into}
-use Rattle.heap_calls.specs.Purging.{emptied_at, is_loose, blocks_purged, purgeable}
-use Rattle.heap_calls.specs.Purging.{purged_all}
-use Rattle.heap_calls.specs.Asked.{Asked, told_as}
 use Rattle.heap_calls.specs.Asked as asked
 use Rattle.heap_calls.specs.Rows as rows
-use Rattle.heap_calls.specs.Rows.{heap_after, reply_of, is_unused, next_block}
-use Rattle.heap_calls.specs.Table.{answered}
-use Rattle.heap_calls.specs.LastPut.{put_by}
 use Rattle.heap_calls.proofs.Same.Growing.{same-handle, same-pointer}
 use Rattle.heap_calls.proofs.Rows.Found.{room_for-refused}
 use Rattle.heap_calls.proofs.Rows.Reads.{reads-same}
@@ -50,11 +29,6 @@ use Rattle.heap_calls.proofs.Promises.KnownChanges.{known-disposed, known-dispos
 use Rattle.heap_calls.proofs.Promises.KnownChanges.{known-put_pointer}
 use Rattle.heap_calls.proofs.Promises.KnownChanges.{known-grown, known-grown_pointer, known-emptied, known-renewed}
 use Rattle.heap_calls.proofs.Promises.KnownChanges.{known-flags, known-hoisted, known-filled, written-all, written-behind}
-use Rattle.std.proofs.Math.Path.{fun_ext}
-use Rattle.std.proofs.lemmas.Bool.{leb-true}
-use Rattle.std.proofs.lemmas.Bool.Decides.{Decides-eqb}
-use Rattle.heap_calls.specs.Munging.{found_in, behind, munged}
-use Rattle.heap_calls.specs.declared.munging.Occurrence.{Occurrence}
 use Rattle.heap_calls.proofs.Finding.{found-within, written-munged}
 
 -- Each call keeps what is known of each block's bytes.

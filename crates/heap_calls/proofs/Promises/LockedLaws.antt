@@ -1,25 +1,11 @@
-use Rattle.std.proofs.Common.{◌≡◌, ℕ, ◌/◌, ◌%◌, ◌≤◌, Bool, true, false, not, ◌&&◌, ◌==◌, List, ◌∷◌, refl, sym, ◌∙◌, ap}
-use Rattle.std.proofs.Common.{subst, cond, arith, Option, Some, None}
-use Rattle.std.proofs.lemmas.Bool.{cond-false, and_parts}
-use Rattle.std.proofs.lemmas.Bool.Decides.{Decides-eqb}
-use Rattle.std.proofs.lemmas.Option.{none-some}
-use Rattle.block_store.specs.declared.flags.Flags.{Flags}
-use Rattle.block_store.specs.Block.{Block, Free, Nonrelocatable, Masters, Relocatable, total, count, is_mover, is_relocatable}
-use Rattle.block_store.specs.Block.{is_nonrelocatable, with_content, resized}
-use Rattle.block_store.specs.Run.{in_run}
-use Rattle.block_store.specs.Room.{Spot, spot}
-use Rattle.block_store.proofs.Zone.Tidy.{spot-is, spot-passes}
-use Rattle.block_store.proofs.Zone.Totals.{total-append, total-le}
-use Rattle.heap_calls.specs.State.{Memory}
-use Rattle.heap_calls.specs.Answer.{flagged}
-use Rattle.heap_calls.specs.Purging.{is_loose}
-use Rattle.heap_calls.specs.Asked.{Asked}
-use Rattle.heap_calls.specs.Table.{answered}
+use Rattle.heap_calls.proofs.Cited.{◌≡◌, ℕ, ◌/◌, ◌%◌, ◌≤◌, Bool, true, false, not, ◌&&◌, ◌==◌, List, ◌∷◌, refl, sym, ◌∙◌, ap, subst, cond}
+use Rattle.heap_calls.proofs.Cited.{arith, Option, Some, None, cond-false, and_parts, Decides-eqb, none-some, Flags, Block, Free}
+use Rattle.heap_calls.proofs.Cited.{Nonrelocatable, Masters, Relocatable, total, count, is_mover, is_relocatable, is_nonrelocatable}
+use Rattle.heap_calls.proofs.Cited.{with_content, resized, in_run, Spot, spot, spot-is, spot-passes, total-append, total-le, Memory}
+use Rattle.heap_calls.proofs.Cited.{flagged, is_loose, Asked, answered, is_locked, locked_place, releases, OneBlockEach, StaysLocked, apart}
+use Rattle.heap_calls.proofs.Cited.{stands-is, locks, stands-none}
 use Rattle.heap_calls.specs.Asked as asked
-use Rattle.heap_calls.specs.Locked.{is_locked, locked_place, releases, OneBlockEach, StaysLocked}
-use Rattle.block_store.proofs.Zone.Keeping.{apart}
 use Rattle.heap_calls.proofs.Promises.KnownChanges.{none-spot}
-use Rattle.block_store.proofs.Zone.Alike.{stands-is, locks, stands-none}
 use Rattle.heap_calls.proofs.Promises.AlikeCalls.{Steady, LeavesFlags, Leaves, LeavesLoose, flagged-number}
 use Rattle.heap_calls.proofs.Promises.AlikeCalls.{alike-answered}
 

@@ -1,10 +1,6 @@
-use Rattle.std.proofs.Common.{◌≡◌, ℕ, Bool, Option, Some, None, Ok, refl, ◌∙◌, ap, slice_get}
-use Rattle.block_store.specs.Block.{Block, is_relocatable, is_nonrelocatable}
-use Rattle.block_store.specs.Room.{spot}
-use Rattle.heap_calls.specs.State.{Meaning, State}
+use Rattle.heap_calls.proofs.Cited.{◌≡◌, ℕ, Bool, Option, Some, None, Ok, refl, ◌∙◌, ap, slice_get, Block, is_relocatable}
+use Rattle.heap_calls.proofs.Cited.{is_nonrelocatable, spot, Meaning, State, Held, pointed, named_block, block_named}
 use Rattle.heap_calls.specs.State as names
-use Rattle.heap_calls.specs.Answer.{Held}
-use Rattle.heap_calls.specs.Pointers.{pointed, named_block, block_named}
 use Rattle.heap_calls.proofs.Promises.Knowing.{look_up-spot, pointed_at-spot}
 
 -- The block of a handle or a pointer is where its number stands.

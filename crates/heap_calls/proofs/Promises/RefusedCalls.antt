@@ -1,55 +1,27 @@
-use Rattle.std.proofs.Common.{◌≡◌, ◌≢◌, ℕ, ◌+◌, ◌≤◌, Bool, true, false, ◌||◌, List, [], ◌∷◌, ◌++◌, length, refl, sym}
-use Rattle.std.proofs.Common.{◌∙◌}
-use Rattle.std.proofs.Common.{ap, subst, cond, arith, Option, Some, None, Result, Ok, Err, replicate, nat_le}
-use Rattle.std.proofs.Common.{slice_get, slice_set, ◌/◌, ◌%◌, ◌==◌}
-use Rattle.std.proofs.Common.{ℤ, pos, ◌-◌}
-use Rattle.std.proofs.Common.{take, drop}
-use Rattle.std.specs.Option.{option_map, ok_or}
-use Rattle.std.specs.Prelude.{unwrap_or}
-use Rattle.std.specs.Prelude.{if◌then◌else◌}
-use Rattle.mac_words.specs.Size.{phys}
-use Rattle.mac_words.specs.declared.code.OsErr.{OsErr}
-use Rattle.mac_words.specs.declared.code.TheConstants.OsErr.{NIL_HANDLE, LOCKED, PROFILE, PURGED}
-use Rattle.block_store.specs.declared.flags.Flags.{Flags}
-use Rattle.block_store.specs.Block.{Block, Nonrelocatable, Masters, Relocatable, is_mover, is_relocatable, is_nonrelocatable, content_of}
-use Rattle.block_store.specs.Block.{with_content, no_flags, sizes, tidy, count}
-use Rattle.memory_windows.specs.Writes.{written}
-use Rattle.block_store.specs.Room.{Spot, spot}
-use Rattle.block_store.specs.Grow.{freed}
-use Rattle.heap_calls.specs.State.{State, Memory, Role, Plain, Resource, SystemResource, Meaning, Handle, Pointer}
-use Rattle.heap_calls.specs.State.{Disposed}
-use Rattle.heap_calls.specs.Answer.{Answer, Known, Held, nothing, given, refused, disposed_of, rebuilt, flagged}
-use Rattle.heap_calls.specs.Answer.{change_flags, hoisted, look_up, held_at, handle_at, known_as, for_found, written_at}
-use Rattle.heap_calls.specs.Answer.{on_block, code_of, without}
-use Rattle.heap_calls.specs.Answer.{munger_nil, place_in}
+use Rattle.heap_calls.proofs.Cited.{◌≡◌, ◌≢◌, ℕ, ◌+◌, ◌≤◌, Bool, true, false, ◌||◌, List, [], ◌∷◌, ◌++◌, length, refl, sym, ◌∙◌, ap, subst}
+use Rattle.heap_calls.proofs.Cited.{cond, arith, Option, Some, None, Result, Ok, Err, replicate, nat_le, slice_get, slice_set, ◌/◌, ◌%◌}
+use Rattle.heap_calls.proofs.Cited.{◌==◌, ℤ, pos, ◌-◌, take, drop, option_map, ok_or, unwrap_or, if◌then◌else◌, phys, OsErr, NIL_HANDLE}
+use Rattle.heap_calls.proofs.Cited.{LOCKED, PROFILE, PURGED, Flags, Block, Nonrelocatable, Masters, Relocatable, is_mover, is_relocatable}
+use Rattle.heap_calls.proofs.Cited.{is_nonrelocatable, content_of, with_content, no_flags, sizes, tidy, count, written, Spot, spot, freed}
+use Rattle.heap_calls.proofs.Cited.{State, Memory, Role, Plain, Resource, SystemResource, Meaning, Handle, Pointer, Disposed, Answer, Known}
+use Rattle.heap_calls.proofs.Cited.{Held, nothing, given, refused, disposed_of, rebuilt, flagged, change_flags, hoisted, look_up, held_at}
+use Rattle.heap_calls.proofs.Cited.{handle_at, known_as, for_found, written_at, on_block, code_of, without, munger_nil, place_in}
+use Rattle.heap_calls.proofs.Cited.{pointed_at, block_named, dispose_pointer, get_pointer_size, pointer_zone, put_pointer, show_pointer}
+use Rattle.heap_calls.proofs.Cited.{place_of, recover_handle, block_move, moved_into, is_resource, block_bits, bit, emptied_at, is_loose}
+use Rattle.heap_calls.proofs.Cited.{h_purge, h_no_purge, h_get_state, h_set_state, empty_handle, purge_mem, Told, Given, Number, Bytes}
+use Rattle.heap_calls.proofs.Cited.{Refused, Offset, Asked, told_as, answered, Move, Put, Base, Drop, Write, Did, did, Sought, seek}
+use Rattle.heap_calls.proofs.Cited.{if_fits, seek_slot, seek_size, around, did-append, Refuses, seek-refused, fits-refused, slot-refused}
+use Rattle.heap_calls.proofs.Cited.{size-refused, around-refused, heap_after, answer_made, is_unused, next_block, reply_of, code_left}
+use Rattle.heap_calls.proofs.Cited.{slotted_zone, copying_zone, zone_left, found_in, behind, Occurrence}
 use Rattle.heap_calls.specs.Answer as calls
-use Rattle.heap_calls.specs.Pointers.{pointed_at, block_named, dispose_pointer}
-use Rattle.heap_calls.specs.Pointers.{get_pointer_size, pointer_zone, put_pointer, show_pointer, place_of}
-use Rattle.heap_calls.specs.Pointers.{recover_handle, block_move, moved_into}
-use Rattle.heap_calls.specs.Purging.{is_resource, block_bits, bit, emptied_at, is_loose, h_purge}
-use Rattle.heap_calls.specs.Purging.{h_no_purge, h_get_state, h_set_state, empty_handle, purge_mem}
-use Rattle.mac_words.specs.Told.{Told, Done, Given, Number, Bytes, Refused}
-use Rattle.mac_words.specs.Told.{Offset}
-use Rattle.heap_calls.specs.Asked.{Asked, told_as}
-use Rattle.heap_calls.specs.Table.{answered}
-use Rattle.moves.specs.Moves.{Move, Put, Base, Drop, Write, Did, did}
-use Rattle.moves.specs.Seeking.{Sought, seek, if_fits, seek_slot, seek_size, around}
-use Rattle.moves.proofs.Paths.{did-append}
-use Rattle.moves.proofs.Refused.{Refuses, seek-refused, fits-refused, slot-refused, size-refused, around-refused}
+use Rattle.mac_words.specs.Told.{Done}
 use Rattle.heap_calls.proofs.Rows.Found.{room_for-refused}
 use Rattle.heap_calls.specs.Rows as rows
-use Rattle.heap_calls.specs.Rows.{heap_after, answer_made, is_unused, next_block, reply_of}
 use Rattle.heap_calls.proofs.Same.NewBlocks.{slotted-is, slot-agrees, with_slot, ready_with}
 use Rattle.heap_calls.specs.Asked as asked
-use Rattle.heap_calls.specs.Refused.{code_left}
-use Rattle.heap_calls.specs.Slots.{slotted_zone}
-use Rattle.heap_calls.specs.Copying.{copying_zone}
-use Rattle.heap_calls.specs.Table.{zone_left}
 use Rattle.heap_calls.proofs.Promises.KnownChanges.{none-spot, hoisted-all}
 use Rattle.heap_calls.proofs.Promises.Knowing.{look_up-spot}
 use Rattle.heap_calls.proofs.Exchanging.{spot-count}
-use Rattle.heap_calls.specs.Munging.{found_in, behind}
-use Rattle.heap_calls.specs.declared.munging.Occurrence.{Occurrence}
 
 -- A refused call leaves all as it was, but for the zone where the table says so.
 

@@ -1,14 +1,6 @@
-use Rattle.std.proofs.Common.{◌≡◌, ℕ, refl, sym, ◌∙◌, ap, List, Some, Result, Ok, Err, inl, inr}
-use Rattle.mac_words.specs.declared.code.OsErr.{OsErr}
-use Rattle.block_store.specs.Block.{is_relocatable, is_nonrelocatable, content_of}
-use Rattle.block_store.specs.Room.{spot}
-use Rattle.heap_calls.specs.State.{Memory}
-use Rattle.heap_calls.specs.Answer.{Held, look_up, for_found}
-use Rattle.heap_calls.specs.Pointers.{pointed_at}
-use Rattle.mac_words.specs.Told.{Bytes}
-use Rattle.heap_calls.specs.Asked.{Asked, told_as}
-use Rattle.heap_calls.specs.Table.{answered}
-use Rattle.heap_calls.specs.Shown.{Shows}
+use Rattle.heap_calls.proofs.Cited.{◌≡◌, ℕ, refl, sym, ◌∙◌, ap, List, Some, Result, Ok, Err, inl, inr, OsErr, is_relocatable}
+use Rattle.heap_calls.proofs.Cited.{is_nonrelocatable, content_of, spot, Memory, Held, look_up, for_found, pointed_at, Bytes, Asked}
+use Rattle.heap_calls.proofs.Cited.{told_as, answered, Shows}
 use Rattle.heap_calls.proofs.Promises.Knowing.{Known, look_up-spot, pointed_at-spot, known-at, known-pointed}
 
 -- A call that shows bytes shows those that are known of its handle or pointer.

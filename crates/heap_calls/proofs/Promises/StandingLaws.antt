@@ -1,20 +1,10 @@
-use Rattle.std.proofs.Common.{◌≡◌, ℕ, ◌/◌, ◌%◌, ◌≤◌, Bool, true, false, ◌==◌, List, length, refl, sym, ◌∙◌, ap, subst}
-use Rattle.std.proofs.Common.{Some, None}
-use Rattle.std.proofs.lemmas.Bool.Decides.{Decides-eqb}
-use Rattle.std.proofs.lemmas.Option.{none-some}
-use Rattle.block_store.specs.declared.flags.Flags.{Flags}
-use Rattle.block_store.specs.Block.{Block, Free, Nonrelocatable, Masters, Relocatable, count, is_nonrelocatable, with_content, resized}
-use Rattle.block_store.specs.Run.{in_run}
-use Rattle.block_store.proofs.Nonrelocatable.Counts.{not_nonrelocatable-relocatable}
-use Rattle.heap_calls.specs.State.{State, Memory}
-use Rattle.heap_calls.specs.Answer.{flagged}
-use Rattle.heap_calls.specs.Asked.{Asked}
-use Rattle.heap_calls.specs.Table.{answered}
+use Rattle.heap_calls.proofs.Cited.{◌≡◌, ℕ, ◌/◌, ◌%◌, ◌≤◌, Bool, true, false, ◌==◌, List, length, refl, sym, ◌∙◌, ap, subst, Some, None}
+use Rattle.heap_calls.proofs.Cited.{Decides-eqb, none-some, Flags, Block, Free, Nonrelocatable, Masters, Relocatable, count}
+use Rattle.heap_calls.proofs.Cited.{is_nonrelocatable, with_content, resized, in_run, not_nonrelocatable-relocatable, State, Memory}
+use Rattle.heap_calls.proofs.Cited.{flagged, Asked, answered, OneBlockEach, pointer_place, disposes, NextIsNew, StaysNonrelocatable}
+use Rattle.heap_calls.proofs.Cited.{stands-is, stands-none}
 use Rattle.heap_calls.specs.Asked as asked
-use Rattle.heap_calls.specs.Locked.{OneBlockEach}
-use Rattle.heap_calls.specs.Standing.{pointer_place, disposes, NextIsNew, StaysNonrelocatable}
 use Rattle.heap_calls.proofs.Promises.Knowing.{Known, for_pointer, none-pointer, next-none}
-use Rattle.block_store.proofs.Zone.Alike.{stands-is, stands-none}
 use Rattle.heap_calls.proofs.Promises.AlikeCalls.{Steady, Leaves, alike-answered}
 
 -- No call moves a pointer's block, unless it disposes of it.

@@ -1,27 +1,13 @@
-use Rattle.std.proofs.Common.{◌≡◌, ◌≤◌, ◌+◌, ◌⊎◌, inl, inr, ℕ, ◌/◌, ◌%◌, ◌==◌, ◌&&◌, not, Bool, true, false, List, []}
-use Rattle.std.proofs.Common.{◌∷◌, ◌++◌, refl, sym, ◌∙◌, ap, subst, cond, arith, Option, Some, None, Result, Ok, Err}
-use Rattle.std.proofs.Common.{slice_set}
-use Rattle.std.specs.Option.{option_map}
-use Rattle.std.proofs.lemmas.Bool.{cond-false, and_parts}
-use Rattle.std.proofs.lemmas.Bool.Decides.{Decides-eqb}
-use Rattle.mac_words.specs.declared.code.OsErr.{OsErr}
-use Rattle.mac_words.specs.Told.{Told, Done}
-use Rattle.block_store.specs.declared.flags.Flags.{Flags}
-use Rattle.block_store.specs.Block.{Block, Free, Nonrelocatable, Masters, Relocatable, sizes, total, count, is_relocatable}
-use Rattle.block_store.specs.Block.{is_nonrelocatable, tidy}
-use Rattle.block_store.specs.Room.{Spot, spot}
-use Rattle.block_store.specs.Grow.{freed}
-use Rattle.block_store.proofs.Zone.Totals.{total-append}
-use Rattle.block_store.proofs.Zone.Keeping.{unless, apart, tidied, freed-is, counts-free}
-use Rattle.block_store.proofs.Zone.Alike.{stands-is, stands-none, locks}
-use Rattle.heap_calls.specs.State.{State, Memory, Role, Plain, Resource, SystemResource, Disposed}
-use Rattle.heap_calls.specs.Answer.{Known, Held, look_up, handle_at, for_found, disposed_of, flagged, change_flags}
-use Rattle.heap_calls.specs.Pointers.{pointed_at, dispose_pointer}
-use Rattle.heap_calls.specs.Asked.{Asked, told_as}
-use Rattle.heap_calls.specs.Table.{answered}
+use Rattle.heap_calls.proofs.Cited.{◌≡◌, ◌≤◌, ◌+◌, ◌⊎◌, inl, inr, ℕ, ◌/◌, ◌%◌, ◌==◌, ◌&&◌, not, Bool, true, false, List, [], ◌∷◌, ◌++◌}
+use Rattle.heap_calls.proofs.Cited.{refl, sym, ◌∙◌, ap, subst, cond, arith, Option, Some, None, Result, Ok, Err, slice_set, option_map}
+use Rattle.heap_calls.proofs.Cited.{cond-false, and_parts, Decides-eqb, OsErr, Told, Flags, Block, Free, Nonrelocatable, Masters}
+use Rattle.heap_calls.proofs.Cited.{Relocatable, sizes, total, count, is_relocatable, is_nonrelocatable, tidy, Spot, spot, freed}
+use Rattle.heap_calls.proofs.Cited.{total-append, unless, apart, tidied, freed-is, counts-free, stands-is, stands-none, locks, State}
+use Rattle.heap_calls.proofs.Cited.{Memory, Role, Plain, Resource, SystemResource, Disposed, Known, Held, look_up, handle_at, for_found}
+use Rattle.heap_calls.proofs.Cited.{disposed_of, flagged, change_flags, pointed_at, dispose_pointer, Asked, told_as, answered, is_locked}
+use Rattle.heap_calls.proofs.Cited.{locked_place, releases, OneBlockEach, pointer_place, disposes, NextIsNew}
+use Rattle.mac_words.specs.Told.{Done}
 use Rattle.heap_calls.specs.Asked as asked
-use Rattle.heap_calls.specs.Locked.{is_locked, locked_place, releases, OneBlockEach}
-use Rattle.heap_calls.specs.Standing.{pointer_place, disposes, NextIsNew}
 use Rattle.heap_calls.proofs.Promises.Knowing.{look_up-spot, pointed_at-spot}
 use Rattle.heap_calls.proofs.Promises.Knowing.{handle_at-name}
 use Rattle.heap_calls.proofs.Promises.LockedLaws.{fewer, stays-locked}

@@ -1,26 +1,10 @@
-use Rattle.std.proofs.Common.{◌≡◌, ℕ, ◌+◌, ◌<◌, inr, zero, suc, nat_lt, Bool, true, false, cond}
-use Rattle.std.proofs.Common.{Option, Some, None, is_some, List, refl, sym}
-use Rattle.std.proofs.Common.{◌∙◌, ap, arith}
-use Rattle.std.specs.Option.{option_or, IfSome}
-use Rattle.std.proofs.lemmas.Bool.{cond-true}
-use Rattle.std.proofs.lemmas.Bool.Decides.{nat_tests}
-use Rattle.block_store.specs.Block.{Block, size, is_relocatable}
-use Rattle.block_store.specs.Block.{count, tidy}
-use Rattle.block_store.specs.Run.{has_free, run_spot}
-use Rattle.block_store.specs.Room.{spot, least, may_be_purged, place}
-use Rattle.block_store.specs.Grow.{grow_mover}
-use Rattle.block_store.specs.Find.{FindsLowest}
-use Rattle.block_store.specs.Compact.{least_or_last}
-use Rattle.block_store.specs.Fewest.{serves, IsFewest}
-use Rattle.block_store.specs.Sparing.{spared, opened, purged, most_purges}
-use Rattle.block_store.specs.declared.sparing.Sparing.{Sparing}
-use Rattle.block_store.proofs.Plain.Trials.{fewest-last, least_or_last-at}
-use Rattle.block_store.proofs.Regroup.MostRoom.{placed-is}
+use Rattle.heap_calls.proofs.Cited.{◌≡◌, ℕ, ◌+◌, ◌<◌, inr, zero, suc, nat_lt, Bool, true, false, cond, Option, Some, None, is_some, List}
+use Rattle.heap_calls.proofs.Cited.{refl, sym, ◌∙◌, ap, arith, option_or, IfSome, cond-true, nat_tests, Block, size, is_relocatable, count}
+use Rattle.heap_calls.proofs.Cited.{tidy, has_free, run_spot, spot, least, may_be_purged, place, grow_mover, FindsLowest, least_or_last}
+use Rattle.heap_calls.proofs.Cited.{serves, IsFewest, spared, opened, purged, most_purges, Sparing, fewest-last, least_or_last-at}
+use Rattle.heap_calls.proofs.Cited.{placed-is, tries, FindsPlacement, placement, placement_searches, FindsGrowth, Stays, grown, growing}
+use Rattle.heap_calls.proofs.Cited.{growing_searches, Placement, Growth}
 use Rattle.block_store.proofs.Purged.Rising.{purged-all}
-use Rattle.heap_calls.specs.Inner.Search.{tries, FindsPlacement, placement, placement_searches}
-use Rattle.heap_calls.specs.Inner.Growing.{FindsGrowth, Stays, grown, growing, growing_searches}
-use Rattle.heap_calls.specs.declared.search.Placement.{Placement}
-use Rattle.heap_calls.specs.declared.growing.Growth.{Growth}
 use Rattle.heap_calls.proofs.Room.Searching.{count-tidy, count-none, count-some, placement-some}
 use Rattle.heap_calls.proofs.Sizes.Growth.{growth-some, opened-stays}
 

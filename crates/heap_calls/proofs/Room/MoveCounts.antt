@@ -1,36 +1,17 @@
-use Rattle.std.proofs.Common.{◌≡◌, ℕ, ◌+◌, ◌-◌, ◌≤◌, ◌<◌, Bool, true, false, ◌&&◌, List, refl, sym, ◌∙◌, ap, subst}
-use Rattle.std.proofs.Common.{cond, arith, Option, Some, None, Result, is_some}
-use Rattle.std.proofs.lemmas.Option.{none-some}
-use Rattle.std.proofs.lemmas.Bool.{cond-true, cond-false, le-leb, lt-leb}
-use Rattle.std.specs.Option.{option_map, option_or, IfSome}
-use Rattle.std.specs.Prelude.{option_and_then}
-use Rattle.mac_words.specs.Size.{phys, padded}
-use Rattle.mac_words.specs.declared.code.OsErr.{OsErr}
-use Rattle.block_store.specs.Block.{Block, size, is_mover, is_relocatable, is_room, count, tidy, resized}
-use Rattle.block_store.specs.Run.{RunSpot, run_spot, run_at, has, has_free, settle, with_run, high}
-use Rattle.block_store.specs.Room.{Spot, spot, place, purge, filled}
-use Rattle.block_store.specs.Grow.{growth, grow_up, grow_mover, move_away, grow_last, freed}
-use Rattle.block_store.specs.Sparing.{spared, opened, purged}
-use Rattle.block_store.specs.Rest.{Rest, IsRest, counted, with_moves, with_placed, lowered_in_run}
-use Rattle.block_store.specs.declared.sparing.Sparing.{Sparing}
+use Rattle.heap_calls.proofs.Cited.{◌≡◌, ℕ, ◌+◌, ◌-◌, ◌≤◌, ◌<◌, Bool, true, false, ◌&&◌, List, refl, sym, ◌∙◌, ap, subst, cond, arith}
+use Rattle.heap_calls.proofs.Cited.{Option, Some, None, Result, is_some, none-some, cond-true, cond-false, le-leb, lt-leb, option_map}
+use Rattle.heap_calls.proofs.Cited.{option_or, IfSome, option_and_then, phys, padded, OsErr, Block, size, is_mover, is_relocatable, is_room}
+use Rattle.heap_calls.proofs.Cited.{count, tidy, resized, RunSpot, run_spot, run_at, has, has_free, settle, with_run, high, Spot, spot}
+use Rattle.heap_calls.proofs.Cited.{place, purge, filled, growth, grow_up, grow_mover, move_away, grow_last, freed, spared, opened, purged}
+use Rattle.heap_calls.proofs.Cited.{Rest, IsRest, counted, with_moves, with_placed, lowered_in_run, Sparing, Log, Anchor, Placement, Memory}
+use Rattle.heap_calls.proofs.Cited.{moving, FindsGrowth, Stays, grown, growing_searches, run_moves, as_it_is, place_moves, mover_moves}
+use Rattle.heap_calls.proofs.Cited.{grow_moves, room_moves, growth_moves, size_moves, memory_of, Packs, placement_moves, content_moves}
+use Rattle.heap_calls.proofs.Cited.{FindsPlacement, placement_searches, room_searches, resized_at, counted-none}
 use Rattle.heap_calls.specs.declared.growing.Growth.TheVariants as grows
-use Rattle.heap_calls.specs.declared.log.Log.{Log}
-use Rattle.heap_calls.specs.declared.anchor.Anchor.{Anchor}
-use Rattle.heap_calls.specs.declared.search.Placement.{Placement}
 use Rattle.heap_calls.specs.declared.search.Placement.TheVariants as see
-use Rattle.heap_calls.specs.State.{Memory}
-use Rattle.heap_calls.specs.Answer.{moving}
-use Rattle.heap_calls.specs.Inner.Growing.{FindsGrowth, Stays, grown, growing_searches}
-use Rattle.heap_calls.specs.Moves.{run_moves, as_it_is, place_moves, mover_moves, grow_moves, room_moves, growth_moves}
-use Rattle.heap_calls.specs.Moves.{size_moves}
-use Rattle.heap_calls.specs.Inner.Numbered.{memory_of}
-use Rattle.heap_calls.specs.Inner.Packed.{Packs, placement_moves, content_moves}
-use Rattle.heap_calls.specs.Inner.Search.{FindsPlacement, placement_searches}
-use Rattle.heap_calls.specs.Searches.{room_searches, resized_at}
 use Rattle.heap_calls.proofs.Sizes.Carrying.{IsLast, high-at}
 use Rattle.heap_calls.proofs.Numbering.Changing.{unmoved}
 use Rattle.heap_calls.proofs.Sizes.Growth.{opened-stays}
-use Rattle.block_store.proofs.Plain.Counters.{counted-none}
 use Rattle.heap_calls.proofs.Room.Searching.{room-found, placement-some}
 
 -- How many blocks packing moves down.

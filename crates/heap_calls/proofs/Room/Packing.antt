@@ -1,22 +1,11 @@
-use Rattle.std.proofs.Common.{◌≡◌, ℕ, ◌+◌, ◌-◌, ◌<◌, zero, suc, Bool, true, false, not, ◌||◌, ◌==◌, List, [], ◌∷◌, ◌++◌}
-use Rattle.std.proofs.Common.{refl, sym, ◌∙◌, ap, subst, cond, arith, Option, Some, None, nat_le, append_assoc}
-use Rattle.std.proofs.lemmas.Option.{none-some, same_Some}
-use Rattle.std.proofs.lemmas.Bool.{le-leb, cond-true, cond-false}
-use Rattle.std.proofs.lemmas.Bool.Decides.{nat_tests}
-use Rattle.std.specs.Option.{option_map, IfSome, IsSomeAnd}
-use Rattle.std.specs.Bool.{IsTrue}
-use Rattle.block_store.specs.Find.{FindsLowestRun}
+use Rattle.heap_calls.proofs.Cited.{◌≡◌, ℕ, ◌+◌, ◌-◌, ◌<◌, zero, suc, Bool, true, false, not, ◌||◌, ◌==◌, List, [], ◌∷◌, ◌++◌, refl, sym}
+use Rattle.heap_calls.proofs.Cited.{◌∙◌, ap, subst, cond, arith, Option, Some, None, nat_le, append_assoc, none-some, same_Some, le-leb}
+use Rattle.heap_calls.proofs.Cited.{cond-true, cond-false, nat_tests, option_map, IfSome, IsSomeAnd, IsTrue, FindsLowestRun, Block, Free}
+use Rattle.heap_calls.proofs.Cited.{Nonrelocatable, Masters, Relocatable, size, sizes, free_sum, free_of, free, is_room, add, tidy, has}
+use Rattle.heap_calls.proofs.Cited.{has_free, in_run, movers, low, with_run, RunSpot, run_raised, lowest_run, run_spot, run_at, segments}
+use Rattle.heap_calls.proofs.Cited.{joined, Stretch, raised, spot_at, total-tidy, has-tidy, tidy-tidy, barrier-alone, run_spot-passes}
+use Rattle.heap_calls.proofs.Cited.{AreParts, in-parts, IsBase, IsBaseAt}
 use Rattle.heap_calls.proofs.Room.Searching.{at_run}
-use Rattle.block_store.specs.Block.{Block, Free, Nonrelocatable, Masters, Relocatable, size, sizes, free_sum, free_of, free}
-use Rattle.block_store.specs.Block.{is_room, add, tidy}
-use Rattle.block_store.specs.Run.{has, has_free, in_run, movers, low, with_run, RunSpot, run_raised, lowest_run}
-use Rattle.block_store.specs.Run.{run_spot, run_at, segments, joined, Stretch}
-use Rattle.block_store.specs.Room.{raised, spot_at}
-use Rattle.block_store.proofs.Zone.Tidy.{total-tidy, has-tidy}
-use Rattle.block_store.proofs.Zone.Apart.{tidy-tidy, barrier-alone}
-use Rattle.block_store.proofs.Regroup.RunSpots.{run_spot-passes}
-use Rattle.block_store.proofs.Regroup.Parts.{AreParts, in-parts}
-use Rattle.heap_calls.specs.Inner.Base.{IsBase, IsBaseAt}
 
 -- two Free blocks below others
 both : (n m k : ℕ) → k ≡ suc n + suc m → (bs : List Block) → add (Free (suc n)) (add (Free (suc m)) bs)

@@ -1,22 +1,8 @@
-use Rattle.std.proofs.Common.{◌≡◌, ℕ, ◌+◌, Bool, true, false, ◌==◌, List, refl, sym, ◌∙◌, ap, subst, cond, Option, Some}
-use Rattle.std.proofs.Common.{None}
-use Rattle.std.specs.Option.{option_map, IfSome, IsSomeAnd, MatchOption}
-use Rattle.std.specs.Bool.{IsTrue}
-use Rattle.std.proofs.lemmas.List.{length-replicate}
-use Rattle.std.proofs.lemmas.Option.{none-some}
-use Rattle.std.proofs.lemmas.Bool.{cond-true, cond-false}
-use Rattle.std.proofs.lemmas.Bool.Decides.{Decides-eqb}
-use Rattle.mac_words.specs.Size.{padded}
-use Rattle.block_store.specs.Block.{Block, size, is_room}
-use Rattle.block_store.specs.Room.{Spot, spot_at, filled, room, put_in_place, place}
-use Rattle.block_store.specs.Slot.{Unused, Used}
-use Rattle.block_store.specs.Rest.{Rest, IsRest, KeepsSlots, with_slot}
-use Rattle.block_store.specs.Sparing.{spared, opened, purged, most_purges}
-use Rattle.block_store.specs.declared.sparing.Sparing.{Sparing}
-use Rattle.block_store.proofs.Regroup.HavingRoom.{place-room}
-use Rattle.block_store.proofs.Plain.Trials.{least-map, least-some}
-use Rattle.heap_calls.specs.Inner.Search.{placement, IsAt}
-use Rattle.heap_calls.specs.Inner.NewBlock.{fresh_block, zone_with_block, given_back}
+use Rattle.heap_calls.proofs.Cited.{◌≡◌, ℕ, ◌+◌, Bool, true, false, ◌==◌, List, refl, sym, ◌∙◌, ap, subst, cond, Option, Some, None}
+use Rattle.heap_calls.proofs.Cited.{option_map, IfSome, IsSomeAnd, MatchOption, IsTrue, length-replicate, none-some, cond-true, cond-false}
+use Rattle.heap_calls.proofs.Cited.{Decides-eqb, padded, Block, size, is_room, Spot, spot_at, filled, room, put_in_place, place, Unused}
+use Rattle.heap_calls.proofs.Cited.{Used, Rest, IsRest, KeepsSlots, with_slot, spared, opened, purged, most_purges, Sparing, place-room}
+use Rattle.heap_calls.proofs.Cited.{least-map, least-some, placement, IsAt, fresh_block, zone_with_block, given_back}
 
 -- What a placement tells of room for a new block.
 

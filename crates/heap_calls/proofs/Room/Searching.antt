@@ -1,23 +1,10 @@
-use Rattle.std.proofs.Common.{◌≡◌, ℕ, ◌+◌, ◌≤◌, ◌<◌, Bool, true, false, ◌||◌, List, [], ◌∷◌, length}
-use Rattle.std.proofs.Common.{refl, sym, ◌∙◌, ap, subst, cond, arith, Option, Some, None, is_some}
-use Rattle.std.proofs.lemmas.Option.{none-some}
-use Rattle.std.specs.Option.{option_map, IfSome}
-use Rattle.mac_words.specs.Size.{padded}
-use Rattle.block_store.specs.Block.{Block, Free, Nonrelocatable, Masters, Relocatable, size, sizes, count, is_room, tidy}
-use Rattle.block_store.specs.Block.{is_relocatable}
-use Rattle.block_store.specs.Run.{has, has_free, settle, with_run, RunSpot, run_spot, run_at}
-use Rattle.block_store.specs.Room.{Spot, raised, spot, place, may_be_purged, count_of}
-use Rattle.block_store.specs.Grow.{freed}
-use Rattle.block_store.proofs.Zone.Tidy.{total-tidy}
-use Rattle.block_store.proofs.Zone.Totals.{total-le}
-use Rattle.block_store.proofs.Zone.Listing.{size-freed}
-use Rattle.block_store.proofs.Regroup.RunSpots.{run_spot-passes}
-use Rattle.block_store.proofs.Regroup.HavingRoom.{room-settled}
-use Rattle.block_store.specs.Sparing.{spared, most_purges}
-use Rattle.heap_calls.specs.Inner.Search.{FindsPlacement}
-use Rattle.heap_calls.specs.declared.search.Placement.{Placement}
+use Rattle.heap_calls.proofs.Cited.{◌≡◌, ℕ, ◌+◌, ◌≤◌, ◌<◌, Bool, true, false, ◌||◌, List, [], ◌∷◌, length, refl, sym, ◌∙◌, ap, subst, cond}
+use Rattle.heap_calls.proofs.Cited.{arith, Option, Some, None, is_some, none-some, option_map, IfSome, padded, Block, Free, Nonrelocatable}
+use Rattle.heap_calls.proofs.Cited.{Masters, Relocatable, size, sizes, count, is_room, tidy, is_relocatable, has, has_free, settle}
+use Rattle.heap_calls.proofs.Cited.{with_run, RunSpot, run_spot, run_at, Spot, raised, spot, place, may_be_purged, count_of, freed}
+use Rattle.heap_calls.proofs.Cited.{total-tidy, total-le, size-freed, run_spot-passes, room-settled, spared, most_purges, FindsPlacement}
+use Rattle.heap_calls.proofs.Cited.{Placement, Sparing}
 use Rattle.heap_calls.specs.declared.search.Placement.TheVariants as see
-use Rattle.block_store.specs.declared.sparing.Sparing.{Sparing}
 use Rattle.block_store.specs.declared.sparing.Sparing.TheVariants as sparing
 
 -- joining free neighbours leaves how many may go

@@ -1,25 +1,11 @@
-use Rattle.std.proofs.Common.{◌≡◌, ℕ, ◌+◌, ◌≤◌, ◌<◌, ◌⊎◌, inl, inr, Bool, true, false, List, length, Option, Some, None}
-use Rattle.std.proofs.Common.{refl, sym, ◌∙◌, ap, cond, subst, arith, ◌==◌}
-use Rattle.std.proofs.lemmas.Option.{none-some, same_Some}
-use Rattle.std.proofs.lemmas.Bool.Decides.{nat_tests}
+use Rattle.heap_calls.proofs.Cited.{◌≡◌, ℕ, ◌+◌, ◌≤◌, ◌<◌, ◌⊎◌, inl, inr, Bool, true, false, List, length, Option, Some, None, refl, sym}
+use Rattle.heap_calls.proofs.Cited.{◌∙◌, ap, cond, subst, arith, ◌==◌, none-some, same_Some, nat_tests, option_map, IfSome, Block, sizes}
+use Rattle.heap_calls.proofs.Cited.{tidy, compacted, lowered_in_runs, has_room, next_run, packed_stretches, runs_settled, settled, FindsRun}
+use Rattle.heap_calls.proofs.Cited.{Rest, IsRest, KeepsSlots, counted, lowered_in_run, with_moves, Spot, spot_at, RunSpot, run_at, runs}
+use Rattle.heap_calls.proofs.Cited.{settle, with_run, seen, Seen, first-run, next-higher, next-settled, sizes-settled, keeps-next}
+use Rattle.heap_calls.proofs.Cited.{moves-end, moves-next, next-past, next-within, none-next, runs-few, settled-enough, settled-next}
+use Rattle.heap_calls.proofs.Cited.{zone-end, still-settled, joined-segments, seen_in_run, stretches}
 use mir.Val.{bool_byte}
-use Rattle.std.specs.Option.{option_map, IfSome}
-use Rattle.block_store.specs.Block.{Block, sizes, tidy}
-use Rattle.block_store.specs.Compact.{compacted, lowered_in_runs, has_room, next_run, packed_stretches, runs_settled}
-use Rattle.block_store.specs.Compact.{settled}
-use Rattle.block_store.specs.Inner.NthRun.{FindsRun}
-use Rattle.block_store.specs.Rest.{Rest, IsRest, KeepsSlots, counted, lowered_in_run, with_moves}
-use Rattle.block_store.specs.Room.{Spot, spot_at}
-use Rattle.block_store.specs.Run.{RunSpot, run_at, runs, settle, with_run}
-use Rattle.block_store.specs.Seen.{seen}
-use Rattle.block_store.specs.declared.sparing.Seen.{Seen}
-use Rattle.block_store.proofs.Regroup.NextRuns.{first-run, next-higher, next-settled, sizes-settled}
-use Rattle.block_store.proofs.Regroup.Settling.{keeps-next, moves-end, moves-next, next-past, next-within, none-next}
-use Rattle.block_store.proofs.Regroup.Settling.{runs-few, settled-enough, settled-next, zone-end}
-use Rattle.block_store.proofs.Regroup.Still.{still-settled}
-use Rattle.block_store.proofs.Zone.Zones.{joined-segments}
-use Rattle.heap_calls.specs.Inner.Given.{seen_in_run}
-use Rattle.block_store.specs.Compact.{stretches}
 use Rattle.heap_calls.proofs.Numbering.Hoisting.{rest-same}
 use Rattle.heap_calls.proofs.Room.Stretches.{stretches-end, stretches-le, stretches-next}
 

@@ -1,34 +1,16 @@
-use Rattle.std.proofs.Common.{◌≡◌, ℕ, ◌-◌, zero, suc, Bool, true, false, ◌&&◌, ◌||◌, List, [], ◌∷◌, ◌++◌, filter, refl}
-use Rattle.std.proofs.Common.{sym, ◌∙◌, ap, cond, Option, Some, None, Result, Ok, Err}
-use Rattle.std.specs.Option.{option_map, option_or, IfSome, IsSomeAnd}
-use Rattle.std.specs.Prelude.{option_and_then}
-use Rattle.std.specs.Bool.{IsTrue}
-use Rattle.std.specs.Result.{OnOk, OnErr}
-use Rattle.std.proofs.lemmas.Option.{none-some, same_Some}
-use Rattle.std.proofs.lemmas.List.Folds.{list_any-append}
-use Rattle.block_store.specs.Block.{Block, Free, Nonrelocatable, Masters, Relocatable, size, free, free_sum, resized, is_nonrelocatable}
-use Rattle.block_store.specs.Block.{is_mover, is_room, is_relocatable, with_content, tidy}
-use Rattle.block_store.specs.declared.flags.Flags.{Flags}
-use Rattle.block_store.specs.Run.{RunSpot, change_run, run_spot, run_at, with_run, has, has_free, movers, others}
-use Rattle.block_store.specs.Run.{settle, low, high, Stretch, segments, joined}
-use Rattle.block_store.specs.Room.{Spot, spot, filled, place, lowest_purged, purge, room, count_of}
-use Rattle.block_store.specs.Grow.{freed, growth, grow_up, taken_low, grow_nonrelocatable, move_away, grow_last}
-use Rattle.block_store.specs.Grow.{grow_mover}
-use Rattle.block_store.specs.Sparing.{spared, opened, purged}
-use Rattle.block_store.specs.Seen.{with_flags, moved_away}
-use Rattle.block_store.specs.Compact.{settled_runs, settled}
-use Rattle.block_store.specs.declared.sparing.Sparing.{Sparing}
-use Rattle.block_store.proofs.Zone.Tidy.{has-tidy, spot-is, spot-passes}
-use Rattle.block_store.proofs.Zone.Zones.{joined-segments}
-use Rattle.block_store.proofs.Zone.Passing.{none-append}
-use Rattle.block_store.proofs.Regroup.RunLists.{run_spot-parts, run_at-parts, AreLoose, segments-loose}
-use Rattle.block_store.proofs.Plain.Trials.{least-some}
-use Rattle.block_store.proofs.Nonrelocatable.Counts.{not_nonrelocatable-relocatable, not_nonrelocatable-room, has-counts}
-use Rattle.block_store.proofs.Nonrelocatable.Counts.{is_nonrelocatable-content, is_nonrelocatable-flags, is_nonrelocatable-resized}
+use Rattle.heap_calls.proofs.Cited.{◌≡◌, ℕ, ◌-◌, zero, suc, Bool, true, false, ◌&&◌, ◌||◌, List, [], ◌∷◌, ◌++◌, filter, refl, sym, ◌∙◌, ap}
+use Rattle.heap_calls.proofs.Cited.{cond, Option, Some, None, Result, Ok, Err, option_map, option_or, IfSome, IsSomeAnd, option_and_then}
+use Rattle.heap_calls.proofs.Cited.{IsTrue, OnErr, none-some, same_Some, list_any-append, Block, Free, Nonrelocatable, Masters, Relocatable}
+use Rattle.heap_calls.proofs.Cited.{size, free, free_sum, resized, is_nonrelocatable, is_mover, is_room, is_relocatable, with_content, tidy}
+use Rattle.heap_calls.proofs.Cited.{Flags, RunSpot, change_run, run_spot, run_at, with_run, has, has_free, movers, others, settle, low}
+use Rattle.heap_calls.proofs.Cited.{high, Stretch, segments, joined, Spot, spot, filled, place, lowest_purged, purge, room, count_of, freed}
+use Rattle.heap_calls.proofs.Cited.{growth, grow_up, taken_low, grow_nonrelocatable, move_away, grow_last, grow_mover, spared, opened}
+use Rattle.heap_calls.proofs.Cited.{purged, with_flags, moved_away, settled_runs, settled, Sparing, has-tidy, spot-is, spot-passes}
+use Rattle.heap_calls.proofs.Cited.{joined-segments, none-append, run_spot-parts, run_at-parts, AreLoose, segments-loose, least-some}
+use Rattle.heap_calls.proofs.Cited.{not_nonrelocatable-relocatable, not_nonrelocatable-room, has-counts, is_nonrelocatable-content}
+use Rattle.heap_calls.proofs.Cited.{is_nonrelocatable-flags, is_nonrelocatable-resized, Loose, KeepsNonrelocatable, none-filter, none-free}
+use Rattle.std.specs.Result.{OnOk}
 use Rattle.block_store.proofs.Nonrelocatable.Counts as counts
-use Rattle.block_store.specs.Inner.Packing.{Loose}
-use Rattle.heap_calls.specs.Inner.Numbered.{KeepsNonrelocatable}
-use Rattle.block_store.proofs.Zone.Absence.{none-filter, none-free}
 
 -- A nonrelocatable block stays whatever is done to the others.
 

@@ -1,24 +1,13 @@
-use Rattle.std.proofs.Common.{◌≡◌, ℕ, ◌+◌, ◌-◌, ◌≤◌, zero, suc, Bool, true, false, ◌==◌, List, [], ◌∷◌, ◌++◌, refl, sym}
-use Rattle.std.proofs.Common.{◌∙◌, ap, cond, map, arith, Option, Some, None, subst, nat_le, append_assoc}
+use Rattle.heap_calls.proofs.Cited.{◌≡◌, ℕ, ◌+◌, ◌-◌, ◌≤◌, zero, suc, Bool, true, false, ◌==◌, List, [], ◌∷◌, ◌++◌, refl, sym, ◌∙◌, ap}
+use Rattle.heap_calls.proofs.Cited.{cond, map, arith, Option, Some, None, subst, nat_le, append_assoc, none-some, same_Some, le-leb}
+use Rattle.heap_calls.proofs.Cited.{cond-true, cond-false, nat_tests, option_map, Block, Free, Nonrelocatable, Masters, Relocatable, size}
+use Rattle.heap_calls.proofs.Cited.{sizes, tidy, rename, in_run, Stretch, RunSpot, run_raised, runs, segments, settle, Spot, raised}
+use Rattle.heap_calls.proofs.Cited.{spot_at, seen, Seen, beyond, settled_runs, settled, nth_run, FindsRun, Loose, AreParts, in-parts}
+use Rattle.heap_calls.proofs.Cited.{seen_in_run, stretches, settled_spot, nth-settled}
 use mir.Val.{bool_byte}
 use Rattle.std.proofs.lemmas.List.{append-nil}
-use Rattle.std.proofs.lemmas.Option.{none-some, same_Some}
-use Rattle.std.proofs.lemmas.Bool.{le-leb, cond-true, cond-false}
-use Rattle.std.proofs.lemmas.Bool.Decides.{nat_tests}
-use Rattle.std.specs.Option.{option_map}
-use Rattle.block_store.specs.Block.{Block, Free, Nonrelocatable, Masters, Relocatable, size, sizes, tidy, rename}
-use Rattle.block_store.specs.Run.{in_run, Stretch, RunSpot, run_raised, runs, segments, settle}
-use Rattle.block_store.specs.Room.{Spot, raised, spot_at}
-use Rattle.block_store.specs.Seen.{seen}
-use Rattle.block_store.specs.declared.sparing.Seen.{Seen}
-use Rattle.block_store.specs.Compact.{beyond, settled_runs, settled}
-use Rattle.block_store.specs.Inner.NthRun.{nth_run, FindsRun}
-use Rattle.block_store.specs.Inner.Packing.{Loose}
-use Rattle.block_store.proofs.Regroup.Parts.{AreParts, in-parts}
-use Rattle.heap_calls.specs.Inner.Given.{seen_in_run}
-use Rattle.block_store.specs.Compact.{has_block, stretches}
+use Rattle.block_store.specs.Compact.{has_block}
 use Rattle.heap_calls.proofs.Room.Packing.{Solid, solid-tidy}
-use Rattle.block_store.proofs.Regroup.Settling.{settled_spot, nth-settled}
 
 -- How many of the runs have a block.
 

@@ -1,36 +1,18 @@
-use Rattle.std.proofs.Common.{arith, ◌≡◌, ℕ, ◌+◌, ◌<◌, ◌≤◌, Bool, true, false, ◌||◌, List, ◌∷◌, [], length, replicate, Option, Some}
-use Rattle.std.proofs.Common.{None}
-use Rattle.std.proofs.Common.{Result, Ok, Err, refl, sym, ◌∙◌, ap, subst, is_some, if◌then◌else◌}
-use Rattle.std.proofs.Common.{ℤ, nat_le, ◌-◌, ◌++◌}
-use Rattle.mac_words.specs.Size.{phys}
-use Rattle.mac_words.specs.declared.code.OsErr.{OsErr}
-use Rattle.mac_words.specs.declared.code.TheConstants.OsErr.{PURGED}
-use Rattle.mac_words.specs.declared.code.TheConstants.OsErr.{PROFILE}
-use Rattle.block_store.specs.Block.{Block, Free, Nonrelocatable, Masters, Relocatable, is_purgeable, is_relocatable}
-use Rattle.block_store.specs.Block.{is_nonrelocatable, content_of, no_flags}
-use Rattle.block_store.specs.Room.{spot, may_be_purged}
-use Rattle.block_store.specs.Grow.{freed}
-use Rattle.moves.specs.Moves.{Move, Search, Purge, Put, Base, Drop, Write, did}
-use Rattle.moves.specs.Seeking.{Sought, seek, if_fits, seek_slot, seek_size, around}
-use Rattle.moves.proofs.Paths.{Along, along-if, along-then, along-later, along-seek, along-slot}
-use Rattle.moves.proofs.Rows.{again-along}
-use Rattle.heap_calls.specs.State.{State}
-use Rattle.heap_calls.specs.Answer.{Held, look_up, handle_at, nothing}
-use Rattle.heap_calls.specs.Pointers.{pointed_at}
-use Rattle.heap_calls.specs.Purging.{is_loose}
-use Rattle.heap_calls.specs.Asked.{Asked}
+use Rattle.heap_calls.proofs.Cited.{arith, ◌≡◌, ℕ, ◌+◌, ◌<◌, ◌≤◌, Bool, true, false, ◌||◌, List, ◌∷◌, [], length, replicate, Option, Some}
+use Rattle.heap_calls.proofs.Cited.{None, Result, Ok, Err, refl, sym, ◌∙◌, ap, subst, is_some, ℤ, nat_le, ◌-◌, ◌++◌, phys, OsErr, PURGED}
+use Rattle.heap_calls.proofs.Cited.{PROFILE, Block, Free, Nonrelocatable, Masters, Relocatable, is_purgeable, is_relocatable}
+use Rattle.heap_calls.proofs.Cited.{is_nonrelocatable, content_of, no_flags, spot, may_be_purged, freed, Move, Search, Purge, Put, Base}
+use Rattle.heap_calls.proofs.Cited.{Drop, Write, did, Sought, seek, if_fits, seek_slot, seek_size, around, Along, along-if, along-then}
+use Rattle.heap_calls.proofs.Cited.{along-later, along-seek, along-slot, again-along, State, Held, look_up, handle_at, nothing, pointed_at}
+use Rattle.heap_calls.proofs.Cited.{is_loose, Asked, is_unused, next_block, Row, row, found_in, behind, Occurrence, leb-true}
+use Rattle.std.proofs.Common.{if◌then◌else◌}
 use Rattle.heap_calls.specs.Asked as asked
 use Rattle.heap_calls.specs.Rows as rows
-use Rattle.heap_calls.specs.Rows.{is_unused, next_block}
-use Rattle.heap_calls.specs.Table.{Row, row}
 use Rattle.heap_calls.specs.Table as table
 use Rattle.heap_calls.proofs.Same.Resizing.{pointer-spot}
 use Rattle.heap_calls.proofs.Rows.Found.{look_up-within, spared-stays, or-false}
 use Rattle.heap_calls.proofs.Promises.Knowing.{handle_at-name}
-use Rattle.heap_calls.specs.Munging.{found_in, behind}
-use Rattle.heap_calls.specs.declared.munging.Occurrence.{Occurrence}
 use Rattle.heap_calls.proofs.Finding.{found-within, behind-fits}
-use Rattle.std.proofs.lemmas.Bool.{leb-true}
 
 -- What a law of moves must allow, for the path of each row to keep to it.
 

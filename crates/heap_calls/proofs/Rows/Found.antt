@@ -1,15 +1,8 @@
-use Rattle.std.proofs.Common.{◌≡◌, ℕ, ◌<◌, Bool, true, false, not, ◌&&◌, ◌||◌, List, length, Option, Some, None, Ok}
-use Rattle.std.proofs.Common.{refl, sym, subst, slice_get}
-use Rattle.std.proofs.lemmas.Bool.{and_parts}
-use Rattle.std.proofs.lemmas.Option.{slice_get_within}
-use Rattle.block_store.specs.Block.{Block, Free, Nonrelocatable, Masters, Relocatable, is_mover, is_relocatable}
-use Rattle.block_store.specs.Block.{is_nonrelocatable}
-use Rattle.block_store.specs.Room.{spot}
-use Rattle.moves.specs.Moves.{Base}
-use Rattle.moves.proofs.Refused.{Refuses, seek-refused}
+use Rattle.heap_calls.proofs.Cited.{◌≡◌, ℕ, ◌<◌, Bool, true, false, not, ◌&&◌, ◌||◌, List, length, Option, Some, None, Ok, refl, sym, subst}
+use Rattle.heap_calls.proofs.Cited.{slice_get, and_parts, slice_get_within, Block, Free, Nonrelocatable, Masters, Relocatable, is_mover}
+use Rattle.heap_calls.proofs.Cited.{is_relocatable, is_nonrelocatable, spot, Base, Refuses, seek-refused, State, Meaning, Handle, Pointer}
+use Rattle.heap_calls.proofs.Cited.{Disposed, Held, look_up, held_at, known_as, nothing}
 use Rattle.heap_calls.specs.Rows as rows
-use Rattle.heap_calls.specs.State.{State, Meaning, Handle, Pointer, Disposed}
-use Rattle.heap_calls.specs.Answer.{Held, look_up, held_at, known_as, nothing}
 use Rattle.heap_calls.proofs.Promises.Knowing.{look_up-spot}
 
 -- The block that a call names, where it stands.

@@ -1,13 +1,7 @@
-use Rattle.std.proofs.Common.{◌≡◌, ℕ, Bool, true, false, List, [], Option, Some, None, refl, sym}
-use Rattle.mac_words.specs.Told.{Told}
-use Rattle.mac_words.specs.declared.code.OsErr.{OsErr}
-use Rattle.block_store.specs.Block.{Block}
-use Rattle.heap_calls.specs.State.{State, Memory}
-use Rattle.heap_calls.specs.Gone.{gone_unless}
-use Rattle.heap_calls.specs.Asked.{Asked}
+use Rattle.heap_calls.proofs.Cited.{◌≡◌, ℕ, Bool, true, false, List, [], Option, Some, None, refl, sym, Told, OsErr, Block, State, Memory}
+use Rattle.heap_calls.proofs.Cited.{gone_unless, Asked, Done, Bar, Row, row, may_purge, bar_of, barred_by, gone_of_row}
 use Rattle.heap_calls.specs.Asked as asked
-use Rattle.heap_calls.specs.Rows.{Done}
-use Rattle.heap_calls.specs.Table.{Bar, Row, row, may_purge, bar_of, barred_by, purged_by, gone_of_row}
+use Rattle.heap_calls.specs.Table.{purged_by}
 use Rattle.heap_calls.specs.Table as table
 
 -- The rows that are paths, and the others.

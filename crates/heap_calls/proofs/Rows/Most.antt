@@ -1,35 +1,13 @@
-use Rattle.std.proofs.Common.{◌≡◌, ℕ, ◌+◌, ◌≤◌, Bool, true, false, ◌||◌, List, [], ◌∷◌, ◌++◌, length, replicate, refl}
-use Rattle.std.proofs.Common.{ap, cond}
-use Rattle.std.proofs.Common.{arith, is_some, Option, Some, None, Result, Ok, Err}
-use Rattle.std.proofs.Common.{ℤ, nat_le, ◌-◌}
-use Rattle.mac_words.specs.Size.{phys}
-use Rattle.mac_words.specs.declared.code.OsErr.{OsErr}
-use Rattle.mac_words.specs.declared.code.TheConstants.OsErr.{PURGED}
-use Rattle.mac_words.specs.declared.code.TheConstants.OsErr.{PROFILE}
-use Rattle.block_store.specs.Block.{Block, Free, Nonrelocatable, Masters, Relocatable, total, is_relocatable}
-use Rattle.block_store.specs.Block.{content_of, no_flags}
-use Rattle.block_store.specs.Room.{spot}
-use Rattle.block_store.specs.Grow.{freed}
-use Rattle.block_store.proofs.Zone.Keeping.{unless-le, freed-is}
-use Rattle.block_store.proofs.Zone.Totals.{total-append}
-use Rattle.moves.specs.Moves.{Move, Put, Base, Drop, Write, Did, did}
-use Rattle.moves.specs.Seeking.{Sought, seek, if_fits, seek_slot, seek_size, around}
-use Rattle.moves.proofs.Paths.{did-append, along-slot}
-use Rattle.moves.proofs.Conserved.{Weighs, PutsNone, puts-none, conserved}
-use Rattle.moves.proofs.Rows.{seek-most, if-most, size-most, again-most}
-use Rattle.heap_calls.specs.State.{State}
-use Rattle.heap_calls.specs.Answer.{Held, look_up, handle_at, nothing}
-use Rattle.heap_calls.specs.Pointers.{pointed_at}
-use Rattle.heap_calls.specs.Purging.{is_loose}
-use Rattle.heap_calls.specs.Asked.{Asked}
+use Rattle.heap_calls.proofs.Cited.{◌≡◌, ℕ, ◌+◌, ◌≤◌, Bool, true, false, ◌||◌, List, [], ◌∷◌, ◌++◌, length, replicate, refl, ap, cond}
+use Rattle.heap_calls.proofs.Cited.{arith, is_some, Option, Some, None, Result, Ok, Err, ℤ, nat_le, ◌-◌, phys, OsErr, PURGED, PROFILE}
+use Rattle.heap_calls.proofs.Cited.{Block, Free, Nonrelocatable, Masters, Relocatable, total, is_relocatable, content_of, no_flags, spot}
+use Rattle.heap_calls.proofs.Cited.{freed, unless-le, freed-is, total-append, Move, Put, Base, Drop, Write, Did, did, Sought, seek, if_fits}
+use Rattle.heap_calls.proofs.Cited.{seek_slot, seek_size, around, did-append, along-slot, Weighs, PutsNone, puts-none, conserved, seek-most}
+use Rattle.heap_calls.proofs.Cited.{if-most, size-most, again-most, State, Held, look_up, handle_at, nothing, pointed_at, is_loose, Asked}
+use Rattle.heap_calls.proofs.Cited.{work, is_unused, next_block, Row, row, if◌then◌else◌, found_in, behind, Occurrence}
 use Rattle.heap_calls.specs.Asked as asked
 use Rattle.heap_calls.specs.Rows as rows
-use Rattle.heap_calls.specs.Rows.{work, is_unused, next_block}
-use Rattle.heap_calls.specs.Table.{Row, row}
 use Rattle.heap_calls.specs.Table as table
-use Rattle.std.specs.Prelude.{if◌then◌else◌}
-use Rattle.heap_calls.specs.Munging.{found_in, behind}
-use Rattle.heap_calls.specs.declared.munging.Occurrence.{Occurrence}
 
 -- What the path of a row purges comes to no more than there was, by any measure.
 

@@ -1,13 +1,7 @@
-use Rattle.std.proofs.Common.{◌≡◌, ◌+◌, Bool, true, false, ◌||◌, length, Result, Ok, Err, refl, cond}
-use Rattle.mac_words.specs.declared.code.OsErr.{OsErr}
-use Rattle.block_store.specs.Block.{sizes, content_of}
-use Rattle.heap_calls.specs.State.{State, Memory}
-use Rattle.heap_calls.specs.Answer.{Answer, look_up, handle_at, for_found, on_block, place_in}
-use Rattle.heap_calls.specs.Pointers.{pointed_at, block_named}
-use Rattle.heap_calls.specs.Purging.{is_resource, block_bits}
-use Rattle.heap_calls.specs.Asked.{Asked}
+use Rattle.heap_calls.proofs.Cited.{◌≡◌, ◌+◌, Bool, true, false, ◌||◌, length, Result, Ok, Err, refl, cond, OsErr, sizes, content_of, State}
+use Rattle.heap_calls.proofs.Cited.{Memory, Answer, look_up, handle_at, for_found, on_block, place_in, pointed_at, block_named, is_resource}
+use Rattle.heap_calls.proofs.Cited.{block_bits, Asked, answered, row, may_purge}
 use Rattle.heap_calls.specs.Asked as asked
-use Rattle.heap_calls.specs.Table.{answered, row, may_purge}
 
 -- The calls that only look at the heap.
 

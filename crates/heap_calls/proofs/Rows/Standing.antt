@@ -1,32 +1,11 @@
-use Rattle.std.proofs.Common.{◌≡◌, ℕ, ◌+◌, ◌≤◌, Bool, true, false, not, ◌&&◌, ◌==◌, List, [], ◌∷◌, ◌++◌, length}
-use Rattle.std.proofs.Common.{replicate, Some}
-use Rattle.std.proofs.Common.{refl, sym, ◌∙◌, ap, cond, arith, is_some}
-use Rattle.std.proofs.lemmas.Bool.{cond-false}
-use Rattle.std.proofs.lemmas.Bool.Decides.{Decides-eqb}
-use Rattle.mac_words.specs.Size.{phys, padded}
-use Rattle.memory_windows.specs.Writes.{written}
-use Rattle.block_store.specs.Block.{Block, Free, Nonrelocatable, Masters, Relocatable, size, total, is_mover}
-use Rattle.block_store.specs.Block.{is_relocatable, content_of, with_content, no_flags, resized, resized_content}
-use Rattle.block_store.specs.Run.{in_run}
-use Rattle.block_store.specs.Room.{Spot, spot}
-use Rattle.block_store.proofs.Content.Resizing.{length-resized}
-use Rattle.block_store.proofs.Zone.Alike.{Alike}
-use Rattle.block_store.proofs.Zone.Keeping.{SeesNoFree, unless}
-use Rattle.block_store.proofs.Zone.Spots.{length-written}
-use Rattle.block_store.proofs.Zone.Tidy.{spot-is, spot-passes}
-use Rattle.block_store.proofs.Zone.Totals.{total-append, total-le}
-use Rattle.moves.specs.Moves.{is_same, did}
-use Rattle.moves.specs.Seeking.{seek_size, seek_resized}
-use Rattle.moves.proofs.Paths.{along-if}
-use Rattle.moves.proofs.Resized.{resized-stays}
-use Rattle.moves.proofs.Rows.{size-new}
-use Rattle.moves.proofs.Steady.{Stays, steady}
-use Rattle.heap_calls.specs.State.{State, Memory}
-use Rattle.heap_calls.specs.Answer.{Held, nothing}
-use Rattle.heap_calls.specs.Purging.{is_loose}
-use Rattle.heap_calls.specs.Asked.{Asked}
-use Rattle.heap_calls.specs.Table.{Row, answer_of}
-use Rattle.heap_calls.specs.Locked.{OneBlockEach}
+use Rattle.heap_calls.proofs.Cited.{◌≡◌, ℕ, ◌+◌, ◌≤◌, Bool, true, false, not, ◌&&◌, ◌==◌, List, [], ◌∷◌, ◌++◌, length, replicate, Some}
+use Rattle.heap_calls.proofs.Cited.{refl, sym, ◌∙◌, ap, cond, arith, is_some, cond-false, Decides-eqb, phys, padded, written, Block, Free}
+use Rattle.heap_calls.proofs.Cited.{Nonrelocatable, Masters, Relocatable, size, total, is_mover, is_relocatable, content_of, with_content}
+use Rattle.heap_calls.proofs.Cited.{no_flags, resized, resized_content, in_run, Spot, spot, length-resized, Alike, SeesNoFree, unless}
+use Rattle.heap_calls.proofs.Cited.{length-written, spot-is, spot-passes, total-append, total-le, is_same, did, seek_size, seek_resized}
+use Rattle.heap_calls.proofs.Cited.{along-if, resized-stays, size-new, steady, State, Memory, Held, nothing, is_loose, Asked, Row}
+use Rattle.heap_calls.proofs.Cited.{answer_of, OneBlockEach}
+use Rattle.moves.proofs.Steady.{Stays}
 use Rattle.heap_calls.proofs.Same.Growing.{same-handle}
 use Rattle.heap_calls.proofs.Rows.Kinds.{has_path, of-path}
 use Rattle.heap_calls.proofs.Rows.Along.{Keeps, Allows, IsNext, Spared}

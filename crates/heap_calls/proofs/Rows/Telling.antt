@@ -1,19 +1,9 @@
-use Rattle.std.proofs.Common.{◌≡◌, ℕ, ◌+◌, zero, suc, Bool, true, false, not, List, [], ◌∷◌, ◌++◌, length, ap, cond}
-use Rattle.std.proofs.Common.{arith}
-use Rattle.std.proofs.Common.{Option, Some, None, refl}
-use Rattle.std.proofs.lemmas.Bool.{and_parts}
-use Rattle.block_store.specs.Block.{Block, Free, total, is_purgeable}
-use Rattle.block_store.specs.Room.{Spot, spot, may_be_purged}
-use Rattle.block_store.specs.Run.{segments}
-use Rattle.block_store.proofs.Zone.Totals.{total-append}
-use Rattle.moves.specs.Moves.{Move, Search, Purge, Put, Base, Grow, Extend, Push, Cut, Drop, Write, is_same, did, one}
-use Rattle.moves.specs.Moves.{lowest_gone}
-use Rattle.moves.specs.Moves.{gone_above}
-use Rattle.moves.proofs.Conserved.{PathWeighs, Weighs, PutsNone, put_on, puts-none, conserved}
-use Rattle.heap_calls.specs.State.{Memory}
-use Rattle.heap_calls.specs.Gone.{Gone, gone_of}
-use Rattle.heap_calls.specs.Rows.{told_blocks}
-use Rattle.heap_calls.specs.Table.{Row, answer_of, purged_by}
+use Rattle.heap_calls.proofs.Cited.{◌≡◌, ℕ, ◌+◌, zero, suc, Bool, true, false, not, List, [], ◌∷◌, ◌++◌, length, ap, cond, arith, Option}
+use Rattle.heap_calls.proofs.Cited.{Some, None, refl, and_parts, Block, Free, total, is_purgeable, Spot, spot, may_be_purged, segments}
+use Rattle.heap_calls.proofs.Cited.{total-append, Move, Search, Purge, Put, Base, Grow, Extend, Push, Cut, Drop, Write, is_same, did, one}
+use Rattle.heap_calls.proofs.Cited.{lowest_gone, gone_above, PathWeighs, Weighs, PutsNone, put_on, puts-none, conserved, Memory, Gone}
+use Rattle.heap_calls.proofs.Cited.{gone_of, told_blocks, Row, answer_of}
+use Rattle.heap_calls.specs.Table.{purged_by}
 use Rattle.heap_calls.proofs.Same.Agreeing.{told-append}
 use Rattle.heap_calls.proofs.Rows.Kinds.{has_path, of-path}
 use Rattle.heap_calls.proofs.Rows.Along.{Keeps}

@@ -1,22 +1,9 @@
-use Rattle.std.proofs.Common.{◌≡◌, ℕ, ◌≤◌, ◌<◌, Bool, true, false, not, List, length, replicate, Some, refl, sym, ◌∙◌}
-use Rattle.std.proofs.Common.{ap, subst, arith}
-use Rattle.std.proofs.lemmas.Bool.{and_parts}
-use Rattle.std.proofs.lemmas.Bool.Decides.{Decides-eqb}
-use Rattle.block_store.specs.declared.flags.Flags.{Flags}
-use Rattle.block_store.specs.Block.{Block, Free, Nonrelocatable, Masters, Relocatable, total, count, is_mover}
-use Rattle.block_store.specs.Block.{is_purgeable}
-use Rattle.block_store.specs.Block.{is_relocatable, is_nonrelocatable, with_content, resized, no_flags}
-use Rattle.block_store.specs.Room.{spot}
-use Rattle.block_store.proofs.Zone.Tidy.{spot-passes}
-use Rattle.moves.specs.Moves.{is_same, did}
-use Rattle.moves.proofs.Conserved.{Weighs, PutsNone, keeps, only-purgeable}
-use Rattle.moves.proofs.Resized.{Alone}
-use Rattle.moves.proofs.Rows.{size-weighs, size-puts}
-use Rattle.heap_calls.specs.State.{State, Memory}
-use Rattle.heap_calls.specs.Answer.{Held, nothing}
-use Rattle.heap_calls.specs.Asked.{Asked}
+use Rattle.heap_calls.proofs.Cited.{◌≡◌, ℕ, ◌≤◌, ◌<◌, Bool, true, false, not, List, length, replicate, Some, refl, sym, ◌∙◌, ap, subst}
+use Rattle.heap_calls.proofs.Cited.{arith, and_parts, Decides-eqb, Flags, Block, Free, Nonrelocatable, Masters, Relocatable, total, count}
+use Rattle.heap_calls.proofs.Cited.{is_mover, is_purgeable, is_relocatable, is_nonrelocatable, with_content, resized, no_flags, spot}
+use Rattle.heap_calls.proofs.Cited.{spot-passes, is_same, did, Weighs, PutsNone, keeps, only-purgeable, Alone, size-weighs, size-puts}
+use Rattle.heap_calls.proofs.Cited.{State, Memory, Held, nothing, Asked, Row, answer_of}
 use Rattle.heap_calls.specs.Asked as asked
-use Rattle.heap_calls.specs.Table.{Row, answer_of}
 use Rattle.heap_calls.proofs.Same.Growing.{same-handle, same-pointer}
 use Rattle.heap_calls.proofs.Rows.Kinds.{has_path, of-path}
 use Rattle.heap_calls.proofs.Rows.Found.{pointer-still}

@@ -1,15 +1,8 @@
-use Rattle.std.proofs.Common.{◌≡◌, ℕ, ◌+◌, ◌-◌, zero, suc, Bool, true, false, List, [], ◌∷◌, ◌++◌, Option, Some, None}
-use Rattle.std.proofs.Common.{refl, sym, ◌∙◌, ap, cond, arith, is_some, append-nil, append_assoc}
-use Rattle.std.specs.Prelude.{unwrap_or}
-use Rattle.block_store.specs.Block.{Block}
-use Rattle.block_store.specs.Room.{room, purge, count_of, may_be_purged}
-use Rattle.moves.specs.Moves.{Move, Purge, Did, did, moved, gone_by, lowered_by, searches_by, lowest_gone}
-use Rattle.moves.specs.Seeking.{Sought, no_room, sought, purges_for, seek, then_seek}
-use Rattle.moves.proofs.Paths.{did-append}
-use Rattle.heap_calls.specs.Searches.{room_searches}
-use Rattle.heap_calls.specs.Moves.{room_moves}
-use Rattle.heap_calls.specs.Gone.{Gone, gone_of, gone, room_gone}
-use Rattle.heap_calls.specs.Rows.{told_blocks}
+use Rattle.heap_calls.proofs.Cited.{◌≡◌, ℕ, ◌+◌, ◌-◌, zero, suc, Bool, true, false, List, [], ◌∷◌, ◌++◌, Option, Some, None, refl, sym, ◌∙◌}
+use Rattle.heap_calls.proofs.Cited.{ap, cond, arith, is_some, append-nil, append_assoc, unwrap_or, Block, room, purge, count_of}
+use Rattle.heap_calls.proofs.Cited.{may_be_purged, Move, Purge, Did, did, moved, gone_by, lowered_by, searches_by, lowest_gone, Sought}
+use Rattle.heap_calls.proofs.Cited.{no_room, sought, purges_for, seek, then_seek, did-append, room_searches, room_moves, Gone, gone_of}
+use Rattle.heap_calls.proofs.Cited.{gone, room_gone, told_blocks}
 use Rattle.heap_calls.proofs.Room.LeastSearches.{least-of, tries-of}
 
 -- What is said of a search without its path, and what its path does.

@@ -1,35 +1,17 @@
-use Rattle.std.proofs.Common.{◌≡◌, ℕ, ◌+◌, ◌-◌, zero, suc, length, ◌&&◌, Bool, true, false, List, [], ◌∷◌, ◌++◌, nat_le, Option, Some, None}
-use Rattle.std.proofs.Common.{refl, sym, ◌∙◌, ap, subst, cond, arith, is_some, append-nil}
-use Rattle.std.specs.Option.{option_map, option_or}
-use Rattle.std.specs.Prelude.{unwrap_or, option_and_then}
-use Rattle.std.proofs.lemmas.Bool.Decides.{nat_tests}
-use Rattle.block_store.specs.Block.{Block, Free, Nonrelocatable, Masters, Relocatable, size, free, free_sum, is_mover}
-use Rattle.block_store.specs.Block.{is_relocatable, is_nonrelocatable, resized}
-use Rattle.block_store.specs.Run.{RunSpot, run_spot, has_free, has, high, segments, joined, movers}
-use Rattle.block_store.specs.Room.{Spot, spot, filled, place, purge, room}
-use Rattle.block_store.specs.Grow.{growth, grow_up, grow_mover, grow_nonrelocatable, grow_at}
-use Rattle.block_store.specs.Grow.{taken_low}
-use Rattle.moves.specs.Moves.{Grow, Extend, Push, Cut, is_same, growth_lowers, last_lowers, place_lowers}
-use Rattle.moves.specs.Moves.{run_above, pushed, lowest_gone, gone_above}
-use Rattle.moves.specs.Seeking.{Sought, at_hand, sought, purges_for, seek, seek_in_place, seek_resized}
-use Rattle.heap_calls.specs.Searches.{room_searches, in_place_searches, growth_searches, size_searches, resized_at}
-use Rattle.heap_calls.specs.Moves.{run_moves, mover_moves, grow_moves, room_moves, growth_moves, size_moves}
-use Rattle.heap_calls.specs.Gone.{Gone}
-use Rattle.heap_calls.specs.Rows.{told_blocks}
+use Rattle.heap_calls.proofs.Cited.{◌≡◌, ℕ, ◌+◌, ◌-◌, zero, suc, length, ◌&&◌, Bool, true, false, List, [], ◌∷◌, ◌++◌, nat_le, Option, Some}
+use Rattle.heap_calls.proofs.Cited.{None, refl, sym, ◌∙◌, ap, subst, cond, arith, is_some, append-nil, option_map, option_or, unwrap_or}
+use Rattle.heap_calls.proofs.Cited.{option_and_then, nat_tests, Block, Free, Nonrelocatable, Masters, Relocatable, size, free, free_sum}
+use Rattle.heap_calls.proofs.Cited.{is_mover, is_relocatable, is_nonrelocatable, resized, RunSpot, run_spot, has_free, has, high, segments}
+use Rattle.heap_calls.proofs.Cited.{joined, movers, Spot, spot, filled, place, purge, room, growth, grow_up, grow_mover}
+use Rattle.heap_calls.proofs.Cited.{grow_nonrelocatable, grow_at, taken_low, Grow, Extend, Push, Cut, is_same, growth_lowers, last_lowers}
+use Rattle.heap_calls.proofs.Cited.{place_lowers, run_above, pushed, lowest_gone, gone_above, Sought, at_hand, sought, purges_for, seek}
+use Rattle.heap_calls.proofs.Cited.{seek_in_place, seek_resized, room_searches, in_place_searches, growth_searches, size_searches}
+use Rattle.heap_calls.proofs.Cited.{resized_at, run_moves, mover_moves, grow_moves, room_moves, growth_moves, size_moves, Gone, told_blocks}
+use Rattle.heap_calls.proofs.Cited.{phys, rename, may_be_purged, spared, Sparing, seek_size, Anchor, fitted, enough, handle_number}
+use Rattle.heap_calls.proofs.Cited.{pointer_number, OpensNone, gone_named, gone_from, try_gone, still_gone, grown_gone, fitted_gone}
 use Rattle.heap_calls.proofs.Same.Agreeing.{Agrees, agrees-as, agrees-if, seek-agrees, fewest, ready, room-is, searches-is}
 use Rattle.heap_calls.proofs.Same.NewBlocks.{place-same}
 use Rattle.heap_calls.proofs.Room.MoveCounts.{no-growth}
-use Rattle.mac_words.specs.Size.{phys}
-use Rattle.block_store.specs.Block.{rename}
-use Rattle.block_store.specs.Room.{may_be_purged}
-use Rattle.block_store.specs.Sparing.{spared}
-use Rattle.block_store.specs.declared.sparing.Sparing.{Sparing}
-use Rattle.moves.specs.Seeking.{seek_size}
-use Rattle.heap_calls.specs.declared.anchor.Anchor.{Anchor}
-use Rattle.heap_calls.specs.Inner.Growing.{fitted}
-use Rattle.heap_calls.specs.Inner.GrowingInPlace.{enough}
-use Rattle.heap_calls.specs.Inner.Numbered.{handle_number, pointer_number}
-use Rattle.heap_calls.specs.Inner.Telling.{OpensNone, gone_named, gone_from, try_gone, still_gone, grown_gone, fitted_gone}
 
 -- The growth of a block in a store.
 

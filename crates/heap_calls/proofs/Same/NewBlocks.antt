@@ -1,32 +1,15 @@
-use Rattle.std.proofs.Common.{◌≡◌, ℕ, ◌+◌, ◌-◌, ◌<◌, Bool, true, false, List, [], ◌∷◌, ◌++◌, length, replicate}
-use Rattle.std.proofs.Common.{Option, Some, None, Ok, Err, refl, sym, ◌∙◌, ap, cond, arith, is_some}
-use Rattle.std.specs.Option.{option_map}
-use Rattle.std.specs.Prelude.{unwrap_or}
-use Rattle.std.proofs.lemmas.List.{length-replicate}
-use Rattle.mac_words.specs.Size.{phys}
-use Rattle.mac_words.specs.declared.code.TheConstants.OsErr.{MEM_FULL}
-use Rattle.mac_words.proofs.Plain.{is_some-map}
-use Rattle.mac_words.specs.Size.{padded}
-use Rattle.block_store.specs.Block.{Block, Masters, size, is_room}
-use Rattle.block_store.specs.Block.{Relocatable, no_flags}
-use Rattle.block_store.specs.declared.flags.Flags.{Flags}
-use Rattle.block_store.specs.Run.{RunSpot, run_spot, has_free}
-use Rattle.block_store.specs.Room.{spot, filled, place, put_in_place, put_at_base, room, purge, count_of}
-use Rattle.block_store.proofs.Plain.Options.{map-none}
-use Rattle.moves.specs.Moves.{Put, Base, place_lowers, lowered_in}
-use Rattle.moves.specs.Seeking.{Sought, no_room, seek, if_fits, seek_slot, then_seek}
-use Rattle.heap_calls.specs.State.{State, Plain, Meaning, Handle}
+use Rattle.heap_calls.proofs.Cited.{◌≡◌, ℕ, ◌+◌, ◌-◌, ◌<◌, Bool, true, false, List, [], ◌∷◌, ◌++◌, length, replicate, Option, Some, None}
+use Rattle.heap_calls.proofs.Cited.{Ok, Err, refl, sym, ◌∙◌, ap, cond, arith, is_some, option_map, unwrap_or, length-replicate, phys}
+use Rattle.heap_calls.proofs.Cited.{MEM_FULL, is_some-map, padded, Block, Masters, size, is_room, Relocatable, no_flags, Flags, RunSpot}
+use Rattle.heap_calls.proofs.Cited.{run_spot, has_free, spot, filled, place, put_in_place, put_at_base, room, purge, count_of, map-none}
+use Rattle.heap_calls.proofs.Cited.{Put, Base, place_lowers, lowered_in, Sought, no_room, seek, if_fits, seek_slot, then_seek, State, Plain}
+use Rattle.heap_calls.proofs.Cited.{Meaning, Handle, Answer, nothing, slotted, more_masters, room_searches, slot_searches, ready_searches}
+use Rattle.heap_calls.proofs.Cited.{block_searches, new_handle_searches, new_empty_handle_searches, run_moves, as_it_is, place_moves}
+use Rattle.heap_calls.proofs.Cited.{put_moves, new_handle_moves, Gone, room_gone, slot_gone, ready_gone, new_filled, new_empty, told_blocks}
+use Rattle.heap_calls.proofs.Cited.{Done, work, heap_after, purged_by, is_unused}
 use Rattle.heap_calls.specs.Answer as today
-use Rattle.heap_calls.specs.Answer.{Answer, nothing}
 use Rattle.heap_calls.specs.Slots as slots
-use Rattle.heap_calls.specs.Slots.{slotted, more_masters}
-use Rattle.heap_calls.specs.Searches.{room_searches, slot_searches, ready_searches, block_searches}
-use Rattle.heap_calls.specs.Searches.{new_handle_searches, new_empty_handle_searches}
-use Rattle.heap_calls.specs.Moves.{run_moves, as_it_is, place_moves, put_moves, new_handle_moves}
-use Rattle.heap_calls.specs.Gone.{Gone, room_gone, slot_gone, ready_gone}
-use Rattle.heap_calls.specs.Inside.{new_filled, new_empty}
 use Rattle.heap_calls.specs.Rows as rows
-use Rattle.heap_calls.specs.Rows.{told_blocks, Done, work, heap_after, purged_by, is_unused}
 use Rattle.heap_calls.proofs.Same.Agreeing.{Agrees, BothAgree, seek-agrees, gone-is, agrees-if, then-agrees}
 use Rattle.heap_calls.proofs.Same.Agreeing.{on_some}
 use Rattle.heap_calls.proofs.Numbering.Looking.{tries-same}

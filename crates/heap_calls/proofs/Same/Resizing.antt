@@ -1,35 +1,14 @@
-use Rattle.std.proofs.Common.{◌≡◌, ℕ, Bool, true, false, List, [], ◌∷◌, ◌++◌}
-use Rattle.std.proofs.Common.{Option, Some, None, Result, Ok, Err, refl, sym, ◌∙◌, ap, cond, arith, is_some, append-nil}
-use Rattle.std.specs.Option.{option_map, ok_or}
-use Rattle.std.specs.Result.{result_ok}
-use Rattle.std.specs.Prelude.{unwrap_or, slice_get}
-use Rattle.std.proofs.lemmas.Option.{none-some, same_Some}
-use Rattle.mac_words.specs.Size.{phys}
-use Rattle.mac_words.specs.declared.code.OsErr.{OsErr}
-use Rattle.mac_words.specs.declared.code.TheConstants.OsErr.{NIL_HANDLE}
-use Rattle.block_store.specs.Block.{Block, is_relocatable}
-use Rattle.block_store.specs.Block.{is_nonrelocatable}
-use Rattle.block_store.specs.Room.{Spot, spot, put_in_place}
-use Rattle.block_store.specs.Grow.{freed}
-use Rattle.moves.specs.Moves.{Move, Put, Drop, Write, Did, did, moved, gone_by, lowered_by, searches_by}
-use Rattle.moves.specs.Moves.{rewritten}
-use Rattle.moves.specs.Seeking.{Sought, seek, if_fits, around}
-use Rattle.moves.proofs.Paths.{did-append}
-use Rattle.moves.proofs.Refused.{Refuses, fits-refused, seek-refused}
-use Rattle.heap_calls.specs.State.{State, Meaning, Handle, Pointer, Disposed}
-use Rattle.heap_calls.specs.Answer.{Known, Held, held_at, nothing}
-use Rattle.heap_calls.specs.Pointers.{pointed, pointed_at}
-use Rattle.heap_calls.specs.Copying.{written_in}
-use Rattle.heap_calls.specs.Purging.{reallocated}
-use Rattle.heap_calls.specs.Searches.{room_searches}
-use Rattle.heap_calls.specs.Moves.{put_moves}
-use Rattle.heap_calls.specs.Gone.{Gone, room_gone}
-use Rattle.heap_calls.specs.Rows.{told_blocks}
+use Rattle.heap_calls.proofs.Cited.{◌≡◌, ℕ, Bool, true, false, List, [], ◌∷◌, ◌++◌, Option, Some, None, Result, Ok, Err, refl, sym, ◌∙◌, ap}
+use Rattle.heap_calls.proofs.Cited.{cond, arith, is_some, append-nil, option_map, ok_or, result_ok, unwrap_or, none-some, same_Some, phys}
+use Rattle.heap_calls.proofs.Cited.{OsErr, NIL_HANDLE, Block, is_relocatable, is_nonrelocatable, Spot, spot, put_in_place, freed, Move, Put}
+use Rattle.heap_calls.proofs.Cited.{Drop, Write, Did, did, moved, gone_by, lowered_by, searches_by, rewritten, Sought, seek, if_fits}
+use Rattle.heap_calls.proofs.Cited.{around, did-append, Refuses, fits-refused, seek-refused, State, Meaning, Handle, Pointer, Disposed}
+use Rattle.heap_calls.proofs.Cited.{Known, Held, held_at, nothing, pointed, pointed_at, written_in, reallocated, room_searches, put_moves}
+use Rattle.heap_calls.proofs.Cited.{Gone, room_gone, told_blocks, fresh_block, renewed, renewed_searches, renewed_moves}
+use Rattle.std.specs.Prelude.{slice_get}
 use Rattle.heap_calls.specs.Inner.Appending.{behind}
 use Rattle.heap_calls.proofs.Same.Agreeing.{Agrees, agrees-if}
 use Rattle.heap_calls.proofs.Same.NewBlocks.{put-agrees}
-use Rattle.heap_calls.specs.Inner.NewBlock.{fresh_block}
-use Rattle.heap_calls.specs.Inner.Loose.{renewed, renewed_searches, renewed_moves}
 
 -- What is done beside a search: bytes are written after it, or a block is freed before it.
 

@@ -1,14 +1,7 @@
-use Rattle.std.proofs.Common.{◌≡◌, ℕ, List, Result, length, sym, ◌∙◌, ap}
-use Rattle.mac_words.specs.declared.code.OsErr.{OsErr}
-use Rattle.block_store.specs.declared.flags.Flags.{Flags}
-use Rattle.block_store.proofs.Plain.Counters.{counted-none}
-use Rattle.heap_calls.specs.State.{State, Plain, Memory}
-use Rattle.heap_calls.specs.Answer.{Answer, nothing, silent, searching, moving}
-use Rattle.heap_calls.specs.Gone.{Gone, slot_gone}
-use Rattle.heap_calls.specs.Inside.{new_filled, new_empty, new_inside, new_empty_inside}
-use Rattle.heap_calls.specs.Moves.{new_handle_moves}
-use Rattle.heap_calls.specs.Searches.{new_handle_searches, new_empty_handle_searches}
-use Rattle.heap_calls.specs.Rows.{Done, doing_silently, answer_made, searches_made, new_empty_handle}
+use Rattle.heap_calls.proofs.Cited.{◌≡◌, ℕ, List, Result, length, sym, ◌∙◌, ap, OsErr, Flags, counted-none, State, Plain, Memory, Answer}
+use Rattle.heap_calls.proofs.Cited.{nothing, silent, searching, moving, Gone, slot_gone, new_filled, new_empty, new_inside}
+use Rattle.heap_calls.proofs.Cited.{new_empty_inside, new_handle_moves, new_handle_searches, new_empty_handle_searches, Done}
+use Rattle.heap_calls.proofs.Cited.{doing_silently, answer_made, searches_made, new_empty_handle}
 use Rattle.heap_calls.proofs.Same.NewBlocks.{Same, filling, filled-same, new_empty_handle-same}
 
 -- A new handle in a memory, by the words of the Resource Manager's steps as by its path.

@@ -1,21 +1,10 @@
-use Rattle.std.proofs.Common.{◌≡◌, ℕ, ◌+◌, ◌-◌, ◌≤◌, zero, suc, Bool, true, false, ◌==◌, List, [], ◌∷◌, ◌++◌}
-use Rattle.std.proofs.Common.{length, take, replicate, refl, sym, ◌∙◌, ap, subst, cond, arith, Option, Some, None}
-use Rattle.std.proofs.Common.{is_some}
-use Rattle.std.proofs.Math.Seq.{take-append_seam}
-use Rattle.std.proofs.lemmas.Bool.Decides.{Decides-eqb}
-use Rattle.std.proofs.lemmas.Option.{none-some, same_Some}
-use Rattle.std.specs.Option.{option_map, IsSome, IfSome, IsSomeAnd}
-use Rattle.mac_words.specs.Size.{phys}
-use Rattle.block_store.specs.Block.{Block, Free, Nonrelocatable, Masters, Relocatable, size, sizes, count}
-use Rattle.block_store.specs.Block.{is_relocatable, resized, resized_content, content_of}
-use Rattle.block_store.specs.Room.{Spot, spot, spot_at}
-use Rattle.block_store.specs.Grow.{grow}
-use Rattle.block_store.proofs.Zone.Tidy.{spot-passes}
-use Rattle.block_store.proofs.Content.Resizing.{length-resized}
-use Rattle.heap_calls.specs.Inner.Growing.{fitted}
-use Rattle.heap_calls.specs.Inner.GrowingInPlace.{made_zone}
-use Rattle.heap_calls.specs.Inner.Appending.{size_for, behind, lengthened, bytes_of, length_of}
-use Rattle.block_store.specs.Find.{FindsLowest}
+use Rattle.heap_calls.proofs.Cited.{◌≡◌, ℕ, ◌+◌, ◌-◌, ◌≤◌, zero, suc, Bool, true, false, ◌==◌, List, [], ◌∷◌, ◌++◌, length, take, replicate}
+use Rattle.heap_calls.proofs.Cited.{refl, sym, ◌∙◌, ap, subst, cond, arith, Option, Some, None, is_some, take-append_seam, Decides-eqb}
+use Rattle.heap_calls.proofs.Cited.{none-some, same_Some, option_map, IsSome, IfSome, IsSomeAnd, phys, Block, Free, Nonrelocatable, Masters}
+use Rattle.heap_calls.proofs.Cited.{Relocatable, size, sizes, count, is_relocatable, resized, resized_content, content_of, Spot, spot}
+use Rattle.heap_calls.proofs.Cited.{spot_at, grow, spot-passes, length-resized, fitted, made_zone, size_for, lengthened, bytes_of}
+use Rattle.heap_calls.proofs.Cited.{length_of, FindsLowest}
+use Rattle.heap_calls.specs.Inner.Appending.{behind}
 use Rattle.heap_calls.proofs.Numbering.Answering.{at_place}
 use Rattle.heap_calls.proofs.Sizes.GrowingInPlace.{spot-small, some_spot, spot_and}
 use Rattle.heap_calls.proofs.Sizes.Fronts.{own-grown, other-grown}

@@ -1,44 +1,21 @@
-use Rattle.std.proofs.Common.{◌≡◌, ℕ, ◌+◌, ◌-◌, ◌≤◌, ◌<◌, zero, suc, Bool, true, false, not, ◌&&◌, ◌||◌, ◌==◌, List, []}
-use Rattle.std.proofs.Common.{◌∷◌, ◌++◌, refl, sym, ◌∙◌, ap, subst, cond, arith, Option, Some, None, filter, is_some}
-use Rattle.std.proofs.Common.{nat_le, append_assoc}
+use Rattle.heap_calls.proofs.Cited.{◌≡◌, ℕ, ◌+◌, ◌-◌, ◌≤◌, ◌<◌, zero, suc, Bool, true, false, not, ◌&&◌, ◌||◌, ◌==◌, List, [], ◌∷◌, ◌++◌}
+use Rattle.heap_calls.proofs.Cited.{refl, sym, ◌∙◌, ap, subst, cond, arith, Option, Some, None, filter, is_some, nat_le, append_assoc}
+use Rattle.heap_calls.proofs.Cited.{none-some, same_Some, cond-true, cond-false, le-leb, leb-true, and_parts, find-append, filter-append}
+use Rattle.heap_calls.proofs.Cited.{find, option_map, option_or, IfSome, IsSome, IsSomeAnd, IsTrue, padded, phys, Block, Free}
+use Rattle.heap_calls.proofs.Cited.{Nonrelocatable, Masters, Relocatable, size, count, free_sum, free_of, free, is_mover, is_room}
+use Rattle.heap_calls.proofs.Cited.{is_relocatable, tidy, resized, has, has_free, movers, others, high, settle, with_run, RunSpot, run_spot}
+use Rattle.heap_calls.proofs.Cited.{run_at, Spot, raised, spot, spot_at, place, filled, room, growth, taken, grow_up, grow_mover}
+use Rattle.heap_calls.proofs.Cited.{FindsLowestRun, spot-passes, total-append, free_sum-free, none-count, size-resized, filter-none}
+use Rattle.heap_calls.proofs.Cited.{none-append, has-count, place-room, run_spot-passes, run_at-parts, Loose, purged, spared, Sparing}
+use Rattle.heap_calls.proofs.Cited.{moved_away, Rest, IsRest, KeepsSlots, with_moves, with_placed, lowered_in_run, FindsPlacement, IsAt}
+use Rattle.heap_calls.proofs.Cited.{Placement, grown, growing, growing_searches, Spares, Stays, FindsGrowth, IsToGrow, block_of, SameBlocks}
+use Rattle.heap_calls.proofs.Cited.{CanGrowUp, GrewUp, room_searches, put_run, run_at-change, tidy-change, apart-settle, apart-high}
+use Rattle.heap_calls.proofs.Cited.{all-high}
 use Rattle.std.proofs.lemmas.List.{append-nil}
-use Rattle.std.proofs.lemmas.Option.{none-some, same_Some}
-use Rattle.std.proofs.lemmas.Bool.{cond-true, cond-false, le-leb, leb-true, and_parts}
-use Rattle.std.proofs.lemmas.List.Folds.{find-append}
-use Rattle.std.proofs.lemmas.List.Elements.{filter-append}
-use Rattle.std.specs.List.{find}
-use Rattle.std.specs.Option.{option_map, option_or, IfSome, IsSome, IsSomeAnd}
-use Rattle.std.specs.Bool.{IsTrue}
-use Rattle.mac_words.specs.Size.{padded, phys}
-use Rattle.block_store.specs.Block.{Block, Free, Nonrelocatable, Masters, Relocatable, size, count, free_sum, free_of, free}
-use Rattle.block_store.specs.Block.{is_mover, is_room, is_relocatable, tidy, resized}
-use Rattle.block_store.specs.Run.{has, has_free, movers, others, high, settle, with_run, RunSpot, run_spot, run_at}
-use Rattle.block_store.specs.Room.{Spot, raised, spot, spot_at, place, filled, room}
-use Rattle.block_store.specs.Grow.{growth, taken, grow_up, grow_mover}
-use Rattle.block_store.specs.Find.{FindsLowestRun}
-use Rattle.block_store.proofs.Zone.Tidy.{spot-passes}
-use Rattle.block_store.proofs.Zone.Totals.{total-append, free_sum-free}
-use Rattle.block_store.proofs.Zone.Leading.{none-count}
-use Rattle.block_store.proofs.Content.Resizing.{size-resized}
-use Rattle.block_store.proofs.Zone.Passing.{filter-none, none-append, has-count}
-use Rattle.block_store.proofs.Regroup.HavingRoom.{place-room}
-use Rattle.block_store.proofs.Regroup.RunSpots.{run_spot-passes}
-use Rattle.block_store.proofs.Regroup.RunLists.{run_at-parts}
-use Rattle.block_store.specs.Inner.Packing.{Loose}
-use Rattle.block_store.specs.Sparing.{purged, spared}
-use Rattle.block_store.specs.declared.sparing.Sparing.{Sparing}
-use Rattle.block_store.specs.Seen.{moved_away}
-use Rattle.block_store.specs.Rest.{Rest, IsRest, KeepsSlots, with_moves, with_placed, lowered_in_run}
-use Rattle.heap_calls.specs.Inner.Search.{FindsPlacement, IsAt}
-use Rattle.heap_calls.specs.declared.search.Placement.{Placement}
 use Rattle.heap_calls.specs.declared.growing.Growth.TheVariants as grows
-use Rattle.heap_calls.specs.Inner.Growing.{grown, growing, growing_searches, Spares, Stays, FindsGrowth, IsToGrow}
-use Rattle.heap_calls.specs.Inner.Growing.{block_of, SameBlocks, CanGrowUp, GrewUp}
-use Rattle.heap_calls.specs.Searches.{room_searches}
 use Rattle.heap_calls.proofs.Sizes.Growth.{opened-stays, find-purged, find-tidy, spot-find, growth-stays}
 use Rattle.heap_calls.proofs.Numbering.Changing.{phys-some}
-use Rattle.block_store.proofs.Regroup.Regrouping.{put_run, changed, run_at-change, tidy-change, apart-settle}
-use Rattle.block_store.proofs.Regroup.Regrouping.{apart-high, all-high}
+use Rattle.block_store.proofs.Regroup.Regrouping.{changed}
 
 -- The growth of a block that may move, carried out.
 

@@ -1,23 +1,11 @@
-use Rattle.std.proofs.Common.{◌≡◌, ℕ, ◌-◌, ◌<◌, inr, Bool, true, false, ◌&&◌, ◌||◌}
-use Rattle.std.proofs.Common.{List, ◌∷◌, ◌++◌, refl, sym, ◌∙◌, ap, subst, arith, Option, Some, None, is_some}
+use Rattle.heap_calls.proofs.Cited.{◌≡◌, ℕ, ◌-◌, ◌<◌, inr, Bool, true, false, ◌&&◌, ◌||◌, List, ◌∷◌, ◌++◌, refl, sym, ◌∙◌, ap, subst, arith}
+use Rattle.heap_calls.proofs.Cited.{Option, Some, None, is_some, option_or, is_some-map, Block, Free, Nonrelocatable, Masters, Relocatable}
+use Rattle.heap_calls.proofs.Cited.{size, is_mover, is_relocatable, has, has_free, in_run, run_spot, Spot, spot, place, growth, taken}
+use Rattle.heap_calls.proofs.Cited.{grow_up, move_away, grow_last, grow_mover, least_or_last, serves, serves_block, smaller, IsFewest}
+use Rattle.heap_calls.proofs.Cited.{purged, most_purges, Sparing, fewest-either, fewest-last, least_or_last-at, placed-is, above-run}
+use Rattle.heap_calls.proofs.Cited.{Spares, Stays, grown}
 use Rattle.std.proofs.Common.{IsSomeAnd, IsTrue, MatchOption}
-use Rattle.std.specs.Option.{option_or}
-use Rattle.mac_words.proofs.Plain.{is_some-map}
-use Rattle.block_store.specs.Block.{Block, Free, Nonrelocatable, Masters, Relocatable, size}
-use Rattle.block_store.specs.Block.{is_mover, is_relocatable}
-use Rattle.block_store.specs.Run.{has, has_free, in_run}
-use Rattle.block_store.specs.Run.{run_spot}
-use Rattle.block_store.specs.Room.{Spot, spot, place}
-use Rattle.block_store.specs.Grow.{growth, taken, grow_up, move_away, grow_last, grow_mover}
-use Rattle.block_store.specs.Compact.{least_or_last}
-use Rattle.block_store.specs.Fewest.{serves, serves_block, smaller, IsFewest}
-use Rattle.block_store.specs.Sparing.{purged, most_purges}
-use Rattle.block_store.specs.declared.sparing.Sparing.{Sparing}
-use Rattle.block_store.proofs.Plain.Trials.{fewest-either, fewest-last, least_or_last-at}
-use Rattle.block_store.proofs.Regroup.MostRoom.{placed-is}
-use Rattle.block_store.proofs.Regroup.RoomAbove.{above-run}
 use Rattle.block_store.proofs.Purged.Rising.{purged-all}
-use Rattle.heap_calls.specs.Inner.Growing.{Spares, Stays, grown}
 use Rattle.heap_calls.proofs.Sizes.Growth.{block-stays}
 
 -- The least number of purges after which an unlocked block grows.

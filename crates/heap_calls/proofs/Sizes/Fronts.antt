@@ -1,28 +1,15 @@
-use Rattle.std.proofs.Common.{◌≡◌, ℕ, ◌-◌, ◌≤◌, Bool, true, false, not, ◌&&◌, ◌==◌, List, [], ◌∷◌, ◌++◌, refl, sym, ◌∙◌}
-use Rattle.std.proofs.Common.{ap, subst, cond, arith, Option, Some, None, filter, ◌⊎◌, inl, inr}
-use Rattle.std.proofs.lemmas.Bool.{cond-true, cond-false, and_parts, false_from_ne_true}
-use Rattle.std.proofs.lemmas.Bool.Decides.{Decides-eqb}
-use Rattle.std.proofs.lemmas.Option.{none-some, same_Some, option_and_then_some}
-use Rattle.std.proofs.lemmas.List.Folds.{find-append}
-use Rattle.std.specs.List.{find}
-use Rattle.std.specs.Option.{option_map, option_or}
-use Rattle.block_store.specs.Block.{Block, Free, Nonrelocatable, Masters, Relocatable, size, total, count, free, free_sum}
-use Rattle.block_store.specs.Block.{is_mover, is_room, is_relocatable, resized, tidy}
-use Rattle.block_store.specs.Run.{in_run, change_run, has, has_free, movers, others, settle}
-use Rattle.block_store.specs.Room.{Spot, raised, spot, filled, place, lowest_purged, purge}
-use Rattle.block_store.specs.Grow.{growth, taken, taken_low, grow_up, grow_nonrelocatable, freed, move_away, grow_last}
-use Rattle.block_store.specs.Grow.{grow_mover, grow}
-use Rattle.block_store.proofs.Zone.Leading.{none-count}
-use Rattle.block_store.proofs.Zone.Tidy.{spot-is, spot-passes, has-freed}
-use Rattle.block_store.proofs.Content.Resizing.{is_relocatable-resized}
-use Rattle.block_store.proofs.Zone.Passing.{has-count}
-use Rattle.block_store.specs.Inner.Packing.{Loose}
-use Rattle.heap_calls.specs.Inner.Growing.{block_of}
+use Rattle.heap_calls.proofs.Cited.{◌≡◌, ℕ, ◌-◌, ◌≤◌, Bool, true, false, not, ◌&&◌, ◌==◌, List, [], ◌∷◌, ◌++◌, refl, sym, ◌∙◌, ap, subst}
+use Rattle.heap_calls.proofs.Cited.{cond, arith, Option, Some, None, filter, ◌⊎◌, inl, inr, cond-true, cond-false, and_parts}
+use Rattle.heap_calls.proofs.Cited.{false_from_ne_true, Decides-eqb, none-some, same_Some, option_and_then_some, find-append, find}
+use Rattle.heap_calls.proofs.Cited.{option_map, option_or, Block, Free, Nonrelocatable, Masters, Relocatable, size, total, count, free}
+use Rattle.heap_calls.proofs.Cited.{free_sum, is_mover, is_room, is_relocatable, resized, tidy, in_run, change_run, has, has_free, movers}
+use Rattle.heap_calls.proofs.Cited.{others, settle, Spot, raised, spot, filled, place, lowest_purged, purge, growth, taken, taken_low}
+use Rattle.heap_calls.proofs.Cited.{grow_up, grow_nonrelocatable, freed, move_away, grow_last, grow_mover, grow, none-count, spot-is}
+use Rattle.heap_calls.proofs.Cited.{spot-passes, has-freed, is_relocatable-resized, has-count, Loose, block_of, counts-free, three}
+use Rattle.heap_calls.proofs.Cited.{purged-le, map-some, or-some, change_run-some, taken-some, taken_low-some, grow-some}
 use Rattle.heap_calls.proofs.Sizes.Growth.{find-tidy, find-lowest_purged, spot-find}
 use Rattle.heap_calls.proofs.Sizes.Carrying.{find-free, find-none, has-others}
-use Rattle.block_store.proofs.Zone.Keeping.{counts-free, three, purged-le}
-use Rattle.block_store.proofs.Zone.Views.{map-some, or-some, change_run-some, place-some, taken-some, taken_low-some}
-use Rattle.block_store.proofs.Zone.Views.{grow-some}
+use Rattle.block_store.proofs.Zone.Views.{place-some}
 
 -- Growth of a block keeps the blocks that are spared, and its own at its new size.
 

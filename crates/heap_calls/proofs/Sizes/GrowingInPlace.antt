@@ -1,41 +1,19 @@
-use Rattle.std.proofs.Common.{◌≡◌, ℕ, ◌+◌, ◌-◌, ◌≤◌, ◌<◌, zero, suc, Bool, true, false, not, ◌==◌, List, [], ◌∷◌, ◌++◌}
-use Rattle.std.proofs.Common.{refl, sym, ◌∙◌, ap, subst, cond, arith, Option, Some, None, is_some, nat_le, append_assoc}
-use Rattle.std.specs.Option.{option_map, option_or, IfSome, IsSome, IsSomeAnd}
-use Rattle.std.specs.Bool.{IsTrue}
-use Rattle.std.proofs.lemmas.Option.{none-some, same_Some}
-use Rattle.std.proofs.lemmas.Bool.{cond-true, cond-false, or_parts, le-leb, leb-true}
-use Rattle.std.proofs.lemmas.Bool.Decides.{nat_tests}
+use Rattle.heap_calls.proofs.Cited.{◌≡◌, ℕ, ◌+◌, ◌-◌, ◌≤◌, ◌<◌, zero, suc, Bool, true, false, not, ◌==◌, List, [], ◌∷◌, ◌++◌, refl, sym}
+use Rattle.heap_calls.proofs.Cited.{◌∙◌, ap, subst, cond, arith, Option, Some, None, is_some, nat_le, append_assoc, option_map, option_or}
+use Rattle.heap_calls.proofs.Cited.{IfSome, IsSome, IsSomeAnd, IsTrue, none-some, same_Some, cond-true, cond-false, or_parts, le-leb}
+use Rattle.heap_calls.proofs.Cited.{leb-true, nat_tests, least_or_last-le, IsMost, enough_above, room_searches, in_place_searches, padded}
+use Rattle.heap_calls.proofs.Cited.{phys, Block, Free, Nonrelocatable, Masters, Relocatable, size, sizes, free_sum, free_of, free, is_room}
+use Rattle.heap_calls.proofs.Cited.{add, tidy, resized, has, has_free, in_run, movers, low, with_run, RunSpot, run_raised, run_at, run_from}
+use Rattle.heap_calls.proofs.Cited.{segments, Segments, joined, Stretch, Spot, raised, spot_at, room, may_be_purged, lowest_purged, purge}
+use Rattle.heap_calls.proofs.Cited.{count_of, growth, taken, grow_up, taken_low, grow_nonrelocatable, beyond, least_or_last, spared}
+use Rattle.heap_calls.proofs.Cited.{Sparing, seen, Seen, total-tidy, has-tidy, total-append, Apart, apart-tidied, apart-tidy, tidy-apart}
+use Rattle.heap_calls.proofs.Cited.{apart-size, apart-next, barrier-alone, apart-above, joined-segments, joined-is, length-resized}
+use Rattle.heap_calls.proofs.Cited.{some_and, is_some-map, not_some, spot_at-below, barrier-size, none-lowest_purged, room_at, enough}
+use Rattle.heap_calls.proofs.Cited.{above_taken, pushed_up, FindsPurges}
 use Rattle.std.proofs.lemmas.List.{append-nil}
 use Rattle.heap_calls.proofs.Room.Searching.{count-le}
 use Rattle.heap_calls.proofs.Room.LeastSearches.{least-of, tries-of}
-use Rattle.block_store.proofs.Plain.Trials.{least_or_last-le}
-use Rattle.heap_calls.specs.Inner.Least.{IsMost, enough_above}
-use Rattle.heap_calls.specs.Searches.{room_searches, in_place_searches}
-use Rattle.mac_words.specs.Size.{padded, phys}
-use Rattle.block_store.specs.Block.{Block, Free, Nonrelocatable, Masters, Relocatable, size, sizes, free_sum, free_of, free}
-use Rattle.block_store.specs.Block.{is_room, add, tidy, resized}
-use Rattle.block_store.specs.Run.{has, has_free, in_run, movers, low, with_run, RunSpot, run_raised, run_at, run_from}
-use Rattle.block_store.specs.Run.{segments, Segments, joined, Stretch}
-use Rattle.block_store.specs.Room.{Spot, raised, spot_at, room, may_be_purged, lowest_purged, purge, count_of}
-use Rattle.block_store.specs.Grow.{growth, taken, grow_up, taken_low, grow_nonrelocatable}
-use Rattle.block_store.specs.Compact.{beyond, least_or_last}
-use Rattle.block_store.specs.Sparing.{spared}
-use Rattle.block_store.specs.declared.sparing.Sparing.{Sparing}
-use Rattle.block_store.specs.Seen.{seen}
-use Rattle.block_store.specs.declared.sparing.Seen.{Seen}
 use Rattle.heap_calls.proofs.Numbering.Changing.{spot_at-is}
-use Rattle.block_store.proofs.Zone.Tidy.{total-tidy, has-tidy}
-use Rattle.block_store.proofs.Zone.Totals.{total-append}
-use Rattle.block_store.proofs.Zone.Apart.{Apart, apart-tidied, apart-tidy, tidy-apart, apart-size, apart-next}
-use Rattle.block_store.proofs.Zone.Apart.{barrier-alone, apart-above}
-use Rattle.block_store.proofs.Zone.Zones.{joined-segments, joined-is}
-use Rattle.block_store.proofs.Content.Resizing.{length-resized}
-use Rattle.block_store.proofs.Plain.Options.{some_and}
-use Rattle.mac_words.proofs.Plain.{is_some-map, not_some}
-use Rattle.block_store.proofs.Nonrelocatable.Placing.{spot_at-below}
-use Rattle.block_store.proofs.Regroup.RunSpots.{barrier-size}
-use Rattle.block_store.proofs.Zone.Absence.{none-lowest_purged}
-use Rattle.heap_calls.specs.Inner.GrowingInPlace.{room_at, enough, above_taken, pushed_up, FindsPurges}
 
 -- Growth of a block where it stands.
 

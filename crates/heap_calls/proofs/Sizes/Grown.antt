@@ -1,44 +1,17 @@
-use Rattle.std.proofs.Common.{◌≡◌, ℕ, ◌+◌, ◌<◌, Bool, true, false, ◌||◌, List, [], ◌∷◌, ◌++◌, length, map, Option, Ok, Err, Result, nat_le}
-use Rattle.std.proofs.Common.{refl, sym, ◌∙◌, ap, subst, cond, is_some}
-use Rattle.std.specs.Prelude.{unwrap_or}
-use Rattle.std.proofs.lemmas.List.{map-append}
-use Rattle.mac_words.specs.Size.{phys}
-use Rattle.mac_words.specs.declared.code.OsErr.{OsErr}
-use Rattle.block_store.specs.Block.{Block, rename_block, is_relocatable, is_nonrelocatable, content_of, resized, size}
-use Rattle.block_store.specs.Grow.{grow_mover}
-use Rattle.block_store.proofs.Plain.Counters.{counted-none}
-use Rattle.block_store.specs.Rest.{Rest, KeepsSlots, counted}
-use Rattle.block_store.specs.Room.{Spot, spot, rename_spot}
-use Rattle.block_store.specs.Slot.{Slot}
-use Rattle.block_store.specs.Sparing.{spared}
-use Rattle.block_store.specs.declared.sparing.Sparing.{Sparing}
-use Rattle.block_store.specs.declared.sparing.Sparing.TheVariants.{Nothing, One, Two}
-use Rattle.block_store.proofs.Renamed.GrowRenaming.{resized-rename}
-use Rattle.block_store.proofs.Zone.Tidy.{spot-passes}
-use Rattle.moves.specs.Moves.{Move, Write, is_same, rename_move}
-use Rattle.moves.specs.Seeking.{Sought, no_room, seek_size, seek_resized, around, rename_sought}
-use Rattle.moves.proofs.Renamed.{Apart, PathNames}
-use Rattle.moves.proofs.Rows.{resized-names}
-use Rattle.moves.proofs.Searches.{size_at-rename}
-use Rattle.heap_calls.specs.declared.anchor.Anchor.{Anchor}
+use Rattle.heap_calls.proofs.Cited.{◌≡◌, ℕ, ◌+◌, ◌<◌, Bool, true, false, ◌||◌, List, [], ◌∷◌, ◌++◌, length, map, Option, Ok, Err, Result}
+use Rattle.heap_calls.proofs.Cited.{nat_le, refl, sym, ◌∙◌, ap, subst, cond, is_some, unwrap_or, map-append, phys, OsErr, Block}
+use Rattle.heap_calls.proofs.Cited.{rename_block, is_relocatable, is_nonrelocatable, content_of, resized, size, grow_mover, counted-none}
+use Rattle.heap_calls.proofs.Cited.{Rest, KeepsSlots, counted, Spot, spot, rename_spot, Slot, spared, Sparing, Nothing, One, Two}
+use Rattle.heap_calls.proofs.Cited.{resized-rename, spot-passes, Move, Write, is_same, rename_move, Sought, no_room, seek_size}
+use Rattle.heap_calls.proofs.Cited.{seek_resized, around, rename_sought, PathNames, resized-names, size_at-rename, Anchor, Log, Reached}
+use Rattle.heap_calls.proofs.Cited.{State, Memory, Held, look_up, nothing, Gone, pointed_at, Done, doing_silently, purges_made, changed}
+use Rattle.heap_calls.proofs.Cited.{append, set_handle_size, set_pointer_size, pointer_and_hand, hand_and_hand, size_searches, resized_at}
+use Rattle.heap_calls.proofs.Cited.{grow_moves, room_moves, growth_moves, size_moves, lengthened, bytes_of, length_of, fitted, made_zone}
+use Rattle.heap_calls.proofs.Cited.{Agrees, state_of, memory_of, handle_number, pointer_number, no_number, Packs, Reaches, sized_reply}
+use Rattle.heap_calls.proofs.Cited.{OpensNone, fitted_gone}
+use Rattle.moves.proofs.Renamed.{Apart}
 use Rattle.heap_calls.specs.declared.anchor.Target.{Target}
-use Rattle.heap_calls.specs.declared.log.Log.{Log}
-use Rattle.heap_calls.specs.declared.reaching.Reached.{Reached}
-use Rattle.heap_calls.specs.State.{State, Memory}
-use Rattle.heap_calls.specs.Answer.{Held, look_up, nothing}
-use Rattle.heap_calls.specs.Gone.{Gone}
-use Rattle.heap_calls.specs.Pointers.{pointed_at}
-use Rattle.heap_calls.specs.Rows.{Done, doing_silently, purges_made, refused, for_found, changed, append, set_handle_size}
-use Rattle.heap_calls.specs.Rows.{set_pointer_size, pointer_and_hand, hand_and_hand}
-use Rattle.heap_calls.specs.Searches.{size_searches, resized_at}
-use Rattle.heap_calls.specs.Moves.{grow_moves, room_moves, growth_moves, size_moves}
-use Rattle.heap_calls.specs.Inner.Appending.{lengthened, bytes_of, length_of}
-use Rattle.heap_calls.specs.Inner.Growing.{fitted}
-use Rattle.heap_calls.specs.Inner.GrowingInPlace.{made_zone}
-use Rattle.heap_calls.specs.Inner.Numbered.{Agrees, state_of, memory_of, handle_number, pointer_number, no_number}
-use Rattle.heap_calls.specs.Inner.Packed.{Packs}
-use Rattle.heap_calls.specs.Inner.Reaching.{Reaches, sized_reply}
-use Rattle.heap_calls.specs.Inner.Telling.{OpensNone, fitted_gone}
+use Rattle.heap_calls.specs.Rows.{refused, for_found}
 use Rattle.heap_calls.proofs.Numbering.Answering.{held, content_of-rename}
 use Rattle.heap_calls.proofs.Numbering.Changing.{names-same}
 use Rattle.heap_calls.proofs.Numbering.Numbers.{handle_number-at, is_relocatable-number}

@@ -1,25 +1,12 @@
-use Rattle.std.proofs.Common.{◌≡◌, ℕ, ◌+◌, ◌-◌, ◌<◌, zero, suc, Bool, true, false, not, ◌&&◌, List, [], ◌∷◌, ◌++◌, refl}
-use Rattle.std.proofs.Common.{sym, ◌∙◌, ap, subst, cond, Option, Some, None, is_some}
-use Rattle.std.proofs.lemmas.Option.{none-some, same_Some}
-use Rattle.std.specs.List.{find}
-use Rattle.std.specs.Option.{option_map, option_or, IfSome, IsSomeAnd}
-use Rattle.block_store.specs.Block.{Block, is_purgeable, Free, size, add, tidy}
-use Rattle.block_store.specs.Run.{has, has_free, run_spot}
-use Rattle.block_store.specs.Room.{Spot, raised, spot, place, may_be_purged, lowest_purged}
-use Rattle.block_store.specs.Grow.{growth, taken, grow_up, grow_mover, move_away}
-use Rattle.block_store.specs.Find.{FindsLowestRun}
-use Rattle.block_store.specs.Sparing.{spared, opened, purged}
-use Rattle.heap_calls.specs.Inner.Search.{FindsPlacement}
-use Rattle.heap_calls.specs.Inner.Growing.{FindsGrowth, Spares, Stays}
-use Rattle.block_store.specs.declared.sparing.Sparing.{Sparing}
+use Rattle.heap_calls.proofs.Cited.{◌≡◌, ℕ, ◌+◌, ◌-◌, ◌<◌, zero, suc, Bool, true, false, not, ◌&&◌, List, [], ◌∷◌, ◌++◌, refl, sym, ◌∙◌, ap}
+use Rattle.heap_calls.proofs.Cited.{subst, cond, Option, Some, None, is_some, none-some, same_Some, find, option_map, option_or, IfSome}
+use Rattle.heap_calls.proofs.Cited.{IsSomeAnd, Block, is_purgeable, Free, size, add, tidy, has, has_free, run_spot, Spot, raised, spot}
+use Rattle.heap_calls.proofs.Cited.{place, may_be_purged, lowest_purged, growth, taken, grow_up, grow_mover, move_away, FindsLowestRun}
+use Rattle.heap_calls.proofs.Cited.{spared, opened, purged, FindsPlacement, FindsGrowth, Spares, Stays, Sparing, the_some, is_some-map}
+use Rattle.heap_calls.proofs.Cited.{not_some, Placement, Growth, add-joined}
 use Rattle.block_store.specs.declared.sparing.Sparing.TheVariants as sparing
-use Rattle.block_store.proofs.Plain.Options.{the_some}
-use Rattle.mac_words.proofs.Plain.{is_some-map, not_some}
-use Rattle.heap_calls.specs.declared.search.Placement.{Placement}
-use Rattle.heap_calls.specs.declared.growing.Growth.{Growth}
 use Rattle.heap_calls.specs.declared.growing.Growth.TheVariants as grows
 use Rattle.heap_calls.proofs.Room.Searching.{placement-some}
-use Rattle.block_store.proofs.Zone.Tidy.{add-joined}
 
 module _ (test : Block → Bool) (new : Block) (zone : List Block) (d : ℕ) (r : Bool)
     (more : IsSomeAnd (spot test zone) (λ s. growth new s ≡ d))

@@ -1,16 +1,7 @@
-use Rattle.std.proofs.Common.{◌≡◌, ℕ, ◌-◌, Bool, true, false, List, length, take, replicate, refl, sym, ◌∙◌}
-use Rattle.std.proofs.Common.{ap, cond, arith, Some, None, Result, Ok, Err, is_some}
-use Rattle.std.proofs.lemmas.List.{length-append, length-take, length-replicate}
-use Rattle.std.specs.Option.{IfSome}
-use Rattle.std.specs.Result.{IfOk}
-use Rattle.mac_words.specs.Size.{phys, padded}
-use Rattle.block_store.specs.Block.{Block, Free, Nonrelocatable, Masters, Relocatable, size, is_nonrelocatable, is_mover, resized}
-use Rattle.block_store.specs.Run.{in_run}
-use Rattle.block_store.specs.Room.{Spot, spot_at}
-use Rattle.block_store.specs.Grow.{grow}
-use Rattle.heap_calls.specs.Inner.Growing.{fitted}
-use Rattle.heap_calls.specs.Inner.GrowingInPlace.{made_zone}
-use Rattle.heap_calls.specs.declared.growing_in_place.Grown.{Grown}
+use Rattle.heap_calls.proofs.Cited.{◌≡◌, ℕ, ◌-◌, Bool, true, false, List, length, take, replicate, refl, sym, ◌∙◌, ap, cond, arith, Some}
+use Rattle.heap_calls.proofs.Cited.{None, Result, Ok, Err, is_some, length-append, length-take, length-replicate, IfSome, IfOk, phys}
+use Rattle.heap_calls.proofs.Cited.{padded, Block, Free, Nonrelocatable, Masters, Relocatable, size, is_nonrelocatable, is_mover, resized}
+use Rattle.heap_calls.proofs.Cited.{in_run, Spot, spot_at, grow, fitted, made_zone, Grown}
 use Rattle.heap_calls.proofs.Numbering.Answering.{at_place}
 use Rattle.heap_calls.proofs.Numbering.Changing.{phys-some}
 

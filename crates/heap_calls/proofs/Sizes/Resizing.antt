@@ -1,22 +1,8 @@
-use Rattle.std.proofs.Common.{arith, ◌≡◌, ℕ, ◌≤◌, ◌<◌, Bool, true, false, List, refl, sym, ◌∙◌, ap, subst, cond, Option}
-use Rattle.std.proofs.Common.{Some, Result, Ok, Err, is_some}
-use Rattle.std.proofs.lemmas.Bool.{cond-true, cond-false, lt-leb}
-use Rattle.std.specs.Option.{option_map, IfSome}
-use Rattle.std.specs.Result.{IfOk}
-use Rattle.mac_words.specs.Size.{phys, padded}
-use Rattle.block_store.specs.Block.{Block, Free, Nonrelocatable, Masters, Relocatable, size, is_relocatable, is_mover, resized}
-use Rattle.block_store.specs.Run.{in_run}
-use Rattle.block_store.specs.Room.{Spot, spot, spot_at}
-use Rattle.block_store.specs.Grow.{grow_mover, grow_nonrelocatable, grow}
-use Rattle.block_store.specs.Find.{FindsLowest}
-use Rattle.block_store.specs.Seen.{seen}
-use Rattle.block_store.specs.declared.sparing.Seen.{Seen}
-use Rattle.block_store.proofs.Zone.Tidy.{spot-passes}
-use Rattle.block_store.proofs.Content.Resizing.{size-resized}
-use Rattle.heap_calls.specs.Inner.Given.{seen_mover}
-use Rattle.heap_calls.specs.Inner.GrowingInPlace.{made_zone}
-use Rattle.heap_calls.specs.declared.growing_in_place.Grown.{Grown}
-use Rattle.heap_calls.specs.Searches.{room_searches, in_place_searches, size_searches}
+use Rattle.heap_calls.proofs.Cited.{arith, ◌≡◌, ℕ, ◌≤◌, ◌<◌, Bool, true, false, List, refl, sym, ◌∙◌, ap, subst, cond, Option, Some, Result}
+use Rattle.heap_calls.proofs.Cited.{Ok, Err, is_some, cond-true, cond-false, lt-leb, option_map, IfSome, IfOk, phys, padded, Block, Free}
+use Rattle.heap_calls.proofs.Cited.{Nonrelocatable, Masters, Relocatable, size, is_relocatable, is_mover, resized, in_run, Spot, spot}
+use Rattle.heap_calls.proofs.Cited.{spot_at, grow_mover, grow_nonrelocatable, grow, FindsLowest, seen, Seen, spot-passes, size-resized}
+use Rattle.heap_calls.proofs.Cited.{seen_mover, made_zone, Grown, room_searches, in_place_searches, size_searches}
 use Rattle.heap_calls.proofs.Numbering.Hoisting.{seen_mover-is}
 use Rattle.heap_calls.proofs.Numbering.Answering.{at_place}
 use Rattle.heap_calls.proofs.Numbering.Changing.{phys-some}

@@ -1,20 +1,11 @@
-use Rattle.std.proofs.Common.{◌≡◌, ℕ, ◌<◌, Bool, true, false, List, ◌∷◌, ◌++◌, refl, sym, ◌∙◌, ap, subst, Option, Some}
-use Rattle.std.proofs.Common.{None, Result, Ok, Err, is_some, option_and_then, take}
-use Rattle.std.specs.Option.{IsSome, IfSome, IsSomeAnd, option_or}
-use Rattle.std.specs.Result.{OnOk, OnErr}
-use Rattle.std.proofs.lemmas.Option.{none-some, same_Some}
-use Rattle.block_store.specs.Block.{Block, Masters, size, resized, is_nonrelocatable, is_relocatable, tidy, content_of}
-use Rattle.block_store.specs.Block.{with_content}
-use Rattle.memory_windows.specs.Writes.{written}
-use Rattle.block_store.specs.Run.{RunSpot, run_at, with_run, has}
-use Rattle.block_store.specs.Room.{Spot, spot, spot_at}
-use Rattle.block_store.specs.Find.{FindsLowest}
-use Rattle.block_store.specs.Grow.{growth, grow_up, move_away, grow_last, grow_mover}
-use Rattle.block_store.proofs.Zone.Tidy.{spot-is, spot-passes}
+use Rattle.heap_calls.proofs.Cited.{◌≡◌, ℕ, ◌<◌, Bool, true, false, List, ◌∷◌, ◌++◌, refl, sym, ◌∙◌, ap, subst, Option, Some, None, Result}
+use Rattle.heap_calls.proofs.Cited.{Ok, Err, is_some, take, IsSome, IfSome, IsSomeAnd, option_or, OnErr, none-some, same_Some, Block}
+use Rattle.heap_calls.proofs.Cited.{Masters, size, resized, is_nonrelocatable, is_relocatable, tidy, content_of, with_content, written}
+use Rattle.heap_calls.proofs.Cited.{RunSpot, run_at, with_run, has, Spot, spot, spot_at, FindsLowest, growth, grow_up, move_away, grow_last}
+use Rattle.heap_calls.proofs.Cited.{grow_mover, spot-is, spot-passes, written_in, grown, CanGrowUp, KeepsNonrelocatable}
+use Rattle.std.proofs.Common.{option_and_then}
+use Rattle.std.specs.Result.{OnOk}
 use Rattle.heap_calls.specs.Inner.Appending.{behind}
-use Rattle.heap_calls.specs.Copying.{written_in}
-use Rattle.heap_calls.specs.Inner.Growing.{grown, CanGrowUp}
-use Rattle.heap_calls.specs.Inner.Numbered.{KeepsNonrelocatable}
 use Rattle.heap_calls.proofs.Numbering.Answering.{at_place}
 use Rattle.heap_calls.proofs.Numbering.Changing.{nonrelocatable-at}
 use Rattle.heap_calls.proofs.Room.Staying.{NoNonrelocatable, nonrelocatable-same, nonrelocatable-then, nonrelocatable-spot, alike-content}

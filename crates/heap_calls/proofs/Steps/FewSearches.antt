@@ -1,19 +1,11 @@
-use Rattle.std.proofs.Common.{◌≡◌, ◌≤◌, ◌<◌, ◌+◌, ◌^◌, ℕ, Bool, true, false, List, [], ◌∷◌, length, refl, cond, arith}
-use Rattle.std.proofs.Common.{replicate}
-use Rattle.std.proofs.Common.{Result, Ok, Err, Some}
+use Rattle.heap_calls.proofs.Cited.{◌≡◌, ◌≤◌, ◌<◌, ◌+◌, ◌^◌, ℕ, Bool, true, false, List, [], ◌∷◌, length, refl, cond, arith, replicate}
+use Rattle.heap_calls.proofs.Cited.{Result, Ok, Err, Some, phys, OsErr, Block, Relocatable, count, is_masters, no_flags, counted}
+use Rattle.heap_calls.proofs.Cited.{put_in_place, Memory, nothing, handle_at, room_searches, new_handle_searches, new_empty_handle_searches}
+use Rattle.heap_calls.proofs.Cited.{has_block, refill_inside, refill_searches, for_known, Step, NewFilled, NewEmpty, Refill, Release, Cast}
+use Rattle.heap_calls.proofs.Cited.{stepped, walk}
 use Rattle.std.specs.Prelude.{is_some}
-use Rattle.mac_words.specs.Size.{phys}
-use Rattle.mac_words.specs.declared.code.OsErr.{OsErr}
-use Rattle.block_store.specs.Block.{Block, Relocatable, count, is_masters, no_flags}
-use Rattle.block_store.specs.Rest.{counted}
-use Rattle.block_store.specs.Room.{put_in_place}
-use Rattle.heap_calls.specs.State.{Memory}
-use Rattle.heap_calls.specs.Answer.{nothing, handle_at}
 use Rattle.heap_calls.specs.Answer as calls
 use Rattle.heap_calls.specs.Asked as asked
-use Rattle.heap_calls.specs.Searches.{room_searches, new_handle_searches, new_empty_handle_searches}
-use Rattle.heap_calls.specs.Inside.{has_block, refill_inside, refill_searches, for_known}
-use Rattle.heap_calls.specs.Path.{Step, NewFilled, NewEmpty, Refill, Release, Cast, stepped, walk}
 use Rattle.heap_calls.proofs.Steps.Survival.{step-masters}
 use Rattle.heap_calls.proofs.Promises.FewSearches.{room-blocks, only-if, unsearched, row_few}
 use Rattle.heap_calls.proofs.Same.NewBlocks.{filled-same, new_empty_handle-same}

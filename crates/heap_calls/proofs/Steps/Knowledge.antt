@@ -1,16 +1,8 @@
-use Rattle.std.proofs.Common.{◌≡◌, ℕ, ◌≤◌, zero, suc, Bool, true, false, ◌&&◌, List, [], ◌∷◌, refl, sym}
-use Rattle.std.proofs.Common.{◌∙◌, ap, subst, cond, arith, Option, Some, length, slice_get, slice_set}
-use Rattle.std.specs.Prelude.{bytes_eq}
-use Rattle.block_store.specs.declared.flags.Flags.{Flags}
-use Rattle.block_store.specs.Block.{Block, Free, Nonrelocatable, Masters, Relocatable, is_relocatable}
-use Rattle.block_store.proofs.Zone.Keeping.{unless-none, room-le}
-use Rattle.block_store.proofs.Zone.Leading.{count-none}
-use Rattle.block_store.proofs.Zone.Totals.{total-le}
-use Rattle.heap_calls.specs.State.{State, Memory, Meaning, Role, Handle}
-use Rattle.heap_calls.specs.Answer.{nothing}
-use Rattle.heap_calls.specs.Inside.{new_filled, refill, refill_inside, has_block}
-use Rattle.heap_calls.specs.Path.{Step, NewFilled, NewEmpty, Refill, Release, Cast, stepped, read_new, read_again}
-use Rattle.heap_calls.specs.Path.{read_by, walk, reads, put_reads}
+use Rattle.heap_calls.proofs.Cited.{◌≡◌, ℕ, ◌≤◌, zero, suc, Bool, true, false, ◌&&◌, List, [], ◌∷◌, refl, sym, ◌∙◌, ap, subst, cond, arith}
+use Rattle.heap_calls.proofs.Cited.{Option, Some, length, slice_get, slice_set, bytes_eq, Flags, Block, Free, Nonrelocatable, Masters}
+use Rattle.heap_calls.proofs.Cited.{Relocatable, is_relocatable, unless-none, room-le, count-none, total-le, State, Memory, Meaning, Role}
+use Rattle.heap_calls.proofs.Cited.{Handle, nothing, new_filled, refill, refill_inside, has_block, Step, NewFilled, NewEmpty, Refill}
+use Rattle.heap_calls.proofs.Cited.{Release, Cast, stepped, read_new, read_again, read_by, walk, reads, put_reads}
 use Rattle.heap_calls.proofs.Promises.Knowing.{Known, for_handle, for_pointer, strange, with_bytes, with-same}
 use Rattle.heap_calls.proofs.Promises.Knowing.{with-other}
 use Rattle.heap_calls.proofs.Promises.KnownChanges.{known-slotted, known-new, known-sparing, known-disposed}

@@ -1,21 +1,8 @@
-use Rattle.std.proofs.Common.{◌≡◌, ℕ, ◌≤◌, ◌||◌, ◌==◌, Bool, true, false, List, [], ◌∷◌, refl, sym, ◌∙◌, ap, subst}
-use Rattle.std.proofs.Common.{arith, Option, Some, None, slice_get}
-use Rattle.std.proofs.lemmas.Bool.Decides.{Decides-eqb}
-use Rattle.std.proofs.lemmas.Option.{none-some}
-use Rattle.mac_words.specs.declared.code.OsErr.{OsErr}
-use Rattle.block_store.specs.Block.{total, is_relocatable}
-use Rattle.block_store.specs.Run.{has}
-use Rattle.block_store.specs.Grow.{freed}
-use Rattle.block_store.proofs.Zone.Leading.{count-none}
-use Rattle.block_store.proofs.Zone.Keeping.{unless-le, tidied, freed-is}
-use Rattle.block_store.proofs.Zone.Alike.{stands-is, stands-none, locks}
-use Rattle.heap_calls.specs.State.{State, Memory, Meaning, Handle, Pointer, Disposed}
-use Rattle.heap_calls.specs.Answer.{known_as}
-use Rattle.heap_calls.specs.Inside.{released, released_as}
-use Rattle.heap_calls.specs.Locked.{is_locked, locked_place}
-use Rattle.heap_calls.specs.Path.{Step, NewFilled, NewEmpty, Refill, Release, Cast, stepped, walk, refusal}
-use Rattle.heap_calls.specs.Path.{step_disposes, steps_dispose}
-use Rattle.heap_calls.specs.Path.{read_by, put_reads}
+use Rattle.heap_calls.proofs.Cited.{◌≡◌, ℕ, ◌≤◌, ◌||◌, ◌==◌, Bool, true, false, List, [], ◌∷◌, refl, sym, ◌∙◌, ap, subst, arith, Option}
+use Rattle.heap_calls.proofs.Cited.{Some, None, slice_get, Decides-eqb, none-some, OsErr, total, is_relocatable, has, freed, count-none}
+use Rattle.heap_calls.proofs.Cited.{unless-le, tidied, freed-is, stands-is, stands-none, locks, State, Memory, Meaning, Handle, Pointer}
+use Rattle.heap_calls.proofs.Cited.{Disposed, known_as, released, released_as, is_locked, locked_place, Step, NewFilled, NewEmpty, Refill}
+use Rattle.heap_calls.proofs.Cited.{Release, Cast, stepped, walk, refusal, step_disposes, steps_dispose, read_by, put_reads}
 use Rattle.heap_calls.proofs.Promises.Knowing.{Known, for_handle, none-handle}
 use Rattle.heap_calls.proofs.Promises.LockedLaws.{fewer, some-locked}
 use Rattle.heap_calls.proofs.Promises.Taking.{gone-few}

@@ -1,11 +1,5 @@
-use Rattle.std.proofs.Common.{◌≡◌, ℕ, Bool, false, List, [], ◌∷◌, ◌++◌, length, ap, cond}
-use Rattle.std.proofs.Common.{None, Ok}
-use Rattle.block_store.specs.declared.flags.Flags.{Flags}
-use Rattle.heap_calls.specs.State.{State, Memory, Role, Handle}
-use Rattle.heap_calls.specs.Answer.{Answer}
-use Rattle.heap_calls.specs.Inside.{refill_inside, has_block}
-use Rattle.heap_calls.specs.Path.{Refill, stepped, refusal, refusal_of, read_by}
-use Rattle.heap_calls.specs.Path.{read_again}
+use Rattle.heap_calls.proofs.Cited.{◌≡◌, ℕ, Bool, false, List, [], ◌∷◌, ◌++◌, length, ap, cond, None, Ok, Flags, State, Memory, Role}
+use Rattle.heap_calls.proofs.Cited.{Handle, Answer, refill_inside, has_block, Refill, stepped, refusal, refusal_of, read_by, read_again}
 
 -- The numbers of handles that steps on a heap make.
 

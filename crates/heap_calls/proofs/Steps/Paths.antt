@@ -1,5 +1,4 @@
-use Rattle.std.proofs.Common.{◌≡◌, ℕ, List, [], ◌∷◌, ◌++◌, refl}
-use Rattle.heap_calls.specs.Path.{put_reads}
+use Rattle.heap_calls.proofs.Cited.{◌≡◌, ℕ, List, [], ◌∷◌, ◌++◌, refl, put_reads}
 use Rattle.heap_calls.proofs.Promises.Knowing.{with_bytes}
 
 -- A path of steps, and one that follows it.

@@ -1,8 +1,5 @@
-use Rattle.std.proofs.Common.{◌≡◌, Bool, true, false, List, [], ◌∷◌, refl, ◌∙◌, cond}
-use Rattle.block_store.specs.Rest.{Site}
-use Rattle.heap_calls.specs.State.{Memory}
-use Rattle.heap_calls.specs.Inside.{has_block, refill_inside}
-use Rattle.heap_calls.specs.Path.{Step, NewFilled, NewEmpty, Refill, Release, Cast, stepped, walk}
+use Rattle.heap_calls.proofs.Cited.{◌≡◌, Bool, true, false, List, [], ◌∷◌, refl, ◌∙◌, cond, Site, Memory, has_block, refill_inside, Step}
+use Rattle.heap_calls.proofs.Cited.{NewFilled, NewEmpty, Refill, Release, Cast, stepped, walk}
 use Rattle.heap_calls.proofs.Tries.Elsewhere.{elsewhere}
 
 -- Steps on a heap don't hang on where it lies, and leave that, the code that MemError tells and what is busy.

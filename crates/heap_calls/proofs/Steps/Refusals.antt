@@ -1,18 +1,7 @@
-use Rattle.std.proofs.Common.{◌≡◌, ◌≤◌, Bool, true, false, List, length, refl, sym, ◌∙◌, ap, cond, arith}
-use Rattle.std.proofs.Common.{Option, Some, None, Result, Ok, Err}
-use Rattle.std.specs.Option.{option_map}
-use Rattle.std.specs.Prelude.{unwrap_or}
-use Rattle.std.proofs.lemmas.Option.{none-some}
-use Rattle.mac_words.specs.declared.code.OsErr.{OsErr}
-use Rattle.block_store.specs.Block.{Block}
-use Rattle.heap_calls.specs.State.{State, Memory, Meaning}
-use Rattle.heap_calls.specs.Answer.{nothing}
-use Rattle.heap_calls.specs.Slots.{slotted}
-use Rattle.heap_calls.specs.Slots.{slotted_zone}
-use Rattle.heap_calls.specs.Staying.{staying}
-use Rattle.heap_calls.specs.Inside.{has_block, refill_inside, new_inside, new_empty_inside}
-use Rattle.heap_calls.specs.Path.{Step, NewFilled, NewEmpty, Refill, Release, Cast, stepped, refusal, refusal_of}
-use Rattle.heap_calls.specs.Path.{left_zone}
+use Rattle.heap_calls.proofs.Cited.{◌≡◌, ◌≤◌, Bool, true, false, List, length, refl, sym, ◌∙◌, ap, cond, arith, Option, Some, None, Result}
+use Rattle.heap_calls.proofs.Cited.{Ok, Err, option_map, unwrap_or, none-some, OsErr, Block, State, Memory, Meaning, nothing, slotted}
+use Rattle.heap_calls.proofs.Cited.{slotted_zone, staying, has_block, refill_inside, new_inside, new_empty_inside, Step, NewFilled}
+use Rattle.heap_calls.proofs.Cited.{NewEmpty, Refill, Release, Cast, stepped, refusal, refusal_of, left_zone}
 use Rattle.heap_calls.proofs.Promises.RefusedCalls.{Leaves, done}
 use Rattle.heap_calls.proofs.Tries.Keeping.{slotted-le}
 use Rattle.heap_calls.proofs.Steps.Ways.{with_new, filled-goes, emptied-goes, refill-goes, slotted-names}

@@ -1,13 +1,7 @@
-use Rattle.std.proofs.Common.{◌≡◌, ℕ, Bool, true, false, ◌==◌, List, [], ◌∷◌, ◌++◌, length, refl, sym, ◌∙◌, ap, cond}
-use Rattle.std.proofs.Common.{Option, Some, None, Ok, Err, slice_get}
-use Rattle.std.proofs.lemmas.Bool.Decides.{Decides-eqb}
-use Rattle.block_store.specs.declared.flags.Flags.{Flags}
-use Rattle.heap_calls.specs.State.{State, Meaning, Role, Plain, Handle, Pointer, Disposed}
-use Rattle.heap_calls.specs.Answer.{Answer, nothing, known_as}
-use Rattle.heap_calls.specs.Slots.{slotted}
-use Rattle.heap_calls.specs.Inside.{new_filled, new_empty, refill, released, released_as, cast, cast_as, owned_as}
-use Rattle.heap_calls.specs.Inside.{resource_role}
-use Rattle.heap_calls.specs.Owned.{resource_only, resource_meant, resource_role_at}
+use Rattle.heap_calls.proofs.Cited.{◌≡◌, ℕ, Bool, true, false, ◌==◌, List, [], ◌∷◌, ◌++◌, length, refl, sym, ◌∙◌, ap, cond, Option, Some}
+use Rattle.heap_calls.proofs.Cited.{None, Ok, Err, slice_get, Decides-eqb, Flags, State, Meaning, Role, Plain, Handle, Pointer, Disposed}
+use Rattle.heap_calls.proofs.Cited.{Answer, nothing, known_as, slotted, new_filled, new_empty, refill, released, released_as, cast, cast_as}
+use Rattle.heap_calls.proofs.Cited.{owned_as, resource_role, resource_only, resource_meant, resource_role_at}
 use Rattle.heap_calls.proofs.Promises.Knowing.{next-none}
 use Rattle.heap_calls.proofs.Steps.Ways.{with_new, filled-goes, emptied-goes, refill-goes, slotted-names}
 use Rattle.heap_calls.proofs.Tries.Roles.{role-gone, role-new}

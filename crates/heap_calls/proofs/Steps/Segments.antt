@@ -1,27 +1,12 @@
-use Rattle.std.proofs.Common.{◌≡◌, ◌≢◌, ℕ, ◌≤◌, Bool, true, false, ◌&&◌, ◌==◌, List, ◌∷◌, ◌++◌, refl, sym}
-use Rattle.std.proofs.Common.{◌∙◌, ap, subst, cond, arith, Option, Some, None, Result, Ok, Err, slice_get}
-use Rattle.std.specs.Option.{option_map, ok_or}
+use Rattle.heap_calls.proofs.Cited.{◌≡◌, ◌≢◌, ℕ, ◌≤◌, Bool, true, false, ◌&&◌, ◌==◌, List, ◌∷◌, ◌++◌, refl, sym, ◌∙◌, ap, subst, cond}
+use Rattle.heap_calls.proofs.Cited.{arith, Option, Some, None, Result, Ok, Err, slice_get, option_map, ok_or, OsErr, NIL_HANDLE, LOCKED}
+use Rattle.heap_calls.proofs.Cited.{Flags, Block, Free, Nonrelocatable, Masters, Relocatable, sizes, total, count, is_mover, is_masters}
+use Rattle.heap_calls.proofs.Cited.{is_relocatable, is_nonrelocatable, has, Spot, spot, spot-is, total-append, has-count, SeesNoFree, apart}
+use Rattle.heap_calls.proofs.Cited.{Alike, alike-then, stands-is, stands-none, locks, has-counts, not_nonrelocatable-relocatable, has-spot}
+use Rattle.heap_calls.proofs.Cited.{State, Meaning, Handle, Pointer, Disposed, Answer, Held, refused, known_as, held_at, look_up, for_found}
+use Rattle.heap_calls.proofs.Cited.{flagged, change_flags, h_unlock, hoisted, is_locked, locked_place, pointer_place, held_high, loosened}
+use Rattle.heap_calls.proofs.Cited.{has_block}
 use Rattle.std.specs.Prelude.{is_some}
-use Rattle.mac_words.specs.declared.code.OsErr.{OsErr}
-use Rattle.mac_words.specs.declared.code.TheConstants.OsErr.{NIL_HANDLE, LOCKED}
-use Rattle.block_store.specs.declared.flags.Flags.{Flags}
-use Rattle.block_store.specs.Block.{Block, Free, Nonrelocatable, Masters, Relocatable, sizes, total, count, is_mover, is_masters}
-use Rattle.block_store.specs.Block.{is_relocatable, is_nonrelocatable}
-use Rattle.block_store.specs.Run.{has}
-use Rattle.block_store.specs.Room.{Spot, spot}
-use Rattle.block_store.proofs.Zone.Tidy.{spot-is}
-use Rattle.block_store.proofs.Zone.Totals.{total-append}
-use Rattle.block_store.proofs.Zone.Passing.{has-count}
-use Rattle.block_store.proofs.Zone.Keeping.{SeesNoFree, apart}
-use Rattle.block_store.proofs.Zone.Alike.{Alike, alike-then, stands-is, stands-none, locks}
-use Rattle.block_store.proofs.Nonrelocatable.Counts.{has-counts, not_nonrelocatable-relocatable}
-use Rattle.block_store.proofs.Regroup.Settling.{has-spot}
-use Rattle.heap_calls.specs.State.{State, Meaning, Handle, Pointer, Disposed}
-use Rattle.heap_calls.specs.Answer.{Answer, Held, refused, known_as, held_at, look_up, for_found, flagged, change_flags}
-use Rattle.heap_calls.specs.Answer.{h_unlock, hoisted}
-use Rattle.heap_calls.specs.Locked.{is_locked, locked_place}
-use Rattle.heap_calls.specs.Standing.{pointer_place}
-use Rattle.heap_calls.specs.Inside.{held_high, loosened, has_block}
 use Rattle.heap_calls.proofs.Promises.Knowing.{Known, for_handle, look_up-spot, none-handle, known-less}
 use Rattle.heap_calls.proofs.Promises.KnownChanges.{known-flags, hoisted-le, hoisted-all}
 use Rattle.heap_calls.proofs.Promises.AlikeCalls.{Steady, LeavesFlags, never, steady-never, alike-flags}

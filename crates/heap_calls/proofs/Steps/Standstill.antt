@@ -1,20 +1,9 @@
-use Rattle.std.proofs.Common.{◌≡◌, ℕ, ◌≤◌, Bool, true, false, ◌&&◌, ◌==◌, List, [], ◌∷◌, length, refl, sym, ◌∙◌, ap}
-use Rattle.std.proofs.Common.{subst, arith, Some}
-use Rattle.std.proofs.lemmas.Bool.{or_parts}
-use Rattle.std.proofs.lemmas.Bool.Decides.{Decides-eqb}
-use Rattle.block_store.specs.declared.flags.Flags.{Flags}
-use Rattle.block_store.specs.Block.{Block, Relocatable, sizes, count, is_relocatable, is_nonrelocatable}
-use Rattle.block_store.specs.Room.{put_in_place, room}
-use Rattle.block_store.proofs.Zone.Leading.{count-none}
-use Rattle.block_store.proofs.Zone.Alike.{Alike, alike-refl, alike-then, alike-put, alike-room, stands-is}
-use Rattle.block_store.proofs.Nonrelocatable.Counts.{not_nonrelocatable-relocatable}
-use Rattle.heap_calls.specs.State.{State, Memory, Meaning}
-use Rattle.heap_calls.specs.Answer.{nothing}
-use Rattle.heap_calls.specs.Inside.{has_block}
-use Rattle.heap_calls.specs.Locked.{is_locked, locked_place}
-use Rattle.heap_calls.specs.Standing.{pointer_place}
-use Rattle.heap_calls.specs.Path.{Step, NewFilled, NewEmpty, Refill, Release, Cast, stepped, walk, read_by, put_reads}
-use Rattle.heap_calls.specs.Path.{step_disposes, steps_dispose}
+use Rattle.heap_calls.proofs.Cited.{◌≡◌, ℕ, ◌≤◌, Bool, true, false, ◌&&◌, ◌==◌, List, [], ◌∷◌, length, refl, sym, ◌∙◌, ap, subst, arith}
+use Rattle.heap_calls.proofs.Cited.{Some, or_parts, Decides-eqb, Flags, Block, Relocatable, sizes, count, is_relocatable, is_nonrelocatable}
+use Rattle.heap_calls.proofs.Cited.{put_in_place, room, count-none, Alike, alike-refl, alike-then, alike-put, alike-room, stands-is}
+use Rattle.heap_calls.proofs.Cited.{not_nonrelocatable-relocatable, State, Memory, Meaning, nothing, has_block, is_locked, locked_place}
+use Rattle.heap_calls.proofs.Cited.{pointer_place, Step, NewFilled, NewEmpty, Refill, Release, Cast, stepped, walk, read_by, put_reads}
+use Rattle.heap_calls.proofs.Cited.{step_disposes, steps_dispose}
 use Rattle.heap_calls.proofs.Promises.Knowing.{Known, for_handle, none-handle, next-none}
 use Rattle.heap_calls.proofs.Promises.AlikeCalls.{Steady, never, steady-never, alike-slotted, alike-gone}
 use Rattle.heap_calls.proofs.Promises.LockedLaws.{steady-locked, fewer, some-locked, other-unlocked}

@@ -1,14 +1,7 @@
-use Rattle.std.proofs.Common.{◌≡◌, ℕ, ◌≤◌, Bool, true, false, List, [], ◌∷◌, length, refl, arith}
-use Rattle.std.proofs.lemmas.Bool.{or_parts}
-use Rattle.block_store.specs.Block.{Block, Free, Relocatable, total, count, is_masters, is_purgeable, is_relocatable}
-use Rattle.block_store.specs.Block.{with_content, resized}
-use Rattle.block_store.specs.Run.{has}
-use Rattle.block_store.proofs.Zone.Surviving.{made-all}
-use Rattle.heap_calls.specs.State.{State, Memory}
-use Rattle.heap_calls.specs.Answer.{nothing}
-use Rattle.heap_calls.specs.Emptying.{has_purgeable}
-use Rattle.heap_calls.specs.Path.{Step, NewFilled, NewEmpty, Refill, Release, Cast, stepped, walk, step_disposes}
-use Rattle.heap_calls.specs.Path.{steps_dispose}
+use Rattle.heap_calls.proofs.Cited.{◌≡◌, ℕ, ◌≤◌, Bool, true, false, List, [], ◌∷◌, length, refl, arith, or_parts, Block, Free, Relocatable}
+use Rattle.heap_calls.proofs.Cited.{total, count, is_masters, is_purgeable, is_relocatable, with_content, resized, has, made-all, State}
+use Rattle.heap_calls.proofs.Cited.{Memory, nothing, has_purgeable, Step, NewFilled, NewEmpty, Refill, Release, Cast, stepped, walk}
+use Rattle.heap_calls.proofs.Cited.{step_disposes, steps_dispose}
 use Rattle.heap_calls.proofs.Promises.EmptyingLaws.{Unseen, of-slotted, of-gone, stays, stays-goes, stays-sized}
 use Rattle.heap_calls.proofs.Promises.EmptyingLaws.{stays-filled, stays-other, stays-all, stays-le, still-there}
 use Rattle.heap_calls.proofs.Promises.EmptyingLaws.{masters, masters-goes, masters-sized, masters-filled}

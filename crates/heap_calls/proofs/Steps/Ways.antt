@@ -1,22 +1,12 @@
-use Rattle.std.proofs.Common.{◌≡◌, ℕ, Bool, true, false, List, [], ◌∷◌, ◌++◌, length, refl, sym, ap, subst, cond}
-use Rattle.std.proofs.Common.{Option, Some, None, Result, Ok, Err, slice_get, slice_set, nat_lt}
-use Rattle.std.proofs.lemmas.Option.{same_Some}
-use Rattle.std.specs.Prelude.{is_some, if◌then◌else◌}
-use Rattle.mac_words.specs.Size.{phys}
-use Rattle.mac_words.specs.declared.code.OsErr.{OsErr}
-use Rattle.mac_words.specs.declared.code.TheConstants.OsErr.{MEM_FULL}
-use Rattle.block_store.specs.declared.flags.Flags.{Flags}
-use Rattle.block_store.specs.Block.{Block, Masters, Relocatable}
-use Rattle.block_store.specs.Room.{put_at_base, put_in_place, room}
-use Rattle.block_store.proofs.Zone.Views.{map-some}
-use Rattle.heap_calls.specs.State.{State, Memory, Meaning, Role, Handle, used_slots, all_slots}
+use Rattle.heap_calls.proofs.Cited.{◌≡◌, ℕ, Bool, true, false, List, [], ◌∷◌, ◌++◌, length, refl, sym, ap, subst, cond, Option, Some, None}
+use Rattle.heap_calls.proofs.Cited.{Result, Ok, Err, slice_get, slice_set, nat_lt, same_Some, if◌then◌else◌, phys, OsErr, MEM_FULL, Flags}
+use Rattle.heap_calls.proofs.Cited.{Block, Masters, Relocatable, put_at_base, put_in_place, room, map-some, State, Memory, Meaning, Role}
+use Rattle.heap_calls.proofs.Cited.{Handle, used_slots, all_slots, Answer, nothing, refused, given, rebuilt, handle_at, for_found, without}
+use Rattle.heap_calls.proofs.Cited.{slotted, if_ready, more_masters, made, new_filled, new_empty, refill, released, released_as, cast}
+use Rattle.heap_calls.proofs.Cited.{cast_as, has_block, refill_inside, Step, NewFilled, NewEmpty, Refill, Release, Cast, stepped}
+use Rattle.std.specs.Prelude.{is_some}
 use Rattle.heap_calls.specs.State as names
-use Rattle.heap_calls.specs.Answer.{Answer, nothing, refused, given, rebuilt, handle_at, for_found, without}
 use Rattle.heap_calls.specs.Answer as calls
-use Rattle.heap_calls.specs.Slots.{slotted, if_ready, more_masters, made}
-use Rattle.heap_calls.specs.Inside.{new_filled, new_empty, refill, released, released_as, cast, cast_as, has_block}
-use Rattle.heap_calls.specs.Inside.{refill_inside}
-use Rattle.heap_calls.specs.Path.{Step, NewFilled, NewEmpty, Refill, Release, Cast, stepped}
 use Rattle.heap_calls.proofs.Promises.Knowing.{for_handle}
 use Rattle.heap_calls.proofs.Promises.Knowing.{handle_at-name}
 

@@ -1,28 +1,12 @@
-use Rattle.std.proofs.Common.{◌≡◌, ℕ, ◌+◌, ◌≤◌, Bool, true, false, not, List, [], ◌++◌}
-use Rattle.std.proofs.Common.{refl, sym, ◌∙◌, ap, subst, cond, arith, Option, Some, None, Result, Ok, Err, is_some, length}
-use Rattle.std.proofs.Common.{replicate, nat_lt}
-use Rattle.std.proofs.lemmas.Bool.{and_parts, cond-true}
-use Rattle.std.proofs.lemmas.Option.{same_Some}
-use Rattle.mac_words.specs.Size.{phys}
-use Rattle.mac_words.specs.declared.code.OsErr.{OsErr}
-use Rattle.block_store.specs.Block.{Block, Free, Masters, Relocatable, size, total, is_purgeable}
-use Rattle.block_store.specs.Block.{no_flags}
-use Rattle.block_store.specs.Run.{has_free}
-use Rattle.block_store.specs.Room.{may_be_purged, put_at_base, put_in_place, purge, room}
-use Rattle.block_store.proofs.Zone.Totals.{total-le}
-use Rattle.block_store.proofs.Zone.Views.{map-some}
-use Rattle.block_store.proofs.Zone.Keeping.{based-le}
-use Rattle.heap_calls.specs.State.{State, Memory, used_slots, all_slots}
-use Rattle.heap_calls.specs.Answer.{handle_at, nothing}
-use Rattle.heap_calls.specs.Purging.{purgeable, blocks_purged}
-use Rattle.heap_calls.specs.Slots.{slotted, more_masters}
-use Rattle.heap_calls.specs.Asked.{Asked}
-use Rattle.heap_calls.specs.Inside.{has_block}
-use Rattle.heap_calls.specs.Path.{Step, NewFilled, NewEmpty, Refill, Release, Cast, gone_at}
-use Rattle.heap_calls.specs.Gone.{Gone, gone_of, gone, room_gone, slot_gone, ready_gone, block_gone, made_gone, found_gone}
-use Rattle.heap_calls.specs.Gone.{gone_unless}
-use Rattle.heap_calls.specs.Table.{row, gone_in, bar_of, barred_by, purged_by}
-use Rattle.heap_calls.specs.Rows.{Done, work, told_blocks}
+use Rattle.heap_calls.proofs.Cited.{◌≡◌, ℕ, ◌+◌, ◌≤◌, Bool, true, false, not, List, [], ◌++◌, refl, sym, ◌∙◌, ap, subst, cond, arith}
+use Rattle.heap_calls.proofs.Cited.{Option, Some, None, Result, Ok, Err, is_some, length, replicate, nat_lt, and_parts, cond-true}
+use Rattle.heap_calls.proofs.Cited.{same_Some, phys, OsErr, Block, Free, Masters, Relocatable, size, total, is_purgeable, no_flags}
+use Rattle.heap_calls.proofs.Cited.{has_free, may_be_purged, put_at_base, put_in_place, purge, room, total-le, map-some, based-le, State}
+use Rattle.heap_calls.proofs.Cited.{Memory, used_slots, all_slots, handle_at, nothing, purgeable, blocks_purged, slotted, more_masters}
+use Rattle.heap_calls.proofs.Cited.{Asked, has_block, Step, NewFilled, NewEmpty, Refill, Release, Cast, gone_at, Gone, gone_of, gone}
+use Rattle.heap_calls.proofs.Cited.{room_gone, slot_gone, ready_gone, block_gone, made_gone, found_gone, gone_unless, row, gone_in, bar_of}
+use Rattle.heap_calls.proofs.Cited.{barred_by, Done, work, told_blocks}
+use Rattle.heap_calls.specs.Table.{purged_by}
 use Rattle.heap_calls.proofs.Rows.Kinds.{of-path, by-kind, none-by, gated-by}
 use Rattle.heap_calls.proofs.Rows.Most.{PurgesMost, row-most}
 use Rattle.heap_calls.proofs.Rows.Telling.{path-told}

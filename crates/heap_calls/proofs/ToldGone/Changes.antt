@@ -1,18 +1,8 @@
-use Rattle.std.proofs.Common.{◌≡◌, ℕ, ◌+◌, Bool, true, false, not, List, []}
-use Rattle.std.proofs.Common.{refl, ap, cond, arith, Option, Some, None, length}
-use Rattle.std.proofs.Common.{nat_lt}
-use Rattle.std.proofs.lemmas.Bool.{and_parts}
-use Rattle.std.specs.Prelude.{unwrap_or}
-use Rattle.std.specs.Option.{option_map}
-use Rattle.block_store.specs.Block.{Block, Free, Masters, size, total, is_purgeable, resized}
-use Rattle.block_store.specs.Block.{tidy}
-use Rattle.block_store.specs.Run.{change_run, has_free, low}
-use Rattle.block_store.specs.Room.{may_be_purged, put_at_base, put_in_place, purge, room}
-use Rattle.block_store.proofs.Zone.Keeping.{put-le, based-le}
-use Rattle.block_store.proofs.Zone.Surviving.{put-all, based-all}
-use Rattle.heap_calls.specs.State.{State, used_slots, all_slots}
-use Rattle.heap_calls.specs.Slots.{slotted, more_masters}
-use Rattle.heap_calls.specs.Gone.{Gone, gone_of, gone, room_gone, slot_gone}
+use Rattle.heap_calls.proofs.Cited.{◌≡◌, ℕ, ◌+◌, Bool, true, false, not, List, [], refl, ap, cond, arith, Option, Some, None, length}
+use Rattle.heap_calls.proofs.Cited.{nat_lt, and_parts, unwrap_or, option_map, Block, Free, Masters, size, total, is_purgeable, resized}
+use Rattle.heap_calls.proofs.Cited.{tidy, change_run, has_free, low, may_be_purged, put_at_base, put_in_place, purge, room, put-le}
+use Rattle.heap_calls.proofs.Cited.{based-le, put-all, based-all, State, used_slots, all_slots, slotted, more_masters, Gone, gone_of, gone}
+use Rattle.heap_calls.proofs.Cited.{room_gone, slot_gone}
 use Rattle.heap_calls.proofs.ToldGone.Sums.{Adds, room-told, none-told, purged-is}
 
 -- What a change of a zone leaves, and what is told of blocks that are purged for it, come to just what the zone came

@@ -1,18 +1,9 @@
-use Rattle.std.proofs.Common.{◌≡◌, inl, inr, ℕ, ◌+◌, ◌≤◌, ◌<◌, Bool, true, false, ◌==◌, List, [], ◌∷◌, length, refl, sym, ◌∙◌}
-use Rattle.std.proofs.Common.{ap, subst, cond, arith, Some, map, slice_get}
-use Rattle.std.proofs.lemmas.Bool.Decides.{Decides-eqb}
-use Rattle.std.proofs.lemmas.List.{length-map}
-use Rattle.std.proofs.lemmas.Option.{slice_get_cases, same_Some}
-use Rattle.block_store.specs.Block.{Block, Free, Nonrelocatable, Masters, Relocatable, sizes, count, is_relocatable}
-use Rattle.block_store.specs.Block.{rename, rename_block}
-use Rattle.block_store.specs.Rest.{Rest}
-use Rattle.block_store.specs.declared.measures.TheConstants.{GREATEST_ZONE}
-use Rattle.block_store.proofs.Renamed.Renaming.{total-rename}
-use Rattle.heap_calls.specs.declared.anchor.Anchor.{Anchor}
+use Rattle.heap_calls.proofs.Cited.{◌≡◌, inl, inr, ℕ, ◌+◌, ◌≤◌, ◌<◌, Bool, true, false, ◌==◌, List, [], ◌∷◌, length, refl, sym, ◌∙◌, ap}
+use Rattle.heap_calls.proofs.Cited.{subst, cond, arith, Some, map, slice_get, Decides-eqb, length-map, slice_get_cases, same_Some, Block}
+use Rattle.heap_calls.proofs.Cited.{Free, Nonrelocatable, Masters, Relocatable, sizes, count, is_relocatable, rename, rename_block, Rest}
+use Rattle.heap_calls.proofs.Cited.{GREATEST_ZONE, total-rename, Anchor, Log, Memory, memory_of, name_of, handle_number, pointer_number}
+use Rattle.heap_calls.proofs.Cited.{leads_to, no_number, Agrees}
 use Rattle.heap_calls.specs.declared.anchor.Anchor.TheVariants.{Handle, Pointer, Disposed}
-use Rattle.heap_calls.specs.declared.log.Log.{Log}
-use Rattle.heap_calls.specs.State.{Memory}
-use Rattle.heap_calls.specs.Inner.Numbered.{memory_of, name_of, handle_number, pointer_number, leads_to, no_number, Agrees}
 use Rattle.heap_calls.proofs.Numbering.Answering.{sizes-rename}
 use Rattle.heap_calls.proofs.Numbering.Numbers.{number_from-found, is_relocatable-number}
 

@@ -1,45 +1,18 @@
-use Rattle.std.proofs.Common.{◌≡◌, ℕ, ◌+◌, ◌≤◌, ◌<◌, ◌/◌, ◌%◌, Bool, true, false, ◌&&◌, ◌||◌, ◌==◌, List, []}
-use Rattle.std.proofs.Common.{◌∷◌, ◌++◌, refl, sym, ◌∙◌, ap, subst, cond, arith, Option, Some, None, Result, Ok, Err, ◌⊎◌, inl, inr}
-use Rattle.std.proofs.Common.{length, nat_lt, is_some, replicate}
-use Rattle.std.proofs.lemmas.Bool.{cond-true, cond-false}
-use Rattle.std.proofs.lemmas.Bool.Decides.{Decides-eqb, nat_tests}
-use Rattle.std.proofs.lemmas.Slice.Eq.{bytes_eq-Decides}
-use Rattle.std.specs.Prelude.{bytes_eq, if◌then◌else◌}
-use Rattle.mac_words.specs.declared.code.OsErr.{OsErr}
-use Rattle.mac_words.specs.declared.code.TheConstants.OsErr.{PURGED}
-use Rattle.mac_words.specs.Told.{Told}
-use Rattle.mac_words.specs.Size.{phys}
-use Rattle.block_store.specs.declared.flags.Flags.{Flags}
-use Rattle.block_store.specs.Block.{Block, Free, Nonrelocatable, Masters, Relocatable, sizes, total, count, is_purgeable}
-use Rattle.block_store.specs.Block.{is_relocatable, is_nonrelocatable, with_content, resized, no_flags}
-use Rattle.block_store.specs.Run.{has}
-use Rattle.block_store.specs.Room.{spot}
-use Rattle.block_store.specs.Grow.{freed}
-use Rattle.block_store.specs.declared.measures.TheConstants.{GREATEST_ZONE}
-use Rattle.block_store.proofs.Zone.Leading.{count-none}
-use Rattle.block_store.proofs.Zone.Passing.{has-count}
-use Rattle.block_store.proofs.Zone.Keeping.{unless, freed-is}
-use Rattle.heap_calls.specs.State.{State, Memory}
-use Rattle.heap_calls.specs.Answer.{Known, handle_at, nothing}
-use Rattle.heap_calls.specs.Purging.{is_loose}
-use Rattle.heap_calls.specs.Asked.{Asked}
-use Rattle.heap_calls.specs.Table.{answered, row}
+use Rattle.heap_calls.proofs.Cited.{◌≡◌, ℕ, ◌+◌, ◌≤◌, ◌<◌, ◌/◌, ◌%◌, Bool, true, false, ◌&&◌, ◌||◌, ◌==◌, List, [], ◌∷◌, ◌++◌, refl, sym}
+use Rattle.heap_calls.proofs.Cited.{◌∙◌, ap, subst, cond, arith, Option, Some, None, Result, Ok, Err, ◌⊎◌, inl, inr, length, nat_lt}
+use Rattle.heap_calls.proofs.Cited.{is_some, replicate, cond-true, cond-false, Decides-eqb, nat_tests, bytes_eq-Decides, bytes_eq}
+use Rattle.heap_calls.proofs.Cited.{if◌then◌else◌, OsErr, PURGED, Told, phys, Flags, Block, Free, Nonrelocatable, Masters, Relocatable}
+use Rattle.heap_calls.proofs.Cited.{sizes, total, count, is_purgeable, is_relocatable, is_nonrelocatable, with_content, resized, no_flags}
+use Rattle.heap_calls.proofs.Cited.{has, spot, freed, GREATEST_ZONE, count-none, has-count, unless, freed-is, State, Memory, Known}
+use Rattle.heap_calls.proofs.Cited.{handle_at, nothing, is_loose, Asked, answered, row, keep_code, gate, gated, notes, takes_block, Gone}
+use Rattle.heap_calls.proofs.Cited.{gone_of, gone_unless, refill_gone, gone_in, told_of, bytes_in, TellsWhatGoes, TellsOfPurgeable}
+use Rattle.heap_calls.proofs.Cited.{StepTellsWhatGoes, has_block, refill_inside, released_as, cast_as, Step, NewFilled, NewEmpty, Refill}
+use Rattle.heap_calls.proofs.Cited.{Release, Cast, stepped, gone_at, step_disposes, Put, Drop, seek, if_fits, around, again-most, work}
+use Rattle.heap_calls.proofs.Cited.{told_blocks}
 use Rattle.heap_calls.specs.Asked as asked
-use Rattle.heap_calls.specs.Busy.{keep_code}
-use Rattle.heap_calls.specs.Table.{gate, gated, notes}
-use Rattle.heap_calls.specs.Emptying.{takes_block}
-use Rattle.heap_calls.specs.Gone.{Gone, gone_of, gone_unless, refill_gone}
-use Rattle.heap_calls.specs.Table.{gone_in}
-use Rattle.heap_calls.specs.ToldGone.{told_of, bytes_in, TellsWhatGoes, TellsOfPurgeable, StepTellsWhatGoes}
-use Rattle.heap_calls.specs.Inside.{has_block, refill_inside, released_as, cast_as}
-use Rattle.heap_calls.specs.Path.{Step, NewFilled, NewEmpty, Refill, Release, Cast, stepped, gone_at, step_disposes}
 use Rattle.heap_calls.proofs.Gates.Served.{served-gated}
-use Rattle.moves.specs.Moves.{Put, Drop}
-use Rattle.moves.specs.Seeking.{seek, if_fits, around}
-use Rattle.moves.proofs.Rows.{again-most}
 pub use Rattle.moves.proofs.Told.{weight, by_bytes, weighed}
 use Rattle.heap_calls.specs.Rows as rows
-use Rattle.heap_calls.specs.Rows.{work, told_blocks}
 use Rattle.heap_calls.proofs.Rows.Kinds.{none-by, gated-by}
 use Rattle.heap_calls.proofs.Rows.Telling.{path-told}
 use Rattle.heap_calls.proofs.Promises.Knowing.{handle_at-name}

@@ -1,35 +1,15 @@
-use Rattle.std.proofs.Common.{◌≡◌, ℕ, ◌+◌, ◌≤◌, ◌<◌, Bool, true, false, List, []}
-use Rattle.std.proofs.Common.{◌++◌, refl, sym, ◌∙◌, ap, subst, cond, arith, Option, Some, None, Result, Ok, Err}
-use Rattle.std.proofs.Common.{is_some}
-use Rattle.std.proofs.Common.{length, replicate}
-use Rattle.std.proofs.lemmas.Bool.Decides.{Decides-eqb}
-use Rattle.std.proofs.lemmas.List.{length-replicate}
-use Rattle.std.specs.Prelude.{unwrap_or}
-use Rattle.std.specs.Option.{option_map}
-use Rattle.mac_words.specs.Size.{phys, padded}
-use Rattle.mac_words.specs.declared.code.OsErr.{OsErr}
-use Rattle.mac_words.specs.declared.code.TheConstants.OsErr.{MEM_FULL}
-use Rattle.block_store.specs.declared.flags.Flags.{Flags}
-use Rattle.block_store.specs.Block.{Block, Free, Nonrelocatable, Masters, Relocatable, sizes, total, count}
-use Rattle.block_store.specs.Block.{is_purgeable, is_relocatable, with_content, no_flags, resized}
-use Rattle.block_store.specs.Run.{runs}
-use Rattle.block_store.specs.Room.{put_in_place, room}
-use Rattle.block_store.specs.declared.measures.TheConstants.{GREATEST_ZONE}
-use Rattle.block_store.proofs.Zone.Keeping.{settled-le}
-use Rattle.block_store.proofs.Zone.Surviving.{settled-all}
-use Rattle.heap_calls.specs.State.{State, Memory, Meaning, Role, Plain}
+use Rattle.heap_calls.proofs.Cited.{◌≡◌, ℕ, ◌+◌, ◌≤◌, ◌<◌, Bool, true, false, List, [], ◌++◌, refl, sym, ◌∙◌, ap, subst, cond, arith}
+use Rattle.heap_calls.proofs.Cited.{Option, Some, None, Result, Ok, Err, is_some, length, replicate, Decides-eqb, length-replicate}
+use Rattle.heap_calls.proofs.Cited.{unwrap_or, option_map, phys, padded, OsErr, MEM_FULL, Flags, Block, Free, Nonrelocatable, Masters}
+use Rattle.heap_calls.proofs.Cited.{Relocatable, sizes, total, count, is_purgeable, is_relocatable, with_content, no_flags, resized, runs}
+use Rattle.heap_calls.proofs.Cited.{put_in_place, room, GREATEST_ZONE, settled-le, settled-all, State, Memory, Meaning, Role, Plain, Answer}
+use Rattle.heap_calls.proofs.Cited.{nothing, given, refused, rebuilt, handle_at, for_found, slotted, if_ready, made, purgeable}
+use Rattle.heap_calls.proofs.Cited.{blocks_purged, purged_all, Asked, answered, row, has_block, refill, refill_inside, NewFilled, NewEmpty}
+use Rattle.heap_calls.proofs.Cited.{Refill, stepped, gone_at, Gone, gone_of, room_gone, slot_gone, ready_gone, block_gone, found_gone}
+use Rattle.heap_calls.proofs.Cited.{refill_gone, Weighs, PutsNone}
 use Rattle.heap_calls.specs.State as names
-use Rattle.heap_calls.specs.Answer.{Answer, nothing, given, refused, rebuilt, handle_at, for_found}
-use Rattle.heap_calls.specs.Slots.{slotted, if_ready, made}
-use Rattle.heap_calls.specs.Purging.{purgeable, blocks_purged, purged_all}
-use Rattle.heap_calls.specs.Asked.{Asked}
-use Rattle.heap_calls.specs.Table.{answered, row, purged_by}
-use Rattle.heap_calls.specs.Inside.{has_block, refill, refill_inside}
-use Rattle.heap_calls.specs.Path.{NewFilled, NewEmpty, Refill, stepped, gone_at}
-use Rattle.heap_calls.specs.Gone.{Gone, gone_of, room_gone, slot_gone, ready_gone, block_gone, found_gone}
-use Rattle.heap_calls.specs.Gone.{refill_gone}
+use Rattle.heap_calls.specs.Table.{purged_by}
 use Rattle.heap_calls.proofs.Rows.Kinds.{by-kind}
-use Rattle.moves.proofs.Conserved.{Weighs, PutsNone}
 use Rattle.heap_calls.proofs.Rows.Along.{row-along}
 use Rattle.heap_calls.proofs.Rows.Weighing.{allows-weighs, allows-puts}
 use Rattle.heap_calls.proofs.Rows.Telling.{path-row-even}

@@ -1,13 +1,7 @@
-use Rattle.std.proofs.Common.{◌≡◌, ℕ, ◌+◌, ◌-◌, ◌≤◌, zero, suc, Bool, true, false, List, [], ◌∷◌, ◌++◌, refl}
-use Rattle.std.proofs.Common.{sym, ◌∙◌, ap, cond, arith, Option, Some, None, is_some}
-use Rattle.std.proofs.lemmas.Bool.{cond-true, cond-false}
-use Rattle.mac_words.proofs.Plain.{is_some-map}
-use Rattle.block_store.specs.Block.{Block, Free, size, total}
-use Rattle.block_store.specs.Room.{may_be_purged, lowest_purged, purge, count_of, room, filled, place, put_in_place}
-use Rattle.block_store.specs.Compact.{least_or_last}
-use Rattle.block_store.proofs.Zone.Keeping.{tidied}
-use Rattle.heap_calls.specs.Searches.{room_searches}
-use Rattle.heap_calls.specs.Gone.{Gone, gone_of, gone, room_gone}
+use Rattle.heap_calls.proofs.Cited.{◌≡◌, ℕ, ◌+◌, ◌-◌, ◌≤◌, zero, suc, Bool, true, false, List, [], ◌∷◌, ◌++◌, refl, sym, ◌∙◌, ap, cond}
+use Rattle.heap_calls.proofs.Cited.{arith, Option, Some, None, is_some, cond-true, cond-false, is_some-map, Block, Free, size, total}
+use Rattle.heap_calls.proofs.Cited.{may_be_purged, lowest_purged, purge, count_of, room, filled, place, put_in_place, least_or_last, tidied}
+use Rattle.heap_calls.proofs.Cited.{room_searches, Gone, gone_of, gone, room_gone}
 use Rattle.heap_calls.proofs.Room.LeastSearches.{least-of, tries-of}
 
 -- What blocks come to, and what a list of those that are purged comes to, by one measure.

@@ -1,22 +1,11 @@
-use Rattle.std.proofs.Common.{◌≡◌, ℕ, Bool, true, false, refl, ◌∙◌, ap, cond, Option, Some, None}
-use Rattle.std.proofs.Common.{Result, Ok, Err, slice_get}
-use Rattle.std.specs.Option.{option_or}
-use Rattle.mac_words.specs.declared.code.OsErr.{OsErr}
-use Rattle.heap_calls.specs.State.{Role, Plain, Resource, SystemResource, Memory, Meaning, Handle, Pointer, Disposed}
-use Rattle.heap_calls.specs.Answer.{Known, Held, handle_at, known_as, look_up}
-use Rattle.heap_calls.specs.Asked.{Asked}
-use Rattle.heap_calls.specs.Table.{answered, Bar, row, bar_of, barred_by}
+use Rattle.heap_calls.proofs.Cited.{◌≡◌, ℕ, Bool, true, false, refl, ◌∙◌, ap, cond, Option, Some, None, Result, Ok, Err, slice_get}
+use Rattle.heap_calls.proofs.Cited.{option_or, OsErr, Role, Plain, Resource, SystemResource, Memory, Meaning, Handle, Pointer, Disposed}
+use Rattle.heap_calls.proofs.Cited.{Known, Held, handle_at, known_as, look_up, Asked, answered, Bar, row, bar_of, barred_by, Places, idle}
+use Rattle.heap_calls.proofs.Cited.{is_busy, bar, known_bars, pointer_bars, either_bars, barred, guard, known_guards, change_barred}
+use Rattle.heap_calls.proofs.Cited.{NoneGuarded, pointer_barred, either_barred, next_barred, both_barred, keep_code, either_guards}
+use Rattle.heap_calls.proofs.Cited.{either_change_barred, move_barred, block_named, gate, notes, gated, served, BarredLeaves, Told}
 use Rattle.heap_calls.specs.Table as table
-use Rattle.heap_calls.specs.Busy.{Places, idle, is_busy, bar, known_bars, pointer_bars, either_bars, barred}
-use Rattle.heap_calls.specs.Busy.{guard, known_guards, change_barred, NoneGuarded}
-use Rattle.heap_calls.specs.Busy.{pointer_barred, either_barred, next_barred, both_barred, keep_code}
-use Rattle.heap_calls.specs.Busy.{either_guards, either_change_barred, move_barred}
-use Rattle.heap_calls.specs.Pointers.{block_named}
-use Rattle.heap_calls.specs.Table.{gate, notes}
-use Rattle.heap_calls.specs.Table.{gated, served}
-use Rattle.heap_calls.specs.Refused.{BarredLeaves}
 use Rattle.heap_calls.proofs.Gates.Served.{served-gated}
-use Rattle.mac_words.specs.Told.{Told}
 
 -- What bars a call: a number that is busy, and a handle of a System resource.
 

@@ -1,31 +1,12 @@
-use Rattle.std.proofs.Common.{◌≡◌, inl, inr, ℕ, ◌+◌, ◌-◌, Bool, true, false, List, refl, sym, ap, subst, cond, arith}
-use Rattle.std.proofs.Common.{Option, Some, None, Result, Ok, Err, nat_lt}
-use Rattle.std.specs.Option.{option_map}
-use Rattle.std.specs.Prelude.{unwrap_or}
-use Rattle.mac_words.specs.Size.{phys}
-use Rattle.mac_words.specs.declared.code.OsErr.{OsErr}
-use Rattle.block_store.specs.Block.{Block, Free, Masters, size, total, free_sum, is_purgeable}
-use Rattle.block_store.specs.Block.{is_relocatable, tidy, free}
-use Rattle.block_store.specs.Run.{change_run, has_free, low, movers}
-use Rattle.block_store.specs.Room.{purge, put_at_base, room}
-use Rattle.block_store.proofs.Zone.Totals.{total-append}
-use Rattle.block_store.proofs.Zone.Views.{map-some, room-some, change_run-some}
-use Rattle.block_store.proofs.Zone.Keeping.{tidied, freely, three}
-use Rattle.block_store.proofs.Zone.Surviving.{movers-all, purged-all}
-use Rattle.block_store.proofs.Zone.Alike.{one-run, alike-purged, alike-room, alike-based}
-use Rattle.heap_calls.specs.State.{State, Memory, used_slots, all_slots}
-use Rattle.heap_calls.specs.Answer.{Held, nothing, look_up}
-use Rattle.heap_calls.specs.Slots.{more_masters}
-use Rattle.heap_calls.specs.Purging.{blocks_purged}
-use Rattle.heap_calls.specs.Asked.{Asked}
+use Rattle.heap_calls.proofs.Cited.{◌≡◌, inl, inr, ℕ, ◌+◌, ◌-◌, Bool, true, false, List, refl, sym, ap, subst, cond, arith, Option, Some}
+use Rattle.heap_calls.proofs.Cited.{None, Result, Ok, Err, nat_lt, option_map, unwrap_or, phys, OsErr, Block, Free, Masters, size, total}
+use Rattle.heap_calls.proofs.Cited.{free_sum, is_purgeable, is_relocatable, tidy, free, change_run, has_free, low, movers, purge}
+use Rattle.heap_calls.proofs.Cited.{put_at_base, room, total-append, map-some, room-some, change_run-some, tidied, freely, three}
+use Rattle.heap_calls.proofs.Cited.{movers-all, purged-all, one-run, alike-purged, alike-room, alike-based, State, Memory, used_slots}
+use Rattle.heap_calls.proofs.Cited.{all_slots, Held, nothing, look_up, more_masters, blocks_purged, Asked, gate, zone_behind, slotted_zone}
+use Rattle.heap_calls.proofs.Cited.{copying_zone, zone_left, staying_of, CostsAtMostMasters, RefusedCostsAtMostMasters}
+use Rattle.heap_calls.proofs.Cited.{StepCostsAtMostMasters, Step, NewFilled, NewEmpty, Refill, Release, Cast, left_zone}
 use Rattle.heap_calls.specs.Asked as asked
-use Rattle.heap_calls.specs.Table.{gate}
-use Rattle.heap_calls.specs.Refused.{zone_behind}
-use Rattle.heap_calls.specs.Slots.{slotted_zone}
-use Rattle.heap_calls.specs.Copying.{copying_zone}
-use Rattle.heap_calls.specs.Table.{zone_left}
-use Rattle.heap_calls.specs.Staying.{staying_of, CostsAtMostMasters, RefusedCostsAtMostMasters, StepCostsAtMostMasters}
-use Rattle.heap_calls.specs.Path.{Step, NewFilled, NewEmpty, Refill, Release, Cast, left_zone}
 use Rattle.heap_calls.proofs.Promises.AlikeCalls.{never, steady-never}
 use Rattle.heap_calls.proofs.Promises.EmptyingLaws.{masters, masters-goes}
 use Rattle.heap_calls.proofs.Steps.Refusals.{step-refused}

@@ -1,19 +1,9 @@
-use Rattle.std.proofs.Common.{◌≡◌, ℕ, ◌+◌, ◌≤◌, ◌<◌, Bool, true, false, length, refl, sym, subst, arith}
-use Rattle.std.proofs.Common.{cond, Option, Some, None}
-use Rattle.mac_words.specs.declared.code.OsErr.{OsErr}
-use Rattle.mac_words.specs.Told.{Told}
-use Rattle.block_store.specs.Block.{count, is_masters}
-use Rattle.block_store.specs.Rest.{counted}
-use Rattle.block_store.proofs.Plain.Counters.{counted-none}
-use Rattle.heap_calls.specs.State.{Memory}
-use Rattle.heap_calls.specs.Asked.{Asked}
+use Rattle.heap_calls.proofs.Cited.{◌≡◌, ℕ, ◌+◌, ◌≤◌, ◌<◌, Bool, true, false, length, refl, sym, subst, arith, cond, Option, Some, None}
+use Rattle.heap_calls.proofs.Cited.{OsErr, Told, count, is_masters, counted, counted-none, Memory, Asked, answered, Row, row, answer_of}
+use Rattle.heap_calls.proofs.Cited.{moves_of, keep_code, gate, gated, notes, CountsSearches, CountsMoves, row_searches, row_moves}
+use Rattle.heap_calls.proofs.Cited.{SearchesFew}
 use Rattle.heap_calls.specs.Table as table
-use Rattle.heap_calls.specs.Table.{answered, Row, row, answer_of, moves_of}
-use Rattle.heap_calls.specs.Busy.{keep_code}
-use Rattle.heap_calls.specs.Table.{gate, gated, notes}
-use Rattle.heap_calls.specs.Counts.{behind, CountsSearches, CountsMoves}
-use Rattle.heap_calls.specs.Table.{row_searches, row_moves}
-use Rattle.heap_calls.specs.FewSearches.{SearchesFew}
+use Rattle.heap_calls.specs.Counts.{behind}
 use Rattle.heap_calls.proofs.Gates.Served.{served-gated}
 use Rattle.heap_calls.proofs.Promises.FewSearches.{row_few, row_searched}
 

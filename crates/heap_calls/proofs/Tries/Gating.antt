@@ -1,21 +1,8 @@
-use Rattle.std.proofs.Common.{◌≡◌, ℕ, ◌+◌, ◌≤◌, ◌<◌, ◌^◌, Bool, true, false, List, length, refl, sym, ◌∙◌, subst}
-use Rattle.std.proofs.Common.{cond, Option, Some, None}
-use Rattle.mac_words.specs.declared.code.OsErr.{OsErr}
-use Rattle.block_store.specs.Block.{count, is_relocatable, is_masters}
-use Rattle.block_store.specs.Run.{has}
-use Rattle.block_store.specs.Rest.{counted}
-use Rattle.heap_calls.specs.State.{Memory}
-use Rattle.mac_words.specs.Told.{Told, Refused}
-use Rattle.heap_calls.specs.Asked.{Asked}
-use Rattle.heap_calls.specs.Table.{answered}
+use Rattle.heap_calls.proofs.Cited.{◌≡◌, ℕ, ◌+◌, ◌≤◌, ◌<◌, ◌^◌, Bool, true, false, List, length, refl, sym, ◌∙◌, subst, cond, Option, Some}
+use Rattle.heap_calls.proofs.Cited.{None, OsErr, count, is_relocatable, is_masters, has, counted, Memory, Told, Refused, Asked, answered}
+use Rattle.heap_calls.proofs.Cited.{keep_code, gate, gated, notes, served, put_by, OneBlockEach, takes_block, has_purgeable, RefusedLeaves}
+use Rattle.heap_calls.proofs.Cited.{code_left, zone_behind, Shows}
 use Rattle.heap_calls.specs.Asked as asked
-use Rattle.heap_calls.specs.Busy.{keep_code}
-use Rattle.heap_calls.specs.Table.{gate, gated, notes, served}
-use Rattle.heap_calls.specs.LastPut.{put_by}
-use Rattle.heap_calls.specs.Locked.{OneBlockEach}
-use Rattle.heap_calls.specs.Emptying.{takes_block, has_purgeable}
-use Rattle.heap_calls.specs.Refused.{RefusedLeaves, code_left, zone_behind}
-use Rattle.heap_calls.specs.Shown.{Shows}
 use Rattle.heap_calls.proofs.Promises.Knowing.{Known}
 use Rattle.heap_calls.proofs.Promises.LastPutLaws.{step-known}
 use Rattle.heap_calls.proofs.Promises.ShowingLaws.{shows-known}

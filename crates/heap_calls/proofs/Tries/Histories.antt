@@ -1,11 +1,4 @@
-use Rattle.std.proofs.Common.{ℕ, List, [], ◌∷◌}
-use Rattle.block_store.specs.Rest.{Site}
-use Rattle.heap_calls.specs.State.{Memory, fresh_memory}
-use Rattle.heap_calls.specs.Asked.{Asked}
-use Rattle.heap_calls.specs.Table.{served}
-use Rattle.heap_calls.specs.History.{after_calls}
-use Rattle.heap_calls.specs.LastPut.{put_by}
-use Rattle.heap_calls.specs.Locked.{OneBlockEach}
+use Rattle.heap_calls.proofs.Cited.{ℕ, List, [], ◌∷◌, Site, Memory, fresh_memory, Asked, served, after_calls, put_by, OneBlockEach}
 use Rattle.heap_calls.proofs.Promises.Knowing.{Known, known-fresh}
 use Rattle.heap_calls.proofs.Tries.Gating.{served-known}
 

@@ -1,26 +1,10 @@
-use Rattle.std.proofs.Common.{◌≡◌, ◌≤◌, Bool, true, false, List, refl, sym, ap, arith, Option, Some, None, cond}
-use Rattle.std.proofs.Common.{Result, Ok, Err, nat_lt}
-use Rattle.std.specs.Option.{option_map}
-use Rattle.std.specs.Prelude.{unwrap_or}
-use Rattle.mac_words.specs.Size.{phys}
-use Rattle.mac_words.specs.declared.code.OsErr.{OsErr}
-use Rattle.block_store.specs.Block.{Block, Masters, sizes, count, is_relocatable, is_masters}
-use Rattle.block_store.specs.Room.{room, put_at_base}
-use Rattle.block_store.proofs.Zone.Keeping.{purged-le, base-le}
-use Rattle.heap_calls.specs.State.{State, Memory, used_slots, all_slots}
-use Rattle.heap_calls.specs.Answer.{Held, nothing, look_up}
-use Rattle.heap_calls.specs.Slots.{more_masters}
-use Rattle.heap_calls.specs.Purging.{blocks_purged}
-use Rattle.heap_calls.specs.Asked.{Asked}
-use Rattle.heap_calls.specs.Table.{answered}
+use Rattle.heap_calls.proofs.Cited.{◌≡◌, ◌≤◌, Bool, true, false, List, refl, sym, ap, arith, Option, Some, None, cond, Result, Ok, Err}
+use Rattle.heap_calls.proofs.Cited.{nat_lt, option_map, unwrap_or, phys, OsErr, Block, Masters, sizes, count, is_relocatable, is_masters}
+use Rattle.heap_calls.proofs.Cited.{room, put_at_base, purged-le, base-le, State, Memory, used_slots, all_slots, Held, nothing, look_up}
+use Rattle.heap_calls.proofs.Cited.{more_masters, blocks_purged, Asked, answered, gate, served, OneBlockEach, zone_behind, slotted_zone}
+use Rattle.heap_calls.proofs.Cited.{copying_zone, zone_left, staying_of, staying, LessStaysLater, RefusedKeepsNoMore, KeepsBytes}
+use Rattle.heap_calls.proofs.Cited.{KeepsMasters}
 use Rattle.heap_calls.specs.Asked as asked
-use Rattle.heap_calls.specs.Table.{gate, served}
-use Rattle.heap_calls.specs.Locked.{OneBlockEach}
-use Rattle.heap_calls.specs.Refused.{zone_behind}
-use Rattle.heap_calls.specs.Slots.{slotted_zone}
-use Rattle.heap_calls.specs.Copying.{copying_zone}
-use Rattle.heap_calls.specs.Table.{zone_left}
-use Rattle.heap_calls.specs.Staying.{staying_of, staying, LessStaysLater, RefusedKeepsNoMore, KeepsBytes, KeepsMasters}
 use Rattle.heap_calls.proofs.Promises.AlikeCalls.{Leaves, never, steady-never, alike-answered}
 use Rattle.heap_calls.proofs.Promises.EmptyingLaws.{masters, of-answered, masters-goes, masters-sized, masters-filled}
 use Rattle.heap_calls.proofs.Promises.EmptyingLaws.{masters-spared}

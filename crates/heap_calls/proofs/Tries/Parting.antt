@@ -1,14 +1,7 @@
-use Rattle.std.proofs.Common.{◌≡◌, ℕ, ◌+◌, ◌*◌, ◌%◌, ◌≤◌, ◌<◌, zero, suc, Bool, true, false, not, ◌&&◌, List, [], ◌∷◌}
-use Rattle.std.proofs.Common.{length, refl, ◌∙◌, ap, cond, arith}
-use Rattle.mac_words.specs.Size.{padded}
-use Rattle.block_store.specs.Block.{Block, Free, Nonrelocatable, Masters, Relocatable, size, sizes, total, count, free_of}
-use Rattle.block_store.specs.Block.{free_sum, is_purgeable, is_masters}
-use Rattle.block_store.specs.Room.{lowest_purged, may_be_purged, count_of}
-use Rattle.block_store.proofs.Zone.Tidy.{total-tidy}
-use Rattle.block_store.proofs.Zone.Surviving.{purged-all}
-use Rattle.block_store.proofs.Purged.Purges.{sizes-lowest_purged}
-use Rattle.heap_calls.specs.Answer.{nothing}
-use Rattle.heap_calls.specs.Staying.{ease, staying_of, staying, Parted}
+use Rattle.heap_calls.proofs.Cited.{◌≡◌, ℕ, ◌+◌, ◌*◌, ◌%◌, ◌≤◌, ◌<◌, zero, suc, Bool, true, false, not, ◌&&◌, List, [], ◌∷◌, length, refl}
+use Rattle.heap_calls.proofs.Cited.{◌∙◌, ap, cond, arith, padded, Block, Free, Nonrelocatable, Masters, Relocatable, size, sizes, total}
+use Rattle.heap_calls.proofs.Cited.{count, free_of, free_sum, is_purgeable, is_masters, lowest_purged, may_be_purged, count_of, total-tidy}
+use Rattle.heap_calls.proofs.Cited.{purged-all, sizes-lowest_purged, nothing, ease, staying_of, staying, Parted}
 use Rattle.heap_calls.proofs.Promises.EmptyingLaws.{masters, masters-goes}
 
 -- What can be had of a zone, what stays and the master pointers make up its bytes.

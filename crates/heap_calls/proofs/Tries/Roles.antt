@@ -1,41 +1,18 @@
-use Rattle.std.proofs.Common.{◌≡◌, ℕ, ◌+◌, ◌/◌, ◌%◌, zero, suc, Bool, true, false, ◌==◌, List, [], ◌∷◌, ◌++◌}
-use Rattle.std.proofs.Common.{length, refl, sym, ◌∙◌, ap, subst, cond, arith, Option, Some, None, Result, Ok, Err}
-use Rattle.std.proofs.Common.{nat_le, slice_get, slice_set}
-use Rattle.std.proofs.Common.{ℤ}
-use Rattle.std.proofs.Common.{take, drop}
-use Rattle.std.proofs.lemmas.Bool.Decides.{Decides-eqb}
-use Rattle.std.specs.Option.{option_map, ok_or}
-use Rattle.mac_words.specs.declared.code.OsErr.{OsErr}
-use Rattle.mac_words.specs.declared.code.TheConstants.OsErr.{NIL_HANDLE, LOCKED, PROFILE, PURGED}
-use Rattle.block_store.specs.declared.flags.Flags.{Flags}
-use Rattle.block_store.specs.Block.{Block, is_mover, is_relocatable, is_nonrelocatable, content_of}
-use Rattle.block_store.specs.Block.{with_content, tidy}
-use Rattle.memory_windows.specs.Writes.{written}
-use Rattle.block_store.specs.Room.{Spot, spot}
-use Rattle.block_store.specs.Grow.{freed}
-use Rattle.heap_calls.specs.State.{State, Memory, Plain, Resource, SystemResource, Meaning, Handle, Pointer}
-use Rattle.heap_calls.specs.State.{Disposed}
-use Rattle.heap_calls.specs.Answer.{Answer, Held, nothing, given, refused, disposed_of, rebuilt, change_flags, hoisted}
-use Rattle.heap_calls.specs.Answer.{look_up, known_as, handle_at, for_found, written_at, on_block}
+use Rattle.heap_calls.proofs.Cited.{◌≡◌, ℕ, ◌+◌, ◌/◌, ◌%◌, zero, suc, Bool, true, false, ◌==◌, List, [], ◌∷◌, ◌++◌, length, refl, sym, ◌∙◌}
+use Rattle.heap_calls.proofs.Cited.{ap, subst, cond, arith, Option, Some, None, Result, Ok, Err, nat_le, slice_get, slice_set, ℤ, take}
+use Rattle.heap_calls.proofs.Cited.{drop, Decides-eqb, option_map, ok_or, OsErr, NIL_HANDLE, LOCKED, PROFILE, PURGED, Flags, Block}
+use Rattle.heap_calls.proofs.Cited.{is_mover, is_relocatable, is_nonrelocatable, content_of, with_content, tidy, written, Spot, spot, freed}
+use Rattle.heap_calls.proofs.Cited.{State, Memory, Plain, Resource, SystemResource, Meaning, Handle, Pointer, Disposed, Answer, Held}
+use Rattle.heap_calls.proofs.Cited.{nothing, given, refused, disposed_of, rebuilt, change_flags, hoisted, look_up, known_as, handle_at}
+use Rattle.heap_calls.proofs.Cited.{for_found, written_at, on_block, pointed, pointed_at, dispose_pointer, block_named, moved_into}
+use Rattle.heap_calls.proofs.Cited.{emptied_at, is_loose, Asked, answered, Done, heap_after, Sought, served, resource_meant}
+use Rattle.heap_calls.proofs.Cited.{resource_role_at, if◌then◌else◌, found_in, Occurrence}
 use Rattle.heap_calls.specs.Answer as calls
-use Rattle.heap_calls.specs.Pointers.{pointed, pointed_at}
-use Rattle.heap_calls.specs.Pointers.{dispose_pointer}
-use Rattle.heap_calls.specs.Pointers.{block_named, moved_into}
-use Rattle.heap_calls.specs.Purging.{emptied_at, is_loose}
-use Rattle.heap_calls.specs.Asked.{Asked}
-use Rattle.heap_calls.specs.Table.{answered}
 use Rattle.heap_calls.specs.Rows as rows
-use Rattle.heap_calls.specs.Rows.{Done, heap_after}
-use Rattle.moves.specs.Seeking.{Sought}
 use Rattle.heap_calls.specs.Asked as asked
-use Rattle.heap_calls.specs.Table.{served}
-use Rattle.heap_calls.specs.Owned.{resource_meant, resource_role_at}
 use Rattle.heap_calls.proofs.Promises.Knowing.{pushed}
 use Rattle.heap_calls.proofs.Tries.Gating.{served-holds}
 use Rattle.heap_calls.proofs.Rows.Reads.{reads-same}
-use Rattle.std.specs.Prelude.{if◌then◌else◌}
-use Rattle.heap_calls.specs.Munging.{found_in}
-use Rattle.heap_calls.specs.declared.munging.Occurrence.{Occurrence}
 
 -- No call of the Memory Manager makes a resource's handle, changes its role, or disposes of it.
 

@@ -1,15 +1,8 @@
-use Rattle.std.proofs.Common.{◌≡◌, false, [], ◌∷◌, List, replicate, refl, Some}
-use Rattle.mac_words.specs.declared.code.TheConstants.OsErr.{NO_ERR, LOCKED, NIL_HANDLE, MEM_FULL}
-use Rattle.block_store.specs.Block.{fresh, sizes}
-use Rattle.block_store.specs.Rest.{Site}
-use Rattle.heap_calls.specs.State.{Memory, fresh_memory}
-use Rattle.heap_calls.specs.Asked.{Asked, NewHandle, DisposeHandle, EmptyHandle, HPurge, HLock, HandAndHand, MemError}
-use Rattle.mac_words.specs.Told.{Done, Bytes, Code, Refused}
-use Rattle.heap_calls.specs.Asked.{Show, NewPtr, Zeros}
-use Rattle.heap_calls.specs.Busy.{idle, busied, eased, is_busy, with_busy}
-use Rattle.heap_calls.specs.Table.{served}
-use Rattle.heap_calls.specs.Refused.{refused_zone}
-use Rattle.heap_calls.specs.Staying.{ease, staying, of_masters}
+use Rattle.heap_calls.proofs.Cited.{◌≡◌, false, [], ◌∷◌, List, replicate, refl, Some, NO_ERR, LOCKED, NIL_HANDLE, MEM_FULL, fresh, sizes}
+use Rattle.heap_calls.proofs.Cited.{Site, Memory, fresh_memory, Asked, NewHandle, DisposeHandle, EmptyHandle, HPurge, HLock, HandAndHand}
+use Rattle.heap_calls.proofs.Cited.{MemError, Bytes, Refused, Show, NewPtr, Zeros, idle, busied, eased, is_busy, with_busy, served}
+use Rattle.heap_calls.proofs.Cited.{refused_zone, ease, staying, of_masters}
+use Rattle.mac_words.specs.Told.{Done, Code}
 
 -- Tries of calls while names are busy, and what can be had, on small zones.
 

@@ -1,17 +1,8 @@
-use Rattle.std.proofs.Common.{◌≡◌, ◌⊎◌, inl, inr, ℕ, Bool, true, false, List, refl, sym, ◌∙◌, ap}
-use Rattle.std.proofs.Common.{Option, Some, None, Result, Ok, Err}
-use Rattle.mac_words.specs.declared.code.OsErr.{OsErr}
-use Rattle.mac_words.specs.Told.{Done, Refused}
-use Rattle.block_store.specs.Block.{Block, is_relocatable}
-use Rattle.block_store.specs.Run.{has}
-use Rattle.heap_calls.specs.State.{State, Memory}
-use Rattle.heap_calls.specs.Asked.{Asked, told_as}
+use Rattle.heap_calls.proofs.Cited.{◌≡◌, ◌⊎◌, inl, inr, ℕ, Bool, true, false, List, refl, sym, ◌∙◌, ap, Option, Some, None, Result, Ok, Err}
+use Rattle.heap_calls.proofs.Cited.{OsErr, Refused, Block, is_relocatable, has, State, Memory, Asked, told_as, gate, served, OneBlockEach}
+use Rattle.heap_calls.proofs.Cited.{locked_place, releases, NextIsNew, pointer_place, disposes, takes_block, has_purgeable, zone_behind}
+use Rattle.mac_words.specs.Told.{Done}
 use Rattle.heap_calls.specs.Asked as asked
-use Rattle.heap_calls.specs.Table.{gate, served}
-use Rattle.heap_calls.specs.Locked.{OneBlockEach, locked_place, releases}
-use Rattle.heap_calls.specs.Standing.{NextIsNew, pointer_place, disposes}
-use Rattle.heap_calls.specs.Emptying.{takes_block, has_purgeable}
-use Rattle.heap_calls.specs.Refused.{zone_behind}
 use Rattle.heap_calls.proofs.Promises.Taking.{StaysOr, stays-or-released, stays-or-dropped}
 use Rattle.heap_calls.proofs.Tries.Gating.{served-holds, served-purgeable, served-refused}
 

@@ -1,16 +1,8 @@
-use Rattle.std.proofs.Common.{◌≡◌, ℕ, List, [], ◌∷◌, refl, Some, None, true, false}
-use Rattle.std.proofs.Common.{pos, negsuc}
-use Rattle.mac_words.specs.declared.code.TheConstants.OsErr.{NO_ERR, LOCKED, NIL_HANDLE, WRONG_ZONE, PURGED}
-use Rattle.mac_words.specs.declared.code.TheConstants.OsErr.{PROFILE}
-use Rattle.heap_calls.specs.State.{Memory, fresh_memory}
-use Rattle.mac_words.specs.Told.{Told, Done, Given, Number, Bytes, Code, Refused}
-use Rattle.mac_words.specs.Told.{Offset}
-use Rattle.heap_calls.specs.Asked.{Asked}
+use Rattle.heap_calls.proofs.Cited.{◌≡◌, ℕ, List, [], ◌∷◌, refl, Some, None, true, false, pos, negsuc, NO_ERR, LOCKED, NIL_HANDLE}
+use Rattle.heap_calls.proofs.Cited.{WRONG_ZONE, PURGED, PROFILE, Memory, fresh_memory, Told, Given, Number, Bytes, Refused, Offset, Asked}
+use Rattle.heap_calls.proofs.Cited.{idle, busied, eased, is_busy, with_busy, served, Site, Like, Many}
+use Rattle.mac_words.specs.Told.{Done, Code}
 use Rattle.heap_calls.specs.Asked as asks
-use Rattle.heap_calls.specs.Busy.{idle, busied, eased, is_busy, with_busy}
-use Rattle.heap_calls.specs.Table.{served}
-use Rattle.block_store.specs.Rest.{Site}
-use Rattle.heap_calls.specs.Munging.{Like, Many}
 
 -- Calls while names are busy, by the definitions alone.
 

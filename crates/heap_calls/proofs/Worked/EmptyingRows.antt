@@ -1,12 +1,6 @@
-use Rattle.std.proofs.Common.{◌≡◌, true, false, [], ◌∷◌, replicate, refl}
-use Rattle.block_store.specs.declared.flags.Flags.{Flags}
-use Rattle.block_store.specs.Block.{Free, Masters, Relocatable, no_flags, is_relocatable}
-use Rattle.block_store.specs.Run.{has}
-use Rattle.heap_calls.specs.State.{State, Handle, Plain}
-use Rattle.heap_calls.specs.Purging.{purge_mem}
-use Rattle.heap_calls.specs.Emptying.{has_purgeable}
+use Rattle.heap_calls.proofs.Cited.{◌≡◌, true, false, [], ◌∷◌, replicate, refl, Flags, Free, Masters, Relocatable, no_flags, is_relocatable}
+use Rattle.heap_calls.proofs.Cited.{has, State, Handle, Plain, purge_mem, has_purgeable, answer_made}
 use Rattle.heap_calls.specs.Rows as rows
-use Rattle.heap_calls.specs.Rows.{answer_made}
 
 -- Blocks that may be purged, on a small zone.
 

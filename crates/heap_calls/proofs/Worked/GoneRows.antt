@@ -1,15 +1,7 @@
-use Rattle.std.proofs.Common.{◌≡◌, false, List, [], ◌∷◌, refl, Some, replicate}
-use Rattle.block_store.specs.Rest.{Site}
-use Rattle.heap_calls.specs.State.{Memory, fresh_memory}
-use Rattle.heap_calls.specs.Asked.{Asked}
+use Rattle.heap_calls.proofs.Cited.{◌≡◌, false, List, [], ◌∷◌, refl, Some, replicate, Site, Memory, fresh_memory, Asked, served, Gone}
+use Rattle.heap_calls.proofs.Cited.{refill_gone, gone_in, told_of, bytes_in, has_block, purges_made}
 use Rattle.heap_calls.specs.Asked as asks
-use Rattle.heap_calls.specs.Table.{served}
-use Rattle.heap_calls.specs.Gone.{Gone, refill_gone}
-use Rattle.heap_calls.specs.Table.{gone_in}
-use Rattle.heap_calls.specs.ToldGone.{told_of, bytes_in}
-use Rattle.heap_calls.specs.Inside.{has_block}
 use Rattle.heap_calls.specs.Rows as rows
-use Rattle.heap_calls.specs.Rows.{purges_made}
 
 -- The blocks that calls purge for a new block of a handle, by the definitions alone.
 

@@ -1,13 +1,7 @@
-use Rattle.std.proofs.Common.{◌≡◌, true, false, [], ◌∷◌, replicate, refl, Some, None}
-use Rattle.block_store.specs.declared.flags.Flags.{Flags}
-use Rattle.block_store.specs.Block.{Free, Masters, Relocatable, no_flags}
-use Rattle.heap_calls.specs.State.{State, Handle, Plain}
-use Rattle.heap_calls.specs.Answer.{h_unlock, move_h_hi, dispose_handle}
-use Rattle.heap_calls.specs.Purging.{h_set_state}
-use Rattle.heap_calls.specs.Locked.{locked_place, releases}
-use Rattle.heap_calls.specs.Asked.{HSetState}
+use Rattle.heap_calls.proofs.Cited.{◌≡◌, true, false, [], ◌∷◌, replicate, refl, Some, None, Flags, Free, Masters, Relocatable, no_flags}
+use Rattle.heap_calls.proofs.Cited.{State, Handle, Plain, h_unlock, move_h_hi, dispose_handle, h_set_state, locked_place, releases}
+use Rattle.heap_calls.proofs.Cited.{HSetState, answer_made}
 use Rattle.heap_calls.specs.Rows as rows
-use Rattle.heap_calls.specs.Rows.{answer_made}
 
 -- The place of a locked block, on a small zone.
 

@@ -1,12 +1,6 @@
-use Rattle.std.proofs.Common.{◌≡◌, true, false, [], ◌∷◌, refl, Some}
-use Rattle.block_store.specs.declared.flags.Flags.{Flags}
-use Rattle.block_store.specs.Block.{Free, Masters, Relocatable, no_flags}
-use Rattle.heap_calls.specs.State.{State, Handle, Plain}
-use Rattle.heap_calls.specs.Moves.{place_moves}
-use Rattle.heap_calls.specs.Moves.{compact_mem_moves}
-use Rattle.heap_calls.specs.Moves.{max_mem_moves}
+use Rattle.heap_calls.proofs.Cited.{◌≡◌, true, false, [], ◌∷◌, refl, Some, Flags, Free, Masters, Relocatable, no_flags, State, Handle}
+use Rattle.heap_calls.proofs.Cited.{Plain, place_moves, compact_mem_moves, max_mem_moves, moves_made}
 use Rattle.heap_calls.specs.Rows as rows
-use Rattle.heap_calls.specs.Rows.{moves_made}
 
 -- How many blocks packing moves down, by the definitions alone.
 

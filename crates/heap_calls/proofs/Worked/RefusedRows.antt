@@ -1,17 +1,9 @@
-use Rattle.std.proofs.Common.{◌≡◌, ℕ, true, false, zero, suc, [], ◌∷◌, replicate, refl, Some, Err}
-use Rattle.mac_words.specs.declared.code.TheConstants.OsErr.{NO_ERR, MEM_FULL, NIL_HANDLE, PROFILE}
-use Rattle.block_store.specs.declared.flags.Flags.{Flags}
-use Rattle.block_store.specs.Block.{Free, Nonrelocatable, Masters, Relocatable, is_relocatable}
-use Rattle.block_store.specs.Run.{has}
-use Rattle.heap_calls.specs.State.{State, Handle, Pointer, Plain, fresh_heap}
-use Rattle.heap_calls.specs.Answer.{put, show}
-use Rattle.heap_calls.specs.Purging.{h_purge, purge_mem}
-use Rattle.heap_calls.specs.Asked.{NewHandle, Zeros, PurgeMem, NewPtr, Put}
-use Rattle.heap_calls.specs.Refused.{code_left}
-use Rattle.heap_calls.specs.Table.{zone_left}
-use Rattle.heap_calls.specs.Staying.{ease}
+use Rattle.heap_calls.proofs.Cited.{◌≡◌, ℕ, true, false, zero, suc, [], ◌∷◌, replicate, refl, Some, Err, NO_ERR, MEM_FULL, NIL_HANDLE}
+use Rattle.heap_calls.proofs.Cited.{PROFILE, Flags, Free, Nonrelocatable, Masters, Relocatable, is_relocatable, has, State, Handle, Pointer}
+use Rattle.heap_calls.proofs.Cited.{Plain, fresh_heap, put, show, h_purge, purge_mem, NewHandle, Zeros, PurgeMem, NewPtr, code_left}
+use Rattle.heap_calls.proofs.Cited.{zone_left, ease, answer_made}
+use Rattle.heap_calls.specs.Asked.{Put}
 use Rattle.heap_calls.specs.Rows as rows
-use Rattle.heap_calls.specs.Rows.{answer_made}
 
 -- What refused calls leave, on small zones.
 

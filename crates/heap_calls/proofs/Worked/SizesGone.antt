@@ -1,11 +1,6 @@
-use Rattle.std.proofs.Common.{◌≡◌, true, false, [], ◌∷◌, refl, Some, None}
-use Rattle.mac_words.specs.declared.code.TheConstants.OsErr.{LOCKED}
-use Rattle.block_store.specs.declared.flags.Flags.{Flags}
-use Rattle.block_store.specs.Block.{Block, Free, Masters, Nonrelocatable, Relocatable, no_flags}
-use Rattle.heap_calls.specs.State.{State, Handle, Plain, Pointer}
-use Rattle.heap_calls.specs.Gone.{gone_unless}
+use Rattle.heap_calls.proofs.Cited.{◌≡◌, true, false, [], ◌∷◌, refl, Some, None, LOCKED, Flags, Block, Free, Masters, Nonrelocatable}
+use Rattle.heap_calls.proofs.Cited.{Relocatable, no_flags, State, Handle, Plain, Pointer, gone_unless, purges_made}
 use Rattle.heap_calls.specs.Rows as rows
-use Rattle.heap_calls.specs.Rows.{purges_made}
 
 -- What is purged where a block gets another size, by the definitions alone.
 

@@ -1,12 +1,7 @@
-use Rattle.std.proofs.Common.{◌≡◌, true, [], ◌∷◌, replicate, refl, Some, None}
-use Rattle.block_store.specs.Block.{Free, Nonrelocatable, Masters, Relocatable, no_flags}
-use Rattle.heap_calls.specs.State.{State, Handle, Pointer, Plain}
-use Rattle.heap_calls.specs.Pointers.{dispose_pointer}
-use Rattle.heap_calls.specs.Purging.{max_mem}
-use Rattle.heap_calls.specs.Standing.{pointer_place, disposes}
-use Rattle.heap_calls.specs.Asked.{DisposePtr}
+use Rattle.heap_calls.proofs.Cited.{◌≡◌, true, [], ◌∷◌, replicate, refl, Some, None, Free, Nonrelocatable, Masters, Relocatable, no_flags}
+use Rattle.heap_calls.proofs.Cited.{State, Handle, Pointer, Plain, dispose_pointer, max_mem, pointer_place, disposes, DisposePtr}
+use Rattle.heap_calls.proofs.Cited.{answer_made}
 use Rattle.heap_calls.specs.Rows as rows
-use Rattle.heap_calls.specs.Rows.{answer_made}
 
 -- The place of a pointer's block, on a small zone.
 

@@ -1,16 +1,8 @@
-use Rattle.std.proofs.Common.{◌≡◌, true, false, List, [], ◌∷◌, ◌++◌, replicate, refl, Some}
-use Rattle.mac_words.specs.declared.code.TheConstants.OsErr.{NO_ERR, MEM_FULL}
-use Rattle.block_store.specs.declared.flags.Flags.{Flags}
-use Rattle.block_store.specs.Block.{Free, Nonrelocatable, Masters, Relocatable, no_flags}
-use Rattle.block_store.specs.Rest.{Site}
-use Rattle.heap_calls.specs.State.{State, Memory, Handle, Pointer, Disposed, Plain, Resource, SystemResource}
-use Rattle.heap_calls.specs.Busy.{idle}
-use Rattle.heap_calls.specs.Locked.{locked_place}
-use Rattle.heap_calls.specs.Standing.{pointer_place}
-use Rattle.heap_calls.specs.Inside.{guarded_as, owned_as}
-use Rattle.heap_calls.specs.Path.{Step, NewFilled, NewEmpty, Refill, Release, Cast, stepped, refusal, read_by, walk}
-use Rattle.heap_calls.specs.Path.{gone_at, reads, put_reads, steps_dispose}
-use Rattle.heap_calls.specs.Gone.{all_gone}
+use Rattle.heap_calls.proofs.Cited.{◌≡◌, true, false, List, [], ◌∷◌, ◌++◌, replicate, refl, Some, NO_ERR, MEM_FULL, Flags, Free}
+use Rattle.heap_calls.proofs.Cited.{Nonrelocatable, Masters, Relocatable, no_flags, Site, State, Memory, Handle, Pointer, Disposed, Plain}
+use Rattle.heap_calls.proofs.Cited.{Resource, SystemResource, idle, locked_place, pointer_place, guarded_as, owned_as, Step, NewFilled}
+use Rattle.heap_calls.proofs.Cited.{NewEmpty, Refill, Release, Cast, stepped, refusal, read_by, walk, gone_at, reads, put_reads}
+use Rattle.heap_calls.proofs.Cited.{steps_dispose, all_gone}
 
 -- Steps on a small heap.
 

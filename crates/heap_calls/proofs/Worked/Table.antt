@@ -1,14 +1,9 @@
-use Rattle.std.proofs.Common.{◌≡◌, ℕ, List, [], ◌∷◌, ◌++◌, replicate, refl, Some, Ok, Err}
+use Rattle.heap_calls.proofs.Cited.{◌≡◌, ℕ, List, [], ◌∷◌, ◌++◌, replicate, refl, Some, Ok, Err, State, fresh_heap, Answer, dispose_handle}
+use Rattle.heap_calls.proofs.Cited.{get_handle_size, show, free_mem, max_block, compact_mem, put, h_lock, h_unlock, move_h_hi, h_lock_hi}
+use Rattle.heap_calls.proofs.Cited.{dispose_pointer, get_pointer_size, show_pointer, put_pointer, place_of, h_purge, h_no_purge}
+use Rattle.heap_calls.proofs.Cited.{h_get_state, h_set_state, empty_handle, purge_mem, purge_space, max_mem, answer_made}
 use Rattle.std.specs.Prelude.{ℤ, pos, negsuc, suc}
-use Rattle.heap_calls.specs.State.{State, fresh_heap}
-use Rattle.heap_calls.specs.Answer.{Answer, dispose_handle, get_handle_size, show, free_mem, max_block}
-use Rattle.heap_calls.specs.Answer.{compact_mem, put, h_lock, h_unlock, move_h_hi, h_lock_hi}
-use Rattle.heap_calls.specs.Pointers.{dispose_pointer, get_pointer_size, show_pointer}
-use Rattle.heap_calls.specs.Pointers.{put_pointer, place_of}
-use Rattle.heap_calls.specs.Purging.{h_purge, h_no_purge, h_get_state, h_set_state, empty_handle}
-use Rattle.heap_calls.specs.Purging.{purge_mem, purge_space, max_mem}
 use Rattle.heap_calls.specs.Rows as rows
-use Rattle.heap_calls.specs.Rows.{answer_made}
 
 -- The worked examples of the table, by the definitions alone.
 

@@ -1,11 +1,5 @@
-use Rattle.std.proofs.Common.{◌≡◌, ℕ, ◌+◌, ◌<◌, List, ◌∷◌, ◌++◌, length, take, drop, get_or, sym, ◌∙◌, ap, subst}
-use Rattle.std.proofs.Common.{Option, slice_set}
-use Rattle.std.proofs.lemmas.List.{set-set}
-use Rattle.std.specs.Option.{IfSome, IsSomeAnd}
-use Rattle.block_store.specs.Block.{Block}
-use Rattle.block_store.specs.Room.{Spot}
-use Rattle.list_store.specs.declared.entries.StoredBlock.{StoredBlock}
-use Rattle.list_store.specs.Lists.{block_of, blocks_of, nth_spot}
+use Rattle.list_store.proofs.Cited.{◌≡◌, ℕ, ◌+◌, ◌<◌, List, ◌∷◌, ◌++◌, length, take, drop, get_or, sym, ◌∙◌, ap, subst, Option, slice_set}
+use Rattle.list_store.proofs.Cited.{set-set, IfSome, IsSomeAnd, Block, Spot, StoredBlock, block_of, blocks_of, nth_spot}
 use Rattle.list_store.proofs.Zone.Listing.{nth_spot-at, drop-blocks}
 use Rattle.list_store.proofs.Zone.Spots.{blocks-set}
 

@@ -1,15 +1,9 @@
-use Rattle.std.proofs.Common.{◌≡◌, ℕ, ◌+◌, ◌≤◌, ◌<◌, List, ◌∷◌, ◌++◌, length, take, drop, get_or, sym, ◌∙◌, ap, subst}
-use Rattle.std.proofs.Common.{slice_set}
-use Rattle.std.proofs.lemmas.List.{take-append-drop}
-use Rattle.std.specs.Option.{IsSomeAnd}
-use Rattle.block_store.specs.Block.{Block, Free, size, sizes}
-use Rattle.block_store.specs.Room.{spot_at}
-use Rattle.list_store.specs.declared.entries.StoredBlock.{StoredBlock}
+use Rattle.list_store.proofs.Cited.{◌≡◌, ℕ, ◌+◌, ◌≤◌, ◌<◌, List, ◌∷◌, ◌++◌, length, take, drop, get_or, sym, ◌∙◌, ap, subst, slice_set}
+use Rattle.list_store.proofs.Cited.{take-append-drop, IsSomeAnd, Block, Free, size, sizes, spot_at, StoredBlock, block_of, blocks_of}
+use Rattle.list_store.proofs.Cited.{nth_spot, sizes-carved}
 use Rattle.list_store.specs.declared.entries.StoredBlock.TheVariants as entry
-use Rattle.list_store.specs.Lists.{block_of, blocks_of, nth_spot}
 use Rattle.list_store.proofs.Zone.Listing.{drop-blocks, entry_fits}
 use Rattle.list_store.proofs.Zone.Spots.{from_entry, blocks-carved}
-use Rattle.block_store.proofs.Zone.Spots.{sizes-carved}
 
 -- the entry of an index, in which a block has room
 pub record FitsAt (es : List StoredBlock) (i : ℕ) (e : StoredBlock) (new : Block) : Type 0 where

@@ -1,22 +1,12 @@
-use Rattle.std.proofs.Common.{◌≡◌, ℕ, ◌+◌, ◌-◌, ◌≤◌, ◌<◌, zero, suc, true, false, List, [], ◌∷◌, ◌++◌}
-use Rattle.std.proofs.Common.{length, take, drop, get_or, slice_set, sym, ◌∙◌, ap, cond, map, subst, arith}
-use Rattle.std.proofs.Common.{Option, Some, None, ◌⊎◌, inl, inr}
-use Rattle.std.proofs.lemmas.Bool.{cond-true}
-use Rattle.std.proofs.lemmas.List.{length-map, map-append, take-map, drop-map, length-take, length-append}
-use Rattle.std.proofs.lemmas.List.{take-append-drop}
-use Rattle.std.specs.Option.{IfSome, IsSome, IsSomeAnd}
-use Rattle.block_store.specs.Block.{Block, Free, size, sizes, free, is_room, is_relocatable, total}
-use Rattle.block_store.specs.Room.{Spot, spot_at}
-use Rattle.block_store.specs.Grow.{taken, growth, grow_up, freed}
-use Rattle.list_store.specs.Lists.{block_of, blocks_of, nth_spot}
-use Rattle.list_store.specs.declared.entries.StoredBlock.{StoredBlock}
+use Rattle.list_store.proofs.Cited.{◌≡◌, ℕ, ◌+◌, ◌-◌, ◌≤◌, ◌<◌, zero, suc, true, false, List, [], ◌∷◌, ◌++◌, length, take, drop, get_or}
+use Rattle.list_store.proofs.Cited.{slice_set, sym, ◌∙◌, ap, cond, map, subst, arith, Option, Some, None, ◌⊎◌, inl, inr, cond-true}
+use Rattle.list_store.proofs.Cited.{length-map, map-append, take-map, drop-map, length-take, length-append, take-append-drop, IfSome}
+use Rattle.list_store.proofs.Cited.{IsSome, IsSomeAnd, Block, Free, size, sizes, free, is_room, is_relocatable, total, Spot, spot_at, taken}
+use Rattle.list_store.proofs.Cited.{growth, grow_up, freed, block_of, blocks_of, nth_spot, StoredBlock, total-append, size-freed, room-size}
+use Rattle.list_store.proofs.Cited.{free-some, found, if_some, taken-room, taken-fits, grow_up-taken, moved-carved}
 use Rattle.list_store.specs.declared.entries.StoredBlock.TheVariants as entry
-use Rattle.block_store.proofs.Zone.Totals.{total-append}
 use Rattle.list_store.proofs.Zone.Listing.{entry_fits, drop-blocks, blocks-remove, nth_spot-at}
-use Rattle.block_store.proofs.Zone.Listing.{size-freed}
 use Rattle.list_store.proofs.Zone.Spots.{from_entry, by_entry, blocks-set}
-use Rattle.block_store.proofs.Zone.Spots.{room-size, free-some}
-use Rattle.block_store.proofs.Content.Resizing.{found, if_some, taken-room, taken-fits, grow_up-taken, moved-carved}
 
 pub within-taken : (d i : ℕ) (es : List StoredBlock) → IsSome (taken d (drop i (blocks_of es))) → i < length es
 within-taken d zero [] is = let f : false ≡ true = is in cc

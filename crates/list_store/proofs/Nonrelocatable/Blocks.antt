@@ -1,15 +1,7 @@
-use Rattle.std.proofs.Common.{◌≡◌, ℕ, ◌+◌, ◌-◌, Bool, true, false, List, [], ◌∷◌, ◌++◌, length}
-use Rattle.std.proofs.Common.{refl, sym, ◌∙◌, ap, subst, arith, Result, Ok, Err, replicate, zero, suc}
-use Rattle.std.specs.Result.{OnOk, OnErr}
-use Rattle.std.specs.Option.{IfSome, IsSomeAnd}
-use Rattle.block_store.specs.Block.{Block, Masters, is_room}
-use Rattle.block_store.specs.Room.{spot_at, filled}
-use Rattle.block_store.specs.Slot.{is_used}
-use Rattle.list_store.specs.declared.slots.SlotEntry.{SlotEntry}
+use Rattle.list_store.proofs.Cited.{◌≡◌, ℕ, ◌+◌, ◌-◌, Bool, true, false, List, [], ◌∷◌, ◌++◌, length, refl, sym, ◌∙◌, ap, subst, arith}
+use Rattle.list_store.proofs.Cited.{Result, Ok, Err, replicate, zero, suc, OnOk, OnErr, IfSome, IsSomeAnd, Block, Masters, is_room, spot_at}
+use Rattle.list_store.proofs.Cited.{filled, is_used, SlotEntry, slots_of, Lawful, lawful-stood}
 use Rattle.list_store.specs.declared.slots.SlotEntry.TheVariants as slot_entry
-use Rattle.list_store.specs.Lists.{slots_of}
-use Rattle.block_store.proofs.Content.Filling.{Lawful}
-use Rattle.block_store.proofs.Nonrelocatable.Blocks.{lawful-stood}
 
 -- slots with unused ones after them
 slots_of-more : (slots : List SlotEntry) (n k : ℕ) → is_used (slots_of slots k) ≡ true

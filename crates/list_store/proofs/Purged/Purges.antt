@@ -1,12 +1,6 @@
-use Rattle.std.proofs.Common.{◌≡◌, ℕ, ◌+◌, ◌-◌, ◌<◌, zero, suc, List, [], ◌∷◌, ◌++◌}
-use Rattle.std.proofs.Common.{length, take, drop, refl, sym, ◌∙◌, ap, arith, Option, Some, None}
-use Rattle.std.proofs.Common.{append_assoc, subst}
-use Rattle.std.proofs.lemmas.Option.{none-some, same_Some}
-use Rattle.std.specs.Option.{option_map, IfSome}
-use Rattle.block_store.specs.Block.{Block, tidy}
-use Rattle.block_store.specs.Room.{Spot, raised, spot_at}
-use Rattle.list_store.specs.declared.entries.StoredBlock.{StoredBlock}
-use Rattle.list_store.specs.Lists.{nth_spot, blocks_of}
+use Rattle.list_store.proofs.Cited.{◌≡◌, ℕ, ◌+◌, ◌-◌, ◌<◌, zero, suc, List, [], ◌∷◌, ◌++◌, length, take, drop, refl, sym, ◌∙◌, ap, arith}
+use Rattle.list_store.proofs.Cited.{Option, Some, None, append_assoc, subst, none-some, same_Some, option_map, IfSome, Block, tidy, Spot}
+use Rattle.list_store.proofs.Cited.{raised, spot_at, StoredBlock, nth_spot, blocks_of}
 
 -- the parts of the spot of an index
 pub nth_spot-parts : (i : ℕ) (bs : List Block) (s : Spot) → nth_spot i bs ≡ Some s

@@ -1,27 +1,15 @@
-use Rattle.std.proofs.Common.{◌≡◌, ℕ, ◌+◌, ◌-◌, ◌≤◌, ◌<◌, zero, suc, Bool, true, false, ◌||◌, List, []}
-use Rattle.std.proofs.Common.{◌∷◌, ◌++◌, length, take, drop, map, get_or, refl, sym, ◌∙◌, ap, subst, arith}
-use Rattle.std.proofs.Common.{Option, Some, None, append_assoc, slice_set}
-use Rattle.std.proofs.lemmas.List.{drop-map, take-map, map-append, take-append-drop, length-map}
-use Rattle.std.proofs.lemmas.List.{length-take, length-drop, drop_all, drop-drop, take_at}
+use Rattle.list_store.proofs.Cited.{◌≡◌, ℕ, ◌+◌, ◌-◌, ◌≤◌, ◌<◌, zero, suc, Bool, true, false, ◌||◌, List, [], ◌∷◌, ◌++◌, length, take, drop}
+use Rattle.list_store.proofs.Cited.{map, get_or, refl, sym, ◌∙◌, ap, subst, arith, Option, Some, None, append_assoc, slice_set, drop-map}
+use Rattle.list_store.proofs.Cited.{take-map, map-append, take-append-drop, length-map, length-take, length-drop, drop_all, drop-drop}
+use Rattle.list_store.proofs.Cited.{take_at, none-some, same_Some, remove, insert, option_map, IfSome, IsSomeAnd, IsTrue, Block, Free}
+use Rattle.list_store.proofs.Cited.{sizes, total, free, free_sum, size, tidy, has, movers, has_free, RunSpot, with_run, run_at, is_free}
+use Rattle.list_store.proofs.Cited.{Spot, raised, StoredBlock, block_of, blocks_of, nth_spot, Loose, cleared, cleared_first, packed}
+use Rattle.list_store.proofs.Cited.{run_between, run_at-parts, the_some, cleared-free, cleared-other, tidy-packed, take-last, drop-last}
+use Rattle.list_store.proofs.Cited.{tidy-run, total-between, run-above, raised-fits, raised-run, free-enough, Raised}
 use borrow.Rule.Slice.PartMut.{put_mid, post_of, same_len_mid}
-use Rattle.std.proofs.lemmas.Option.{none-some, same_Some}
-use Rattle.std.specs.List.{remove, insert}
-use Rattle.std.specs.Option.{option_map, IfSome, IsSomeAnd}
-use Rattle.std.specs.Bool.{IsTrue}
-use Rattle.block_store.specs.Block.{Block, Free, sizes, total, free, free_sum, size, tidy}
-use Rattle.block_store.specs.Run.{has, movers, has_free, RunSpot, with_run, run_at}
-use Rattle.block_store.specs.Inner.Stretch.{is_free}
-use Rattle.block_store.specs.Room.{Spot, raised}
-use Rattle.list_store.specs.declared.entries.StoredBlock.{StoredBlock}
 use Rattle.list_store.specs.declared.entries.StoredBlock.TheVariants as entry
-use Rattle.list_store.specs.Lists.{block_of, blocks_of, nth_spot}
-use Rattle.block_store.specs.Inner.Packing.{Loose, cleared, cleared_first, packed, run_between}
 use Rattle.list_store.proofs.Zone.Listing.{drop-blocks, nth_spot-at, blocks-remove}
 use Rattle.list_store.proofs.Zone.Spots.{blocks-set}
-use Rattle.block_store.proofs.Regroup.RunLists.{run_at-parts}
-use Rattle.block_store.proofs.Plain.Options.{the_some}
-use Rattle.block_store.proofs.Regroup.Packed.{cleared-free, cleared-other, tidy-packed, take-last, drop-last, tidy-run}
-use Rattle.block_store.proofs.Regroup.Packed.{total-between, run-above, raised-fits, raised-run, free-enough, Raised}
 
 -- a test among the blocks from an entry on
 pub has-drop : (t : Block → Bool) (es : List StoredBlock) (i : ℕ) (e : StoredBlock) → i < length es → e ≡ get_or es i e

@@ -1,12 +1,6 @@
-use Rattle.std.proofs.Common.{◌≡◌, ℕ, ◌+◌, ◌-◌, zero, suc, List, [], ◌∷◌, take}
-use Rattle.std.proofs.Common.{drop, length, ◌≤◌, subst, sym, ◌∙◌, ap, arith, Option, Some, None}
-use Rattle.std.proofs.lemmas.List.{take_all, drop-map, length-drop}
-use Rattle.std.specs.Option.{option_map, IfSome}
-use Rattle.block_store.specs.Block.{Block, sizes}
-use Rattle.block_store.specs.Room.{Spot, raised, spot_at}
-use Rattle.list_store.specs.declared.entries.StoredBlock.{StoredBlock}
-use Rattle.list_store.specs.Lists.{block_of, blocks_of, nth_spot}
-use Rattle.block_store.proofs.Regroup.RunSpots.{sizes-drop}
+use Rattle.list_store.proofs.Cited.{◌≡◌, ℕ, ◌+◌, ◌-◌, zero, suc, List, [], ◌∷◌, take, drop, length, ◌≤◌, subst, sym, ◌∙◌, ap, arith, Option}
+use Rattle.list_store.proofs.Cited.{Some, None, take_all, drop-map, length-drop, option_map, IfSome, Block, sizes, Spot, raised, spot_at}
+use Rattle.list_store.proofs.Cited.{StoredBlock, block_of, blocks_of, nth_spot, sizes-drop}
 
 -- what is above the block of an index
 nth-above : (i : ℕ) (bs : List Block) (P : List Block → Type 0) → P (drop (suc i) bs)

@@ -1,20 +1,10 @@
-use Rattle.std.proofs.Common.{◌≡◌, ℕ, ◌+◌, ◌-◌, ◌≤◌, ◌<◌, zero, suc, Bool, true, false, ◌==◌, List, [], ◌∷◌, ◌++◌}
-use Rattle.std.proofs.Common.{length, take, drop, get_or, refl, sym, ◌∙◌, ap, cond, map, arith, Some}
-use Rattle.std.proofs.Common.{slice_set}
-use Rattle.std.proofs.lemmas.List.{drop_more, drop-map, take-map, take_more, map-append, append-nil, set_split}
-use Rattle.std.proofs.lemmas.List.{take-append-drop}
-use Rattle.std.proofs.lemmas.Bool.{cond-true, cond-false}
-use Rattle.std.proofs.lemmas.Bool.Decides.{nat_tests}
-use Rattle.std.specs.Option.{option_map}
-use Rattle.block_store.specs.Block.{Block, Free, Nonrelocatable, Masters, Relocatable, size, sizes, free_sum, free_of}
-use Rattle.block_store.specs.Block.{add, tidy_top}
-use Rattle.block_store.specs.Room.{raised, spot_at}
-use Rattle.list_store.specs.declared.entries.StoredBlock.{StoredBlock}
+use Rattle.list_store.proofs.Cited.{◌≡◌, ℕ, ◌+◌, ◌-◌, ◌≤◌, ◌<◌, zero, suc, Bool, true, false, ◌==◌, List, [], ◌∷◌, ◌++◌, length, take, drop}
+use Rattle.list_store.proofs.Cited.{get_or, refl, sym, ◌∙◌, ap, cond, map, arith, Some, slice_set, drop_more, drop-map, take-map, take_more}
+use Rattle.list_store.proofs.Cited.{map-append, append-nil, set_split, take-append-drop, cond-true, cond-false, nat_tests, option_map}
+use Rattle.list_store.proofs.Cited.{Block, Free, Nonrelocatable, Masters, Relocatable, size, sizes, free_sum, free_of, add, tidy_top}
+use Rattle.list_store.proofs.Cited.{raised, spot_at, StoredBlock, block_of, blocks_of, nth_spot, freed_first, freed, total-append, total-le}
+use Rattle.list_store.proofs.Cited.{raised_by, add-free_free, free_of-le}
 use Rattle.list_store.specs.declared.entries.StoredBlock.TheVariants as entry
-use Rattle.list_store.specs.Lists.{block_of, blocks_of, nth_spot, freed_first}
-use Rattle.block_store.specs.Grow.{freed}
-use Rattle.block_store.proofs.Zone.Totals.{total-append, total-le}
-use Rattle.block_store.proofs.Zone.Listing.{raised_by, add-free_free, free_of-le}
 
 -- the blocks from an entry on
 pub drop-blocks : (es : List StoredBlock) (i : ℕ) (e : StoredBlock) → i < length es → e ≡ get_or es i e

@@ -1,15 +1,8 @@
-use Rattle.std.proofs.Common.{◌≡◌, ℕ, ◌+◌, ◌-◌, ◌<◌, suc, List, [], ◌∷◌, ◌++◌}
-use Rattle.std.proofs.Common.{length, take, drop, get_or, refl, sym, ◌∙◌, ap, map, arith, Option, Some}
-use Rattle.std.proofs.Common.{slice_set, subst}
-use Rattle.std.specs.Option.{IfSome, IsSomeAnd}
-use Rattle.std.proofs.lemmas.List.{set_split, map-append, take-map, drop-map}
-use Rattle.std.proofs.lemmas.List.{set-set}
-use Rattle.block_store.specs.Block.{Block, Free, Nonrelocatable, Masters, Relocatable, content_of}
-use Rattle.block_store.specs.Room.{Spot, spot_at}
-use Rattle.block_store.specs.declared.flags.Flags.{Flags}
-use Rattle.list_store.specs.declared.entries.StoredBlock.{StoredBlock}
+use Rattle.list_store.proofs.Cited.{◌≡◌, ℕ, ◌+◌, ◌-◌, ◌<◌, suc, List, [], ◌∷◌, ◌++◌, length, take, drop, get_or, refl, sym, ◌∙◌, ap, map}
+use Rattle.list_store.proofs.Cited.{arith, Option, Some, slice_set, subst, IfSome, IsSomeAnd, set_split, map-append, take-map, drop-map}
+use Rattle.list_store.proofs.Cited.{set-set, Block, Free, Nonrelocatable, Masters, Relocatable, content_of, Spot, spot_at, Flags}
+use Rattle.list_store.proofs.Cited.{StoredBlock, block_of, blocks_of, nth_spot}
 use Rattle.list_store.specs.declared.entries.StoredBlock.TheVariants as entry
-use Rattle.list_store.specs.Lists.{block_of, blocks_of, nth_spot}
 use Rattle.list_store.proofs.Zone.Listing.{set-in_front, nth_spot-at, drop-blocks}
 
 -- what holds of the spot of an entry holds of the spot at its place

@@ -1,52 +1,31 @@
-use Rattle.std.proofs.Common.{◌≡◌, ℕ, ℤ, Bool, true, false, not, ◌==◌, ◌&&◌, ◌||◌, map, nat_lt, nat_le, List, [], ◌∷◌}
-use Rattle.std.proofs.Common.{◌++◌, refl, sym, ◌∙◌, ap, subst, cond, arith, length, Option, Some, None, Result, Ok}
-use Rattle.std.proofs.Common.{Err, ◌+◌}
-use Rattle.std.proofs.lemmas.Bool.{false_from_ne_true, or_parts}
-use Rattle.std.proofs.lemmas.Bool.Decides.{Decides-eqb}
-use Rattle.std.specs.Prelude.{option_to_list}
-use Rattle.mac_words.specs.declared.code.OsErr.{OsErr}
-use Rattle.mac_words.specs.declared.code.TheConstants.OsErr.{LOCKED, PROFILE, RES_ATTR}
-use Rattle.mac_words.specs.declared.code.TheConstants.OsErr.{ADD_RES_FAILED, REMOVE_RES_FAILED, WRITE_PERMISSION}
-use Rattle.mac_words.specs.declared.code.TheConstants.OsErr.{DISK_FULL, DUPLICATE_FILE, IN_MEMORY, OFFSET}
-use Rattle.mac_words.specs.Attributes.{set}
-use Rattle.heap_calls.specs.Answer.{handle_at}
+use Rattle.res_calls.proofs.Cited.{◌≡◌, ℕ, ℤ, Bool, true, false, not, ◌==◌, ◌&&◌, ◌||◌, map, nat_lt, nat_le, List, [], ◌∷◌, ◌++◌, refl, sym}
+use Rattle.res_calls.proofs.Cited.{◌∙◌, ap, subst, cond, arith, length, Option, Some, None, Result, Ok, Err, ◌+◌, false_from_ne_true}
+use Rattle.res_calls.proofs.Cited.{or_parts, Decides-eqb, option_to_list, OsErr, LOCKED, PROFILE, RES_ATTR, ADD_RES_FAILED}
+use Rattle.res_calls.proofs.Cited.{REMOVE_RES_FAILED, WRITE_PERMISSION, DISK_FULL, DUPLICATE_FILE, IN_MEMORY, OFFSET, set, handle_at}
+use Rattle.res_calls.proofs.Cited.{resource_role, new_inside, new_empty_inside, refill_inside, has_block, released, cast, owned_as}
+use Rattle.res_calls.proofs.Cited.{replaced, Split, place, is_protected, with_attrs, renamed, stored_anew, Reference, Map, has_handle}
+use Rattle.res_calls.proofs.Cited.{resized_datum, with_datum, is_handle, is_changed, is_named, split-passes, split-whole, Resources, File}
+use Rattle.res_calls.proofs.Cited.{OpenFile, Found, find, opened, file_of, file_named, open_at, fresh_resources, with_map_attrs}
+use Rattle.res_calls.proofs.Cited.{flat_map-append, is_system, Managers, Answer, done, refused, flags_of, now_filled, now_empty}
+use Rattle.res_calls.proofs.Cited.{now_refilled, fetch_as, with_resources, closed_file, map_in, open_map, resource_of, open_as, open_fork}
+use Rattle.res_calls.proofs.Cited.{open_unless, greatest_number, closed, bars, released_at, detached_at, open_named, told_or, fetched}
+use Rattle.res_calls.proofs.Cited.{nth_among, noting, preloaded, update, updated_reference, bytes_held, create_named, most_files, marked}
+use Rattle.res_calls.proofs.Cited.{stored_if, is_in_memory, read_part_found, restored, restored_unless, size_refusal, write_refusal, piece}
+use Rattle.res_calls.proofs.Cited.{content_of, Memory, Role, resource_role_at, MakesHandle, filled-makes, emptied-makes, refilled-roles}
+use Rattle.res_calls.proofs.Cited.{released-roles, own-roles, ResourceAsked, served, role_in}
 use Rattle.heap_calls.specs.Purging.{is_resource}
-use Rattle.heap_calls.specs.Inside.{resource_role, new_inside, new_empty_inside, refill_inside, has_block, released}
-use Rattle.heap_calls.specs.Inside.{cast, owned_as}
-use Rattle.res_map.specs.Split.{replaced, Split, place}
-use Rattle.res_map.specs.Map.{is_protected, with_attrs, renamed, stored_anew, Reference, Map, has_handle}
-use Rattle.res_map.specs.Map.{resized_datum, with_datum, is_handle, is_changed, is_resource as is_wanted, is_named}
-use Rattle.res_map.proofs.Splitting.{split-passes, split-whole}
-use Rattle.res_calls.specs.Files.{Resources, File, OpenFile, Found, find, opened, file_of, file_named, open_at}
-use Rattle.res_calls.specs.Files.{fresh_resources}
-use Rattle.res_calls.specs.Changing.{with_map_attrs}
-use Rattle.std.proofs.lemmas.List.Concat.{flat_map-append}
-use Rattle.res_calls.specs.Fetch.{is_system, Managers, Answer, done, refused, flags_of, now_filled, now_empty}
-use Rattle.res_calls.specs.Fetch.{now_refilled, fetch_as}
-use Rattle.res_calls.specs.Rows.{with_resources, closed_file, map_in, open_map, resource_of, open_as, open_fork}
-use Rattle.res_calls.specs.Rows.{open_unless, greatest_number, closed, bars, released_at, detached_at, open_named}
-use Rattle.res_calls.specs.Rows.{told_or, fetched, nth_among, noting, preloaded}
-use Rattle.res_calls.specs.Update.{update, updated_reference, bytes_held}
+use Rattle.res_map.specs.Map.{is_resource as is_wanted}
 use Rattle.res_calls.specs.Changing as changing
-use Rattle.res_calls.specs.Changing.{create_named, most_files, marked, stored_if}
 use Rattle.res_calls.specs.Partial as partial
-use Rattle.res_calls.specs.Partial.{is_in_memory, read_part_found, restored, restored_unless, size_refusal, write_refusal}
-use Rattle.memory_windows.specs.Writes.{piece, written}
+use Rattle.memory_windows.specs.Writes.{written}
 use Rattle.res_calls.proofs.Keeping.{either-keeps, found-keeps, open-keeps, known-keeps, removable-keeps}
 use Rattle.res_calls.proofs.Keeping.{changeable-keeps, updated-keeps, update-comes}
 use Rattle.res_calls.proofs.OpeningForks.{read_is}
 use Rattle.res_calls.proofs.Owning.Casts.{known-name, own-role, added-roles}
 use Rattle.res_calls.proofs.Owning.Updates.{with_references, one-alike, updated-handles, one-changed, one-removed}
 use Rattle.res_calls.proofs.Owning.Updates.{one-added}
-use Rattle.fork_format.specs.Fork.{content_of}
-use Rattle.heap_calls.specs.State.{Memory, Role}
-use Rattle.heap_calls.specs.Owned.{resource_role_at}
-use Rattle.heap_calls.proofs.Steps.Roles.{MakesHandle, filled-makes, emptied-makes, refilled-roles, released-roles}
-use Rattle.heap_calls.proofs.Steps.Roles.{own-roles}
 use Rattle.res_calls.specs.Rows as rows
-use Rattle.res_calls.specs.Asked.{ResourceAsked, served}
 use Rattle.res_calls.specs.Asked as asks
-use Rattle.res_calls.specs.Owning.{role_in}
 use Rattle.res_calls.proofs.Owning.Owners.{owners, owners_in, OneOwner}
 use Rattle.res_calls.proofs.Owning.Places.{Stands, find-finds, among-stands}
 use Rattle.res_calls.proofs.Owning.Changes.{one-owner-same, one-held, one-gone}

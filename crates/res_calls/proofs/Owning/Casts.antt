@@ -1,12 +1,8 @@
-use Rattle.std.proofs.Common.{◌≡◌, ℕ, zero, suc, Bool, true, false, ◌==◌, List, [], ◌∷◌, refl, sym, ◌∙◌, ap, cond}
-use Rattle.std.proofs.Common.{Option, Some, None, Ok, slice_get, slice_set}
-use Rattle.std.proofs.lemmas.Bool.Decides.{Decides-eqb}
-use Rattle.heap_calls.specs.State.{State, Role, Plain, Resource, SystemResource, Meaning, Handle, Pointer, Disposed}
-use Rattle.heap_calls.specs.Answer.{Known, known_as, handle_at}
+use Rattle.res_calls.proofs.Cited.{◌≡◌, ℕ, zero, suc, Bool, true, false, ◌==◌, List, [], ◌∷◌, refl, sym, ◌∙◌, ap, cond, Option, Some, None}
+use Rattle.res_calls.proofs.Cited.{Ok, Decides-eqb, State, Role, Plain, Resource, SystemResource, Meaning, Handle, Pointer, Disposed, Known}
+use Rattle.res_calls.proofs.Cited.{known_as, handle_at, cast, cast_as, owned_as, resource_meant, resource_role_at, set-other}
+use Rattle.std.proofs.Common.{slice_get, slice_set}
 use Rattle.heap_calls.specs.Purging.{is_resource}
-use Rattle.heap_calls.specs.Inside.{cast, cast_as, owned_as}
-use Rattle.heap_calls.specs.Owned.{resource_meant, resource_role_at}
-use Rattle.heap_calls.proofs.Tries.Roles.{set-other}
 
 -- A handle that becomes a resource's.
 

@@ -1,17 +1,7 @@
-use Rattle.std.proofs.Common.{◌≡◌, ℕ, ◌==◌, List, [], ◌∷◌, ◌++◌, refl, sym, ◌∙◌, ap, cond, arith}
-use Rattle.std.proofs.Common.{Option, Some, None, Ok}
-use Rattle.std.proofs.lemmas.Bool.Decides.{Decides-eqb}
-use Rattle.std.specs.Prelude.{option_to_list}
-use Rattle.heap_calls.specs.State.{State, Role}
-use Rattle.heap_calls.specs.Asked.{Asked}
+use Rattle.res_calls.proofs.Cited.{◌≡◌, ℕ, ◌==◌, List, [], ◌∷◌, ◌++◌, refl, sym, ◌∙◌, ap, cond, arith, Option, Some, None, Ok, Decides-eqb}
+use Rattle.res_calls.proofs.Cited.{option_to_list, State, Role, Asked, resource_role_at, served-roles, MakesHandle, resource-role}
+use Rattle.res_calls.proofs.Cited.{is_handle, OpenFile, Found, with_reference, Managers, is_system, role_in}
 use Rattle.heap_calls.specs.Table as heap
-use Rattle.heap_calls.specs.Owned.{resource_role_at}
-use Rattle.heap_calls.proofs.Tries.Roles.{served-roles}
-use Rattle.heap_calls.proofs.Steps.Roles.{MakesHandle, resource-role}
-use Rattle.res_map.specs.Map.{is_handle}
-use Rattle.res_calls.specs.Files.{OpenFile, Found, with_reference}
-use Rattle.res_calls.specs.Fetch.{Managers, is_system}
-use Rattle.res_calls.specs.Owning.{role_in}
 use Rattle.res_calls.proofs.Owning.Owners.{owners, OneOwnerEach, OneOwner}
 use Rattle.res_calls.proofs.Owning.Lists.{lost, won}
 use Rattle.res_calls.proofs.Owning.Places.{Stands, front, back, owners-at, owners-stand}

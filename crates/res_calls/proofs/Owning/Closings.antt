@@ -1,17 +1,6 @@
-use Rattle.std.proofs.Common.{◌≡◌, ℕ, List, [], ◌∷◌, ◌++◌, sym, ◌∙◌, ap, cond, ◌==◌, Option, Some, None}
-use Rattle.std.proofs.Common.{append_assoc}
-use Rattle.std.proofs.lemmas.List.Concat.{flat_map-append}
-use Rattle.std.specs.Prelude.{option_to_list}
-use Rattle.std.specs.List.{flat_map, cons_option}
-use Rattle.heap_calls.specs.State.{Memory, Role}
-use Rattle.heap_calls.specs.Inside.{inside, released}
-use Rattle.heap_calls.specs.Owned.{resource_role_at}
-use Rattle.heap_calls.proofs.Steps.Roles.{released-roles}
-use Rattle.res_map.specs.Split.{Split, replaced, removed}
-use Rattle.res_map.specs.Map.{Reference, is_handle}
-use Rattle.res_calls.specs.Files.{OpenFile}
-use Rattle.res_calls.specs.Rows.{all_released, handles_of}
-use Rattle.res_calls.specs.Owning.{role_in}
+use Rattle.res_calls.proofs.Cited.{◌≡◌, ℕ, List, [], ◌∷◌, ◌++◌, sym, ◌∙◌, ap, cond, ◌==◌, Option, Some, None, append_assoc, flat_map-append}
+use Rattle.res_calls.proofs.Cited.{option_to_list, flat_map, cons_option, Memory, Role, inside, released, resource_role_at, released-roles}
+use Rattle.res_calls.proofs.Cited.{Split, replaced, removed, Reference, is_handle, OpenFile, all_released, handles_of, role_in}
 use Rattle.res_calls.proofs.Owning.Owners.{owner, owners_in, owners, OneOwnerEach}
 use Rattle.res_calls.proofs.Owning.Lists.{lost}
 

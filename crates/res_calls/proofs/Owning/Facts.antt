@@ -1,17 +1,8 @@
-use Rattle.std.proofs.Common.{◌≡◌, ℕ, ◌≤◌, ◌+◌, Bool, true, false, List, [], ◌∷◌, ◌++◌, refl, sym, ◌∙◌, ap, cond, arith}
-use Rattle.std.proofs.Common.{length, Option, Some, None, count_by}
-use Rattle.std.proofs.lemmas.List.{length-append}
-use Rattle.std.proofs.lemmas.List.Sums.{sum_by-cons, sum_by-append}
-use Rattle.std.specs.Prelude.{option_to_list}
-use Rattle.std.specs.List.{flat_map}
-use Rattle.std.specs.Option.{option_map, option_or}
-use Rattle.heap_calls.specs.State.{Role}
-use Rattle.heap_calls.specs.Owned.{resource_role_at}
-use Rattle.res_map.specs.Split.{Split, split, behind}
-use Rattle.res_map.specs.Map.{Reference, has_handle}
-use Rattle.res_calls.specs.Files.{OpenFile, Found, find, find_open, found_in, found_behind}
-use Rattle.res_calls.specs.Fetch.{Managers}
-use Rattle.res_calls.specs.Owning.{references, role_in, role_for, Owns}
+use Rattle.res_calls.proofs.Cited.{◌≡◌, ℕ, ◌≤◌, ◌+◌, Bool, true, false, List, [], ◌∷◌, ◌++◌, refl, sym, ◌∙◌, ap, cond, arith, length}
+use Rattle.res_calls.proofs.Cited.{Option, Some, None, count_by, length-append, sum_by-cons, sum_by-append, option_to_list, flat_map}
+use Rattle.res_calls.proofs.Cited.{option_or, Role, resource_role_at, Split, split, behind, Reference, has_handle, OpenFile, Found, find}
+use Rattle.res_calls.proofs.Cited.{find_open, found_in, found_behind, Managers, references, role_in, role_for, Owns}
+use Rattle.std.specs.Option.{option_map}
 use Rattle.res_calls.proofs.Owning.Owners.{owner, owners_in, owners, OneOwner}
 use Rattle.res_calls.proofs.Owning.Lists.{alone}
 use Rattle.res_calls.proofs.Owning.Places.{Stands, find-finds, front, back, owners-stand}

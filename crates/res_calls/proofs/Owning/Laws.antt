@@ -1,18 +1,8 @@
-use Rattle.std.proofs.Common.{◌≡◌, ℕ, List, [], ◌∷◌, refl, ◌∙◌, ap, subst}
-use Rattle.std.proofs.Common.{Option, Some, None, Result, Ok, Err}
-use Rattle.std.proofs.lemmas.Bool.Decides.{Decides-eqb}
-use Rattle.mac_words.specs.declared.code.OsErr.{OsErr}
-use Rattle.fork_format.specs.Content.{Content}
-use Rattle.heap_calls.specs.State.{Memory, Role}
-use Rattle.heap_calls.specs.Asked.{Asked}
+use Rattle.res_calls.proofs.Cited.{◌≡◌, ℕ, List, [], ◌∷◌, refl, ◌∙◌, ap, subst, Option, Some, None, Result, Ok, Err, Decides-eqb, OsErr}
+use Rattle.res_calls.proofs.Cited.{Content, Memory, Role, Asked, resource_role_at, Map, map_of, has_handle, is_handle, File, Resources}
+use Rattle.res_calls.proofs.Cited.{Found, find_open, fresh_resources, Managers, map_in, own_opened, launched_resources, preloaded}
+use Rattle.res_calls.proofs.Cited.{ResourceAsked, served, role_in, role_for, Owns}
 use Rattle.heap_calls.specs.Table as heap
-use Rattle.heap_calls.specs.Owned.{resource_role_at}
-use Rattle.res_map.specs.Map.{Map, map_of, has_handle, is_handle}
-use Rattle.res_calls.specs.Files.{File, Resources, Found, find_open, fresh_resources}
-use Rattle.res_calls.specs.Fetch.{Managers}
-use Rattle.res_calls.specs.Rows.{map_in, own_opened, launched_resources, preloaded}
-use Rattle.res_calls.specs.Asked.{ResourceAsked, served}
-use Rattle.res_calls.specs.Owning.{role_in, role_for, Owns}
 use Rattle.res_calls.proofs.Owning.Places.{Stands}
 use Rattle.res_calls.proofs.Owning.Changes.{one-owner-same, one-owner-heap}
 use Rattle.res_calls.proofs.Owning.Openings.{Bare, bare-groups}

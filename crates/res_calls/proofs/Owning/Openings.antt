@@ -1,20 +1,8 @@
-use Rattle.std.proofs.Common.{◌≡◌, ℕ, Bool, true, false, ◌==◌, List, [], ◌∷◌, ◌++◌, refl, sym, ◌∙◌, ap, cond}
-use Rattle.std.proofs.Common.{Option, None, Result, Ok, Err, append_assoc, map}
-use Rattle.std.proofs.lemmas.Bool.Decides.{Decides-eqb}
-use Rattle.std.proofs.lemmas.List.Concat.{flat_map-append}
-use Rattle.std.specs.Prelude.{option_to_list}
-use Rattle.std.specs.List.{flat_map}
-use Rattle.mac_words.specs.declared.code.OsErr.{OsErr}
-use Rattle.fork_format.specs.Content.{Ref, Group}
-use Rattle.heap_calls.specs.State.{Memory, Role, Resource}
-use Rattle.heap_calls.specs.Inside.{new_inside, resource_role}
-use Rattle.heap_calls.specs.Owned.{resource_role_at}
-use Rattle.heap_calls.proofs.Steps.Roles.{MakesHandle, filled-makes}
-use Rattle.res_map.specs.Map.{Reference, is_handle, is_preload, read_reference, of_group, of_groups}
-use Rattle.res_calls.specs.Files.{OpenFile}
-use Rattle.res_calls.specs.Fetch.{Managers, is_system, flags_of, Loaded, given, preload_one, preload}
-use Rattle.res_calls.specs.Rows.{loaded, with_loaded}
-use Rattle.res_calls.specs.Owning.{role_in}
+use Rattle.res_calls.proofs.Cited.{◌≡◌, ℕ, Bool, true, false, ◌==◌, List, [], ◌∷◌, ◌++◌, refl, sym, ◌∙◌, ap, cond, Option, None, Result, Ok}
+use Rattle.res_calls.proofs.Cited.{Err, append_assoc, map, Decides-eqb, flat_map-append, option_to_list, flat_map, OsErr, Ref, Group}
+use Rattle.res_calls.proofs.Cited.{Memory, Role, Resource, new_inside, resource_role, resource_role_at, MakesHandle, filled-makes}
+use Rattle.res_calls.proofs.Cited.{Reference, is_handle, is_preload, read_reference, of_group, of_groups, OpenFile, Managers, is_system}
+use Rattle.res_calls.proofs.Cited.{flags_of, Loaded, given, preload_one, preload, loaded, with_loaded, role_in}
 use Rattle.res_calls.proofs.Owning.Owners.{owner, owners, OneOwnerEach}
 use Rattle.res_calls.proofs.Owning.Lists.{won, one-more}
 

@@ -1,12 +1,5 @@
-use Rattle.std.proofs.Common.{◌≡◌, ℕ, ◌<◌, List, [], ◌∷◌, if◌then◌else◌}
-use Rattle.std.specs.Prelude.{option_to_list}
-use Rattle.std.specs.List.{flat_map}
-use Rattle.heap_calls.specs.State.{Role, State}
-use Rattle.heap_calls.specs.Owned.{resource_role_at}
-use Rattle.res_map.specs.Map.{Reference, has_handle}
-use Rattle.res_calls.specs.Files.{OpenFile}
-use Rattle.res_calls.specs.Fetch.{Managers}
-use Rattle.res_calls.specs.Owning.{role_in}
+use Rattle.res_calls.proofs.Cited.{◌≡◌, ℕ, ◌<◌, List, [], ◌∷◌, if◌then◌else◌, option_to_list, flat_map, Role, State, resource_role_at}
+use Rattle.res_calls.proofs.Cited.{Reference, has_handle, OpenFile, Managers, role_in}
 
 -- The owners of a handle: that it has its own is said by their list.
 

@@ -1,15 +1,8 @@
-use Rattle.std.proofs.Common.{◌≡◌, ℕ, ◌-◌, ◌==◌, length, Bool, true, false, List, [], ◌∷◌, ◌++◌, refl, sym, ◌∙◌, ap, cond, Option, subst}
-use Rattle.std.proofs.Common.{Some, None}
-use Rattle.std.proofs.lemmas.List.Concat.{flat_map-append}
-use Rattle.std.specs.List.{flat_map}
-use Rattle.std.specs.Option.{option_map, option_or}
-use Rattle.heap_calls.specs.State.{Role}
-use Rattle.res_map.specs.Split.{Split, split, replaced}
-use Rattle.res_map.specs.Map.{Reference, split_nth, is_of, of_type}
-use Rattle.res_map.proofs.Splitting.{split-whole, split-passes, split_nth-whole}
-use Rattle.res_calls.specs.Files.{OpenFile, Resources, Found, find, found_in, found_behind, with_reference}
-use Rattle.res_calls.specs.Rows.{Among, Current, EachFile, nth_in, nth_each, nth_among}
-use Rattle.res_calls.specs.Owning.{role_in}
+use Rattle.res_calls.proofs.Cited.{◌≡◌, ℕ, ◌-◌, ◌==◌, length, Bool, true, false, List, [], ◌∷◌, ◌++◌, refl, sym, ◌∙◌, ap, cond, Option}
+use Rattle.res_calls.proofs.Cited.{subst, Some, None, flat_map-append, flat_map, option_or, Role, Split, split, replaced, Reference}
+use Rattle.res_calls.proofs.Cited.{split_nth, is_of, of_type, split-whole, split-passes, split_nth-whole, OpenFile, Resources, Found, find}
+use Rattle.res_calls.proofs.Cited.{found_in, found_behind, with_reference, Among, Current, EachFile, nth_in, nth_each, nth_among, role_in}
+use Rattle.std.specs.Option.{option_map}
 use Rattle.res_calls.proofs.Owning.Owners.{owner, owners_in, owners}
 use Rattle.res_calls.proofs.Owning.Lists.{inner}
 

@@ -1,16 +1,7 @@
-use Rattle.std.proofs.Common.{◌≡◌, ℕ, ℤ, Bool, true, false, not, ◌&&◌, ◌==◌, List, [], ◌∷◌, ◌++◌, refl, sym, ◌∙◌, ap}
-use Rattle.std.proofs.Common.{cond, map, Option, Some, None}
-use Rattle.std.proofs.lemmas.Bool.Decides.{Decides-eqb}
-use Rattle.std.proofs.lemmas.List.Concat.{flat_map-append}
-use Rattle.std.specs.Prelude.{option_to_list}
-use Rattle.std.specs.List.{flat_map, list_any}
-use Rattle.heap_calls.specs.State.{State, Role, Resource}
-use Rattle.heap_calls.specs.Owned.{resource_role_at}
-use Rattle.res_map.specs.Split.{Split, replaced, removed}
-use Rattle.res_map.specs.Map.{Reference, added, new_reference, is_handle}
-use Rattle.res_calls.specs.Files.{OpenFile, Found}
-use Rattle.res_calls.specs.Owning.{role_in}
-use Rattle.res_calls.specs.Update.{updated_reference}
+use Rattle.res_calls.proofs.Cited.{◌≡◌, ℕ, ℤ, Bool, true, false, not, ◌&&◌, ◌==◌, List, [], ◌∷◌, ◌++◌, refl, sym, ◌∙◌, ap, cond, map}
+use Rattle.res_calls.proofs.Cited.{Option, Some, None, Decides-eqb, flat_map-append, option_to_list, flat_map, list_any, State, Role}
+use Rattle.res_calls.proofs.Cited.{Resource, resource_role_at, Split, replaced, removed, Reference, added, new_reference, is_handle}
+use Rattle.res_calls.proofs.Cited.{OpenFile, Found, role_in, updated_reference}
 use Rattle.res_calls.proofs.Owning.Owners.{owner, owners_in, owners, OneOwnerEach}
 use Rattle.res_calls.proofs.Owning.Lists.{lost, won, inner}
 use Rattle.res_calls.proofs.Owning.Places.{Stands, front, back, owners-stand}

@@ -1,17 +1,9 @@
-use Rattle.std.proofs.Common.{◌≡◌, ℕ, List, map, refl, ap, Option, Some, None, ◌==◌, nat_le, length, nat_lt, ◌+◌}
-use Rattle.mac_words.specs.declared.code.OsErr.{OsErr}
-use Rattle.mac_words.specs.declared.code.TheConstants.OsErr.{LOCKED, RES_ATTR, DISK_FULL, DUPLICATE_FILE, IN_MEMORY}
-use Rattle.mac_words.specs.declared.code.TheConstants.OsErr.{OFFSET}
-use Rattle.memory_windows.specs.Writes.{piece}
-use Rattle.res_calls.specs.Partial.{is_in_memory, read_part_found, read_partial_resource}
-use Rattle.res_map.specs.Split.{Split}
-use Rattle.res_map.specs.Map.{is_changed}
-use Rattle.res_calls.specs.Files.{File, Found, file_of, file_named}
-use Rattle.res_calls.specs.Fetch.{Managers, Answer, done, refused}
+use Rattle.res_calls.proofs.Cited.{◌≡◌, ℕ, List, map, refl, ap, Option, Some, None, ◌==◌, nat_le, length, nat_lt, ◌+◌, OsErr, LOCKED}
+use Rattle.res_calls.proofs.Cited.{RES_ATTR, DISK_FULL, DUPLICATE_FILE, IN_MEMORY, OFFSET, piece, is_in_memory, read_part_found}
+use Rattle.res_calls.proofs.Cited.{read_partial_resource, Split, is_changed, File, Found, file_of, file_named, Managers, Answer, done}
+use Rattle.res_calls.proofs.Cited.{refused, on_found, on_resource, resource_of, bars, released_at, detached_at, told_or, most_files}
+use Rattle.res_calls.proofs.Cited.{create_named, create_res_file, without_handles}
 use Rattle.res_calls.specs.Rows as rows
-use Rattle.res_calls.specs.Rows.{on_found, on_resource, resource_of, bars, released_at, detached_at, told_or}
-use Rattle.res_calls.specs.Changing.{most_files, create_named, create_res_file}
-use Rattle.res_calls.specs.Fetching.{without_handles}
 use Rattle.res_calls.proofs.Keeping.{either-keeps, found-keeps, open-keeps}
 use Rattle.res_calls.proofs.Owning.Calls.{resource-holds}
 use Rattle.res_calls.proofs.Owning.Places.{Stands}

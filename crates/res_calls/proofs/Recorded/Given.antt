@@ -1,17 +1,8 @@
-use Rattle.std.proofs.Common.{◌≡◌, ℕ, zero, suc, Bool, true, false, not, ◌&&◌, List, [], ◌∷◌, ◌++◌, map, refl, sym, ◌∙◌}
-use Rattle.std.proofs.Common.{ap, Option, Some, None, Result, Ok, Err}
-use Rattle.std.proofs.lemmas.List.{map-append}
-use Rattle.std.proofs.lemmas.List.Concat.{flat_map-append}
-use Rattle.std.specs.Prelude.{slice_get}
-use Rattle.mac_words.specs.declared.code.OsErr.{OsErr}
-use Rattle.heap_calls.specs.State.{Memory}
-use Rattle.heap_calls.specs.Inside.{new_inside, new_empty_inside, refill_inside, has_block, resource_role}
-use Rattle.res_map.specs.Map.{Reference}
-use Rattle.res_calls.specs.Files.{OpenFile, Resources, Found, with_reference, holding}
-use Rattle.res_calls.specs.Fetch.{Managers, Answer, done, flags_of, is_system, now_filled, now_empty, now_refilled}
-use Rattle.res_calls.specs.Fetch.{fetch_as}
-use Rattle.res_calls.specs.Rows.{fetched_as, noting}
-use Rattle.res_calls.specs.Fetching.{handles_in, handles, KeepHandles, OnlyGivesHandles}
+use Rattle.res_calls.proofs.Cited.{◌≡◌, ℕ, zero, suc, Bool, true, false, not, ◌&&◌, List, [], ◌∷◌, ◌++◌, map, refl, sym, ◌∙◌, ap, Option}
+use Rattle.res_calls.proofs.Cited.{Some, None, Result, Ok, Err, map-append, flat_map-append, slice_get, OsErr, Memory, new_inside}
+use Rattle.res_calls.proofs.Cited.{new_empty_inside, refill_inside, has_block, resource_role, Reference, OpenFile, Resources, Found}
+use Rattle.res_calls.proofs.Cited.{with_reference, holding, Managers, Answer, done, flags_of, is_system, now_filled, now_empty}
+use Rattle.res_calls.proofs.Cited.{now_refilled, fetch_as, fetched_as, noting, handles_in, handles, KeepHandles, OnlyGivesHandles}
 use Rattle.res_calls.proofs.Keeping.{either-keeps, found-keeps}
 use Rattle.res_calls.proofs.Owning.Lists.{inner}
 use Rattle.res_calls.proofs.Owning.Places.{Stands, same-there}

@@ -1,14 +1,8 @@
-use Rattle.std.proofs.Common.{◌≡◌, ℕ, ℤ, Bool, true, false, refl, ◌==◌, nat_le, ap}
-use Rattle.res_map.specs.Map.{Reference, is_resource, is_named}
-use Rattle.res_calls.specs.Files.{OpenFile, Resources, file_of, find, is_at}
-use Rattle.res_calls.specs.Fetch.{Managers}
-use Rattle.res_calls.specs.Own.{fetch_own}
+use Rattle.res_calls.proofs.Cited.{◌≡◌, ℕ, ℤ, Bool, true, false, refl, ◌==◌, nat_le, ap, Reference, is_resource, is_named, OpenFile}
+use Rattle.res_calls.proofs.Cited.{Resources, file_of, find, is_at, Managers, fetch_own, fetched_as, nth_among, resource_of, ResourceAsked}
+use Rattle.res_calls.proofs.Cited.{served, fetches, OnlyGivesHandles, alters}
 use Rattle.res_calls.specs.Rows as rows
-use Rattle.res_calls.specs.Rows.{fetched_as, nth_among, resource_of}
 use Rattle.res_calls.specs.Asked as asks
-use Rattle.res_calls.specs.Asked.{ResourceAsked, served}
-use Rattle.res_calls.specs.Fetching.{fetches, OnlyGivesHandles}
-use Rattle.res_calls.specs.Writing.{alters}
 use Rattle.res_calls.proofs.Keeping.{open-keeps}
 use Rattle.res_calls.proofs.Owning.Calls.{resource-holds}
 use Rattle.res_calls.proofs.Owning.Places.{find-finds, among-stands}

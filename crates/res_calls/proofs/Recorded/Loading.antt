@@ -1,20 +1,11 @@
-use Rattle.std.proofs.Common.{◌≡◌, inl, inr, ℕ, zero, suc, Bool, true, false, List, [], ◌∷◌, ◌++◌, map, refl, sym, ◌∙◌}
-use Rattle.std.proofs.Common.{◌≢◌, ap, cond, Option, Some, None, Result, Ok, Err}
-use Rattle.std.proofs.lemmas.List.{map-append}
-use Rattle.std.specs.Prelude.{slice_get, nat_lt}
-use Rattle.mac_words.specs.declared.code.OsErr.{OsErr}
-use Rattle.mac_words.specs.declared.code.TheConstants.OsErr.{PROFILE}
-use Rattle.fork_format.specs.Content.{Content}
-use Rattle.heap_calls.specs.State.{Memory, Resource}
-use Rattle.heap_calls.specs.Inside.{new_inside}
-use Rattle.res_map.specs.Split.{Split, place}
-use Rattle.res_map.specs.Map.{Reference, Map, is_preload, with_handle, map_of}
-use Rattle.res_calls.specs.Files.{File, OpenFile, Resources, fresh_resources, opened, open_at, file_named}
-use Rattle.res_calls.specs.Fetch.{Managers, flags_of, given, preload_one, preload, refused}
-use Rattle.res_calls.specs.Rows.{loaded_if, loaded, preloaded, preloaded_in, launched_resources, map_in, open_map}
-use Rattle.res_calls.specs.Rows.{open_unless, open_named, open_res_file, greatest_number, noting}
-use Rattle.res_calls.specs.Fetching.{without_handles, outside_heap, KeepHandles, OnlyGivesHandles}
-use Rattle.res_calls.specs.Fetching.{OpensAtMost}
+use Rattle.res_calls.proofs.Cited.{◌≡◌, inl, inr, ℕ, zero, suc, Bool, true, false, List, [], ◌∷◌, ◌++◌, map, refl, sym, ◌∙◌, ◌≢◌, ap, cond}
+use Rattle.res_calls.proofs.Cited.{Option, Some, None, Result, Ok, Err, map-append, slice_get, OsErr, PROFILE, Content, Memory, Resource}
+use Rattle.res_calls.proofs.Cited.{new_inside, Split, place, Reference, Map, is_preload, with_handle, map_of, File, OpenFile, Resources}
+use Rattle.res_calls.proofs.Cited.{fresh_resources, opened, open_at, file_named, Managers, flags_of, given, preload_one, preload, refused}
+use Rattle.res_calls.proofs.Cited.{loaded_if, loaded, preloaded, preloaded_in, launched_resources, map_in, open_map, open_unless}
+use Rattle.res_calls.proofs.Cited.{open_named, open_res_file, greatest_number, noting, without_handles, outside_heap, KeepHandles}
+use Rattle.res_calls.proofs.Cited.{OnlyGivesHandles, OpensAtMost}
+use Rattle.std.specs.Prelude.{nat_lt}
 use Rattle.res_calls.proofs.Keeping.{either-keeps}
 use Rattle.res_calls.proofs.Owning.Calls.{map-bare}
 use Rattle.res_calls.proofs.Owning.Laws.{launched-by}

@@ -1,9 +1,5 @@
-use Rattle.std.proofs.Common.{◌≡◌, List, ◌∷◌, ◌++◌, map, sym, ◌∙◌, ap, Option, None, refl, ℕ}
-use Rattle.std.proofs.lemmas.List.{map-append}
-use Rattle.res_map.specs.Split.{Split, replaced}
-use Rattle.res_map.specs.Map.{Reference, with_handle}
-use Rattle.res_calls.specs.Files.{OpenFile, Found, with_reference}
-use Rattle.res_calls.specs.Fetching.{without_handles}
+use Rattle.res_calls.proofs.Cited.{◌≡◌, List, ◌∷◌, ◌++◌, map, sym, ◌∙◌, ap, Option, None, refl, ℕ, map-append, Split, replaced, Reference}
+use Rattle.res_calls.proofs.Cited.{with_handle, OpenFile, Found, with_reference, without_handles}
 use Rattle.res_calls.proofs.Owning.Places.{Stands, same-there}
 
 -- What is recorded of resources, where a reference gets another handle.

@@ -1,31 +1,12 @@
-use Rattle.std.proofs.Common.{◌≡◌, ℕ, ◌==◌, ◌||◌, Bool, true, false, not, cond, List, [], ◌∷◌, refl, sym, ◌∙◌, ap, subst}
-use Rattle.std.proofs.Common.{Option, Some, None, Result, Ok, Err}
-use Rattle.std.proofs.lemmas.Bool.{and_parts, and_from, or_parts, eqb-true}
-use Rattle.std.specs.List.{list_all}
-use Rattle.mac_words.specs.declared.code.OsErr.{OsErr}
-use Rattle.block_store.specs.Block.{Block, Free, Nonrelocatable, Masters, Relocatable, is_relocatable, size}
-use Rattle.block_store.specs.Grow.{freed}
-use Rattle.block_store.specs.Run.{has}
-use Rattle.block_store.specs.Block.{tidy}
-use Rattle.block_store.proofs.Zone.Tidy.{has-tidy}
-use Rattle.heap_calls.specs.Answer.{Known, handle_at}
-use Rattle.heap_calls.specs.Inside.{owned_as, has_block}
+use Rattle.res_calls.proofs.Cited.{◌≡◌, ℕ, ◌==◌, ◌||◌, Bool, true, false, not, cond, List, [], ◌∷◌, refl, sym, ◌∙◌, ap, subst, Option, Some}
+use Rattle.res_calls.proofs.Cited.{None, Result, Ok, Err, and_parts, and_from, or_parts, eqb-true, list_all, OsErr, Block, Free}
+use Rattle.res_calls.proofs.Cited.{Nonrelocatable, Masters, Relocatable, is_relocatable, size, freed, has, tidy, has-tidy, Known, handle_at}
+use Rattle.res_calls.proofs.Cited.{owned_as, has_block, Step, NewFilled, NewEmpty, Refill, Release, Cast, stepped, walk, step_disposes}
+use Rattle.res_calls.proofs.Cited.{steps_dispose, Memory, step-goes, Split, is_changed, is_protected, releases, ResourceAsked, served}
+use Rattle.res_calls.proofs.Cited.{disposes_of, opens_file, Managers, is_system, fetches, OpenFile, Resources, Found, file_of, handles_of}
+use Rattle.res_calls.proofs.Cited.{resource_of, bars, update}
 use Rattle.heap_calls.specs.Purging.{is_resource as is_owned}
-use Rattle.heap_calls.specs.Path.{Step, NewFilled, NewEmpty, Refill, Release, Cast, stepped, walk, step_disposes}
-use Rattle.heap_calls.specs.Path.{steps_dispose}
-use Rattle.heap_calls.specs.State.{Memory}
-use Rattle.heap_calls.proofs.Steps.Ways.{step-goes}
-use Rattle.res_map.specs.Split.{Split}
-use Rattle.res_map.specs.Map.{is_changed, is_protected}
 use Rattle.res_calls.specs.Asked as asks
-use Rattle.heap_calls.proofs.Steps.Letting.{releases}
-use Rattle.res_calls.specs.Asked.{ResourceAsked, served}
-use Rattle.res_calls.specs.Disposing.{disposes_of, opens_file}
-use Rattle.res_calls.specs.Fetch.{Managers, is_system}
-use Rattle.res_calls.specs.Fetching.{fetches}
-use Rattle.res_calls.specs.Files.{OpenFile, Resources, Found, file_of}
-use Rattle.res_calls.specs.Rows.{handles_of, resource_of, bars}
-use Rattle.res_calls.specs.Update.{update}
 use Rattle.res_calls.proofs.Walks.Laws.{heap-walks}
 use Rattle.res_calls.proofs.Walks.Letting.{lets-walk}
 use Rattle.res_calls.proofs.Walks.Steps.{for_found, for_open, for_known, if_done, on_handle, close_steps}

@@ -1,38 +1,23 @@
-use Rattle.std.proofs.Common.{◌≡◌, ℕ, ℤ, ◌<◌, ◌+◌, Bool, true, false, not, ◌&&◌, ◌||◌, ◌==◌, nat_lt, nat_le, List, [], ◌∷◌}
-use Rattle.std.proofs.Common.{◌++◌, refl, ◌∙◌, ap, arith, length, Option, Some, None, Result, Ok, Err}
-use Rattle.std.proofs.lemmas.List.{length-append}
-use Rattle.std.specs.Prelude.{is_some}
-use Rattle.mac_words.specs.Attributes.{set}
-use Rattle.mac_words.specs.declared.code.OsErr.{OsErr}
-use Rattle.mac_words.specs.declared.code.TheConstants.OsErr.{LOCKED, PROFILE, RES_ATTR, WRITE_PERMISSION, DISK_FULL}
-use Rattle.mac_words.specs.declared.code.TheConstants.OsErr.{ADD_RES_FAILED, REMOVE_RES_FAILED, DUPLICATE_FILE}
-use Rattle.mac_words.specs.declared.code.TheConstants.OsErr.{IN_MEMORY, OFFSET}
-use Rattle.heap_calls.specs.State.{Memory, Role}
-use Rattle.heap_calls.specs.Answer.{handle_at}
+use Rattle.res_calls.proofs.Cited.{◌≡◌, ℕ, ℤ, ◌<◌, ◌+◌, Bool, true, false, not, ◌&&◌, ◌||◌, ◌==◌, nat_lt, nat_le, List, [], ◌∷◌, ◌++◌, refl}
+use Rattle.res_calls.proofs.Cited.{◌∙◌, ap, arith, length, Option, Some, None, Result, Ok, Err, length-append, is_some, set, OsErr, LOCKED}
+use Rattle.res_calls.proofs.Cited.{PROFILE, RES_ATTR, WRITE_PERMISSION, DISK_FULL, ADD_RES_FAILED, REMOVE_RES_FAILED, DUPLICATE_FILE}
+use Rattle.res_calls.proofs.Cited.{IN_MEMORY, OFFSET, Memory, Role, handle_at, new_inside, new_empty_inside, refill_inside, has_block}
+use Rattle.res_calls.proofs.Cited.{resource_role, Split, place, removed, replaced, Reference, Map, is_changed, is_protected, is_named}
+use Rattle.res_calls.proofs.Cited.{added, new_reference, renamed, resized_datum, stored_anew, with_attrs, with_datum, split-whole}
+use Rattle.res_calls.proofs.Cited.{split-inside, File, OpenFile, Resources, Found, find, file_of, file_named, open_at, opened}
+use Rattle.res_calls.proofs.Cited.{with_reference, Managers, done, refused, flags_of, now_filled, now_empty, now_refilled, fetch_as}
+use Rattle.res_calls.proofs.Cited.{is_system, bytes_held, written, map_in, open_map, open_unless, open_named, greatest_number, resource_of}
+use Rattle.res_calls.proofs.Cited.{released_at, Among, detached_at, bars, nth_among, closed_file, with_resources, loaded, create_named}
+use Rattle.res_calls.proofs.Cited.{most_files, marked, set_file, stored_if, touched, with_changed, with_map_attrs, is_in_memory}
+use Rattle.res_calls.proofs.Cited.{read_part_found, restored, restored_unless, set_size_found, size_refusal, write_part_found}
+use Rattle.res_calls.proofs.Cited.{write_refusal, piece, Sound, keeps_handle, release_found, detach_found, change_found, write_found}
+use Rattle.res_calls.proofs.Cited.{rename_found, set_found, remove_found, add_found}
 use Rattle.heap_calls.specs.Purging.{is_resource as is_owner}
-use Rattle.heap_calls.specs.Inside.{new_inside, new_empty_inside, refill_inside, has_block, resource_role}
-use Rattle.res_map.specs.Split.{Split, place, removed, replaced}
-use Rattle.res_map.specs.Map.{Reference, Map, is_changed, is_protected, is_named, is_resource as is_wanted, added}
-use Rattle.res_map.specs.Map.{new_reference, renamed, resized_datum, stored_anew, with_attrs, with_datum}
-use Rattle.res_map.proofs.Splitting.{split-whole, split-inside}
-use Rattle.res_calls.specs.Files.{File, OpenFile, Resources, Found, find, file_of, file_named, open_at, opened}
-use Rattle.res_calls.specs.Files.{with_reference}
-use Rattle.res_calls.specs.Fetch.{Managers, done, refused, flags_of, now_filled, now_empty, now_refilled, fetch_as}
-use Rattle.res_calls.specs.Fetch.{is_system}
-use Rattle.res_calls.specs.Update.{bytes_held, written}
+use Rattle.res_map.specs.Map.{is_resource as is_wanted}
 use Rattle.res_calls.specs.Rows as rows
-use Rattle.res_calls.specs.Rows.{map_in, open_map, open_unless, open_named, greatest_number, resource_of, released_at}
-use Rattle.res_calls.specs.Rows.{Among, detached_at, bars, nth_among, closed_file, with_resources, loaded}
 use Rattle.res_calls.specs.Changing as changing
-use Rattle.res_calls.specs.Changing.{create_named, most_files, marked, set_file, stored_if, touched, with_changed}
-use Rattle.res_calls.specs.Changing.{with_map_attrs}
 use Rattle.res_calls.specs.Partial as partial
-use Rattle.res_calls.specs.Partial.{is_in_memory, read_part_found, restored, restored_unless, set_size_found, size_refusal}
-use Rattle.res_calls.specs.Partial.{write_part_found, write_refusal}
-use Rattle.memory_windows.specs.Writes.{piece, written as written_over}
-use Rattle.res_calls.specs.Sound.{Sound, keeps_handle}
-use Rattle.res_calls.specs.Rows.{release_found, detach_found}
-use Rattle.res_calls.specs.Changing.{change_found, write_found, rename_found, set_found, remove_found, add_found}
+use Rattle.memory_windows.specs.Writes.{written as written_over}
 use Rattle.res_calls.proofs.Keeping.{either-keeps, found-keeps, open-keeps, known-keeps, removable-keeps, free-keeps}
 use Rattle.res_calls.proofs.Keeping.{own-first, updated-keeps, update-comes}
 use Rattle.res_calls.proofs.Owning.Places.{Stands, find-finds, among-stands}

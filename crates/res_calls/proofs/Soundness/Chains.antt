@@ -1,12 +1,6 @@
-use Rattle.std.proofs.Common.{◌≡◌, ℕ, Bool, true, false, ◌&&◌, ◌==◌, nat_lt, List, [], ◌∷◌, ◌++◌, refl, sym, ◌∙◌}
-use Rattle.std.proofs.Common.{ap, arith, cond}
-use Rattle.std.proofs.lemmas.Bool.{and_parts, and_from, or_left, or_right, ltb-true, lt-ltb, eq-eqb, eqb-true}
-use Rattle.std.proofs.lemmas.Bool.{false_from_ne_true, false≢true}
-use Rattle.std.proofs.lemmas.List.Folds.{list_any-append}
-use Rattle.std.specs.List.{list_any}
-use Rattle.res_calls.specs.Files.{OpenFile}
-use Rattle.res_calls.specs.Rows.{first_number}
-use Rattle.res_calls.specs.Sound.{falls}
+use Rattle.res_calls.proofs.Cited.{◌≡◌, ℕ, Bool, true, false, ◌&&◌, ◌==◌, nat_lt, List, [], ◌∷◌, ◌++◌, refl, sym, ◌∙◌, ap, arith, cond}
+use Rattle.res_calls.proofs.Cited.{and_parts, and_from, or_left, or_right, ltb-true, lt-ltb, eq-eqb, eqb-true, false_from_ne_true}
+use Rattle.res_calls.proofs.Cited.{false≢true, list_any-append, list_any, OpenFile, first_number, falls}
 use Rattle.res_calls.proofs.Soundness.Lists.{any-removed}
 
 -- The numbers of open files fall, and end with the System's.

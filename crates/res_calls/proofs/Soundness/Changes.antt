@@ -1,20 +1,11 @@
-use Rattle.std.proofs.Common.{◌≡◌, ℕ, suc, ◌+◌, ◌≤◌, ◌<◌, Bool, true, false, not, ◌&&◌, ◌||◌, ◌==◌, nat_lt, List, []}
-use Rattle.std.proofs.Common.{◌∷◌, length, refl, sym, ◌∙◌, ap, arith, cond, map, Option, Some, None}
-use Rattle.std.proofs.lemmas.Bool.{and_parts, and_from, eq-eqb, or_left, or_right, ltb-true, lt-ltb, eqb-true}
-use Rattle.std.proofs.lemmas.Nat.{and_assoc}
-use Rattle.std.proofs.lemmas.Bool.{false_from_ne_true}
-use Rattle.std.specs.Prelude.{is_some, ◌-◌}
-use Rattle.std.specs.List.{list_all}
-use Rattle.heap_calls.specs.State.{State}
-use Rattle.fork_format.specs.Fork.{map_kept}
-use Rattle.res_map.specs.Split.{Split, split, replaced, removed}
-use Rattle.res_map.specs.Map.{Reference, Map}
-use Rattle.res_calls.specs.Files.{File, OpenFile, Resources, Found, opened, with_reference}
-use Rattle.res_calls.specs.Fetch.{Managers, Loaded, is_system}
-use Rattle.res_calls.specs.Changing.{with_map_attrs}
-use Rattle.res_calls.specs.Rows.{first_number, closed, opened_with}
-use Rattle.res_calls.specs.Update.{written, written_at, rewritten, fork_of, updated_reference}
-use Rattle.res_calls.specs.Sound.{Sound, falls, is_placed, has_place, keeps_handle, is_kept, is_untouched}
+use Rattle.res_calls.proofs.Cited.{◌≡◌, ℕ, suc, ◌+◌, ◌≤◌, ◌<◌, Bool, true, false, not, ◌&&◌, ◌||◌, ◌==◌, nat_lt, List, [], ◌∷◌, length}
+use Rattle.res_calls.proofs.Cited.{refl, sym, ◌∙◌, ap, arith, cond, map, Option, Some, None, and_parts, and_from, eq-eqb, or_left, or_right}
+use Rattle.res_calls.proofs.Cited.{ltb-true, lt-ltb, eqb-true, and_assoc, false_from_ne_true, is_some, list_all, State, map_kept, Split}
+use Rattle.res_calls.proofs.Cited.{split, replaced, removed, Reference, Map, File, OpenFile, Resources, Found, opened, with_reference}
+use Rattle.res_calls.proofs.Cited.{Managers, Loaded, is_system, with_map_attrs, first_number, closed, opened_with, written, written_at}
+use Rattle.res_calls.proofs.Cited.{rewritten, fork_of, updated_reference, Sound, falls, is_placed, has_place, keeps_handle, is_kept}
+use Rattle.res_calls.proofs.Cited.{is_untouched}
+use Rattle.std.specs.Prelude.{◌-◌}
 use Rattle.res_calls.proofs.Owning.Places.{Stands}
 use Rattle.res_calls.proofs.Owning.Updates.{with_references}
 use Rattle.res_calls.proofs.Soundness.Lists.{all-replaced, all-removed, all-implied, split-some, any-replaced}

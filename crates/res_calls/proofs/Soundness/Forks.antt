@@ -1,17 +1,8 @@
-use Rattle.std.proofs.Common.{◌≡◌, ℕ, ◌+◌, Bool, true, false, not, ◌==◌, List, ap, map, subst}
-use Rattle.std.proofs.Common.{Ok}
-use Rattle.std.proofs.lemmas.Bool.{or_left, eq-eqb}
-use Rattle.std.proofs.lemmas.Nat.{and_assoc}
-use Rattle.std.specs.Prelude.{filter}
-use Rattle.std.specs.List.{list_all}
-use Rattle.mac_words.specs.Attributes.{has_bit}
-use Rattle.mac_words.specs.declared.attributes.TheConstants.Attrs.{CHANGED}
-use Rattle.fork_format.specs.Content.{Ref, Group, is_of, distinct, joined}
-use Rattle.fork_format.specs.Fork.{number, ref_places, ref_at, group_at, type_places, map_kept, map_start}
-use Rattle.fork_format.specs.Fork.{content_of}
-use Rattle.res_map.specs.Map.{Map, map_of, of_group, of_groups, read_reference}
-use Rattle.res_calls.specs.Rows.{map_in}
-use Rattle.res_calls.specs.Sound.{keeps_handle}
+use Rattle.res_calls.proofs.Cited.{◌≡◌, ℕ, ◌+◌, Bool, true, false, not, ◌==◌, List, ap, map, subst, Ok, or_left, eq-eqb, and_assoc, filter}
+use Rattle.res_calls.proofs.Cited.{list_all, has_bit, CHANGED, Ref, Group, distinct, joined, number, ref_places, ref_at, group_at}
+use Rattle.res_calls.proofs.Cited.{type_places, map_kept, map_start, content_of, Map, map_of, of_group, of_groups, read_reference, map_in}
+use Rattle.res_calls.proofs.Cited.{keeps_handle}
+use Rattle.fork_format.specs.Content.{is_of}
 use Rattle.res_calls.proofs.OpeningForks.{read_is}
 use Rattle.res_calls.proofs.Soundness.Lists.{all-filter, all-flat, all-implied, all-made, all-mapped}
 use Rattle.res_calls.proofs.Soundness.References.{changed-clear}

@@ -1,25 +1,12 @@
-use Rattle.std.proofs.Common.{◌≡◌, ℕ, true, ◌==◌, List, [], ◌∷◌, length, refl, sym, arith, subst, Option, Some, None}
-use Rattle.std.proofs.Common.{Result, Ok, Err}
-use Rattle.std.proofs.lemmas.Bool.{and_from, lt-ltb}
-use Rattle.std.specs.List.{list_all}
-use Rattle.mac_words.specs.declared.code.OsErr.{OsErr}
-use Rattle.fork_format.specs.Content.{Content}
-use Rattle.fork_format.specs.Fork.{map_kept}
-use Rattle.heap_calls.specs.State.{Memory}
-use Rattle.heap_calls.specs.declared.refusal.Refusal.{Refusal}
-use Rattle.heap_calls.specs.declared.refusal.Refusal.TheVariants.{Code, HostMemory}
-use Rattle.res_map.specs.Map.{Map, map_of}
-use Rattle.res_calls.specs.Files.{File, OpenFile, Resources, Found, file_of, fresh_resources}
-use Rattle.res_calls.specs.Fetch.{Managers, Answer}
-use Rattle.res_calls.specs.Given.{IsAnswered, managers}
+use Rattle.res_calls.proofs.Cited.{◌≡◌, ℕ, true, ◌==◌, List, [], ◌∷◌, length, refl, sym, arith, subst, Option, Some, None, Result, Ok, Err}
+use Rattle.res_calls.proofs.Cited.{and_from, lt-ltb, list_all, OsErr, Content, map_kept, Memory, Refusal, Code, HostMemory, Map, map_of}
+use Rattle.res_calls.proofs.Cited.{File, OpenFile, Resources, Found, file_of, fresh_resources, Managers, Answer, IsAnswered, managers}
+use Rattle.res_calls.proofs.Cited.{map_in, own_opened, launched_resources, preloaded, preloaded_in, loaded, told_or, noting, resource_of}
+use Rattle.res_calls.proofs.Cited.{ResourceAsked, served, Sound, keeps_handle}
 use Rattle.res_calls.specs.Rows as rows
-use Rattle.res_calls.specs.Rows.{map_in, own_opened, launched_resources, preloaded, preloaded_in, loaded, told_or}
-use Rattle.res_calls.specs.Rows.{noting, resource_of}
 use Rattle.res_calls.specs.Changing as changing
 use Rattle.res_calls.specs.Partial as partial
-use Rattle.res_calls.specs.Asked.{ResourceAsked, served}
 use Rattle.res_calls.specs.Asked as asks
-use Rattle.res_calls.specs.Sound.{Sound, keeps_handle}
 use Rattle.res_calls.proofs.Keeping.{found-keeps, open-keeps}
 use Rattle.res_calls.proofs.Soundness.References.{loaded-keeps}
 use Rattle.res_calls.proofs.Soundness.Forks.{Fresh, map-fresh}

@@ -1,10 +1,6 @@
-use Rattle.std.proofs.Common.{◌≡◌, Bool, true, false, ◌||◌, List, [], ◌∷◌, ◌++◌, refl, sym, ◌∙◌, ap, cond, map}
-use Rattle.std.proofs.Common.{Option, Some, None}
-use Rattle.std.proofs.lemmas.Bool.{and_parts, and_from}
-use Rattle.std.proofs.lemmas.List.Folds.{list_all-append, list_any-append}
-use Rattle.std.specs.Prelude.{filter, is_some, option_map}
-use Rattle.std.specs.List.{list_all, list_any, flat_map}
-use Rattle.res_map.specs.Split.{Split, split, behind, replaced, removed}
+use Rattle.res_calls.proofs.Cited.{◌≡◌, Bool, true, false, ◌||◌, List, [], ◌∷◌, ◌++◌, refl, sym, ◌∙◌, ap, cond, map, Option, Some, None}
+use Rattle.res_calls.proofs.Cited.{and_parts, and_from, list_all-append, list_any-append, filter, is_some, option_map, list_all, list_any}
+use Rattle.res_calls.proofs.Cited.{flat_map, Split, split, behind, replaced, removed}
 
 -- What holds of each item of a list, and of some item.
 

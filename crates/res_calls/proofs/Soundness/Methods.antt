@@ -1,34 +1,17 @@
-use Rattle.std.proofs.Common.{◌≡◌, ℕ, ◌+◌, ◌<◌, Bool, true, false, ◌==◌, List, [], ◌∷◌, length, map, refl, sym, ◌∙◌, ap}
-use Rattle.std.proofs.Common.{arith, subst, Option, Some, None, Result, Ok, Err}
-use Rattle.std.proofs.lemmas.Bool.{eq-eqb}
-use Rattle.std.specs.Prelude.{is_some, option_map, OnOk, OnErr, IsErr, IfSome, slice_get, bytes_eq}
-use Rattle.std.specs.declared.alloc.AllocError.{AllocError}
-use Rattle.mac_words.specs.declared.code.TheConstants.OsErr.{NO_ERR, FILE_NOT_FOUND, PROFILE, RES_FILE_NOT_FOUND}
+use Rattle.res_calls.proofs.Cited.{◌≡◌, ℕ, ◌+◌, ◌<◌, Bool, true, false, ◌==◌, List, [], ◌∷◌, length, map, refl, sym, ◌∙◌, ap, arith, subst}
+use Rattle.res_calls.proofs.Cited.{Option, Some, None, Result, Ok, Err, eq-eqb, is_some, option_map, OnOk, OnErr, IsErr, IfSome, slice_get}
+use Rattle.res_calls.proofs.Cited.{bytes_eq, AllocError, NO_ERR, FILE_NOT_FOUND, PROFILE, RES_FILE_NOT_FOUND, Memory, fresh_memory, Gone}
+use Rattle.res_calls.proofs.Cited.{Refusal, Code, HostMemory, Split, split, place, Map, found-place, found-none, get-inside, File, OpenFile}
+use Rattle.res_calls.proofs.Cited.{Resources, Found, file_of, opened, Managers, Answer, Loaded, done, map_in, loaded_if, with_loaded}
+use Rattle.res_calls.proofs.Cited.{resource_of, IsAnswered, IsFetched, IsUnread, IsLoadedFirst, managers, found_at, chained, WantsHost}
+use Rattle.res_calls.proofs.Cited.{StopsFirst, given_to, Sound, stored_in, filed_in, view_file, view_open, resources_of, Unread, Spot}
 use denote.RawPtr.{null_ptr}
-use Rattle.heap_calls.specs.State.{Memory, fresh_memory}
-use Rattle.heap_calls.specs.Gone.{Gone}
-use Rattle.heap_calls.specs.declared.refusal.Refusal.{Refusal}
-use Rattle.heap_calls.specs.declared.refusal.Refusal.TheVariants.{Code, HostMemory}
-use Rattle.res_map.specs.Split.{Split, split, place}
-use Rattle.res_map.specs.Map.{Map}
-use Rattle.res_map.proofs.Splitting.{found-place, found-none, get-inside}
-use Rattle.res_calls.specs.Files.{File, OpenFile, Resources, Found, file_of, opened}
-use Rattle.res_calls.specs.Fetch.{Managers, Answer, Loaded, done}
 use Rattle.res_calls.specs.Fetch as fetch
 use Rattle.res_calls.specs.Rows as rows
-use Rattle.res_calls.specs.Rows.{map_in, loaded_if, with_loaded, resource_of}
 use Rattle.res_calls.specs.Changing as changing
-use Rattle.res_calls.specs.Given.{IsAnswered, IsFetched, IsUnread, IsLoadedFirst, managers}
-use Rattle.res_calls.specs.Places.{found_at, chained, WantsHost}
-use Rattle.res_calls.specs.Preloading.{StopsFirst, given_to}
-use Rattle.res_calls.specs.Sound.{Sound}
-use Rattle.res_calls.specs.Updating.{stored_in, filed_in}
-use Rattle.res_calls.specs.View.{view_file, view_open, resources_of}
 use Rattle.res_calls.specs.declared.fetched.Fetched.{Fetched}
-use Rattle.res_calls.specs.declared.fetched.Unread.{Unread}
 use Rattle.res_calls.specs.declared.files.File.{File as StoredFile}
 use Rattle.res_calls.specs.declared.files.OpenFile.{OpenFile as StoredOpenFile}
-use Rattle.res_calls.specs.declared.find.Spot.{Spot}
 use Rattle.res_calls.proofs.Standing.{place_seen, some_of}
 use Rattle.res_calls.proofs.Owning.Places.{Stands}
 use Rattle.res_calls.proofs.Soundness.References.{loaded-keeps, given-keep}

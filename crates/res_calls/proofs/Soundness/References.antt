@@ -1,21 +1,8 @@
-use Rattle.std.proofs.Common.{◌≡◌, ℕ, Bool, true, false, not, ◌==◌, List, [], ◌∷◌, ◌++◌, refl, sym, ◌∙◌, ap, cond}
-use Rattle.std.proofs.Common.{map, drop, Option, Some, None, Result, Ok, Err}
-use Rattle.std.proofs.lemmas.Bool.{and_parts, and_from, or_left, or_right}
-use Rattle.std.proofs.lemmas.Nat.{and_assoc}
-use Rattle.std.specs.Int.Bits.{and_zero_r}
-use Rattle.std.specs.Prelude.{is_some}
-use Rattle.std.specs.List.{list_all}
-use Rattle.mac_words.specs.Attributes.{has_bit, unchanged}
-use Rattle.mac_words.specs.declared.attributes.TheConstants.Attrs.{CHANGED}
-use Rattle.mac_words.specs.declared.code.OsErr.{OsErr}
-use Rattle.heap_calls.specs.State.{State, Memory, Resource}
-use Rattle.heap_calls.specs.Inside.{new_inside}
-use Rattle.res_map.specs.Map.{Reference, is_changed, is_preload, stored_anew, added}
-use Rattle.res_calls.specs.Fetch.{flags_of, given, preload_one, preload}
-use Rattle.res_calls.specs.Preloading.{next_number, numbered, given_to}
-use Rattle.res_calls.specs.Rows.{loaded_if}
-use Rattle.res_calls.specs.Update.{fresh, updated_reference}
-use Rattle.res_calls.specs.Sound.{keeps_handle}
+use Rattle.res_calls.proofs.Cited.{◌≡◌, ℕ, Bool, true, false, not, ◌==◌, List, [], ◌∷◌, ◌++◌, refl, sym, ◌∙◌, ap, cond, map, drop, Option}
+use Rattle.res_calls.proofs.Cited.{Some, None, Result, Ok, Err, and_parts, and_from, or_left, or_right, and_assoc, and_zero_r, is_some}
+use Rattle.res_calls.proofs.Cited.{list_all, has_bit, unchanged, CHANGED, OsErr, State, Memory, Resource, new_inside, Reference, is_changed}
+use Rattle.res_calls.proofs.Cited.{is_preload, stored_anew, added, flags_of, given, preload_one, preload, next_number, numbered, given_to}
+use Rattle.res_calls.proofs.Cited.{loaded_if, fresh, updated_reference, keeps_handle}
 use Rattle.res_calls.proofs.Owning.Updates.{added-one}
 use Rattle.res_calls.proofs.Soundness.Lists.{all-between, all-made}
 

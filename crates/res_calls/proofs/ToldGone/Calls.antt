@@ -1,32 +1,15 @@
 -- What whole calls of the Resource Manager report is what they purge.
-use Rattle.std.proofs.Common.{◌≡◌, ℕ, ℤ, ◌≤◌, ◌<◌, Bool, true, false, not, List, [], ◌∷◌, ◌++◌, length}
-use Rattle.std.proofs.Common.{refl, sym, ◌∙◌, ap, subst, cond, arith, nat_lt, append-nil, Option, Some, None, Result, Ok, Err}
-use Rattle.std.proofs.lemmas.Bool.Decides.{nat_tests}
-use Rattle.mac_words.specs.declared.code.OsErr.{OsErr}
-use Rattle.block_store.specs.Block.{sizes, count, is_relocatable}
-use Rattle.block_store.specs.Run.{has}
-use Rattle.block_store.specs.declared.measures.TheConstants.{GREATEST_ZONE}
-use Rattle.heap_calls.specs.State.{State, Memory, Resource}
-use Rattle.heap_calls.specs.Answer.{nothing}
-use Rattle.heap_calls.specs.Emptying.{has_purgeable}
-use Rattle.heap_calls.specs.Gone.{Gone, made_gone, refill_gone}
-use Rattle.heap_calls.specs.Inside.{has_block, new_inside}
-use Rattle.heap_calls.specs.Path.{Step, NewFilled, walk, reads}
-use Rattle.heap_calls.specs.ToldGone.{told_of, bytes_in}
-use Rattle.heap_calls.proofs.Steps.Survival.{steps-purgeable}
-use Rattle.res_map.specs.Split.{Split, place}
-use Rattle.res_map.specs.Map.{Reference, Map, is_named, is_preload, is_resource}
-use Rattle.res_calls.specs.Asked.{ResourceAsked, served}
+use Rattle.res_calls.proofs.Cited.{◌≡◌, ℕ, ℤ, ◌≤◌, ◌<◌, Bool, true, false, not, List, [], ◌∷◌, ◌++◌, length, refl, sym, ◌∙◌, ap, subst}
+use Rattle.res_calls.proofs.Cited.{cond, arith, nat_lt, Option, Some, None, Result, Ok, Err, nat_tests, OsErr, sizes, count, is_relocatable}
+use Rattle.res_calls.proofs.Cited.{has, GREATEST_ZONE, State, Memory, Resource, nothing, has_purgeable, Gone, made_gone, refill_gone}
+use Rattle.res_calls.proofs.Cited.{has_block, new_inside, Step, NewFilled, walk, reads, told_of, bytes_in, steps-purgeable, Split, place}
+use Rattle.res_calls.proofs.Cited.{Reference, Map, is_named, is_preload, is_resource, ResourceAsked, served, disposes_of, Managers, Reads}
+use Rattle.res_calls.proofs.Cited.{flags_of, given, fetches, File, OpenFile, Found, file_named, find_from_current, find_in_current, open_at}
+use Rattle.res_calls.proofs.Cited.{fetch_gone_as, fetch_gone, preload_gone, load_gone, map_gone, fork_gone, unless_open_gone, open_gone}
+use Rattle.res_calls.proofs.Cited.{gone_for, own_gone, find_own, fetch_own, greatest_number, map_in, nth_among, resource_of, TellsWhatGoes}
+use Rattle.res_calls.proofs.Cited.{TellsOfPurgeable, TellsWhatPreloadsLose, TellsOnce, IsWhole, weighed}
+use Rattle.std.proofs.Common.{append-nil}
 use Rattle.res_calls.specs.Asked as asks
-use Rattle.res_calls.specs.Disposing.{disposes_of}
-use Rattle.res_calls.specs.Fetch.{Managers, Reads, flags_of, given}
-use Rattle.res_calls.specs.Fetching.{fetches}
-use Rattle.res_calls.specs.Files.{File, OpenFile, Found, file_named, find_from_current, find_in_current, open_at}
-use Rattle.res_calls.specs.Gone.{fetch_gone_as, fetch_gone, preload_gone, load_gone, map_gone, fork_gone}
-use Rattle.res_calls.specs.Gone.{unless_open_gone, open_gone, gone_for, own_gone}
-use Rattle.res_calls.specs.Own.{find_own, fetch_own}
-use Rattle.res_calls.specs.Rows.{greatest_number, map_in, nth_among, resource_of}
-use Rattle.res_calls.specs.ToldGone.{TellsWhatGoes, TellsOfPurgeable, TellsWhatPreloadsLose, TellsOnce, IsWhole}
 use Rattle.res_calls.proofs.ToldGone.Filled.{many-length, none-bytes}
 use Rattle.res_calls.proofs.ToldGone.Paths.{Fills, Single, OnceEach, gone_along, had, path-tells, single-tells, single-beyond}
 use Rattle.res_calls.proofs.ToldGone.Paths.{reads-once}
@@ -36,7 +19,6 @@ use Rattle.res_calls.proofs.Walks.Own.{own_steps, own-goes, own-purgeable}
 use Rattle.res_calls.proofs.Walks.Steps.{for_found, fetch_steps_as, fetch_steps, preload_steps, map_steps, fork_steps}
 use Rattle.res_calls.proofs.Walks.Steps.{unless_steps, open_steps, steps_of}
 use Rattle.res_calls.proofs.Walks.Going.{given-memory}
-use Rattle.heap_calls.proofs.ToldGone.Laws.{weighed}
 
 -- the table of a fetch names what its step purges
 fetch-along : (loading : Bool) (at : Found) (o : Option ℕ) (s : Managers)

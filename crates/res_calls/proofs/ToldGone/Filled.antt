@@ -1,32 +1,15 @@
 -- What a new handle with a block makes of a heap in which each block is of a handle that was given.
-use Rattle.std.proofs.Common.{◌≡◌, ◌⊎◌, inl, inr, ℕ, ◌+◌, ◌≤◌, ◌<◌, ◌==◌, Bool, true, false, List, [], ◌∷◌, ◌++◌, length}
-use Rattle.std.proofs.Common.{refl, sym, ◌∙◌, ap, subst, cond, arith, Some, Ok, nat_lt, length-append}
-use Rattle.std.proofs.lemmas.Bool.{cond-true, cond-false}
-use Rattle.std.proofs.lemmas.Bool.Decides.{Decides-eqb, nat_tests}
-use Rattle.std.proofs.lemmas.Option.{same_Some}
-use Rattle.std.proofs.lemmas.Slice.Eq.{bytes_eq-Decides}
-use Rattle.std.specs.Prelude.{bytes_eq}
-use Rattle.block_store.specs.declared.flags.Flags.{Flags}
-use Rattle.block_store.specs.Block.{Block, Free, Nonrelocatable, Masters, Relocatable, size, sizes, total, count, is_relocatable}
-use Rattle.block_store.specs.Run.{has}
-use Rattle.block_store.specs.Room.{put_at_base, put_in_place, purge, place, filled, room}
-use Rattle.block_store.proofs.Zone.Keeping.{base-le, room-le, filled-is}
-use Rattle.block_store.proofs.Zone.Leading.{count-none}
-use Rattle.block_store.proofs.Zone.Passing.{has-count}
-use Rattle.block_store.proofs.Zone.Views.{map-some, room-some}
-use Rattle.heap_calls.specs.State.{State, Memory, Meaning, Role, Handle, used_slots, all_slots}
-use Rattle.heap_calls.specs.Answer.{Answer, nothing}
-use Rattle.heap_calls.specs.Gone.{Gone, gone_of}
-use Rattle.heap_calls.specs.Inside.{has_block, new_filled}
-use Rattle.heap_calls.specs.Path.{Step, NewFilled, stepped, gone_at, read_new}
-use Rattle.heap_calls.specs.Slots.{slotted, more_masters}
-use Rattle.heap_calls.specs.ToldGone.{told_of, bytes_in}
-use Rattle.heap_calls.proofs.Steps.Standstill.{step-bytes}
-use Rattle.heap_calls.proofs.Steps.Ways.{Fits, filled-goes, slotted-names}
-use Rattle.heap_calls.proofs.ToldGone.Bounds.{step-most}
-use Rattle.heap_calls.proofs.ToldGone.Sums.{Adds}
-use Rattle.heap_calls.proofs.ToldGone.Laws.{weight, many, by_bytes, weighed, many-none}
-use Rattle.res_calls.specs.ToldGone.{IsWhole}
+use Rattle.res_calls.proofs.Cited.{◌≡◌, ◌⊎◌, inl, inr, ℕ, ◌+◌, ◌≤◌, ◌<◌, ◌==◌, Bool, true, false, List, [], ◌∷◌, ◌++◌, length, refl, sym}
+use Rattle.res_calls.proofs.Cited.{◌∙◌, ap, subst, cond, arith, Some, Ok, nat_lt, cond-true, cond-false, Decides-eqb, nat_tests, same_Some}
+use Rattle.res_calls.proofs.Cited.{bytes_eq-Decides, bytes_eq, Flags, Block, Free, Nonrelocatable, Masters, Relocatable, size, sizes, total}
+use Rattle.res_calls.proofs.Cited.{count, is_relocatable, has, put_at_base, put_in_place, purge, filled, room, base-le, room-le, filled-is}
+use Rattle.res_calls.proofs.Cited.{count-none, has-count, map-some, room-some, State, Memory, Meaning, Role, Handle, used_slots, all_slots}
+use Rattle.res_calls.proofs.Cited.{nothing, Gone, gone_of, has_block, new_filled, Step, NewFilled, stepped, gone_at, read_new, slotted}
+use Rattle.res_calls.proofs.Cited.{more_masters, told_of, bytes_in, step-bytes, Fits, filled-goes, slotted-names, step-most, Adds, weight}
+use Rattle.res_calls.proofs.Cited.{many, by_bytes, weighed, many-none, IsWhole}
+use Rattle.std.proofs.Common.{length-append}
+use Rattle.block_store.specs.Room.{place}
+use Rattle.heap_calls.specs.Answer.{Answer}
 
 pub many-length : (xs : List (List ℕ)) → many xs ≡ length xs
 many-length [] = refl

@@ -1,32 +1,13 @@
 -- Each block of a preload that a later one purges is that of a resource whose block may be purged.
-use Rattle.std.proofs.Common.{◌≡◌, inl, inr, ℕ, ◌+◌, ◌≤◌, ◌<◌, ◌==◌, Bool, true, false, ◌&&◌, ◌||◌, List, [], ◌∷◌, ◌++◌, length}
-use Rattle.std.proofs.Common.{refl, sym, ◌∙◌, ap, subst, cond, arith, nat_lt, Option, Some, None, Result, Ok, Err}
-use Rattle.std.proofs.lemmas.Bool.Decides.{Decides-eqb, nat_tests}
-use Rattle.std.proofs.lemmas.List.Folds.{list_any-append}
-use Rattle.std.specs.List.{list_any}
-use Rattle.mac_words.specs.declared.code.OsErr.{OsErr}
-use Rattle.block_store.specs.Block.{Block, Relocatable, count, is_relocatable, is_purgeable}
-use Rattle.block_store.proofs.Zone.Leading.{count-none}
-use Rattle.block_store.proofs.Zone.Passing.{has-count}
-use Rattle.heap_calls.specs.State.{Memory, Resource}
-use Rattle.heap_calls.specs.Emptying.{has_purgeable}
-use Rattle.heap_calls.specs.Inside.{has_block, new_filled, new_inside}
-use Rattle.heap_calls.specs.Answer.{nothing}
-use Rattle.heap_calls.specs.Gone.{made_gone}
-use Rattle.heap_calls.specs.Path.{Step, NewFilled, stepped, gone_at, read_new, walk, reads}
-use Rattle.heap_calls.specs.ToldGone.{told_of, bytes_in}
-use Rattle.heap_calls.proofs.Steps.Survival.{steps-purgeable}
-use Rattle.mac_words.specs.declared.code.TheConstants.OsErr.{PROFILE}
-use Rattle.heap_calls.specs.Gone.{Gone}
-use Rattle.res_map.specs.Split.{Split, place}
-use Rattle.res_map.specs.Map.{Reference, Map, has_handle, is_preload, with_handle}
-use Rattle.res_calls.specs.Asked.{OpenResFile, served}
-use Rattle.res_calls.specs.Fetch.{Managers, Answer, refused, flags_of, given, preload}
-use Rattle.res_calls.specs.Files.{File, OpenFile, opened, file_named, open_at}
-use Rattle.res_calls.specs.Gone.{preload_gone, load_gone, map_gone, fork_gone, unless_open_gone, open_gone, gone_for}
-use Rattle.res_calls.specs.Owning.{references}
-use Rattle.res_calls.specs.Rows.{loaded_if, open_as, open_map, open_fork, open_unless, open_named, greatest_number, map_in}
-use Rattle.res_calls.specs.ToldGone.{IsWhole, may_go, TellsOfLoosePreloads}
+use Rattle.res_calls.proofs.Cited.{◌≡◌, inl, inr, ℕ, ◌+◌, ◌≤◌, ◌<◌, ◌==◌, Bool, true, false, ◌&&◌, ◌||◌, List, [], ◌∷◌, ◌++◌, length, refl}
+use Rattle.res_calls.proofs.Cited.{sym, ◌∙◌, ap, subst, cond, arith, nat_lt, Option, Some, None, Result, Ok, Err, Decides-eqb, nat_tests}
+use Rattle.res_calls.proofs.Cited.{list_any-append, list_any, OsErr, Block, Relocatable, count, is_relocatable, is_purgeable, count-none}
+use Rattle.res_calls.proofs.Cited.{has-count, Memory, Resource, has_purgeable, has_block, new_filled, new_inside, nothing, made_gone, Step}
+use Rattle.res_calls.proofs.Cited.{NewFilled, stepped, gone_at, read_new, walk, reads, told_of, bytes_in, steps-purgeable, PROFILE, Gone}
+use Rattle.res_calls.proofs.Cited.{Split, place, Reference, Map, has_handle, is_preload, with_handle, OpenResFile, served, Managers, Answer}
+use Rattle.res_calls.proofs.Cited.{refused, flags_of, given, preload, File, OpenFile, opened, file_named, open_at, preload_gone, load_gone}
+use Rattle.res_calls.proofs.Cited.{map_gone, fork_gone, unless_open_gone, open_gone, gone_for, references, loaded_if, open_as, open_map}
+use Rattle.res_calls.proofs.Cited.{open_fork, open_unless, open_named, greatest_number, map_in, IsWhole, may_go, TellsOfLoosePreloads}
 use Rattle.res_calls.proofs.ToldGone.Calls.{went, preload-along, preload-fills}
 use Rattle.res_calls.proofs.ToldGone.Filled.{told-append, step-beyond, Way, Made, way, whole-filled, ungiven}
 use Rattle.res_calls.proofs.ToldGone.Paths.{path-tells}

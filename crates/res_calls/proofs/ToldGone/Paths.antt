@@ -1,20 +1,10 @@
 -- What a path of new handles with blocks reports of each handle is what the handle loses.
-use Rattle.std.proofs.Common.{◌≡◌, inl, inr, ℕ, ◌+◌, ◌≤◌, ◌<◌, ◌==◌, ◌||◌, Bool, true, false, List, [], ◌∷◌, ◌++◌, length}
-use Rattle.std.proofs.Common.{refl, sym, ◌∙◌, ap, subst, cond, arith, nat_lt, append-nil}
-use Rattle.std.proofs.lemmas.Bool.{cond-true, cond-false}
-use Rattle.std.proofs.lemmas.Bool.Decides.{Decides-eqb, nat_tests}
-use Rattle.block_store.specs.declared.flags.Flags.{Flags}
-use Rattle.block_store.specs.Block.{sizes, count, is_relocatable}
-use Rattle.block_store.specs.declared.measures.TheConstants.{GREATEST_ZONE}
-use Rattle.block_store.proofs.Zone.Leading.{count-none, none-count}
-use Rattle.heap_calls.specs.State.{State, Memory, Role}
-use Rattle.heap_calls.specs.Gone.{Gone}
-use Rattle.heap_calls.specs.Inside.{has_block, new_filled}
-use Rattle.heap_calls.specs.Path.{Step, NewFilled, NewEmpty, Refill, Release, Cast, stepped, gone_at, read_by, walk, reads}
-use Rattle.heap_calls.specs.Path.{step_disposes}
-use Rattle.heap_calls.specs.ToldGone.{told_of, bytes_in}
-use Rattle.heap_calls.proofs.ToldGone.Laws.{step-tells-what-goes}
-use Rattle.res_calls.specs.ToldGone.{IsWhole}
+use Rattle.res_calls.proofs.Cited.{◌≡◌, inl, inr, ℕ, ◌+◌, ◌≤◌, ◌<◌, ◌==◌, ◌||◌, Bool, true, false, List, [], ◌∷◌, ◌++◌, length, refl, sym}
+use Rattle.res_calls.proofs.Cited.{◌∙◌, ap, subst, cond, arith, nat_lt, cond-true, cond-false, Decides-eqb, nat_tests, Flags, sizes, count}
+use Rattle.res_calls.proofs.Cited.{is_relocatable, GREATEST_ZONE, count-none, none-count, State, Memory, Role, Gone, has_block, new_filled}
+use Rattle.res_calls.proofs.Cited.{Step, NewFilled, NewEmpty, Refill, Release, Cast, stepped, gone_at, read_by, walk, reads, step_disposes}
+use Rattle.res_calls.proofs.Cited.{told_of, bytes_in, step-tells-what-goes, IsWhole}
+use Rattle.std.proofs.Common.{append-nil}
 use Rattle.res_calls.proofs.ToldGone.Filled.{told-append, none-bytes, step-beyond, Way, way, whole-filled}
 use Rattle.res_calls.proofs.ToldGone.Filled.{kept-most, kept-bytes, new-bytes, Made}
 

@@ -1,21 +1,9 @@
-use Rattle.std.proofs.Common.{◌≡◌, ◌≤◌, ◌<◌, ◌+◌, ◌^◌, ℕ, Bool, true, false, Some, Err, List, [], length, sym, ◌∙◌, subst}
-use Rattle.mac_words.specs.declared.code.OsErr.{OsErr}
-use Rattle.block_store.specs.Block.{sizes, count, is_masters, is_relocatable}
-use Rattle.block_store.specs.Run.{has}
-use Rattle.block_store.specs.Rest.{counted}
-use Rattle.heap_calls.specs.State.{Memory}
-use Rattle.heap_calls.specs.Staying.{staying}
-use Rattle.heap_calls.specs.Locked.{locked_place}
-use Rattle.heap_calls.specs.Standing.{pointer_place}
-use Rattle.heap_calls.specs.Emptying.{has_purgeable}
-use Rattle.heap_calls.specs.Path.{Step, walk, put_reads, steps_dispose}
+use Rattle.res_calls.proofs.Cited.{◌≡◌, ◌≤◌, ◌<◌, ◌+◌, ◌^◌, ℕ, Bool, true, false, Some, Err, List, [], length, sym, ◌∙◌, subst, OsErr}
+use Rattle.res_calls.proofs.Cited.{sizes, count, is_masters, is_relocatable, has, counted, Memory, staying, locked_place, pointer_place}
+use Rattle.res_calls.proofs.Cited.{has_purgeable, Step, walk, put_reads, steps_dispose, steps-known, steps-locked, steps-nonrelocatable}
+use Rattle.res_calls.proofs.Cited.{steps-bytes, steps-masters, steps-purgeable, steps-fits, steps-busy, steps-code, steps-window, Managers}
+use Rattle.res_calls.proofs.Cited.{Answer, Reads}
 use Rattle.heap_calls.proofs.Promises.Knowing.{Known}
-use Rattle.heap_calls.proofs.Steps.Knowledge.{steps-known}
-use Rattle.heap_calls.proofs.Steps.Standstill.{steps-locked, steps-nonrelocatable, steps-bytes}
-use Rattle.heap_calls.proofs.Steps.Survival.{steps-masters, steps-purgeable}
-use Rattle.heap_calls.proofs.Steps.FewSearches.{steps-fits}
-use Rattle.heap_calls.proofs.Steps.Place.{steps-busy, steps-code, steps-window}
-use Rattle.res_calls.specs.Fetch.{Managers, Answer, Reads}
 use Rattle.res_calls.proofs.Walks.Going.{Goes}
 use Rattle.res_calls.proofs.Walks.Letting.{SearchFew}
 use Rattle.res_calls.proofs.Walks.Laws.{LeftOrSlotted, left-walk, no_more-walk}

@@ -1,33 +1,15 @@
-use Rattle.std.proofs.Common.{◌≡◌, ◌≢◌, ◌⊎◌, inl, inr, ◌<◌, ◌+◌, ℕ, Bool, true, false, true≢false, Option, Some, None}
-use Rattle.std.proofs.Common.{zero, suc, not}
-use Rattle.std.proofs.Common.{Ok, List, [], ◌∷◌, ◌++◌, refl, sym, ◌∙◌, ap, cond, length, ◌==◌, nat_le, arith}
-use Rattle.std.proofs.Common.{◌-◌, bit_and, bytes_eq, if◌then◌else◌}
-use Rattle.std.proofs.Math.Dec.{eqb-suc-zero}
-use Rattle.std.proofs.lemmas.Nat.{and-not, and_comm}
-use Rattle.std.proofs.lemmas.Grind.{and-not_self}
-use Rattle.mac_words.specs.Attributes.{has_bit, unchanged}
-use Rattle.mac_words.specs.declared.code.TheConstants.OsErr.{NO_ERR, DISK_FULL, DUPLICATE_FILE, PROFILE}
-use Rattle.mac_words.specs.Told.{Done}
-use Rattle.fork_format.specs.Content.{Content, IsContent}
-use Rattle.fork_format.specs.Canonical.{canon, clear, fits}
-use Rattle.fork_format.specs.Fork.{Spells}
-use Rattle.fork_format.proofs.CanSpell.{canon_spells}
-use Rattle.fork_format.proofs.Codes.{spelled}
-use Rattle.heap_calls.specs.State.{State}
-use Rattle.heap_calls.specs.Answer.{code_of}
-use Rattle.res_map.specs.Split.{Split, place, replaced}
-use Rattle.res_map.specs.Map.{Reference, Map, is_changed, stored_anew, with_attrs, with_stored, content, map_of}
-use Rattle.res_calls.specs.Files.{File, OpenFile, Resources, file_of, file_named}
-use Rattle.res_calls.specs.Fetch.{Managers, Answer, done, refused}
-use Rattle.res_calls.specs.Update.{bytes_held, updated_reference, updated_map, written, written_at, fork_of, rewritten}
-use Rattle.res_calls.specs.Update.{update}
-use Rattle.res_calls.specs.Rows.{if_updated, on_updated, on_open, closed_file, with_resources, keep_error}
-use Rattle.res_calls.specs.Rows.{map_in, map_read, noting}
-use Rattle.res_map.proofs.Splitting.{split-whole}
-use Rattle.res_calls.specs.Changing.{most_files, new_fork, new_file, with_files, create_named}
-use Rattle.res_calls.specs.Asked.{ResourceAsked, Served, telling, served}
+use Rattle.res_calls.proofs.Cited.{◌≡◌, ◌≢◌, ◌⊎◌, inl, inr, ◌<◌, ◌+◌, ℕ, Bool, true, false, true≢false, Option, Some, None, zero, suc, not}
+use Rattle.res_calls.proofs.Cited.{Ok, List, [], ◌∷◌, ◌++◌, refl, sym, ◌∙◌, ap, cond, length, ◌==◌, nat_le, arith, ◌-◌, bit_and}
+use Rattle.res_calls.proofs.Cited.{if◌then◌else◌, eqb-suc-zero, and-not, and_comm, and-not_self, has_bit, unchanged, NO_ERR, DISK_FULL}
+use Rattle.res_calls.proofs.Cited.{DUPLICATE_FILE, PROFILE, Done, Content, IsContent, canon, clear, fits, Spells, canon_spells, spelled}
+use Rattle.res_calls.proofs.Cited.{State, code_of, Split, place, replaced, Reference, Map, is_changed, stored_anew, with_attrs, with_stored}
+use Rattle.res_calls.proofs.Cited.{content, map_of, File, OpenFile, Resources, file_of, file_named, Managers, Answer, done, refused}
+use Rattle.res_calls.proofs.Cited.{bytes_held, updated_reference, updated_map, written, written_at, fork_of, rewritten, update, if_updated}
+use Rattle.res_calls.proofs.Cited.{on_updated, on_open, closed_file, with_resources, keep_error, map_in, map_read, noting, split-whole}
+use Rattle.res_calls.proofs.Cited.{most_files, new_fork, new_file, with_files, create_named, ResourceAsked, Served, telling, served}
+use Rattle.res_calls.proofs.Cited.{Rewrites, Renews, Creates, Written}
+use Rattle.std.proofs.Common.{bytes_eq}
 use Rattle.res_calls.specs.Asked as asks
-use Rattle.res_calls.specs.Forks.{Rewrites, Renews, Creates, Written}
 use Rattle.res_calls.proofs.Walks.Going.{all_done}
 use Rattle.res_calls.proofs.Walks.Laws.{served-files}
 

@@ -1,33 +1,19 @@
-use Rattle.std.proofs.Common.{◌≡◌, ◌⊎◌, inl, inr, ℕ, ℤ, Bool, true, false, true≢false, not, ◌||◌, ◌&&◌, Option, Some}
-use Rattle.std.proofs.Common.{None, Result, Ok, Err, List, [], ◌∷◌, ◌++◌, length, refl, sym, ◌∙◌, ap, cond, ◌==◌, nat_lt}
-use Rattle.std.proofs.Common.{nat_le, if◌then◌else◌}
-use Rattle.mac_words.specs.declared.code.OsErr.{OsErr}
-use Rattle.mac_words.specs.declared.code.TheConstants.OsErr.{LOCKED, PROFILE, RES_ATTR, ADD_RES_FAILED}
-use Rattle.mac_words.specs.declared.code.TheConstants.OsErr.{REMOVE_RES_FAILED, WRITE_PERMISSION, DUPLICATE_FILE, DISK_FULL}
-use Rattle.res_map.specs.Map.{Map}
-use Rattle.res_calls.specs.Rows.{map_in, open_map}
+use Rattle.res_calls.proofs.Cited.{◌≡◌, ◌⊎◌, inl, inr, ℕ, ℤ, Bool, true, false, true≢false, not, ◌||◌, ◌&&◌, Option, Some, None, Result, Ok}
+use Rattle.res_calls.proofs.Cited.{Err, List, [], ◌∷◌, ◌++◌, length, refl, sym, ◌∙◌, ap, cond, ◌==◌, nat_lt, nat_le, if◌then◌else◌, OsErr}
+use Rattle.res_calls.proofs.Cited.{LOCKED, PROFILE, RES_ATTR, ADD_RES_FAILED, REMOVE_RES_FAILED, WRITE_PERMISSION, DUPLICATE_FILE}
+use Rattle.res_calls.proofs.Cited.{DISK_FULL, Map, map_in, open_map, Split, place, Reference, is_preload, is_changed, is_protected}
+use Rattle.res_calls.proofs.Cited.{new_reference, Memory, Resource, Known, new_inside, new_empty_inside, refill_inside, has_block}
+use Rattle.res_calls.proofs.Cited.{resource_role, owned_as, Step, NewFilled, Release, Cast, walk, reads, read_new, read_again, refusal}
+use Rattle.res_calls.proofs.Cited.{refusal_of, releases, refilled-is, refilled-read, refilled-refusal, File, OpenFile, Resources, Found}
+use Rattle.res_calls.proofs.Cited.{opened, open_at, file_of, Managers, Answer, done, refused, flags_of, is_system, now_filled, now_empty}
+use Rattle.res_calls.proofs.Cited.{now_refilled, fetch_as, Loaded, given, preload, Reads, on_found, on_open, loaded, open_as, open_fork}
+use Rattle.res_calls.proofs.Cited.{open_unless, open_named, greatest_number, all_released, handles_of, closed_file, bars, released_at}
+use Rattle.res_calls.proofs.Cited.{if_updated, on_updated, on_file, with_resources, update, written, bytes_held, most_files, new_file}
+use Rattle.res_calls.proofs.Cited.{new_fork, with_files, create_named, on_known, added_to, on_removable, removed_from, stored_if}
+use Rattle.res_calls.proofs.Cited.{detached_at, fetched}
 use Rattle.res_calls.proofs.Walks.Steps.{map_steps}
-use Rattle.res_map.specs.Split.{Split, place}
-use Rattle.res_map.specs.Map.{Reference, is_preload, is_changed, is_protected, new_reference}
-use Rattle.heap_calls.specs.State.{Memory, Resource}
-use Rattle.heap_calls.specs.Answer.{Known}
 use Rattle.heap_calls.specs.Purging.{is_resource as is_owned}
-use Rattle.heap_calls.specs.Inside.{new_inside, new_empty_inside, refill_inside, has_block, resource_role, owned_as}
-use Rattle.heap_calls.specs.Path.{Step, NewFilled, Release, Cast, walk, reads, read_new, read_again, refusal}
-use Rattle.heap_calls.specs.Path.{refusal_of}
-use Rattle.heap_calls.proofs.Steps.Letting.{releases}
-use Rattle.heap_calls.proofs.Steps.Numbers.{refilled-is, refilled-read, refilled-refusal}
-use Rattle.res_calls.specs.Files.{File, OpenFile, Resources, Found, opened, open_at, file_of}
-use Rattle.res_calls.specs.Fetch.{Managers, Answer, Fetched, done, refused, flags_of, is_system, now_filled}
-use Rattle.res_calls.specs.Fetch.{now_empty}
-use Rattle.res_calls.specs.Fetch.{now_refilled, fetch_as, Loaded, given, preload, Reads}
-use Rattle.res_calls.specs.Rows.{on_found, on_open, loaded, open_as, open_fork, open_unless, open_named}
-use Rattle.res_calls.specs.Rows.{greatest_number, all_released, handles_of, closed_file, bars, released_at}
-use Rattle.res_calls.specs.Rows.{if_updated, on_updated, on_file, with_resources}
-use Rattle.res_calls.specs.Update.{update, written, bytes_held}
-use Rattle.res_calls.specs.Changing.{most_files, new_file, new_fork, with_files, create_named, on_known, added_to}
-use Rattle.res_calls.specs.Changing.{on_removable, removed_from, stored_if}
-use Rattle.res_calls.specs.Rows.{detached_at, fetched}
+use Rattle.res_calls.specs.Fetch.{Fetched}
 use Rattle.res_calls.proofs.Walks.Steps.{for_found, for_open, new_filled, new_empty, filled_again, fetch_steps_as}
 use Rattle.res_calls.proofs.Walks.Steps.{fetched_steps, preload_steps, load_steps, fork_steps, unless_steps}
 use Rattle.res_calls.proofs.Walks.Steps.{open_steps}

@@ -1,21 +1,9 @@
-use Rattle.std.proofs.Common.{◌≡◌, ◌≤◌, ◌<◌, ◌^◌, ℕ, true, false, Some, List, [], ◌∷◌, refl, sym, ◌∙◌, ap, subst}
-use Rattle.block_store.specs.Block.{sizes, count, is_masters, is_relocatable}
-use Rattle.block_store.specs.Run.{has}
-use Rattle.block_store.specs.Rest.{Site}
-use Rattle.heap_calls.specs.State.{Memory}
-use Rattle.heap_calls.specs.Locked.{locked_place}
-use Rattle.heap_calls.specs.Standing.{pointer_place}
-use Rattle.heap_calls.specs.Emptying.{has_purgeable}
-use Rattle.heap_calls.specs.Path.{Step, walk, reads, put_reads, steps_dispose}
+use Rattle.res_calls.proofs.Cited.{◌≡◌, ◌≤◌, ◌<◌, ◌^◌, ℕ, true, false, Some, List, [], ◌∷◌, refl, sym, ◌∙◌, ap, subst, sizes, count}
+use Rattle.res_calls.proofs.Cited.{is_masters, is_relocatable, has, Site, Memory, locked_place, pointer_place, has_purgeable, Step, walk}
+use Rattle.res_calls.proofs.Cited.{reads, put_reads, steps_dispose, steps-known, steps-locked, steps-nonrelocatable, steps-bytes}
+use Rattle.res_calls.proofs.Cited.{steps-masters, steps-purgeable, steps-fits, steps-busy, steps-code, steps-window, OpenFile, Resources}
+use Rattle.res_calls.proofs.Cited.{Managers, Reads, Loaded, preloaded, preloaded_in, with_loaded}
 use Rattle.heap_calls.proofs.Promises.Knowing.{Known}
-use Rattle.heap_calls.proofs.Steps.Knowledge.{steps-known}
-use Rattle.heap_calls.proofs.Steps.Standstill.{steps-locked, steps-nonrelocatable, steps-bytes}
-use Rattle.heap_calls.proofs.Steps.Survival.{steps-masters, steps-purgeable}
-use Rattle.heap_calls.proofs.Steps.FewSearches.{steps-fits}
-use Rattle.heap_calls.proofs.Steps.Place.{steps-busy, steps-code, steps-window}
-use Rattle.res_calls.specs.Files.{OpenFile, Resources}
-use Rattle.res_calls.specs.Fetch.{Managers, Reads, Loaded}
-use Rattle.res_calls.specs.Rows.{preloaded, preloaded_in, with_loaded}
 use Rattle.res_calls.proofs.Walks.Steps.{load_steps}
 use Rattle.res_calls.proofs.Walks.Going.{loaded-loads}
 use Rattle.res_calls.proofs.Walks.Letting.{load-lets}

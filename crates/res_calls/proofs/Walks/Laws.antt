@@ -1,31 +1,11 @@
-use Rattle.std.proofs.Common.{◌≡◌, ◌≤◌, ◌<◌, ◌+◌, ◌^◌, ◌⊎◌, inl, inr, ℕ, true, false, Some, List, [], length}
-use Rattle.std.proofs.Common.{refl, sym, ◌∙◌, ap, subst, arith}
-use Rattle.mac_words.specs.declared.code.OsErr.{OsErr}
-use Rattle.mac_words.specs.Told.{Refused}
-use Rattle.block_store.specs.Block.{sizes, count, is_masters, is_relocatable}
-use Rattle.block_store.specs.Run.{has}
-use Rattle.block_store.specs.Rest.{counted}
-use Rattle.heap_calls.specs.State.{State, Memory}
-use Rattle.heap_calls.specs.Answer.{nothing}
-use Rattle.heap_calls.specs.Slots.{slotted_zone}
-use Rattle.heap_calls.specs.Staying.{staying}
-use Rattle.heap_calls.specs.Locked.{locked_place}
-use Rattle.heap_calls.specs.Standing.{pointer_place}
-use Rattle.heap_calls.specs.Emptying.{has_purgeable}
-use Rattle.heap_calls.specs.Path.{Step, NewFilled, NewEmpty, Refill, Release, Cast, walk, reads, put_reads}
-use Rattle.heap_calls.specs.Path.{left_zone}
+use Rattle.res_calls.proofs.Cited.{◌≡◌, ◌≤◌, ◌<◌, ◌+◌, ◌^◌, ◌⊎◌, inl, inr, ℕ, true, false, Some, List, [], length, refl, sym, ◌∙◌, ap}
+use Rattle.res_calls.proofs.Cited.{subst, arith, OsErr, Refused, sizes, count, is_masters, is_relocatable, has, counted, State, Memory}
+use Rattle.res_calls.proofs.Cited.{nothing, slotted_zone, staying, locked_place, pointer_place, has_purgeable, Step, NewFilled, NewEmpty}
+use Rattle.res_calls.proofs.Cited.{Refill, Release, Cast, walk, reads, put_reads, left_zone, steps-known, steps-locked}
+use Rattle.res_calls.proofs.Cited.{steps-nonrelocatable, steps-bytes, steps-masters, steps-purgeable, step-refused, step-no_more}
+use Rattle.res_calls.proofs.Cited.{steps-fits, steps-busy, steps-code, steps-window, Managers, ResourceAsked, served, disposes_of}
+use Rattle.res_calls.proofs.Cited.{opens_file, left_refused, writes}
 use Rattle.heap_calls.proofs.Promises.Knowing.{Known}
-use Rattle.heap_calls.proofs.Steps.Knowledge.{steps-known}
-use Rattle.heap_calls.proofs.Steps.Standstill.{steps-locked, steps-nonrelocatable, steps-bytes}
-use Rattle.heap_calls.proofs.Steps.Survival.{steps-masters, steps-purgeable}
-use Rattle.heap_calls.proofs.Steps.Refusals.{step-refused, step-no_more}
-use Rattle.heap_calls.proofs.Steps.FewSearches.{steps-fits}
-use Rattle.heap_calls.proofs.Steps.Place.{steps-busy, steps-code, steps-window}
-use Rattle.res_calls.specs.Fetch.{Managers}
-use Rattle.res_calls.specs.Asked.{ResourceAsked, served}
-use Rattle.res_calls.specs.Disposing.{disposes_of, opens_file}
-use Rattle.res_calls.specs.Refused.{left_refused}
-use Rattle.res_calls.specs.Writing.{writes}
 use Rattle.res_calls.proofs.Walks.Steps.{steps_of}
 use Rattle.res_calls.proofs.Walks.Going.{Refuses}
 use Rattle.res_calls.proofs.Walks.Serving.{served-serves}

@@ -1,34 +1,14 @@
-use Rattle.std.proofs.Common.{◌≡◌, ◌≤◌, ◌<◌, ◌+◌, ◌^◌, ◌||◌, ◌==◌, nat_lt, ℕ, Bool, true, false, Option, Some, None}
-use Rattle.std.proofs.Common.{List, [], ◌∷◌, refl, sym, ◌∙◌, ap, cond, length}
-use Rattle.std.proofs.Common.{not, ◌&&◌}
-use Rattle.std.specs.List.{list_any}
-use Rattle.std.proofs.Common.{Result, Ok, Err}
-use Rattle.mac_words.specs.declared.code.OsErr.{OsErr}
-use Rattle.res_map.specs.Map.{Map}
-use Rattle.res_calls.specs.Rows.{map_in}
+use Rattle.res_calls.proofs.Cited.{◌≡◌, ◌≤◌, ◌<◌, ◌+◌, ◌^◌, ◌||◌, ◌==◌, nat_lt, ℕ, Bool, true, false, Option, Some, None, List, [], ◌∷◌}
+use Rattle.res_calls.proofs.Cited.{refl, sym, ◌∙◌, ap, cond, length, not, ◌&&◌, list_any, Result, Ok, Err, OsErr, Map, map_in, count}
+use Rattle.res_calls.proofs.Cited.{is_masters, counted, Split, place, Reference, is_preload, is_changed, is_protected, is_handle}
+use Rattle.res_calls.proofs.Cited.{has_handle, with_handle, is_resource, is_named, Memory, Resource, Known, handle_at, owned_as, has_block}
+use Rattle.res_calls.proofs.Cited.{Step, NewFilled, Release, Cast, walk, steps_dispose, unsearched, step-searches, releases, File, OpenFile}
+use Rattle.res_calls.proofs.Cited.{Resources, Found, find_from_current, find_in_current, file_of, file_named, open_at, Managers, flags_of}
+use Rattle.res_calls.proofs.Cited.{is_system, update, resource_of, handles_of, greatest_number, nth_among, bars, ResourceAsked, holds}
+use Rattle.res_calls.proofs.Cited.{is_unchanged, disposes_of, opens_file}
 use Rattle.res_calls.proofs.Walks.Steps.{map_steps}
-use Rattle.block_store.specs.Block.{count, is_masters}
-use Rattle.block_store.specs.Rest.{counted}
-use Rattle.res_map.specs.Split.{Split, place}
-use Rattle.res_map.specs.Map.{Reference, is_preload, is_changed, is_protected, is_handle, has_handle, with_handle}
-use Rattle.res_map.specs.Map.{is_resource}
-use Rattle.res_map.specs.Map.{is_named}
-use Rattle.heap_calls.specs.State.{Memory, Resource}
-use Rattle.heap_calls.specs.Answer.{Known, handle_at}
 use Rattle.heap_calls.specs.Purging.{is_resource as is_owned}
-use Rattle.heap_calls.specs.Inside.{owned_as, has_block}
-use Rattle.heap_calls.specs.Path.{Step, NewFilled, Release, Cast, walk, steps_dispose}
-use Rattle.heap_calls.proofs.Promises.FewSearches.{unsearched}
-use Rattle.heap_calls.proofs.Steps.FewSearches.{step-searches}
-use Rattle.heap_calls.proofs.Steps.Letting.{releases}
-use Rattle.res_calls.specs.Files.{File, OpenFile, Resources, Found, find_from_current, find_in_current, file_of}
-use Rattle.res_calls.specs.Files.{file_named, open_at}
-use Rattle.res_calls.specs.Fetch.{Managers, flags_of, is_system}
-use Rattle.res_calls.specs.Update.{update}
-use Rattle.res_calls.specs.Rows.{resource_of, handles_of, greatest_number, nth_among, bars}
-use Rattle.res_calls.specs.Asked.{ResourceAsked}
 use Rattle.res_calls.specs.Asked as asks
-use Rattle.res_calls.specs.Disposing.{holds, is_unchanged, disposes_of, opens_file}
 use Rattle.res_calls.proofs.Walks.Steps.{for_found, for_open, fetch_steps, fetch_steps_as, fetched_steps}
 use Rattle.res_calls.proofs.Walks.Steps.{preload_steps}
 use Rattle.res_calls.proofs.Walks.Steps.{load_steps, fork_steps, unless_steps, open_steps}

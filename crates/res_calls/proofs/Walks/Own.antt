@@ -1,20 +1,8 @@
-use Rattle.std.proofs.Common.{◌≡◌, ◌≤◌, ◌<◌, ◌+◌, ◌^◌, ℕ, ℤ, true, false, Some, Err, List, [], length, refl}
-use Rattle.mac_words.specs.declared.code.OsErr.{OsErr}
-use Rattle.block_store.specs.Block.{sizes, count, is_masters, is_relocatable}
-use Rattle.block_store.specs.Run.{has}
-use Rattle.block_store.specs.Rest.{Site, counted}
-use Rattle.heap_calls.specs.Staying.{staying}
-use Rattle.heap_calls.specs.Locked.{locked_place}
-use Rattle.heap_calls.specs.Standing.{pointer_place}
-use Rattle.heap_calls.specs.Emptying.{has_purgeable}
-use Rattle.heap_calls.specs.Path.{Step, walk, reads, put_reads, steps_dispose}
+use Rattle.res_calls.proofs.Cited.{◌≡◌, ◌≤◌, ◌<◌, ◌+◌, ◌^◌, ℕ, ℤ, true, false, Some, Err, List, [], length, refl, OsErr, sizes, count}
+use Rattle.res_calls.proofs.Cited.{is_masters, is_relocatable, has, Site, counted, staying, locked_place, pointer_place, has_purgeable}
+use Rattle.res_calls.proofs.Cited.{Step, walk, reads, put_reads, steps_dispose, is_resource, Resources, is_at, Managers, find_own}
+use Rattle.res_calls.proofs.Cited.{fetch_own, Owns, Sound}
 use Rattle.heap_calls.proofs.Promises.Knowing.{Known}
-use Rattle.res_map.specs.Map.{is_resource}
-use Rattle.res_calls.specs.Files.{Resources, is_at}
-use Rattle.res_calls.specs.Fetch.{Managers}
-use Rattle.res_calls.specs.Own.{find_own, fetch_own}
-use Rattle.res_calls.specs.Owning.{Owns}
-use Rattle.res_calls.specs.Sound.{Sound}
 use Rattle.res_calls.proofs.Keeping.{found-keeps}
 use Rattle.res_calls.proofs.Owning.Calls.{fetch-owns}
 use Rattle.res_calls.proofs.Owning.Facts.{owns-one, one-owns}

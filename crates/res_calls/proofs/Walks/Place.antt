@@ -1,40 +1,23 @@
-use Rattle.std.proofs.Common.{◌≡◌, ℕ, Bool, true, false, not, Option, Some, None, Result, Ok, Err, List, [], ◌∷◌}
-use Rattle.std.proofs.Common.{ℤ, ◌||◌, ◌&&◌, ◌++◌, nat_le, length, refl, ◌∙◌, ap, cond, ◌==◌, nat_lt, ◌+◌, if◌then◌else◌}
-use Rattle.mac_words.specs.declared.code.OsErr.{OsErr}
-use Rattle.mac_words.specs.declared.code.TheConstants.OsErr.{IN_MEMORY, LOCKED, OFFSET, PROFILE, RES_ATTR, ADD_RES_FAILED}
-use Rattle.mac_words.specs.declared.code.TheConstants.OsErr.{REMOVE_RES_FAILED, WRITE_PERMISSION, DUPLICATE_FILE, DISK_FULL}
-use Rattle.mac_words.specs.Told.{Told, Bytes, Done, Kind, Number}
-use Rattle.res_map.specs.Map.{Map}
-use Rattle.res_calls.specs.Rows.{map_in, open_map}
-use Rattle.block_store.specs.Rest.{Site}
-use Rattle.res_map.specs.Split.{Split, place, replaced}
-use Rattle.res_map.specs.Map.{Reference, is_preload, is_changed, is_protected, is_resource, is_named}
-use Rattle.res_map.specs.Map.{new_reference, renamed, resized_datum}
-use Rattle.heap_calls.specs.State.{Memory, Resource}
-use Rattle.heap_calls.specs.Answer.{Known, code_of, handle_at}
+use Rattle.res_calls.proofs.Cited.{◌≡◌, ℕ, Bool, true, false, not, Option, Some, None, Result, Ok, Err, List, [], ◌∷◌, ℤ, ◌||◌, ◌&&◌, ◌++◌}
+use Rattle.res_calls.proofs.Cited.{nat_le, length, refl, ◌∙◌, ap, cond, ◌==◌, nat_lt, ◌+◌, if◌then◌else◌, OsErr, IN_MEMORY, LOCKED, OFFSET}
+use Rattle.res_calls.proofs.Cited.{PROFILE, RES_ATTR, ADD_RES_FAILED, REMOVE_RES_FAILED, WRITE_PERMISSION, DUPLICATE_FILE, DISK_FULL, Told}
+use Rattle.res_calls.proofs.Cited.{Bytes, Done, Kind, Number, Map, map_in, open_map, Site, Split, place, replaced, Reference, is_preload}
+use Rattle.res_calls.proofs.Cited.{is_changed, is_protected, is_resource, is_named, new_reference, renamed, resized_datum, Memory, Resource}
+use Rattle.res_calls.proofs.Cited.{Known, code_of, handle_at, new_inside, new_empty_inside, refill_inside, has_block, resource_role, inside}
+use Rattle.res_calls.proofs.Cited.{released, elsewhere, File, OpenFile, Resources, Found, opened, find_from_current, find_in_current}
+use Rattle.res_calls.proofs.Cited.{file_of, file_named, open_at, Managers, Answer, done, refused, flags_of, is_system, now_filled}
+use Rattle.res_calls.proofs.Cited.{now_empty, now_refilled, fetch_as, Loaded, given, preload_one, loaded_both, preload, on_found, on_open}
+use Rattle.res_calls.proofs.Cited.{loaded, opened_with, open_as, open_fork, open_unless, open_named, greatest_number, all_released}
+use Rattle.res_calls.proofs.Cited.{handles_of, closed, closed_file, bars, released_at, if_updated, on_updated, with_resources, update}
+use Rattle.res_calls.proofs.Cited.{written, bytes_held, most_files, new_file, new_fork, with_files, create_named, on_known, added_to}
+use Rattle.res_calls.proofs.Cited.{on_removable, removed_from, stored_if, touched, marked, with_changed, is_in_memory, read_part_found}
+use Rattle.res_calls.proofs.Cited.{restored, restored_unless, size_refusal, write_refusal, detached_at, fetched, resource_of, told_or}
+use Rattle.res_calls.proofs.Cited.{nth_among, keep_error, noting, ResourceAsked, Served, telling, tell_fetched, tell_info, served}
 use Rattle.heap_calls.specs.Purging.{is_resource as is_owned}
-use Rattle.heap_calls.specs.Inside.{new_inside, new_empty_inside, refill_inside, has_block, resource_role}
-use Rattle.heap_calls.specs.Inside.{inside, released}
-use Rattle.heap_calls.proofs.Tries.Elsewhere.{elsewhere}
-use Rattle.res_calls.specs.Files.{File, OpenFile, Resources, Found, opened, find_from_current, find_in_current, file_of}
-use Rattle.res_calls.specs.Files.{file_named}
-use Rattle.res_calls.specs.Files.{open_at}
-use Rattle.res_calls.specs.Fetch.{Managers, Answer, done, refused, flags_of, is_system, now_filled, now_empty}
-use Rattle.res_calls.specs.Fetch.{now_refilled, fetch_as, Loaded, given, preload_one, loaded_both, preload}
 use Rattle.res_calls.specs.Rows as rows
-use Rattle.res_calls.specs.Rows.{on_found, on_open, loaded, opened_with, open_as, open_fork, open_unless, open_named}
-use Rattle.res_calls.specs.Rows.{greatest_number, all_released, handles_of, closed, closed_file, bars, released_at}
-use Rattle.res_calls.specs.Rows.{if_updated, on_updated, with_resources}
-use Rattle.res_calls.specs.Update.{update, written, bytes_held}
 use Rattle.res_calls.specs.Changing as changing
-use Rattle.res_calls.specs.Changing.{most_files, new_file, new_fork, with_files, create_named, on_known, added_to}
-use Rattle.res_calls.specs.Changing.{on_removable, removed_from, stored_if, touched, marked, with_changed}
 use Rattle.res_calls.specs.Partial as partial
-use Rattle.res_calls.specs.Partial.{is_in_memory, read_part_found, restored, restored_unless, size_refusal, write_refusal}
 use Rattle.memory_windows.specs.Writes.{written as written_over}
-use Rattle.res_calls.specs.Rows.{detached_at, fetched}
-use Rattle.res_calls.specs.Rows.{resource_of, told_or, nth_among, keep_error, noting}
-use Rattle.res_calls.specs.Asked.{ResourceAsked, Served, telling, tell_fetched, tell_info, served}
 use Rattle.res_calls.specs.Asked as asks
 use Rattle.res_calls.proofs.Walks.Going.{all_done}
 

@@ -1,28 +1,15 @@
-use Rattle.std.proofs.Common.{◌≡◌, ℕ, Bool, true, false, true≢false, Option, Some, None, Result, Ok, Err, List, []}
-use Rattle.std.proofs.Common.{refl, sym, ◌∙◌, ap, inl, length, nat_lt, ◌+◌, ◌==◌, if◌then◌else◌}
-use Rattle.mac_words.specs.declared.code.OsErr.{OsErr}
-use Rattle.mac_words.specs.declared.code.TheConstants.OsErr.{IN_MEMORY, OFFSET, RES_ATTR, RES_NOT_FOUND, TOO_LONG}
-use Rattle.mac_words.specs.declared.code.TheConstants.OsErr.{WRITE_PERMISSION}
-use Rattle.mac_words.specs.Told.{Told, Bytes, Done, Kind, Number, Refused}
-use Rattle.res_map.specs.Map.{resized_datum}
-use Rattle.memory_windows.specs.Writes.{piece, written}
-use Rattle.heap_calls.specs.Answer.{code_of, handle_at}
-use Rattle.heap_calls.specs.Path.{Step, walk, reads}
-use Rattle.res_map.specs.Map.{is_protected, is_resource, is_named}
-use Rattle.res_calls.specs.Files.{Resources, Found, find_from_current, find_in_current, file_of, file_named}
-use Rattle.res_calls.specs.Files.{OpenFile}
-use Rattle.res_map.specs.Split.{Split}
-use Rattle.res_calls.specs.Fetch.{Managers, Answer, done, is_system, refused}
+use Rattle.res_calls.proofs.Cited.{◌≡◌, ℕ, Bool, true, false, true≢false, Option, Some, None, Result, Ok, Err, List, [], refl, sym, ◌∙◌, ap}
+use Rattle.res_calls.proofs.Cited.{inl, length, nat_lt, ◌+◌, ◌==◌, if◌then◌else◌, OsErr, IN_MEMORY, OFFSET, RES_ATTR, RES_NOT_FOUND}
+use Rattle.res_calls.proofs.Cited.{TOO_LONG, WRITE_PERMISSION, Told, Bytes, Done, Kind, Number, Refused, resized_datum, piece, code_of}
+use Rattle.res_calls.proofs.Cited.{handle_at, Step, walk, reads, is_protected, is_resource, is_named, Resources, Found, find_from_current}
+use Rattle.res_calls.proofs.Cited.{find_in_current, file_of, file_named, OpenFile, Split, Managers, Answer, done, is_system, refused}
+use Rattle.res_calls.proofs.Cited.{is_in_memory, most_bytes, read_part_found, restored, restored_unless, size_refusal, write_refusal}
+use Rattle.res_calls.proofs.Cited.{is_held_code, left_refused, restored_if, writes, noting, resource_of, told_or, nth_among, told_as}
+use Rattle.res_calls.proofs.Cited.{ResourceAsked, Served, telling, tell_fetched, tell_info, served}
+use Rattle.memory_windows.specs.Writes.{written}
 use Rattle.res_calls.specs.Rows as rows
 use Rattle.res_calls.specs.Changing as changing
 use Rattle.res_calls.specs.Partial as partial
-use Rattle.res_calls.specs.Partial.{is_in_memory, most_bytes, read_part_found, restored, restored_unless}
-use Rattle.res_calls.specs.Partial.{size_refusal, write_refusal}
-use Rattle.res_calls.specs.Refused.{is_held_code, left_refused, restored_if}
-use Rattle.res_calls.specs.Writing.{writes}
-use Rattle.res_calls.specs.Rows.{noting, resource_of, told_or, nth_among}
-use Rattle.heap_calls.specs.Asked.{told_as}
-use Rattle.res_calls.specs.Asked.{ResourceAsked, Served, telling, tell_fetched, tell_info, served}
 use Rattle.res_calls.specs.Asked as asks
 use Rattle.res_calls.proofs.Walks.Steps.{steps_of, fetch_steps, close_steps, release_steps, detach_steps}
 use Rattle.res_calls.proofs.Walks.Steps.{add_steps, remove_steps}

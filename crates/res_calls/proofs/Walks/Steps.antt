@@ -1,23 +1,12 @@
-use Rattle.std.proofs.Common.{Result, Ok, Err}
-use Rattle.std.proofs.Common.{ℕ, Bool, true, false, not, ◌||◌, Option, Some, None, List, [], ◌∷◌, ◌==◌, nat_lt}
-use Rattle.std.proofs.Common.{if◌then◌else◌}
-use Rattle.mac_words.specs.declared.code.OsErr.{OsErr}
-use Rattle.res_map.specs.Split.{Split, place}
-use Rattle.res_map.specs.Map.{Reference, Map, is_preload, is_changed, is_protected, is_resource, is_named}
-use Rattle.heap_calls.specs.State.{Resource}
-use Rattle.heap_calls.specs.Answer.{Known, handle_at}
+use Rattle.res_calls.proofs.Cited.{Result, Ok, Err, ℕ, Bool, true, false, not, ◌||◌, Option, Some, None, List, [], ◌∷◌, ◌==◌, nat_lt}
+use Rattle.res_calls.proofs.Cited.{if◌then◌else◌, OsErr, Split, place, Reference, Map, is_preload, is_changed, is_protected, is_resource}
+use Rattle.res_calls.proofs.Cited.{is_named, Resource, Known, handle_at, resource_role, owned_as, has_block, Step, NewFilled, NewEmpty}
+use Rattle.res_calls.proofs.Cited.{Refill, Release, Cast, releases, File, OpenFile, Resources, Found, find_from_current, find_in_current}
+use Rattle.res_calls.proofs.Cited.{file_of, file_named, open_at, Managers, flags_of, is_system, resource_of, handles_of, greatest_number}
+use Rattle.res_calls.proofs.Cited.{map_in, nth_among, bars, ResourceAsked, OpenResFile, CloseResFile, GetResource, Get1Resource}
+use Rattle.res_calls.proofs.Cited.{GetNamedResource, Get1NamedResource, GetIndResource, LoadResource, ReleaseResource, DetachResource}
+use Rattle.res_calls.proofs.Cited.{AddResource, RemoveResource, update}
 use Rattle.heap_calls.specs.Purging.{is_resource as is_owned}
-use Rattle.heap_calls.specs.Inside.{resource_role, owned_as, has_block}
-use Rattle.heap_calls.specs.Path.{Step, NewFilled, NewEmpty, Refill, Release, Cast}
-use Rattle.heap_calls.proofs.Steps.Letting.{releases}
-use Rattle.res_calls.specs.Files.{File, OpenFile, Resources, Found, find_from_current, find_in_current, file_of}
-use Rattle.res_calls.specs.Files.{file_named, open_at}
-use Rattle.res_calls.specs.Fetch.{Managers, flags_of, is_system}
-use Rattle.res_calls.specs.Rows.{resource_of, handles_of, greatest_number, map_in, nth_among, bars}
-use Rattle.res_calls.specs.Asked.{ResourceAsked, OpenResFile, CloseResFile, GetResource, Get1Resource}
-use Rattle.res_calls.specs.Asked.{GetNamedResource, Get1NamedResource, GetIndResource, LoadResource}
-use Rattle.res_calls.specs.Asked.{ReleaseResource, DetachResource, AddResource, RemoveResource}
-use Rattle.res_calls.specs.Update.{update}
 
 -- The steps that each call of the Resource Manager takes on the heap.
 

@@ -1,28 +1,10 @@
-use Rattle.std.proofs.Common.{◌≡◌, ◌⊎◌, inl, inr, ◌||◌, ◌==◌, ℕ, Bool, true, false, Option, Some, None, List, []}
-use Rattle.std.proofs.Common.{◌∷◌, refl, sym, ◌∙◌, ap, subst, cond}
-use Rattle.mac_words.specs.declared.code.OsErr.{OsErr}
-use Rattle.mac_words.specs.Told.{Done, Refused}
-use Rattle.block_store.specs.Block.{is_relocatable}
-use Rattle.block_store.specs.Run.{has}
-use Rattle.heap_calls.specs.State.{Memory}
-use Rattle.heap_calls.specs.Locked.{locked_place}
-use Rattle.heap_calls.specs.Emptying.{has_purgeable}
-use Rattle.heap_calls.specs.Path.{Step, Release, walk, steps_dispose}
+use Rattle.res_calls.proofs.Cited.{◌≡◌, ◌⊎◌, inl, inr, ◌||◌, ◌==◌, ℕ, Bool, true, false, Option, Some, None, List, [], ◌∷◌, refl, sym, ◌∙◌}
+use Rattle.res_calls.proofs.Cited.{ap, subst, cond, OsErr, Done, Refused, is_relocatable, has, Memory, locked_place, has_purgeable, Step}
+use Rattle.res_calls.proofs.Cited.{Release, walk, steps_dispose, StaysOr, done-or, releases, refused-lets, none-place, walk-none}
+use Rattle.res_calls.proofs.Cited.{steps-locked, steps-purgeable, Split, is_changed, OpenFile, Resources, Found, file_of, Managers}
+use Rattle.res_calls.proofs.Cited.{resource_of, handles_of, bars, update, ResourceAsked, served, disposes_of}
 use Rattle.heap_calls.proofs.Promises.Knowing.{Known}
-use Rattle.heap_calls.proofs.Promises.Taking.{StaysOr}
-use Rattle.heap_calls.proofs.Tries.Taking.{done-or}
-use Rattle.heap_calls.proofs.Steps.Letting.{releases, refused-lets, none-place, walk-none}
-use Rattle.heap_calls.proofs.Steps.Standstill.{steps-locked}
-use Rattle.heap_calls.proofs.Steps.Survival.{steps-purgeable}
-use Rattle.res_map.specs.Split.{Split}
-use Rattle.res_map.specs.Map.{is_changed}
-use Rattle.res_calls.specs.Files.{OpenFile, Resources, Found, file_of}
-use Rattle.res_calls.specs.Fetch.{Managers}
-use Rattle.res_calls.specs.Rows.{resource_of, handles_of, bars}
-use Rattle.res_calls.specs.Update.{update}
-use Rattle.res_calls.specs.Asked.{ResourceAsked, served}
 use Rattle.res_calls.specs.Asked as asks
-use Rattle.res_calls.specs.Disposing.{disposes_of}
 use Rattle.res_calls.proofs.Walks.Steps.{for_found, for_open, if_done, close_steps, on_handle, release_steps, steps_of}
 use Rattle.res_calls.proofs.Walks.Going.{Refuses}
 use Rattle.res_calls.proofs.Walks.Letting.{lets-walk}

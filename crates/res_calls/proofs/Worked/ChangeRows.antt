@@ -1,17 +1,10 @@
-use Rattle.std.proofs.Common.{◌≡◌, ℕ, pos, false, [], ◌∷◌, Some, None, refl}
-use Rattle.mac_words.specs.declared.code.TheConstants.OsErr.{ADD_RES_FAILED, REMOVE_RES_FAILED, RES_ATTR, RES_NOT_FOUND}
-use Rattle.mac_words.specs.declared.code.TheConstants.OsErr.{WRITE_PERMISSION, DUPLICATE_FILE, RES_FILE_NOT_FOUND}
-use Rattle.mac_words.specs.Told.{Done, Given, Fetched, Info, Number, Bytes, Refused}
-use Rattle.block_store.specs.Rest.{Site}
-use Rattle.res_map.specs.Map.{Map}
-use Rattle.heap_calls.specs.State.{fresh_memory}
+use Rattle.res_calls.proofs.Cited.{◌≡◌, ℕ, pos, false, [], ◌∷◌, Some, None, refl, ADD_RES_FAILED, REMOVE_RES_FAILED, RES_ATTR}
+use Rattle.res_calls.proofs.Cited.{RES_NOT_FOUND, WRITE_PERMISSION, DUPLICATE_FILE, RES_FILE_NOT_FOUND, Done, Given, Fetched, Info, Number}
+use Rattle.res_calls.proofs.Cited.{Bytes, Refused, Site, Map, fresh_memory, fresh_resources, Managers, OpenResFile, CreateResFile}
+use Rattle.res_calls.proofs.Cited.{CloseResFile, UpdateResFile, UseResFile, GetResource, GetNamedResource, LoadResource, ReleaseResource}
+use Rattle.res_calls.proofs.Cited.{GetResFileAttrs, SetResFileAttrs, DetachResource, AddResource, RemoveResource, ChangedResource}
+use Rattle.res_calls.proofs.Cited.{WriteResource, GetResInfo, SetResInfo, GetResAttrs, SetResAttrs, GetResourceSizeOnDisk}
 use Rattle.heap_calls.specs.Asked as asks
-use Rattle.res_calls.specs.Files.{fresh_resources}
-use Rattle.res_calls.specs.Fetch.{Managers}
-use Rattle.res_calls.specs.Asked.{OpenResFile, CreateResFile, CloseResFile, UpdateResFile, UseResFile, GetResource}
-use Rattle.res_calls.specs.Asked.{GetNamedResource, LoadResource, ReleaseResource, GetResFileAttrs, SetResFileAttrs}
-use Rattle.res_calls.specs.Asked.{DetachResource, AddResource, RemoveResource, ChangedResource, WriteResource}
-use Rattle.res_calls.specs.Asked.{GetResInfo, SetResInfo, GetResAttrs, SetResAttrs, GetResourceSizeOnDisk}
 use Rattle.res_calls.proofs.Worked.Lines.{line, heap_line, tells, stored, opened_map, group}
 
 -- Resources that are changed.

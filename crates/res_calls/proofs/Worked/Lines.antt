@@ -1,12 +1,6 @@
-use Rattle.std.proofs.Common.{ℕ, List, [], ◌∷◌, replicate}
-use Rattle.mac_words.specs.Told.{Told}
-use Rattle.fork_format.specs.Content.{Ref, Group}
+use Rattle.res_calls.proofs.Cited.{ℕ, List, [], ◌∷◌, replicate, Told, Ref, Group, Map, map_of, Asked, Managers, ResourceAsked, served}
 pub use Rattle.fork_format.proofs.Vectors.{a_ref as stored}
-use Rattle.res_map.specs.Map.{Map, map_of}
-use Rattle.heap_calls.specs.Asked.{Asked}
 use Rattle.heap_calls.specs.Table as heap
-use Rattle.res_calls.specs.Fetch.{Managers}
-use Rattle.res_calls.specs.Asked.{ResourceAsked, served}
 
 -- What lines of calls tell, one after another.
 

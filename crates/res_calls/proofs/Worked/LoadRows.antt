@@ -1,16 +1,8 @@
-use Rattle.std.proofs.Common.{◌≡◌, ℕ, pos, false, List, [], ◌∷◌, Option, Some, None, map, refl, replicate}
-use Rattle.mac_words.specs.declared.code.TheConstants.OsErr.{MEM_FULL}
-use Rattle.mac_words.specs.Told.{Done, Fetched, Number, Code, Refused}
-use Rattle.block_store.specs.Rest.{Site}
-use Rattle.res_map.specs.Map.{Map}
-use Rattle.heap_calls.specs.State.{fresh_memory}
+use Rattle.res_calls.proofs.Cited.{◌≡◌, ℕ, pos, false, List, [], ◌∷◌, Option, Some, None, map, refl, replicate, MEM_FULL, Done, Fetched}
+use Rattle.res_calls.proofs.Cited.{Number, Refused, Site, Map, fresh_memory, fresh_resources, Managers, with_handles, preloaded}
+use Rattle.res_calls.proofs.Cited.{first_handles, GetResource, LoadResource, ReleaseResource, DetachResource, SetResLoad, ResError}
+use Rattle.mac_words.specs.Told.{Code}
 use Rattle.heap_calls.specs.Asked as asks
-use Rattle.res_calls.specs.Files.{fresh_resources}
-use Rattle.res_calls.specs.Fetch.{Managers}
-use Rattle.res_calls.specs.Preloading.{with_handles}
-use Rattle.res_calls.specs.Rows.{preloaded}
-use Rattle.res_calls.specs.Stopped.{first_handles}
-use Rattle.res_calls.specs.Asked.{GetResource, LoadResource, ReleaseResource, DetachResource, SetResLoad, ResError}
 use Rattle.res_calls.proofs.Worked.Lines.{line, heap_line, tells, stored, opened_map, group}
 
 -- Resources that are read as their file is opened, and as they are asked for.

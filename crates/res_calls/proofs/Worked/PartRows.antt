@@ -1,13 +1,8 @@
-use Rattle.std.proofs.Common.{◌≡◌, ℕ, pos, false, [], ◌∷◌, Some, None, refl}
-use Rattle.mac_words.specs.declared.code.TheConstants.OsErr.{IN_MEMORY, OFFSET, RES_ATTR, RES_NOT_FOUND, TOO_LONG}
-use Rattle.mac_words.specs.declared.code.TheConstants.OsErr.{WRITE_PERMISSION}
-use Rattle.mac_words.specs.Told.{Done, Fetched, Number, Bytes, Refused}
-use Rattle.block_store.specs.Rest.{Site}
+use Rattle.res_calls.proofs.Cited.{◌≡◌, ℕ, pos, false, [], ◌∷◌, Some, None, refl, IN_MEMORY, OFFSET, RES_ATTR, RES_NOT_FOUND, TOO_LONG}
+use Rattle.res_calls.proofs.Cited.{WRITE_PERMISSION, Done, Fetched, Number, Bytes, Refused, Site, Map, ChangedResource, GetResource}
+use Rattle.res_calls.proofs.Cited.{GetResAttrs, GetResourceSizeOnDisk, LoadResource, ReadPartialResource, SetResLoad, SetResourceSize}
+use Rattle.res_calls.proofs.Cited.{UpdateResFile, WritePartialResource, ResError}
 use Rattle.heap_calls.specs.Asked as asks
-use Rattle.res_map.specs.Map.{Map}
-use Rattle.res_calls.specs.Asked.{ChangedResource, GetResource, GetResAttrs, GetResourceSizeOnDisk, LoadResource}
-use Rattle.res_calls.specs.Asked.{ReadPartialResource, SetResLoad, SetResourceSize, UpdateResFile, WritePartialResource}
-use Rattle.res_calls.specs.Asked.{ResError}
 use Rattle.mac_words.specs.Told.{Code}
 use Rattle.res_calls.proofs.Worked.Lines.{line, heap_line, tells, stored, opened_map, group}
 use Rattle.res_calls.proofs.Worked.ChangeRows.{text, start}

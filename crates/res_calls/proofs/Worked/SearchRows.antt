@@ -1,15 +1,9 @@
-use Rattle.std.proofs.Common.{◌≡◌, ℕ, pos, true, false, [], ◌∷◌, Some, None, Err, refl}
-use Rattle.mac_words.specs.declared.code.TheConstants.OsErr.{NO_ERR, PROFILE, RES_NOT_FOUND, RES_FILE_NOT_FOUND}
-use Rattle.mac_words.specs.Told.{Done, Fetched, Number, Bytes, Kind, Refused}
-use Rattle.block_store.specs.Rest.{Site}
-use Rattle.heap_calls.specs.State.{fresh_memory}
+use Rattle.res_calls.proofs.Cited.{◌≡◌, ℕ, pos, true, false, [], ◌∷◌, Some, None, Err, refl, NO_ERR, PROFILE, RES_NOT_FOUND}
+use Rattle.res_calls.proofs.Cited.{RES_FILE_NOT_FOUND, Done, Fetched, Number, Bytes, Kind, Refused, Site, fresh_memory, Resources, opened}
+use Rattle.res_calls.proofs.Cited.{Managers, UseResFile, CurResFile, HomeResFile, GetResource, Get1Resource, GetNamedResource}
+use Rattle.res_calls.proofs.Cited.{Get1NamedResource, CountTypes, GetIndType, CountResources, GetIndResource, UniqueID, Current, EachFile}
+use Rattle.res_calls.proofs.Cited.{first_free, told_or}
 use Rattle.heap_calls.specs.Asked as asks
-use Rattle.res_calls.specs.Files.{Resources, opened}
-use Rattle.res_calls.specs.Fetch.{Managers}
-use Rattle.res_calls.specs.Asked.{UseResFile, CurResFile, HomeResFile, GetResource, Get1Resource}
-use Rattle.res_calls.specs.Asked.{GetNamedResource, Get1NamedResource, CountTypes, GetIndType}
-use Rattle.res_calls.specs.Asked.{CountResources, GetIndResource, UniqueID}
-use Rattle.res_calls.specs.Rows.{Current, EachFile, first_free, told_or}
 use Rattle.res_calls.proofs.Worked.Lines.{line, heap_line, tells, stored, opened_map, group}
 
 -- A search through the open files.

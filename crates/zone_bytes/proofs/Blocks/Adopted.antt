@@ -1,26 +1,9 @@
 -- A nonrelocatable block that becomes the block of a slot.
-use Rattle.std.proofs.Common.{◌≡◌, ℕ, true, false, IsTrue, ◌+◌, ◌%◌, ◌≤◌, Some, List, ◌∷◌, ◌++◌, length, drop}
-use Rattle.std.proofs.Common.{sym, refl, ◌∙◌, subst, arith}
-use Rattle.memory_windows.specs.Writes.{written}
-use Rattle.block_headers.specs.Words.{word, word_at, header}
-use Rattle.block_headers.proofs.Headers.{length-header}
-use Rattle.block_store.specs.declared.flags.Flags.{Flags}
-use Rattle.block_store.specs.Block.{Block, Nonrelocatable, Relocatable, size, sizes, count, is_relocatable}
-use Rattle.block_store.specs.Block.{is_nonrelocatable, is_masters, free_sum}
-use Rattle.block_store.specs.Run.{has}
-use Rattle.block_store.specs.Slot.{is_used}
-use Rattle.block_store.specs.Room.{Spot, spot_at}
-use Rattle.std.specs.Option.{IsSomeAnd}
-use Rattle.block_store.proofs.Zone.Aligned.{spot_at-is}
-use Rattle.block_store.proofs.Nonrelocatable.Placing.{spot_at-below}
-use Rattle.block_store.proofs.Zone.Parted.{tidy-renamed}
-use Rattle.zone_bytes.specs.Layout.{head_of, Tile}
-use Rattle.zone_bytes.specs.Decode.{zone_in}
-use Rattle.zone_bytes.specs.Stepping.{left_in, IsOnWay}
-use Rattle.zone_bytes.specs.Walking.{Walk}
-use Rattle.zone_bytes.specs.Table.{slot_in}
-use Rattle.zone_bytes.specs.Lawful.{IsSound}
-use Rattle.zone_bytes.specs.Adopting.{named_header, adopted}
+use Rattle.zone_bytes.proofs.Cited.{◌≡◌, ℕ, true, false, IsTrue, ◌+◌, ◌%◌, ◌≤◌, Some, List, ◌∷◌, ◌++◌, length, drop, sym, refl, ◌∙◌, subst}
+use Rattle.zone_bytes.proofs.Cited.{arith, written, word, word_at, header, length-header, Flags, Block, Nonrelocatable, Relocatable, size}
+use Rattle.zone_bytes.proofs.Cited.{sizes, count, is_relocatable, is_nonrelocatable, is_masters, free_sum, has, is_used, Spot, spot_at}
+use Rattle.zone_bytes.proofs.Cited.{IsSomeAnd, spot_at-is, spot_at-below, tidy-renamed, head_of, Tile, zone_in, left_in, IsOnWay, Walk}
+use Rattle.zone_bytes.proofs.Cited.{slot_in, IsSound, named_header, adopted}
 use Rattle.zone_bytes.proofs.Tiles.Heads.{length-head}
 use Rattle.zone_bytes.proofs.Tiles.Splices.{outside-written, outside-same}
 use Rattle.zone_bytes.proofs.SlotTable.Slotted.{slot-reads-in, flag-kept}

@@ -1,20 +1,11 @@
 -- A block of a sound zone that gives way to another, with the Free bytes above it.
-use Rattle.std.proofs.Common.{◌≡◌, ℕ, ◌+◌, ◌-◌, ◌≤◌, List, [], ◌∷◌, ◌++◌, take, drop, length, false, inl, inr, refl}
-use Rattle.std.proofs.Common.{sym, ap, ◌∙◌, subst, arith, IsTrue, append_assoc, Bool, ◌%◌, ◌<◌}
-use Rattle.std.proofs.lemmas.Bool.{false≢true, cases_eq}
-use Rattle.std.proofs.lemmas.List.{length-take-le, length-drop, take-take}
-use Rattle.memory_windows.specs.Writes.{piece, written}
-use Rattle.memory_windows.proofs.Pieces.{length-written, take-written_above, drop-written_below, piece-written}
-use Rattle.block_store.specs.Block.{Block, Masters, Relocatable, size, sizes, tidy, count, is_masters, free, total}
-use Rattle.block_store.specs.Block.{resized_content, is_relocatable, Free}
-use Rattle.block_store.specs.Room.{Spot}
-use Rattle.block_store.proofs.Zone.Totals.{total-append}
-use Rattle.zone_bytes.specs.Layout.{head_of, Tile, Tiles, IsSlot, names_of, LeadsTo, Each, IsPlaced, names, Apart}
-use Rattle.zone_bytes.specs.Layout.{Leads}
-use Rattle.zone_bytes.specs.Splicing.{SameOutside, Splice, IsSplice}
-use Rattle.zone_bytes.specs.Decode.{zone_in}
-use Rattle.zone_bytes.specs.Table.{Lays, slot_in, IsUsed}
-use Rattle.zone_bytes.specs.Lawful.{IsSound}
+use Rattle.zone_bytes.proofs.Cited.{◌≡◌, ℕ, ◌+◌, ◌-◌, ◌≤◌, List, [], ◌∷◌, ◌++◌, take, drop, length, false, inl, inr, refl, sym, ap, ◌∙◌}
+use Rattle.zone_bytes.proofs.Cited.{subst, arith, IsTrue, append_assoc, Bool, ◌%◌, ◌<◌, false≢true, cases_eq, length-take-le, length-drop}
+use Rattle.zone_bytes.proofs.Cited.{take-take, piece, written, length-written, take-written_above, drop-written_below, piece-written, Block}
+use Rattle.zone_bytes.proofs.Cited.{Masters, Relocatable, size, sizes, tidy, count, is_masters, free, total, resized_content}
+use Rattle.zone_bytes.proofs.Cited.{is_relocatable, Free, Spot, total-append, head_of, Tile, Tiles, IsSlot, names_of, LeadsTo, Each}
+use Rattle.zone_bytes.proofs.Cited.{IsPlaced, names, Apart, Leads, SameOutside, Splice, IsSplice, zone_in, Lays, slot_in, IsUsed, IsSound}
+use Rattle.zone_bytes.proofs.Cited.{word, header_bytes, Header, laid, MayLay, length-word, Flags, has, is_used, Slot, is_resource, Lies}
 use Rattle.zone_bytes.proofs.Tiles.Tiling.{tiles-one, tile-take, slot-swap, slot-inside, length-tiles, tiles-slot}
 use Rattle.zone_bytes.proofs.Tiles.Tiling.{span-append, slot-beside, tiles-split, span-whole}
 use Rattle.zone_bytes.proofs.Tiles.Leading.{each-names, each-map, names-append, Clear, piece-clear}
@@ -25,17 +16,8 @@ use Rattle.zone_bytes.proofs.Tiles.Keeping.{each-free, placed-run, run-no_slot, 
 use Rattle.zone_bytes.proofs.Tiles.Keeping.{placed-swap, span-free, lays-changed}
 use Rattle.zone_bytes.proofs.Laws.Lawful.{Made, made}
 use Rattle.zone_bytes.proofs.Placed.Standing.{Standing, resource_in}
-use Rattle.block_headers.specs.Words.{word}
-use Rattle.block_headers.specs.Headers.{header_bytes}
-use Rattle.block_headers.specs.declared.header.Header.{Header}
-use Rattle.zone_bytes.specs.Laying.{laid, MayLay}
 use Rattle.zone_bytes.proofs.Tiles.Heads.{length-masters, free-tile}
 use Rattle.zone_bytes.proofs.Placed.Laid.{laid-outside, laid-tiles}
-use Rattle.block_headers.proofs.Words.{length-word}
-use Rattle.block_store.specs.declared.flags.Flags.{Flags}
-use Rattle.block_store.specs.Run.{has}
-use Rattle.block_store.specs.Slot.{is_used, Slot, is_resource}
-use Rattle.zone_bytes.specs.Settling.{Lies}
 use Rattle.zone_bytes.proofs.SlotTable.Slotted.{slot-is, name-apart}
 use Rattle.zone_bytes.proofs.SlotTable.Tables.{apart-clear, apart-of, each-both}
 use Rattle.zone_bytes.proofs.Tiles.Permuted.{SameNames, each-moved, turned}

@@ -1,24 +1,12 @@
 -- A block whose flags are set.
-use Rattle.std.proofs.Common.{◌≡◌, ℕ, false, cond, ◌==◌, ◌+◌, ◌%◌, List, ◌∷◌, ◌++◌, refl, ap, ◌∙◌, arith}
-use Rattle.memory_windows.specs.Writes.{written}
-use Rattle.block_headers.specs.Words.{word, word_at, header}
-use Rattle.block_headers.proofs.Words.{length-word}
-use Rattle.block_store.specs.declared.flags.Flags.{Flags}
-use Rattle.block_store.specs.Block.{Block, Relocatable, sizes, count, is_masters, free_sum}
-use Rattle.block_store.specs.Seen.{with_flags}
-use Rattle.block_store.proofs.Purged.Purges.{tidy-flags}
-use Rattle.zone_bytes.specs.Layout.{kind, flag_word, head_of}
-use Rattle.zone_bytes.specs.Decode.{zone_in}
-use Rattle.zone_bytes.specs.Table.{slot_in}
-use Rattle.zone_bytes.specs.Lawful.{IsSound}
-use Rattle.zone_bytes.specs.Flagged.{flagged}
+use Rattle.zone_bytes.proofs.Cited.{◌≡◌, ℕ, false, cond, ◌==◌, ◌+◌, ◌%◌, List, ◌∷◌, ◌++◌, refl, ap, ◌∙◌, arith, written, word, word_at}
+use Rattle.zone_bytes.proofs.Cited.{header, length-word, Flags, Block, Relocatable, sizes, count, is_masters, free_sum, with_flags}
+use Rattle.zone_bytes.proofs.Cited.{tidy-flags, kind, flag_word, head_of, zone_in, slot_in, IsSound, flagged, is_resource, Spot}
 use Rattle.zone_bytes.proofs.Tiles.Heads.{length-head, first-reads, kind-small}
 use Rattle.zone_bytes.proofs.Tiles.Decoding.{flag_word-small, high-flags, low-flag}
 use Rattle.zone_bytes.proofs.Places.Stepped.{header-told}
 use Rattle.zone_bytes.proofs.Blocks.InPlace.{masters-same, total-same, inside-made}
 use Rattle.zone_bytes.proofs.Laws.Lawful.{Made, made}
-use Rattle.block_store.specs.Slot.{is_resource}
-use Rattle.block_store.specs.Room.{Spot}
 use Rattle.zone_bytes.proofs.Placed.Standing.{stands, Standing, resource_in}
 
 -- the last word of a header is written

@@ -1,25 +1,12 @@
 -- Bytes that are written into a block.
-use Rattle.std.proofs.Common.{◌≡◌, ℕ, ◌+◌, ◌≤◌, List, ◌∷◌, ◌++◌, length, take, drop, refl, ap, ◌∙◌, sym}
-use Rattle.std.proofs.Common.{arith, append_assoc}
-use Rattle.std.proofs.Math.Seq.{take-append-add, drop-append-add}
-use Rattle.std.proofs.lemmas.List.{nil_from_length}
-use Rattle.memory_windows.specs.Writes.{written}
-use Rattle.memory_windows.proofs.Pieces.{written-same, length-written}
-use Rattle.block_headers.proofs.Headers.{length-header}
-use Rattle.mac_words.specs.Size.{padded}
-use Rattle.block_store.specs.Block.{Block, Free, Masters, size, sizes, count}
-use Rattle.block_store.specs.Block.{is_masters, content_of, with_content, free_of, free_sum}
-use Rattle.block_store.specs.Room.{Spot}
-use Rattle.block_store.proofs.Zone.Apart.{tidy-content}
-use Rattle.zone_bytes.specs.Layout.{head_of}
-use Rattle.zone_bytes.specs.Decode.{zone_in}
-use Rattle.zone_bytes.specs.Table.{slot_in}
-use Rattle.zone_bytes.specs.Lawful.{IsSound}
+use Rattle.zone_bytes.proofs.Cited.{◌≡◌, ℕ, ◌+◌, ◌≤◌, List, ◌∷◌, ◌++◌, length, take, drop, refl, ap, ◌∙◌, sym, arith, append_assoc}
+use Rattle.zone_bytes.proofs.Cited.{take-append-add, drop-append-add, nil_from_length, written, written-same, length-written, length-header}
+use Rattle.zone_bytes.proofs.Cited.{padded, Block, Free, Masters, size, sizes, count, is_masters, content_of, with_content, free_of}
+use Rattle.zone_bytes.proofs.Cited.{free_sum, Spot, tidy-content, head_of, zone_in, slot_in, IsSound, is_masters-content}
 use Rattle.zone_bytes.proofs.Tiles.Heads.{length-head}
 use Rattle.zone_bytes.proofs.Laws.Lawful.{Made, made}
 use Rattle.zone_bytes.proofs.Blocks.InPlace.{masters-same, total-same, inside-made}
 use Rattle.zone_bytes.proofs.Placed.Standing.{Standing, stands}
-use Rattle.block_store.proofs.Zone.Leading.{is_masters-content}
 
 -- a list written past its first part
 pub written-past : (a b x : List ℕ) (i : ℕ) → written (length a + i) x (a ++ b) ≡ a ++ written i x b

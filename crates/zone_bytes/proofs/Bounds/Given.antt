@@ -1,25 +1,11 @@
 -- What blocks would give if they were emptied, through each change of a zone.
-use Rattle.std.proofs.Common.{◌≡◌, ℕ, zero, suc, ◌+◌, ◌-◌, ◌≤◌, ◌<◌, ◌^◌, Bool, true, false, cond, Option, Some}
-use Rattle.std.proofs.Common.{List, [], ◌∷◌, ◌++◌, map, refl, ap, ◌∙◌, arith}
-use Rattle.std.proofs.lemmas.Bool.{and_parts}
-use Rattle.std.specs.Option.{option_map}
-use Rattle.block_store.specs.Block.{Block, Free, Relocatable, size, sizes, total, free_of}
-use Rattle.block_store.specs.Block.{free_sum, count, is_purgeable, fresh, tidy}
-use Rattle.block_store.specs.Grow.{freed, grow_up}
-use Rattle.block_store.specs.Room.{Spot, spot, raised, filled, may_be_purged, lowest_purged}
-use Rattle.block_store.specs.Sparing.{most_purges, purged, spared}
+use Rattle.zone_bytes.proofs.Cited.{◌≡◌, ℕ, zero, suc, ◌+◌, ◌-◌, ◌≤◌, ◌<◌, ◌^◌, Bool, true, false, cond, Option, Some, List, [], ◌∷◌, ◌++◌}
+use Rattle.zone_bytes.proofs.Cited.{map, refl, ap, ◌∙◌, arith, and_parts, option_map, Block, Free, Relocatable, size, sizes, total, free_of}
+use Rattle.zone_bytes.proofs.Cited.{free_sum, count, is_purgeable, fresh, tidy, freed, grow_up, Spot, spot, raised, filled, may_be_purged}
+use Rattle.zone_bytes.proofs.Cited.{lowest_purged, most_purges, purged, spared, free-purged, total-sized, SeesNoFree, unless, unless-none}
+use Rattle.zone_bytes.proofs.Cited.{freely, freed-is, tidied, total-tidy, total-append, total-le, emptied, all-purged, zone_in, IsSound}
+use Rattle.zone_bytes.proofs.Cited.{Became, purgeable_of, purgeable_sum, purgeable_at}
 use Rattle.block_store.specs.declared.sparing.Sparing.TheVariants as sparing
-use Rattle.block_store.proofs.Purged.PurgedSums.{free-purged}
-use Rattle.block_store.proofs.Content.Sized.{total-sized}
-use Rattle.block_store.proofs.Zone.Keeping.{SeesNoFree, unless, unless-none, freely, freed-is, tidied}
-use Rattle.block_store.proofs.Zone.Tidy.{total-tidy}
-use Rattle.block_store.proofs.Zone.Totals.{total-append, total-le}
-use Rattle.zone_summary.specs.Emptied.{emptied}
-use Rattle.zone_summary.proofs.Purges.{all-purged}
-use Rattle.zone_bytes.specs.Decode.{zone_in}
-use Rattle.zone_bytes.specs.Lawful.{IsSound}
-use Rattle.zone_bytes.specs.Changes.{Became}
-use Rattle.zone_bytes.specs.PurgeableBytes.{purgeable_of, purgeable_sum, purgeable_at}
 use Rattle.zone_bytes.proofs.Laws.Lawful.{sizes-length}
 use Rattle.zone_bytes.proofs.Places.Walks.{free_span-le}
 

@@ -1,16 +1,8 @@
 -- A zone that has too few bytes, and one that has nothing to give.
-use Rattle.std.proofs.Common.{◌≡◌, ℕ, ◌+◌, ◌≤◌, ◌<◌, Bool, true, false, cond, None, List, ap, arith}
-use Rattle.block_store.specs.Block.{Block, Free, count, free_of, free_sum, is_room}
-use Rattle.block_store.specs.Run.{run_spot}
-use Rattle.block_store.specs.Room.{spot, may_be_purged}
-use Rattle.block_store.specs.Sparing.{spared, opened, purged, most_purges}
-use Rattle.block_store.specs.declared.sparing.Sparing.{Sparing}
-use Rattle.block_store.proofs.Purged.PurgedSums.{free-purged}
-use Rattle.block_store.proofs.Zone.Keeping.{unless-le, freed-is, purged-le, tidied}
-use Rattle.block_store.proofs.Zone.Tidy.{spot-is, spot-passes}
-use Rattle.block_store.proofs.Zone.Totals.{total-append, total-le}
-use Rattle.block_store.proofs.Zone.Views.{run_spot-is}
-use Rattle.zone_bytes.specs.PurgeableBytes.{purgeable_of, purgeable_sum}
+use Rattle.zone_bytes.proofs.Cited.{◌≡◌, ℕ, ◌+◌, ◌≤◌, ◌<◌, Bool, true, false, cond, None, List, ap, arith, Block, Free, count, free_of}
+use Rattle.zone_bytes.proofs.Cited.{free_sum, is_room, run_spot, spot, may_be_purged, spared, opened, purged, most_purges, Sparing}
+use Rattle.zone_bytes.proofs.Cited.{free-purged, unless-le, freed-is, purged-le, tidied, spot-is, spot-passes, total-append, total-le}
+use Rattle.zone_bytes.proofs.Cited.{run_spot-is, purgeable_of, purgeable_sum}
 use Rattle.zone_bytes.proofs.Bounds.Given.{none-free, given-lowest_purged}
 use Rattle.zone_bytes.proofs.Places.Options.{no-spot}
 

@@ -1,24 +1,13 @@
 -- A fresh RawZone.
-use Rattle.std.proofs.Common.{◌≡◌, ℕ, ◌-◌, ◌%◌, ◌≤◌, List, [], ◌∷◌, ◌++◌, length, sym, refl, ◌∙◌, subst}
-use Rattle.std.proofs.Common.{arith, false, ◌*◌, ap}
-use Rattle.std.proofs.lemmas.List.{append-nil, drop_all}
-use Rattle.memory_windows.specs.Writes.{written}
-use Rattle.memory_windows.proofs.Pieces.{length-written, piece-written}
-use Rattle.block_headers.specs.Words.{word}
-use Rattle.block_headers.proofs.Words.{length-word}
-use Rattle.block_store.specs.Block.{Free, Masters, free, fresh, tidy, count, is_masters, free_sum}
-use Rattle.block_store.specs.Slot.{NoSlot, is_resource, is_used}
-use Rattle.zone_bytes.specs.Layout.{head_of}
-use Rattle.zone_bytes.specs.Table.{Lays, slot_in}
-use Rattle.zone_bytes.specs.Fresh.{all_slots, fresh_slots}
-use Rattle.zone_bytes.specs.Mastering.{slots_at, HasMasters}
+use Rattle.zone_bytes.proofs.Cited.{◌≡◌, ℕ, ◌-◌, ◌%◌, ◌≤◌, List, [], ◌∷◌, ◌++◌, length, sym, refl, ◌∙◌, subst, arith, false, ◌*◌, ap}
+use Rattle.zone_bytes.proofs.Cited.{append-nil, drop_all, written, length-written, piece-written, word, length-word, Free, Masters, free}
+use Rattle.zone_bytes.proofs.Cited.{fresh, tidy, count, is_masters, free_sum, NoSlot, is_resource, is_used, head_of, Lays, slot_in}
+use Rattle.zone_bytes.proofs.Cited.{all_slots, fresh_slots, slots_at, HasMasters, zone_in, GREATEST_ZONE}
 use Rattle.zone_bytes.proofs.Tiles.Tiling.{tiles-one}
 use Rattle.zone_bytes.proofs.Tiles.Heads.{free-tile}
 use Rattle.zone_bytes.proofs.Blocks.InPlace.{no-slots}
 use Rattle.zone_bytes.proofs.Placed.MastersCarved.{lays-masters}
-use Rattle.zone_bytes.specs.Decode.{zone_in}
 use Rattle.zone_bytes.proofs.Laws.Lawful.{Made, made}
-use Rattle.block_store.specs.declared.measures.TheConstants.{GREATEST_ZONE}
 
 module _ (end : ℕ) (old : List ℕ) (l : length old ≡ end) (e : end % 16 ≡ 0) (h : 512 ≤ end) (m : end ≤ GREATEST_ZONE) where
   -- bytes that are one Free block, and have no slots

@@ -1,11 +1,7 @@
 -- Free bytes that are made one with a Free block above them.
-use Rattle.std.proofs.Common.{◌≡◌, ℕ, ◌+◌, ◌-◌, ◌<◌, ◌≤◌, List, [], ◌∷◌, ◌++◌, length, sym, refl, ap, ◌∙◌, subst}
-use Rattle.std.proofs.Common.{arith, append_assoc}
-use Rattle.block_store.specs.Block.{Block, Free, size, sizes, free, free_of, add}
-use Rattle.block_store.proofs.Zone.Joining.{add-alone, add-free}
-use Rattle.zone_bytes.specs.Layout.{kind}
-use Rattle.zone_bytes.specs.Table.{Lays}
-use Rattle.zone_bytes.specs.Joining.{Freeing, MayFree, Joining, MayJoin}
+use Rattle.zone_bytes.proofs.Cited.{◌≡◌, ℕ, ◌+◌, ◌-◌, ◌<◌, ◌≤◌, List, [], ◌∷◌, ◌++◌, length, sym, refl, ap, ◌∙◌, subst, arith, append_assoc}
+use Rattle.zone_bytes.proofs.Cited.{Block, Free, size, sizes, free, free_of, add, add-alone, add-free, kind, Lays, Freeing, MayFree}
+use Rattle.zone_bytes.proofs.Cited.{Joining, MayJoin}
 use Rattle.zone_bytes.proofs.Tiles.Tiling.{span-append}
 use Rattle.zone_bytes.proofs.Tiles.Keeping.{span-free}
 use Rattle.zone_bytes.proofs.Joined.Ways.{inside, Read, read}

@@ -1,15 +1,8 @@
 -- A walk to a place, which keeps where the last Free block began.
-use Rattle.std.proofs.Common.{◌≡◌, ℕ, ◌+◌, ◌-◌, ◌<◌, ◌≤◌, List, [], ◌∷◌, ◌++◌, length, sym, refl, ap, ◌∙◌, subst, arith}
-use Rattle.block_store.specs.Block.{Block, size, sizes, free_of}
-use Rattle.block_store.specs.Inner.Joining.{last_free}
-use Rattle.zone_bytes.specs.Layout.{kind}
-use Rattle.zone_bytes.specs.Walking.{Walk}
-use Rattle.zone_bytes.specs.Joining.{LeadsUp}
-use Rattle.zone_bytes.specs.Stepping.{left_in, IsOnWay}
+use Rattle.zone_bytes.proofs.Cited.{◌≡◌, ℕ, ◌+◌, ◌-◌, ◌<◌, ◌≤◌, List, [], ◌∷◌, ◌++◌, length, sym, refl, ap, ◌∙◌, subst, arith, Block, size}
+use Rattle.zone_bytes.proofs.Cited.{sizes, free_of, last_free, kind, Walk, LeadsUp, left_in, IsOnWay, tag_number, Header}
 use Rattle.zone_bytes.proofs.Places.Stepped.{Stepped, stepped-read, left-is}
 use Rattle.zone_bytes.proofs.Tiles.Heads.{IsRead}
-use Rattle.block_headers.specs.Headers.{tag_number}
-use Rattle.block_headers.specs.declared.header.Header.{Header}
 use Rattle.zone_bytes.proofs.Joined.Above.{free-is, free-other}
 
 -- what is left of blocks that end at a place, of which the last so far is Free from `start` to `at`

@@ -1,23 +1,11 @@
 -- The block that a handle's slot leads to.
-use Rattle.std.proofs.Common.{◌≡◌, ℕ, Bool, true, false, ◌+◌, ◌%◌, ◌≤◌, ◌⊎◌, inl, inr, List, ◌∷◌, IsTrue, ◌++◌}
-use Rattle.std.proofs.Common.{length, sym, refl, ap, ◌∙◌, subst, arith}
-use Rattle.std.proofs.lemmas.List.{map-append}
-use Rattle.block_headers.specs.Words.{word_at}
-use Rattle.block_store.specs.Block.{Block, Free, Relocatable, size, sizes, tidy, free_sum, is_relocatable}
-use Rattle.block_store.specs.Grow.{freed}
-use Rattle.block_store.specs.Slot.{is_used, is_resource}
-use Rattle.block_store.proofs.Zone.Tidy.{total-tidy}
-use Rattle.block_store.proofs.Zone.Totals.{total-append}
-use Rattle.zone_bytes.specs.Layout.{names, Apart, Pairs}
-use Rattle.zone_bytes.specs.Changes.{Replaced}
-use Rattle.zone_bytes.specs.Joining.{Freeing, MayRelease, HasHandle}
-use Rattle.zone_bytes.specs.Table.{Table, empty_word}
+use Rattle.zone_bytes.proofs.Cited.{◌≡◌, ℕ, Bool, true, false, ◌+◌, ◌%◌, ◌≤◌, ◌⊎◌, inl, inr, List, ◌∷◌, IsTrue, ◌++◌, length, sym, refl, ap}
+use Rattle.zone_bytes.proofs.Cited.{◌∙◌, subst, arith, map-append, word_at, Block, Free, Relocatable, size, sizes, tidy, free_sum}
+use Rattle.zone_bytes.proofs.Cited.{is_relocatable, freed, is_used, is_resource, total-tidy, total-append, names, Apart, Pairs, Replaced}
+use Rattle.zone_bytes.proofs.Cited.{Freeing, MayRelease, HasHandle, Table, empty_word, has, freed-absent, eq-eqb}
 use Rattle.zone_bytes.proofs.Tiles.Leading.{names-append, pairs-before, pairs-after}
 use Rattle.zone_bytes.proofs.SlotTable.Tables.{none-apart}
 use Rattle.zone_bytes.proofs.SlotTable.Handles.{IsEmptyHandle, HasBlock, handle-in, flag, state}
-use Rattle.block_store.specs.Run.{has}
-use Rattle.block_store.proofs.Zone.Absence.{freed-absent}
-use Rattle.std.proofs.lemmas.Bool.{eq-eqb}
 
 -- one block is made Free
 pub freed-one : (t : Block → Bool) (below : List Block) (b : Block) (above : List Block) → has t below ≡ false

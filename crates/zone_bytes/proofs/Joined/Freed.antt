@@ -1,19 +1,10 @@
 -- A block that is made one with the Free bytes below it.
 use Rattle.zone_bytes.proofs.Tiles.Permuted.{SameNames, each-front, front, same-names}
-use Rattle.std.proofs.Common.{◌≡◌, ℕ, Bool, ◌+◌, ◌-◌, ◌%◌, ◌<◌, ◌≤◌, nat_le, List, [], ◌∷◌, ◌++◌, length, drop, sym, ap}
-use Rattle.std.proofs.Common.{◌∙◌, subst, arith, append_assoc}
-use Rattle.memory_windows.specs.Writes.{written, piece}
-use Rattle.memory_windows.proofs.Pieces.{length-written, piece-written}
-use Rattle.block_headers.specs.Words.{word, word_at}
-use Rattle.block_headers.proofs.Words.{length-word}
-use Rattle.block_store.specs.declared.flags.Flags.{Flags}
-use Rattle.block_store.specs.Block.{Block, Free, Relocatable, size, sizes, free}
-use Rattle.block_store.specs.Slot.{Slot, Used, is_resource}
-use Rattle.zone_bytes.specs.Layout.{kind, head_of, Tile, IsSlot, names, names_of, Apart, Each, ArePlaced}
-use Rattle.zone_bytes.specs.Settling.{Lies}
-use Rattle.zone_bytes.specs.Splicing.{Splice, SameOutside, IsSplice}
-use Rattle.zone_bytes.specs.Joining.{Freeing, MayFree}
-use Rattle.zone_bytes.specs.Table.{IsUsed, Lays, empty_word}
+use Rattle.zone_bytes.proofs.Cited.{◌≡◌, ℕ, Bool, ◌+◌, ◌-◌, ◌%◌, ◌<◌, ◌≤◌, nat_le, List, [], ◌∷◌, ◌++◌, length, drop, sym, ap, ◌∙◌, subst}
+use Rattle.zone_bytes.proofs.Cited.{arith, append_assoc, written, piece, length-written, piece-written, word, word_at, length-word, Flags}
+use Rattle.zone_bytes.proofs.Cited.{Block, Free, Relocatable, size, sizes, free, Slot, Used, is_resource, kind, head_of, Tile, IsSlot}
+use Rattle.zone_bytes.proofs.Cited.{names, names_of, Apart, Each, ArePlaced, Lies, Splice, SameOutside, IsSplice, Freeing, MayFree, IsUsed}
+use Rattle.zone_bytes.proofs.Cited.{Lays, empty_word, free-some}
 use Rattle.zone_bytes.proofs.Tiles.Tiling.{span-append, length-tiles, slot-inside, tiles-slot, slot-swap, slot-even}
 use Rattle.zone_bytes.proofs.Tiles.Leading.{each-right, each-map, names-append, apart-turned, piece-clear}
 use Rattle.zone_bytes.proofs.Tiles.Leading.{leads-written}
@@ -24,7 +15,6 @@ use Rattle.zone_bytes.proofs.Blocks.InPlace.{is-splice, zone, outside}
 use Rattle.zone_bytes.proofs.Tiles.Splices.{piece-outside}
 use Rattle.zone_bytes.proofs.SlotTable.Tables.{apart-clear}
 use Rattle.zone_bytes.proofs.Tiles.Heads.{length-masters, relocatable-told}
-use Rattle.block_store.proofs.Zone.Spots.{free-some}
 use Rattle.zone_bytes.proofs.Joined.Ways.{Read, read, tile-at}
 
 used-is : (st : Slot) → IsUsed st → st ≡ Used (is_resource st)

@@ -1,20 +1,9 @@
 -- The zone that bytes spell, where the block of a handle's slot is made Free.
-use Rattle.std.proofs.Common.{◌≡◌, ℕ, IsTrue, ◌+◌, ◌≤◌, List, sym, ap, ◌∙◌, arith, rules}
-use Rattle.raw_region.specs.Memory.{Bytes}
-use Rattle.block_store.specs.Block.{Block, tidy, count, free_sum, is_masters, is_relocatable}
-use Rattle.block_store.specs.Grow.{freed}
-use Rattle.block_store.specs.Slot.{Slot, is_used}
-use Rattle.block_store.specs.Rest.{IsRest}
-use Rattle.block_store.proofs.Zone.Apart.{tidy-tidy}
-use Rattle.block_store.proofs.Zone.Leading.{masters-released}
-use Rattle.zone_bytes.specs.Beside.{KeepsPlace, rest_in}
-use Rattle.zone_bytes.specs.Decode.{zone_in}
-use Rattle.zone_bytes.specs.Joining.{HasHandle}
-use Rattle.zone_bytes.specs.Lawful.{IsSound, IsKept}
-use Rattle.zone_bytes.specs.Table.{Table, Lays, slot_in}
+use Rattle.zone_bytes.proofs.Cited.{◌≡◌, ℕ, IsTrue, ◌+◌, ◌≤◌, List, sym, ap, ◌∙◌, arith, rules, Bytes, Block, tidy, count, free_sum}
+use Rattle.zone_bytes.proofs.Cited.{is_masters, is_relocatable, freed, Slot, is_used, IsRest, tidy-tidy, masters-released, KeepsPlace}
+use Rattle.zone_bytes.proofs.Cited.{rest_in, zone_in, HasHandle, IsSound, IsKept, Table, Lays, slot_in, GREATEST_ZONE}
 use Rattle.zone_bytes.proofs.Laws.Lawful.{Made, made, sizes-length, kept-made}
 use Rattle.zone_bytes.proofs.Places.Walks.{free_span-le}
-use Rattle.block_store.specs.declared.measures.TheConstants.{GREATEST_ZONE}
 
 -- the Free bytes are no more than a zone may have
 pub free-fits : (xs : List ℕ) (blocks : List Block) (slots : ℕ → Slot) (unused : List ℕ)

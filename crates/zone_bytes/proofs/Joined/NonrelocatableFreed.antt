@@ -1,24 +1,13 @@
 -- The nonrelocatable block at a place is made Free.
-use Rattle.block_store.proofs.Zone.Totals.{total-append}
-use Rattle.std.proofs.Common.{◌≡◌, ℕ, true, false, ◌+◌, ◌<◌, ◌≤◌, inl, inr, Some, List, [], ◌⊎◌, ◌∷◌, ◌++◌, sym, refl}
-use Rattle.std.proofs.Common.{ap, ◌∙◌, subst, arith}
-use Rattle.std.proofs.lemmas.Bool.{ne_eqb}
-use Rattle.block_store.specs.Block.{Block, Free, Nonrelocatable, size, sizes, tidy, count}
-use Rattle.block_store.specs.Block.{free_of, free_sum, is_nonrelocatable, is_masters}
-use Rattle.block_store.specs.Room.{Spot, spot_at}
-use Rattle.block_store.specs.Grow.{freed}
-use Rattle.block_store.proofs.Zone.Tidy.{total-tidy}
-use Rattle.zone_bytes.specs.Layout.{ArePlaced}
-use Rattle.zone_bytes.specs.Decode.{zone_in}
-use Rattle.zone_bytes.specs.Joining.{Freeing, MayRelease}
-use Rattle.zone_bytes.specs.Lawful.{IsSound}
-use Rattle.zone_bytes.specs.Table.{Lays, slot_in}
+use Rattle.zone_bytes.proofs.Cited.{total-append, ◌≡◌, ℕ, true, false, ◌+◌, ◌<◌, ◌≤◌, inl, inr, Some, List, [], ◌⊎◌, ◌∷◌, ◌++◌, sym, refl}
+use Rattle.zone_bytes.proofs.Cited.{ap, ◌∙◌, subst, arith, ne_eqb, Block, Free, Nonrelocatable, size, sizes, tidy, count, free_of, free_sum}
+use Rattle.zone_bytes.proofs.Cited.{is_nonrelocatable, is_masters, Spot, spot_at, freed, total-tidy, ArePlaced, zone_in, Freeing}
+use Rattle.zone_bytes.proofs.Cited.{MayRelease, IsSound, Lays, slot_in, has}
 use Rattle.zone_bytes.proofs.Tiles.Keeping.{placed-left, placed-right}
 use Rattle.zone_bytes.proofs.Blocks.InPlace.{masters-same}
 use Rattle.zone_bytes.proofs.Places.AtPlace.{whole, low}
 use Rattle.zone_bytes.proofs.Joined.ByName.{freed-one}
 use Rattle.zone_bytes.proofs.Joined.Handles.{Gained, gained}
-use Rattle.block_store.specs.Run.{has}
 
 -- the blocks below the place, and those above it, are others
 none-placed : (place o : ℕ) (blocks : List Block) → ArePlaced o blocks → (o + sizes blocks ≤ place) ⊎ (place < o)

@@ -1,11 +1,6 @@
 -- A walk that begins at a block of a zone that bytes lay.
-use Rattle.std.proofs.Common.{◌≡◌, ℕ, ◌+◌, ◌<◌, ◌≤◌, ◌^◌, ◌%◌, List, ◌∷◌, ◌++◌, length, drop, arith}
-use Rattle.block_headers.specs.Words.{word_at}
-use Rattle.block_store.specs.Block.{Block, size, sizes}
-use Rattle.block_store.specs.Slot.{Slot, is_resource}
-use Rattle.zone_bytes.specs.Layout.{kind, head_of, Tile, IsSlot, names, Each}
-use Rattle.zone_bytes.specs.Stepping.{left_in, IsOnWay}
-use Rattle.zone_bytes.specs.Table.{Lays}
+use Rattle.zone_bytes.proofs.Cited.{◌≡◌, ℕ, ◌+◌, ◌<◌, ◌≤◌, ◌^◌, ◌%◌, List, ◌∷◌, ◌++◌, length, drop, arith, word_at, Block, size, sizes}
+use Rattle.zone_bytes.proofs.Cited.{Slot, is_resource, kind, head_of, Tile, IsSlot, names, Each, left_in, IsOnWay, Lays}
 use Rattle.zone_bytes.proofs.Tiles.Tiling.{span-append, length-tiles, slot-inside, tiles-split, span-whole}
 use Rattle.zone_bytes.proofs.Tiles.Leading.{each-names, each-map}
 use Rattle.zone_bytes.proofs.Tiles.Keeping.{placed-right}

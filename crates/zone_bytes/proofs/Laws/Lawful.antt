@@ -1,25 +1,14 @@
 -- A zone that bytes lay keeps the laws of a store.
-use Rattle.std.proofs.Common.{◌≡◌, ℕ, cond, eqb, ◌+◌, ◌≤◌, inl, inr, List, [], ◌∷◌, length, drop, sym, refl, ap}
-use Rattle.std.proofs.Common.{◌∙◌, subst, arith}
-use Rattle.std.proofs.lemmas.Bool.Decides.{eqb_tells}
-use Rattle.mac_words.specs.Size.{padded}
-use Rattle.block_store.specs.Block.{Block, Free, Nonrelocatable, Relocatable, size, sizes, free_sum, count}
-use Rattle.block_store.specs.Block.{is_masters, is_relocatable, tidy}
-use Rattle.block_store.specs.Slot.{Slot}
-use Rattle.block_store.specs.Compact.{Aligned, Placed}
-use Rattle.zone_bytes.specs.Layout.{head_of, Tiles, names, Apart, Each, Pairs, ArePlaced}
-use Rattle.zone_bytes.specs.Decode.{zone_in}
-use Rattle.zone_bytes.specs.Table.{Lays, slot_in, first_of}
-use Rattle.zone_bytes.specs.Lawful.{IsLawful, IsSound, IsKept}
-use Rattle.block_store.specs.Rest.{Rest, IsRest, with_placed, counted}
-use Rattle.raw_region.specs.Memory.{Bytes}
-use Rattle.zone_bytes.specs.Beside.{rest_in}
+use Rattle.zone_bytes.proofs.Cited.{◌≡◌, ℕ, cond, eqb, ◌+◌, ◌≤◌, inl, inr, List, [], ◌∷◌, length, drop, sym, refl, ap, ◌∙◌, subst, arith}
+use Rattle.zone_bytes.proofs.Cited.{eqb_tells, padded, Block, Free, Nonrelocatable, Relocatable, size, sizes, free_sum, count, is_masters}
+use Rattle.zone_bytes.proofs.Cited.{is_relocatable, tidy, Slot, Aligned, Placed, head_of, Tiles, names, Apart, Each, Pairs, ArePlaced}
+use Rattle.zone_bytes.proofs.Cited.{zone_in, Lays, slot_in, first_of, IsLawful, IsSound, IsKept, Rest, IsRest, with_placed, counted, Bytes}
+use Rattle.zone_bytes.proofs.Cited.{rest_in, count-none}
 use Rattle.zone_bytes.proofs.Tiles.Tiling.{length-tiles}
 use Rattle.zone_bytes.proofs.Tiles.Spelling.{zone-of, slots-of}
 use Rattle.zone_bytes.proofs.Tiles.Zones.{respelled}
 use Rattle.zone_bytes.proofs.SlotTable.Tables.{none-other, none-apart}
 use Rattle.zone_bytes.proofs.Tiles.Leading.{each-map}
-use Rattle.block_store.proofs.Zone.Leading.{count-none}
 
 -- no two blocks have one name
 pub counted-once : (number : ℕ) (blocks : List Block) → Pairs Apart (names blocks)

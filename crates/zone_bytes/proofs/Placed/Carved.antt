@@ -1,35 +1,17 @@
 -- A new block at the lower end of a Free one.
-use Rattle.std.proofs.Common.{◌≡◌, ℕ, ◌+◌, ◌-◌, ◌≤◌, IsTrue, Some, List, [], ◌∷◌, ◌++◌, replicate, cond, false}
-use Rattle.std.proofs.Common.{◌==◌, rules, refl, sym, ap, ◌∙◌, subst, arith}
-use Rattle.std.proofs.lemmas.Bool.{false≢true}
-use Rattle.std.proofs.lemmas.List.{length-replicate}
-use Rattle.std.specs.Option.{IsSomeAnd}
-use Rattle.mac_words.specs.Size.{padded}
-use Rattle.block_headers.specs.Words.{word, word_at}
-use Rattle.block_headers.specs.Headers.{header_bytes}
-use Rattle.block_headers.specs.declared.header.Header.{Header}
+use Rattle.zone_bytes.proofs.Cited.{◌≡◌, ℕ, ◌+◌, ◌-◌, ◌≤◌, IsTrue, Some, List, [], ◌∷◌, ◌++◌, replicate, cond, false, ◌==◌, rules, refl}
+use Rattle.zone_bytes.proofs.Cited.{sym, ap, ◌∙◌, subst, arith, false≢true, length-replicate, IsSomeAnd, padded, word, word_at}
+use Rattle.zone_bytes.proofs.Cited.{header_bytes, Header, Block, Free, Nonrelocatable, Relocatable, size, free, free_sum, is_relocatable}
+use Rattle.zone_bytes.proofs.Cited.{no_flags, count, is_masters, is_room, resized_content, tidy, Spot, spot_at, filled, total-append}
+use Rattle.zone_bytes.proofs.Cited.{apart-above, tidy-tidy, Heading, unjoined-above, cut-sized, filled-free, filled-count, head_of}
+use Rattle.zone_bytes.proofs.Cited.{names_of, zone_in, Lays, slot_in, IsSound, laid, MayLay, new_header, is_free, written, has, is_used}
 use Rattle.block_headers.specs.declared.header.Tag.TheVariants as tag
-use Rattle.block_store.specs.Block.{Block, Free, Nonrelocatable, Relocatable, size, free, free_sum}
-use Rattle.block_store.specs.Block.{is_relocatable, no_flags, count, is_masters, is_room, resized_content, tidy}
-use Rattle.block_store.specs.Room.{Spot, spot_at, filled}
-use Rattle.block_store.proofs.Zone.Totals.{total-append}
-use Rattle.block_store.proofs.Zone.Apart.{apart-above, tidy-tidy}
-use Rattle.block_store.proofs.Content.Sized.{Heading, unjoined-above, cut-sized, filled-free, filled-count}
 use Rattle.zone_bytes.proofs.Laws.Lawful.{Made, made}
-use Rattle.zone_bytes.specs.Layout.{head_of, names_of}
-use Rattle.zone_bytes.specs.Decode.{zone_in}
-use Rattle.zone_bytes.specs.Table.{Lays, slot_in}
-use Rattle.zone_bytes.specs.Lawful.{IsSound}
-use Rattle.zone_bytes.specs.Laying.{laid, MayLay, new_header}
 use Rattle.zone_bytes.proofs.Tiles.Spelling.{le-back}
 use Rattle.zone_bytes.proofs.Blocks.InPlace.{alone, laid-lays, named-lays}
 use Rattle.zone_bytes.proofs.Places.Options.{the-spot}
 use Rattle.zone_bytes.proofs.Placed.Standing.{Standing, standing, resource_in}
 use Rattle.zone_bytes.proofs.Placed.Laid.{laid-tiles, laid-outside}
-use Rattle.block_store.specs.Inner.Stretch.{is_free}
-use Rattle.memory_windows.specs.Writes.{written}
-use Rattle.block_store.specs.Run.{has}
-use Rattle.block_store.specs.Slot.{is_used}
 use Rattle.zone_bytes.proofs.SlotTable.Slotted.{flag-kept}
 
 -- a Free block with room, at a place

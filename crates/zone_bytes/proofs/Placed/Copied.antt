@@ -1,12 +1,7 @@
 -- Bytes of one block written into another.
-use Rattle.std.proofs.Common.{◌≡◌, ℕ, ◌+◌, ◌-◌, ◌≤◌, Some, List, ◌∷◌, ◌++◌, length, take, drop, sym, ap, ◌∙◌, arith}
-use Rattle.std.proofs.lemmas.List.{length-take-le, length-drop, drop-take, drop-drop, take-take}
-use Rattle.memory_windows.specs.Writes.{written}
-use Rattle.block_store.specs.Block.{free_sum, count, is_masters, content_of, with_content}
-use Rattle.block_store.specs.Room.{Spot, spot_at}
-use Rattle.zone_bytes.specs.Decode.{zone_in}
-use Rattle.zone_bytes.specs.Table.{slot_in}
-use Rattle.zone_bytes.specs.Lawful.{IsSound, IsKept}
+use Rattle.zone_bytes.proofs.Cited.{◌≡◌, ℕ, ◌+◌, ◌-◌, ◌≤◌, Some, List, ◌∷◌, ◌++◌, length, take, drop, sym, ap, ◌∙◌, arith, length-take-le}
+use Rattle.zone_bytes.proofs.Cited.{length-drop, drop-take, drop-drop, take-take, written, free_sum, count, is_masters, content_of}
+use Rattle.zone_bytes.proofs.Cited.{with_content, Spot, spot_at, zone_in, slot_in, IsSound, IsKept}
 use Rattle.zone_bytes.proofs.Blocks.Writes.{content-room, written-in, masters-kept, free-kept}
 use Rattle.zone_bytes.proofs.Laws.Lawful.{Made, kept-made}
 use Rattle.zone_bytes.proofs.Placed.Standing.{Standing, standing, held-piece}

@@ -1,22 +1,10 @@
 -- What the bytes are where a block was laid.
-use Rattle.std.proofs.Common.{refl, ◌≡◌, ℕ, ◌+◌, ◌-◌, ◌<◌, ◌≤◌, ◌⊎◌, inl, inr, List, ◌++◌, length, take, drop}
-use Rattle.std.proofs.Common.{replicate, sym, ap, ◌∙◌, arith, length-append, Bool, ◌%◌, ◌∷◌, rules}
-use Rattle.std.proofs.lemmas.List.{length-drop, length-take-le, length-replicate, take-take, take_all, append-nil}
-use Rattle.std.proofs.lemmas.List.{take_at, drop-drop, drop-take}
-use Rattle.std.proofs.Math.Seq.{take-append-add}
-use Rattle.memory_windows.specs.Writes.{written, piece}
-use Rattle.memory_windows.proofs.Pieces.{piece-written, piece-written_below, piece-written_above, written-written}
-use Rattle.memory_windows.proofs.Pieces.{length-written, written-same}
-use Rattle.block_headers.specs.Words.{word}
-use Rattle.block_headers.specs.Headers.{header_bytes}
-use Rattle.block_headers.specs.declared.header.Header.{Header}
-use Rattle.block_headers.proofs.Words.{length-word}
-use Rattle.block_headers.proofs.Headers.{length-header}
-use Rattle.block_store.specs.Block.{resized_content, Block, size, free}
-use Rattle.block_store.proofs.Content.Resizing.{length-resized}
-use Rattle.zone_bytes.specs.Layout.{Tile, head_of, Tiles}
-use Rattle.zone_bytes.specs.Splicing.{SameOutside}
-use Rattle.zone_bytes.specs.Laying.{headed, laid, MayLay}
+use Rattle.zone_bytes.proofs.Cited.{refl, ◌≡◌, ℕ, ◌+◌, ◌-◌, ◌<◌, ◌≤◌, ◌⊎◌, inl, inr, List, ◌++◌, length, take, drop, replicate, sym, ap}
+use Rattle.zone_bytes.proofs.Cited.{◌∙◌, arith, length-append, Bool, ◌%◌, ◌∷◌, rules, length-drop, length-take-le, length-replicate}
+use Rattle.zone_bytes.proofs.Cited.{take-take, take_all, append-nil, take_at, drop-drop, drop-take, take-append-add, written, piece}
+use Rattle.zone_bytes.proofs.Cited.{piece-written, piece-written_below, piece-written_above, written-written, length-written, written-same}
+use Rattle.zone_bytes.proofs.Cited.{word, header_bytes, Header, length-word, length-header, resized_content, Block, size, free}
+use Rattle.zone_bytes.proofs.Cited.{length-resized, Tile, head_of, Tiles, SameOutside, headed, laid, MayLay}
 use Rattle.zone_bytes.proofs.Tiles.Splices.{outside-written, outside-same}
 use Rattle.zone_bytes.proofs.Tiles.Tiling.{tile-take}
 use Rattle.zone_bytes.proofs.Tiles.Heads.{free-tiles}

@@ -1,25 +1,13 @@
 -- A new Masters block at the lower end of a Free one.
-use Rattle.std.proofs.Common.{◌≡◌, ℕ, IsTrue, ◌+◌, ◌-◌, ◌<◌, List, ◌∷◌, ◌++◌, length, zero, suc, refl, ap, ◌∙◌, subst}
-use Rattle.std.proofs.Common.{arith, Bool, true, false, ◌*◌, ◌%◌, ◌≤◌, ◌⊎◌, inl, inr, [], take, drop, sym}
-use Rattle.block_store.specs.Block.{Masters, size, Block, Free, sizes, free}
-use Rattle.block_store.specs.Room.{filled}
-use Rattle.block_store.specs.Slot.{is_used, Slot, NoSlot, Unused, Used, is_resource}
-use Rattle.block_store.proofs.Zone.Apart.{tidy-tidy}
-use Rattle.zone_bytes.specs.Fresh.{slots_from}
-use Rattle.zone_bytes.specs.Table.{Lays, slot_in, first_of, Has, Says, Chain}
-use Rattle.zone_bytes.specs.Lawful.{IsSound}
-use Rattle.zone_bytes.specs.Mastering.{slots_at, with_slots, HasMasters, is_slot_at, Thread, Threading}
+use Rattle.zone_bytes.proofs.Cited.{◌≡◌, ℕ, IsTrue, ◌+◌, ◌-◌, ◌<◌, List, ◌∷◌, ◌++◌, length, zero, suc, refl, ap, ◌∙◌, subst, arith, Bool}
+use Rattle.zone_bytes.proofs.Cited.{true, false, ◌*◌, ◌%◌, ◌≤◌, ◌⊎◌, inl, inr, [], take, drop, sym, Masters, size, Block, Free, sizes, free}
+use Rattle.zone_bytes.proofs.Cited.{filled, is_used, Slot, NoSlot, Unused, Used, is_resource, tidy-tidy, slots_from, Lays, slot_in}
+use Rattle.zone_bytes.proofs.Cited.{first_of, Has, Says, Chain, IsSound, slots_at, with_slots, HasMasters, is_slot_at, Thread, Threading}
+use Rattle.zone_bytes.proofs.Cited.{cases_eq, take-take, drop-drop, drop-take, length-drop, piece, written, word, length-header, head_of}
+use Rattle.zone_bytes.proofs.Cited.{Tile, IsSlot, names, Each, Pairs, Apart, SameOutside, laid, MayLay, Header, piece-written}
+use Rattle.zone_bytes.proofs.Cited.{piece-written_above, length-word}
 use Rattle.zone_bytes.proofs.Laws.Lawful.{Made, made}
 use Rattle.zone_bytes.proofs.Placed.Carved.{Roomy, filled-is}
-use Rattle.std.proofs.lemmas.Bool.{cases_eq}
-use Rattle.std.proofs.lemmas.List.{take-take, drop-drop, drop-take, length-drop}
-use Rattle.memory_windows.specs.Writes.{piece, written}
-use Rattle.block_headers.specs.Words.{word}
-use Rattle.block_headers.proofs.Headers.{length-header}
-use Rattle.zone_bytes.specs.Layout.{head_of, Tile, IsSlot, names, Each, Pairs, Apart}
-use Rattle.zone_bytes.specs.Splicing.{SameOutside}
-use Rattle.zone_bytes.specs.Laying.{laid, MayLay}
-use Rattle.block_headers.specs.declared.header.Header.{Header}
 use Rattle.block_headers.specs.declared.header.Tag.TheVariants as tag
 use Rattle.zone_bytes.proofs.Placed.Laid.{laid-outside, laid-left, laid-first, tiles-two}
 use Rattle.zone_bytes.proofs.Tiles.Tiling.{slot-swap, slot-append_right, tiles-split, span-whole}
@@ -29,8 +17,6 @@ use Rattle.zone_bytes.proofs.Tiles.Keeping.{run-no_slot}
 use Rattle.zone_bytes.proofs.SlotTable.Tables.{each-both, lies-agree}
 use Rattle.zone_bytes.proofs.Blocks.InPlace.{no-slots, lies-put, Stretch, clear, slot-put, word-outside}
 use Rattle.zone_bytes.proofs.Tiles.Permuted.{has-left, has-right, each-of, pairs-join}
-use Rattle.memory_windows.proofs.Pieces.{piece-written, piece-written_above}
-use Rattle.block_headers.proofs.Words.{length-word}
 use Rattle.zone_bytes.proofs.Tiles.Splices.{outside-written}
 
 -- a write below threaded slots

@@ -1,21 +1,11 @@
 -- The zone in bytes after a block was given another size.
-use Rattle.std.proofs.Common.{◌≡◌, ℕ, ◌-◌, ◌<◌, ◌≤◌, ◌+◌, inl, inr, Some, List, ◌∷◌, ◌++◌, refl, sym}
-use Rattle.std.proofs.Common.{ap, ◌∙◌, arith}
-use Rattle.std.specs.Option.{IfSome}
-use Rattle.block_store.specs.Block.{Block, Free, size, count, is_masters, resized}
-use Rattle.block_store.proofs.Zone.Apart.{tidy-tidy}
-use Rattle.block_store.specs.Room.{Spot, spot_at, filled}
-use Rattle.block_store.specs.Grow.{grow_up}
-use Rattle.block_store.proofs.Zone.Tidy.{total-tidy}
-use Rattle.block_store.proofs.Zone.Totals.{total-append}
-use Rattle.block_store.proofs.Content.Resizing.{less_or_more, tidy-grown, count-grown, is_masters-resized, if_some-map}
-use Rattle.zone_bytes.specs.Decode.{zone_in}
-use Rattle.zone_bytes.specs.Table.{Lays, slot_in}
-use Rattle.zone_bytes.specs.Lawful.{IsSound}
+use Rattle.zone_bytes.proofs.Cited.{◌≡◌, ℕ, ◌-◌, ◌<◌, ◌≤◌, ◌+◌, inl, inr, Some, List, ◌∷◌, ◌++◌, refl, sym, ap, ◌∙◌, arith, IfSome, Block}
+use Rattle.zone_bytes.proofs.Cited.{Free, size, count, is_masters, resized, tidy-tidy, Spot, spot_at, filled, grow_up, total-tidy}
+use Rattle.zone_bytes.proofs.Cited.{total-append, less_or_more, tidy-grown, count-grown, is_masters-resized, if_some-map, zone_in, Lays}
+use Rattle.zone_bytes.proofs.Cited.{slot_in, IsSound, purgeable_of, purgeable_sum}
 use Rattle.zone_bytes.proofs.Laws.Lawful.{Made, made}
 use Rattle.zone_bytes.proofs.Places.Options.{the-if, a-spot}
 use Rattle.zone_bytes.proofs.Placed.Standing.{Standing}
-use Rattle.zone_bytes.specs.PurgeableBytes.{purgeable_of, purgeable_sum}
 use Rattle.zone_bytes.proofs.Bounds.Given.{given-filled, given-grown, given-parts}
 use Rattle.zone_bytes.proofs.Placed.Sizes.{HasRoom}
 use Rattle.zone_bytes.proofs.Tiles.Spelling.{zone-of}

@@ -1,29 +1,13 @@
 -- A block at another size, where it stands.
-use Rattle.std.proofs.Common.{◌≡◌, ℕ, Bool, true, false, ◌==◌, ◌+◌, ◌-◌, ◌%◌, ◌<◌, ◌≤◌, ◌^◌, ◌⊎◌, zero, suc}
-use Rattle.std.proofs.Common.{Some, List, [], ◌∷◌, ◌++◌, length, drop, refl, sym, ap, ◌∙◌, subst, arith, append_assoc}
-use Rattle.std.proofs.lemmas.Bool.{false≢true}
-use Rattle.std.specs.Option.{IfSome, IsSome, IsSomeAnd}
-use Rattle.mac_words.specs.Size.{padded}
-use Rattle.block_headers.specs.Words.{word_at, header}
-use Rattle.block_headers.specs.Headers.{tag_number}
-use Rattle.block_headers.specs.declared.header.Header.{Header}
-use Rattle.block_store.specs.Block.{Block, Free, Masters, size, sizes, free, free_of}
-use Rattle.block_store.specs.Block.{free_sum, is_masters, content_of, resized, resized_content}
-use Rattle.block_store.specs.Room.{Spot, spot_at, filled}
-use Rattle.block_store.specs.Grow.{grow_up}
-use Rattle.block_store.specs.Inner.Stretch.{is_free}
-use Rattle.block_store.proofs.Zone.Apart.{Apart, longer, apart-above}
-use Rattle.block_store.proofs.Content.Resizing.{length-resized}
-use Rattle.block_store.proofs.Content.Sized.{Heading, unjoined-above, cut-sized, free_sum-sized}
-use Rattle.block_store.proofs.Regroup.Packed.{tidy-below}
-use Rattle.block_store.proofs.Zone.Totals.{total-append, total-le}
+use Rattle.zone_bytes.proofs.Cited.{◌≡◌, ℕ, Bool, true, false, ◌==◌, ◌+◌, ◌-◌, ◌%◌, ◌<◌, ◌≤◌, ◌^◌, ◌⊎◌, zero, suc, Some, List, [], ◌∷◌}
+use Rattle.zone_bytes.proofs.Cited.{◌++◌, length, drop, refl, sym, ap, ◌∙◌, subst, arith, append_assoc, false≢true, IfSome, IsSome}
+use Rattle.zone_bytes.proofs.Cited.{IsSomeAnd, padded, word_at, header, tag_number, Header, Block, Free, Masters, size, sizes, free}
+use Rattle.zone_bytes.proofs.Cited.{free_of, free_sum, is_masters, content_of, resized, resized_content, Spot, spot_at, filled, grow_up}
+use Rattle.zone_bytes.proofs.Cited.{is_free, longer, apart-above, length-resized, Heading, unjoined-above, cut-sized, free_sum-sized}
+use Rattle.zone_bytes.proofs.Cited.{tidy-below, total-append, total-le, kind, head_of, Tile, names_of, Each, left_in, zone_in, Lays}
+use Rattle.zone_bytes.proofs.Cited.{slot_in, IsSound, laid, MayLay, free_first, past_free, free_of-le, Replaced, GREATEST_ZONE}
+use Rattle.block_store.proofs.Zone.Apart.{Apart}
 use Rattle.zone_bytes.proofs.Laws.Lawful.{sizes-length}
-use Rattle.zone_bytes.specs.Layout.{kind, head_of, Tile, names_of, Each}
-use Rattle.zone_bytes.specs.Stepping.{left_in}
-use Rattle.zone_bytes.specs.Decode.{zone_in}
-use Rattle.zone_bytes.specs.Table.{Lays, slot_in}
-use Rattle.zone_bytes.specs.Lawful.{IsSound}
-use Rattle.zone_bytes.specs.Laying.{laid, MayLay, free_first, past_free}
 use Rattle.zone_bytes.proofs.Tiles.Tags.{tag-small}
 use Rattle.zone_bytes.proofs.Tiles.Decoding.{flag_word-small}
 use Rattle.zone_bytes.proofs.Tiles.Keeping.{span-free}
@@ -32,13 +16,10 @@ use Rattle.zone_bytes.proofs.Places.Stepped.{header-told}
 use Rattle.zone_bytes.proofs.Places.Options.{the-spot}
 use Rattle.zone_bytes.proofs.Blocks.InPlace.{Alike, Site, laid-lays}
 use Rattle.zone_bytes.proofs.Placed.Standing.{Standing, standing, held-piece, resource_in}
-use Rattle.block_store.proofs.Zone.Listing.{free_of-le}
-use Rattle.zone_bytes.specs.Changes.{Replaced}
 use Rattle.zone_bytes.proofs.Blocks.Writes.{content-room}
 use Rattle.zone_bytes.proofs.Tiles.Heads.{header-tells}
 use Rattle.zone_bytes.proofs.Tiles.Tiling.{span-append}
 use Rattle.zone_bytes.proofs.Places.AtPlace.{way-above}
-use Rattle.block_store.specs.declared.measures.TheConstants.{GREATEST_ZONE}
 
 -- blocks that stand apart, parted into the Free one that comes first and the others
 headed-above : (above : List Block) → Apart above → Heading above (free_first above) (past_free above)

@@ -1,17 +1,9 @@
 -- What is known of a block of a sound zone.
-use Rattle.std.proofs.Common.{◌≡◌, ℕ, ◌+◌, ◌<◌, ◌≤◌, ◌^◌, Bool, Some, List, [], ◌∷◌, ◌++◌, length, drop, refl}
-use Rattle.std.proofs.Common.{append_assoc, sym, ap, ◌∙◌, subst, arith}
-use Rattle.std.proofs.lemmas.List.{length-drop}
-use Rattle.memory_windows.specs.Writes.{piece}
-use Rattle.block_store.specs.Block.{Block, size, sizes, content_of, tidy, Free, Masters}
-use Rattle.block_store.specs.Room.{Spot, spot_at}
-use Rattle.block_store.specs.Slot.{is_resource}
-use Rattle.block_store.proofs.Zone.Apart.{Apart, apart-tidied}
-use Rattle.zone_bytes.specs.Layout.{head_of, Tile, IsPlaced, LeadsTo, IsSlot, names_of, Each}
-use Rattle.zone_bytes.specs.Decode.{zone_in}
-use Rattle.zone_bytes.specs.Table.{Lays, slot_in}
-use Rattle.zone_bytes.specs.Lawful.{IsSound}
-use Rattle.zone_bytes.specs.Stepping.{left_in, IsOnWay}
+use Rattle.zone_bytes.proofs.Cited.{◌≡◌, ℕ, ◌+◌, ◌<◌, ◌≤◌, ◌^◌, Bool, Some, List, [], ◌∷◌, ◌++◌, length, drop, refl, append_assoc, sym, ap}
+use Rattle.zone_bytes.proofs.Cited.{◌∙◌, subst, arith, length-drop, piece, Block, size, sizes, content_of, tidy, Free, Masters, Spot}
+use Rattle.zone_bytes.proofs.Cited.{spot_at, is_resource, apart-tidied, head_of, Tile, IsPlaced, LeadsTo, IsSlot, names_of, Each, zone_in}
+use Rattle.zone_bytes.proofs.Cited.{Lays, slot_in, IsSound, left_in, IsOnWay, GREATEST_ZONE}
+use Rattle.block_store.proofs.Zone.Apart.{Apart}
 use Rattle.zone_bytes.proofs.SlotTable.Tables.{slot-in}
 use Rattle.zone_bytes.proofs.Tiles.Tiling.{span-append}
 use Rattle.zone_bytes.proofs.Tiles.Leading.{each-map, each-left, each-names, leads-from}
@@ -19,7 +11,6 @@ use Rattle.zone_bytes.proofs.Tiles.Keeping.{placed-right}
 use Rattle.zone_bytes.proofs.Joined.Ways.{way, left, tile-at}
 use Rattle.zone_bytes.proofs.Places.AtPlace.{whole, low, way-above, left-above}
 use Rattle.zone_bytes.proofs.Places.Stepped.{header-told}
-use Rattle.block_store.specs.declared.measures.TheConstants.{GREATEST_ZONE}
 
 -- the resource flags that bytes tell
 abbrev pub resource_in : List ℕ → ℕ → Bool

@@ -1,14 +1,6 @@
 -- The block at a place of a RawZone.
-use Rattle.std.proofs.Common.{◌≡◌, ℕ, ◌+◌, ◌<◌, ◌≤◌, ◌^◌, Some, List, [], ◌∷◌, ◌++◌, length, sym, refl, ap, subst}
-use Rattle.std.proofs.Common.{arith}
-use Rattle.block_store.specs.Block.{Block, size, sizes}
-use Rattle.block_store.specs.Room.{Spot, spot_at}
-use Rattle.block_store.proofs.Zone.Aligned.{spot_at-is}
-use Rattle.block_store.proofs.Nonrelocatable.Placing.{spot_at-below}
-use Rattle.zone_bytes.specs.Decode.{zone_in}
-use Rattle.zone_bytes.specs.Table.{slot_in, Lays}
-use Rattle.zone_bytes.specs.Lawful.{IsSound}
-use Rattle.zone_bytes.specs.Stepping.{left_in, IsOnWay}
+use Rattle.zone_bytes.proofs.Cited.{◌≡◌, ℕ, ◌+◌, ◌<◌, ◌≤◌, ◌^◌, Some, List, [], ◌∷◌, ◌++◌, length, sym, refl, ap, subst, arith, Block, size}
+use Rattle.zone_bytes.proofs.Cited.{sizes, Spot, spot_at, spot_at-is, spot_at-below, zone_in, slot_in, Lays, IsSound, left_in, IsOnWay}
 use Rattle.zone_bytes.proofs.Tiles.Tiling.{span-append}
 use Rattle.zone_bytes.proofs.Laws.Lawful.{sizes-length}
 use Rattle.zone_bytes.proofs.Joined.Ways.{way, left, tile-at}

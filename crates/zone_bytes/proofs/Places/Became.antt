@@ -1,10 +1,6 @@
 -- The place of a block that became another.
-use Rattle.std.proofs.Common.{◌≡◌, ℕ, ◌+◌, ◌<◌, List, ◌∷◌, length, ap, arith}
-use Rattle.block_store.specs.Block.{Block, sizes}
-use Rattle.zone_bytes.specs.Decode.{zone_in}
-use Rattle.zone_bytes.specs.Lawful.{IsSound}
-use Rattle.zone_bytes.specs.Changes.{Became}
-use Rattle.zone_bytes.specs.Stepping.{left_in, IsOnWay}
+use Rattle.zone_bytes.proofs.Cited.{◌≡◌, ℕ, ◌+◌, ◌<◌, List, ◌∷◌, length, ap, arith, Block, sizes, zone_in, IsSound, Became, left_in}
+use Rattle.zone_bytes.proofs.Cited.{IsOnWay}
 use Rattle.zone_bytes.proofs.Laws.Lawful.{sizes-length}
 use Rattle.zone_bytes.proofs.Places.AtPlace.{way-above, left-above}
 use Rattle.zone_bytes.proofs.Places.Stepped.{left-none}

@@ -1,16 +1,6 @@
 -- The block that begins at an edge of a RawZone's blocks, if one does.
-use Rattle.std.proofs.Common.{◌≡◌, ℕ, inl, inr, Option, Some, None, List, [], refl, sym, ap, ◌∙◌, subst, arith}
-use Rattle.std.proofs.lemmas.List.{append-nil}
-use Rattle.std.specs.Option.{option_map}
-use Rattle.block_store.specs.Block.{sizes}
-use Rattle.block_store.specs.Find.{IsEdge}
-use Rattle.block_store.specs.Room.{Spot, spot_at}
-use Rattle.block_store.specs.Seen.{seen}
-use Rattle.block_store.specs.Walk.{Tells}
-use Rattle.block_store.specs.declared.sparing.Seen.{Seen}
-use Rattle.zone_bytes.specs.Decode.{zone_in}
-use Rattle.zone_bytes.specs.Lawful.{IsSound}
-use Rattle.zone_bytes.specs.Stepping.{left_in, IsOnWay}
+use Rattle.zone_bytes.proofs.Cited.{◌≡◌, ℕ, inl, inr, Option, Some, None, List, [], refl, sym, ap, ◌∙◌, subst, arith, append-nil}
+use Rattle.zone_bytes.proofs.Cited.{option_map, sizes, IsEdge, Spot, spot_at, seen, Tells, Seen, zone_in, IsSound, left_in, IsOnWay}
 use Rattle.zone_bytes.proofs.Laws.Lawful.{sizes-length}
 use Rattle.zone_bytes.proofs.Places.AtPlace.{way-above, left-above, way-at, left-at, inside, some-here}
 use Rattle.zone_bytes.proofs.Places.Options.{a-spot}

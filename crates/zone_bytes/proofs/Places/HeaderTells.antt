@@ -1,14 +1,8 @@
 -- What a block holds, in its bytes.
-use Rattle.std.proofs.Common.{◌≡◌, ℕ, Bool, true, false, ◌==◌, ◌+◌, ◌%◌, ◌<◌, ◌≤◌, List, [], ◌∷◌, length, drop, sym}
-use Rattle.std.proofs.Common.{ap, ◌∙◌, arith}
-use Rattle.std.proofs.lemmas.Bool.{false≢true}
-use Rattle.memory_windows.specs.Writes.{piece}
-use Rattle.block_headers.specs.Words.{word_at}
-use Rattle.block_store.specs.Block.{Block, Nonrelocatable, Relocatable, size, content_of}
-use Rattle.zone_bytes.specs.Layout.{kind, head_of, Tile}
-use Rattle.zone_bytes.specs.Stepping.{left_in, IsOnWay}
+use Rattle.zone_bytes.proofs.Cited.{◌≡◌, ℕ, Bool, true, false, ◌==◌, ◌+◌, ◌%◌, ◌<◌, ◌≤◌, List, [], ◌∷◌, length, drop, sym, ap, ◌∙◌, arith}
+use Rattle.zone_bytes.proofs.Cited.{false≢true, piece, word_at, Block, Nonrelocatable, Relocatable, size, content_of, kind, head_of, Tile}
+use Rattle.zone_bytes.proofs.Cited.{left_in, IsOnWay, GREATEST_ZONE}
 use Rattle.zone_bytes.proofs.Places.Stepped.{Stepped, stepped, header-told}
-use Rattle.block_store.specs.declared.measures.TheConstants.{GREATEST_ZONE}
 
 -- the content of a block at a place, whose kind has one
 pub record Contained (at : ℕ) (xs : List ℕ) (b : Block) : Type 0 where

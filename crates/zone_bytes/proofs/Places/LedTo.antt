@@ -1,23 +1,8 @@
 -- The block that a slot leads to.
-use Rattle.std.proofs.Common.{◌≡◌, ℕ, ◌+◌, ◌%◌, ◌≤◌, Some, List, ◌∷◌, ◌++◌, rules, length, ap, ◌∙◌}
-use Rattle.std.proofs.Common.{subst, arith}
-use Rattle.block_headers.specs.Words.{word, word_at}
-use Rattle.block_headers.proofs.Words.{read_back}
-use Rattle.block_store.specs.declared.flags.Flags.{Flags}
-use Rattle.block_store.specs.Block.{Block, Relocatable, sizes, is_relocatable}
-use Rattle.block_store.specs.Room.{Spot, spot, spot_at}
-use Rattle.block_store.specs.Find.{FindsLowest}
-use Rattle.block_store.specs.Seen.{seen}
+use Rattle.zone_bytes.proofs.Cited.{◌≡◌, ℕ, ◌+◌, ◌%◌, ◌≤◌, Some, List, ◌∷◌, ◌++◌, rules, length, ap, ◌∙◌, subst, arith, word, word_at}
+use Rattle.zone_bytes.proofs.Cited.{read_back, Flags, Block, Relocatable, sizes, is_relocatable, Spot, spot, spot_at, FindsLowest, seen}
+use Rattle.zone_bytes.proofs.Cited.{spot-is, spot-passes, apart-tidied, spot_at-spot, Leads, zone_in, left_in, slot_in, IsSound, LeadsHere}
 use Rattle.block_store.specs.declared.sparing.Seen.TheVariants as see
-use Rattle.block_store.proofs.Zone.Tidy.{spot-is, spot-passes}
-use Rattle.block_store.proofs.Zone.Apart.{apart-tidied}
-use Rattle.block_store.proofs.Zone.Spots.{spot_at-spot}
-use Rattle.zone_bytes.specs.Layout.{Leads}
-use Rattle.zone_bytes.specs.Decode.{zone_in}
-use Rattle.zone_bytes.specs.Stepping.{left_in}
-use Rattle.zone_bytes.specs.Table.{slot_in}
-use Rattle.zone_bytes.specs.Lawful.{IsSound}
-use Rattle.zone_bytes.specs.Adopting.{LeadsHere}
 use Rattle.zone_bytes.proofs.Tiles.Leading.{each-names, leads-right}
 use Rattle.zone_bytes.proofs.SlotTable.Tables.{slot-in}
 use Rattle.zone_bytes.proofs.Places.AtPlace.{way-at, left-at, inside}

@@ -1,7 +1,5 @@
 -- A spot that is there, or that is not.
-use Rattle.std.proofs.Common.{arith, ◌≡◌, Option, Some, None, ◌∙◌, sym}
-use Rattle.std.proofs.lemmas.Option.{same_Some}
-use Rattle.std.specs.Option.{IfSome, IsSome, IsSomeAnd}
+use Rattle.zone_bytes.proofs.Cited.{arith, ◌≡◌, Option, Some, None, ◌∙◌, sym, same_Some, IfSome, IsSome, IsSomeAnd}
 
 module _ {A : Type 0} where
   pub if-spot : (o : Option A) (P : A → Type 0) → ((s : A) → o ≡ Some s → P s) → IfSome o P

@@ -1,23 +1,13 @@
 -- One step of a walk over the blocks that bytes spell.
-use Rattle.std.proofs.Common.{◌≡◌, ℕ, Bool, ◌+◌, ◌%◌, ◌<◌, ◌≤◌, ◌^◌, Some, None, List, [], ◌∷◌, length, drop}
-use Rattle.std.proofs.Common.{sym, refl, ap, ◌∙◌, subst, arith}
-use Rattle.std.proofs.lemmas.List.{length-drop, drop-drop}
-use Rattle.block_headers.specs.Words.{word_at}
-use Rattle.block_store.specs.declared.sparing.Seen.{Seen}
+use Rattle.zone_bytes.proofs.Cited.{◌≡◌, ℕ, Bool, ◌+◌, ◌%◌, ◌<◌, ◌≤◌, ◌^◌, Some, None, List, [], ◌∷◌, length, drop, sym, refl, ap, ◌∙◌}
+use Rattle.zone_bytes.proofs.Cited.{subst, arith, length-drop, drop-drop, word_at, Seen, Block, Nonrelocatable, Relocatable, size, seen}
+use Rattle.zone_bytes.proofs.Cited.{Tells, kind, head_of, Tile, names, names_of, Each, ArePlaced, Walk, header_seen, left_in, IsOnWay}
+use Rattle.zone_bytes.proofs.Cited.{Steps, tag_number, Header, GREATEST_ZONE}
 use Rattle.block_store.specs.declared.sparing.Seen.TheVariants as see
-use Rattle.block_store.specs.Block.{Block, Nonrelocatable, Relocatable, size}
-use Rattle.block_store.specs.Seen.{seen}
-use Rattle.block_store.specs.Walk.{Tells}
-use Rattle.zone_bytes.specs.Layout.{kind, head_of, Tile, names, names_of, Each, ArePlaced}
-use Rattle.zone_bytes.specs.Walking.{Walk}
-use Rattle.zone_bytes.specs.Stepping.{header_seen, left_in, IsOnWay, Steps}
 use Rattle.zone_bytes.proofs.Tiles.Leading.{each-left}
-use Rattle.block_headers.specs.Headers.{tag_number}
-use Rattle.block_headers.specs.declared.header.Header.{Header}
 use Rattle.zone_bytes.proofs.Tiles.Tags.{tag-small}
 use Rattle.zone_bytes.proofs.Tiles.Heads.{next-may, Next, next-there, header-tells, MayRead, IsRead}
 use Rattle.zone_bytes.proofs.Tiles.Decoding.{blocks-back}
-use Rattle.block_store.specs.declared.measures.TheConstants.{GREATEST_ZONE}
 pub use Rattle.zone_bytes.proofs.Tiles.Heads.{header-told}
 
 module _ (resource : ℕ → Bool) (at : ℕ) (xs : List ℕ) (small : length xs ≤ GREATEST_ZONE) where

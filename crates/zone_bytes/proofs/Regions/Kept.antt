@@ -1,12 +1,6 @@
 -- What lies in a window stays where another one is written.
-use Rattle.std.proofs.Common.{◌≡◌, ℕ, ◌+◌, ◌≤◌, List, length, subst, arith}
-use Rattle.memory_windows.specs.declared.Window.{Window}
-use Rattle.memory_windows.specs.Windows.{Misses}
-use Rattle.memory_windows.specs.Writes.{written}
-use Rattle.memory_windows.proofs.Pieces.{piece-written_below, piece-written_above}
-use Rattle.block_store.specs.Block.{Block}
-use Rattle.block_store.specs.Slot.{Slot}
-use Rattle.zone_bytes.specs.Laid.{LaysOut, LiesThere}
+use Rattle.zone_bytes.proofs.Cited.{◌≡◌, ℕ, ◌+◌, ◌≤◌, List, length, subst, arith, Window, Misses, written, piece-written_below}
+use Rattle.zone_bytes.proofs.Cited.{piece-written_above, Block, Slot, LaysOut, LiesThere}
 
 -- a zone lies in a window still, where bytes were written into a window that misses it
 pub lies-kept : (at : ℕ) (ys xs new : List ℕ) (v : Window) → at ≡ v.at → length ys ≡ v.len → v.at + v.len ≤ length xs

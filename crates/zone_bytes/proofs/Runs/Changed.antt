@@ -1,26 +1,9 @@
 -- A run of a zone is changed.
-use Rattle.std.proofs.Common.{◌≡◌, ℕ, ◌+◌, Option, Some, List, ◌++◌, refl, sym, ap, ◌∙◌, subst, arith}
-use Rattle.std.proofs.Common.{append_assoc}
-use Rattle.std.specs.Option.{IfSome}
-use Rattle.block_store.specs.Block.{Block, total, count, is_masters, free_sum, sizes, tidy}
-use Rattle.block_store.specs.Run.{RunSpot, run_at, with_run, settle}
-use Rattle.block_store.specs.Rest.{lowered_in_run}
-use Rattle.block_store.specs.Slot.{Slot, is_resource}
-use Rattle.block_store.specs.Inner.Packing.{Loose}
-use Rattle.block_store.proofs.Zone.Tidy.{Adds}
-use Rattle.block_store.proofs.Regroup.RunLists.{run_at-is, run_at-parts}
-use Rattle.block_store.proofs.Regroup.Packed.{settle-total}
-use Rattle.block_store.proofs.Regroup.Ends.{settled-tidy}
-use Rattle.block_store.proofs.Regroup.Lifted.{total-changed}
-use Rattle.zone_bytes.specs.Settling.{Relaid, Settled}
-use Rattle.zone_bytes.specs.Decode.{zone_in}
-use Rattle.zone_bytes.specs.Table.{Lays, slot_in}
-use Rattle.zone_bytes.specs.Lawful.{IsSound}
-use Rattle.zone_bytes.specs.Placing.{lay_at}
-use Rattle.zone_bytes.specs.Changes.{Replaced}
-use Rattle.zone_bytes.specs.PurgeableBytes.{purgeable_sum}
-use Rattle.block_store.proofs.Regroup.RunsAbove.{run_at-bottom}
-use Rattle.zone_bytes.specs.Layout.{head_of, Tiles}
+use Rattle.zone_bytes.proofs.Cited.{◌≡◌, ℕ, ◌+◌, Option, Some, List, ◌++◌, refl, sym, ap, ◌∙◌, subst, arith, append_assoc, IfSome, Block}
+use Rattle.zone_bytes.proofs.Cited.{total, count, is_masters, free_sum, sizes, tidy, RunSpot, run_at, with_run, settle, lowered_in_run}
+use Rattle.zone_bytes.proofs.Cited.{Slot, is_resource, Loose, Adds, run_at-is, run_at-parts, settle-total, settled-tidy, total-changed}
+use Rattle.zone_bytes.proofs.Cited.{Relaid, Settled, zone_in, Lays, slot_in, IsSound, lay_at, Replaced, purgeable_sum, run_at-bottom}
+use Rattle.zone_bytes.proofs.Cited.{head_of, Tiles}
 use Rattle.zone_bytes.proofs.Tiles.Splices.{tiles-parts}
 use Rattle.zone_bytes.proofs.Tiles.Keeping.{Instead, instead-settle, lays-run}
 use Rattle.zone_bytes.proofs.Laws.Lawful.{Made, made}

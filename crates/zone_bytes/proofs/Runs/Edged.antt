@@ -1,17 +1,9 @@
 -- Edges that were noted while a run was packed or raised.
-use Rattle.std.proofs.Common.{◌≡◌, ℕ, ◌+◌, ◌-◌, ◌<◌, inl, inr, Bool, Some, cond, List, [], ◌∷◌, ◌++◌}
-use Rattle.std.proofs.Common.{append_assoc, refl, ◌∙◌, subst, arith}
-use Rattle.block_store.specs.Block.{Block, Free, free, free_sum, is_mover}
-use Rattle.block_store.specs.Run.{RunSpot, run_at, movers, settle}
-use Rattle.block_store.specs.Slot.{Slot}
-use Rattle.zone_bytes.specs.Decode.{zone_in}
-use Rattle.zone_bytes.specs.Edges.{AreEdges, ByEdges, IsMover}
-use Rattle.zone_bytes.specs.Layout.{Each}
-use Rattle.zone_bytes.specs.Raising.{lifted}
-use Rattle.zone_bytes.specs.declared.edges.Edges.{Edges}
+use Rattle.zone_bytes.proofs.Cited.{◌≡◌, ℕ, ◌+◌, ◌-◌, ◌<◌, inl, inr, Bool, Some, cond, List, [], ◌∷◌, ◌++◌, append_assoc, refl, ◌∙◌, subst}
+use Rattle.zone_bytes.proofs.Cited.{arith, Block, Free, free, free_sum, is_mover, RunSpot, run_at, movers, settle, Slot, zone_in, AreEdges}
+use Rattle.zone_bytes.proofs.Cited.{ByEdges, IsMover, Each, lifted, Edges, run_at-bottom}
 use Rattle.zone_bytes.proofs.Runs.Changed.{ChangedRun}
 use Rattle.zone_bytes.proofs.Runs.Raises.{any-movers, lifted-some}
-use Rattle.block_store.proofs.Regroup.RunsAbove.{run_at-bottom}
 use Rattle.zone_bytes.proofs.Tiles.Tiling.{span-append}
 
 -- the blocks of a run that may move

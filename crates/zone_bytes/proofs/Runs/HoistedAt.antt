@@ -1,33 +1,16 @@
 -- The block of a slot is moved to the top of its run, of a zone in bytes.
-use Rattle.std.proofs.Common.{◌≡◌, ℕ, true, cond, ◌+◌, ◌%◌, ◌≤◌, Some, List, [], ◌∷◌, ◌++◌, length, drop, refl, sym, ap}
-use Rattle.std.proofs.Common.{◌∙◌, subst, arith, append_assoc}
-use Rattle.std.proofs.Math.Seq.{drop-append_seam}
-use Rattle.block_headers.specs.Words.{word_at}
-use Rattle.block_headers.proofs.Words.{read_back}
-use Rattle.block_store.specs.Block.{Block, sizes, count, is_relocatable, tidy}
-use Rattle.block_store.specs.Run.{RunSpot, has, movers, high, segments, with_run}
-use Rattle.block_store.specs.Room.{spot_at}
-use Rattle.block_store.specs.Slot.{is_resource}
-use Rattle.block_store.proofs.Zone.Apart.{apart-tidied}
-use Rattle.block_store.proofs.Zone.Keeping.{three}
-use Rattle.block_store.proofs.Regroup.Ends.{first-run, run_at-ended}
-use Rattle.block_store.proofs.Regroup.Packed.{high-total}
-use Rattle.block_store.proofs.Regroup.Regrouping.{apart-high, tidy-change}
-use Rattle.block_store.proofs.Regroup.RunLists.{run_at-is}
-use Rattle.zone_bytes.specs.Hoisting.{Hoist, MayHoist, Hoisted}
-use Rattle.zone_bytes.specs.Decode.{zone_in}
-use Rattle.zone_bytes.specs.Table.{Lays, slot_in}
-use Rattle.zone_bytes.specs.Placing.{hoist_from, hoist_at}
+use Rattle.zone_bytes.proofs.Cited.{◌≡◌, ℕ, true, cond, ◌+◌, ◌%◌, ◌≤◌, Some, List, [], ◌∷◌, ◌++◌, length, drop, refl, sym, ap, ◌∙◌, subst}
+use Rattle.zone_bytes.proofs.Cited.{arith, append_assoc, drop-append_seam, word_at, read_back, Block, sizes, count, is_relocatable, tidy}
+use Rattle.zone_bytes.proofs.Cited.{RunSpot, has, movers, high, segments, with_run, spot_at, is_resource, apart-tidied, three, first-run}
+use Rattle.zone_bytes.proofs.Cited.{run_at-ended, high-total, apart-high, tidy-change, run_at-is, Hoist, MayHoist, Hoisted, zone_in, Lays}
+use Rattle.zone_bytes.proofs.Cited.{slot_in, hoist_from, hoist_at, sizes-settle, RunOf, run-of, settle-parts, high-parts, loose-block}
+use Rattle.zone_bytes.proofs.Cited.{loose-over, spot_at-parted}
 use Rattle.zone_bytes.proofs.Tiles.Tiling.{span-append}
 use Rattle.zone_bytes.proofs.Tiles.Leading.{each-names, leads-from}
-use Rattle.block_store.proofs.Nonrelocatable.Placing.{sizes-settle}
 use Rattle.zone_bytes.proofs.SlotTable.Tables.{slot-in}
 use Rattle.zone_bytes.proofs.Runs.Hoists.{hoisted-instead}
 use Rattle.zone_bytes.proofs.Laws.Lawful.{sizes-length}
-use Rattle.block_store.proofs.Regroup.Lifted.{RunOf, run-of, settle-parts, high-parts, loose-block}
-use Rattle.block_store.proofs.Regroup.Lifted.{loose-over}
 use Rattle.block_store.proofs.Regroup.Lifted as lifted
-use Rattle.block_store.proofs.Zone.Parted.{spot_at-parted}
 use Rattle.zone_bytes.proofs.Runs.Changed.{ChangedRun, relaid-run}
 use Rattle.zone_bytes.proofs.Runs.PackedAt.{IsPacked, packed-zone, bottom, loose}
 

@@ -1,18 +1,9 @@
 -- A block that is moved to the top of its run.
-use Rattle.std.proofs.Common.{◌≡◌, ℕ, ◌+◌, ◌-◌, ◌%◌, ◌≤◌, List, ◌∷◌, ◌++◌, length, take, drop, sym, ◌∙◌, rules, arith}
-use Rattle.std.proofs.Common.{length-append}
-use Rattle.std.proofs.lemmas.List.{length-take-le, length-drop}
-use Rattle.memory_windows.specs.Writes.{written, piece}
-use Rattle.memory_windows.proofs.Pieces.{piece-written}
-use Rattle.block_headers.specs.declared.header.Header.{Header}
-use Rattle.block_store.specs.Block.{Block, size}
-use Rattle.zone_bytes.specs.Layout.{head_of, Tiles}
-use Rattle.zone_bytes.specs.Splicing.{SameOutside}
-use Rattle.zone_bytes.specs.Pointing.{IsMoved, Pointed}
-use Rattle.zone_bytes.specs.Hoisting.{Hoist, unhoisted, hoisted_run, MayHoist, Hoisted}
+use Rattle.zone_bytes.proofs.Cited.{◌≡◌, ℕ, ◌+◌, ◌-◌, ◌%◌, ◌≤◌, List, ◌∷◌, ◌++◌, length, take, drop, sym, ◌∙◌, rules, arith, length-append}
+use Rattle.zone_bytes.proofs.Cited.{length-take-le, length-drop, written, piece, piece-written, Header, Block, size, head_of, Tiles}
+use Rattle.zone_bytes.proofs.Cited.{SameOutside, IsMoved, Pointed, Hoist, unhoisted, hoisted_run, MayHoist, Hoisted, loose-append}
 use Rattle.zone_bytes.proofs.Tiles.Heads.{Next, IsRead, read-tells, first-reads}
 use Rattle.zone_bytes.proofs.Tiles.Tiling.{span-append, span-whole, tile-take, tiles-append, tiles-one}
-use Rattle.block_store.proofs.Regroup.Packed.{loose-append}
 use Rattle.zone_bytes.proofs.Tiles.Leading.{names-append}
 use Rattle.zone_bytes.proofs.Tiles.Splices.{tiles-parts, outside-written}
 use Rattle.zone_bytes.proofs.Tiles.Keeping.{Instead, others-now}

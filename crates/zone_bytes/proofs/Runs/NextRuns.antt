@@ -1,19 +1,10 @@
 -- The run above a run of a RawZone.
-use Rattle.std.proofs.Common.{◌++◌, ◌≡◌, ℕ, ◌+◌, ◌≤◌, Option, Some, None, List, sym, ap, ◌∙◌, arith}
-use Rattle.std.specs.Option.{option_map}
-use Rattle.block_store.specs.Block.{Block, sizes}
-use Rattle.block_store.specs.Compact.{beyond, place_behind, next_run}
-use Rattle.block_store.specs.Run.{RunSpot, run_at, segments}
-use Rattle.block_store.proofs.Regroup.Behind.{beyond-first}
-use Rattle.block_store.proofs.Regroup.RunsAbove.{behind-within, run_at-bottom}
-use Rattle.block_store.proofs.Regroup.Ends.{first-run, run_at-ended}
-use Rattle.zone_bytes.specs.Decode.{zone_in}
-use Rattle.zone_bytes.specs.Lawful.{IsSound}
-use Rattle.zone_bytes.specs.Stepping.{left_in}
+use Rattle.zone_bytes.proofs.Cited.{◌++◌, ◌≡◌, ℕ, ◌+◌, ◌≤◌, Option, Some, None, List, sym, ap, ◌∙◌, arith, option_map, Block, sizes, beyond}
+use Rattle.zone_bytes.proofs.Cited.{place_behind, next_run, RunSpot, run_at, segments, beyond-first, behind-within, run_at-bottom}
+use Rattle.zone_bytes.proofs.Cited.{first-run, run_at-ended, zone_in, IsSound, left_in, GREATEST_ZONE}
 use Rattle.zone_bytes.proofs.Places.AtPlace.{left-above}
 use Rattle.zone_bytes.proofs.Runs.RunsAt.{whole, in-run, left-fits}
 use Rattle.zone_bytes.proofs.Tiles.Tiling.{span-append}
-use Rattle.block_store.specs.declared.measures.TheConstants.{GREATEST_ZONE}
 
 -- the place behind the run that comes first, as a walk finds it
 abbrev pub BehindFirst : List Block → Option ℕ

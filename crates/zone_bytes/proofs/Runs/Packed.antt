@@ -1,24 +1,11 @@
 -- The blocks of a run are passed one after another, and moved down or left in their places.
-use Rattle.std.proofs.Common.{◌≡◌, ℕ, ◌+◌, ◌-◌, ◌%◌, ◌≤◌, ◌<◌, inl, inr, true, false, List, [], ◌∷◌}
-use Rattle.std.proofs.Common.{◌++◌, rules, length, take, drop, sym, refl, ap, ◌∙◌, subst, arith, append_assoc}
-use Rattle.std.proofs.lemmas.List.{append-nil, length-take-le, length-drop, drop-drop}
-use Rattle.std.proofs.lemmas.Bool.{false≢true}
-use Rattle.memory_windows.specs.Writes.{written, piece}
-use Rattle.block_headers.specs.Headers.{tag_number}
-use Rattle.block_headers.specs.Words.{word}
-use Rattle.block_headers.specs.declared.header.Header.{Header}
-use Rattle.block_headers.proofs.Words.{length-word}
-use Rattle.memory_windows.proofs.Pieces.{length-written, take-written_at, take-written_below, take-written_above}
-use Rattle.memory_windows.proofs.Pieces.{drop-written_below, drop-written_above, piece-written, written-same}
-use Rattle.block_store.specs.declared.flags.Flags.{Flags}
-use Rattle.block_store.specs.Block.{Block, Free, Relocatable, size, sizes, free_sum, is_mover}
-use Rattle.block_store.specs.Run.{in_run, movers}
-use Rattle.block_store.specs.Inner.Packing.{Loose}
-use Rattle.block_store.proofs.Regroup.Packed.{loose-parts}
-use Rattle.zone_bytes.specs.Layout.{head_of, kind, Tile, Tiles, IsSlot, names, Apart, Each, Leads}
-use Rattle.zone_bytes.specs.Settling.{Lay, IsRunFrom, EndsRun, Passing, SameOthers, runs_on}
-use Rattle.zone_bytes.specs.Splicing.{SameOutside}
-use Rattle.zone_bytes.specs.Pointing.{IsMoved}
+use Rattle.zone_bytes.proofs.Cited.{◌≡◌, ℕ, ◌+◌, ◌-◌, ◌%◌, ◌≤◌, ◌<◌, inl, inr, true, false, List, [], ◌∷◌, ◌++◌, rules, length, take, drop}
+use Rattle.zone_bytes.proofs.Cited.{sym, refl, ap, ◌∙◌, subst, arith, append_assoc, append-nil, length-take-le, length-drop, drop-drop}
+use Rattle.zone_bytes.proofs.Cited.{false≢true, written, piece, tag_number, word, Header, length-word, length-written, take-written_at}
+use Rattle.zone_bytes.proofs.Cited.{take-written_below, take-written_above, drop-written_below, drop-written_above, piece-written}
+use Rattle.zone_bytes.proofs.Cited.{written-same, Flags, Block, Free, Relocatable, size, sizes, free_sum, is_mover, in_run, movers, Loose}
+use Rattle.zone_bytes.proofs.Cited.{loose-parts, head_of, kind, Tile, Tiles, IsSlot, names, Apart, Each, Leads, Lay, IsRunFrom, EndsRun}
+use Rattle.zone_bytes.proofs.Cited.{Passing, SameOthers, runs_on, SameOutside, IsMoved, GREATEST_ZONE, sizes-movers}
 use Rattle.zone_bytes.proofs.Tiles.Heads.{Next, next-there, length-masters, IsRead, read-tells, relocatable-told}
 use Rattle.zone_bytes.proofs.Tiles.Decoding.{flag_word-small}
 use Rattle.zone_bytes.proofs.Tiles.Tiling.{span-append, slot-inside, slot-append_left, slot-append_right, slot-beside}
@@ -31,8 +18,6 @@ use Rattle.zone_bytes.proofs.Tiles.Permuted.{SameNames, each-front, front}
 use Rattle.zone_bytes.proofs.Tiles.Splices.{tiles-parts, tiles-splice, outside-written, piece-outside, leads-outside}
 use Rattle.zone_bytes.proofs.Tiles.Keeping.{run-no_slot, Instead, slots-now}
 use Rattle.zone_bytes.proofs.SlotTable.Tables.{apart-clear, each-both}
-use Rattle.block_store.specs.declared.measures.TheConstants.{GREATEST_ZONE}
-use Rattle.block_store.proofs.Nonrelocatable.Placing.{sizes-movers}
 
 pub run-moved : (lay : Lay) (place stop : ℕ) → IsRunFrom lay place stop → IsMoved lay place stop
 run-moved lay place stop r = grind (arith, leads-right, leads-left)

@@ -1,27 +1,10 @@
 -- A zone in bytes, one of whose runs was packed.
-use Rattle.std.proofs.Common.{◌≡◌, ℕ, ◌+◌, Some, List, ◌++◌, cond, refl, sym, ap, ◌∙◌, arith}
-use Rattle.std.proofs.Common.{append_assoc}
-use Rattle.std.specs.Option.{IfSome, IsSomeAnd}
-use Rattle.raw_region.specs.Memory.{Bytes}
-use Rattle.block_store.specs.Block.{Block, is_masters, free_sum, sizes, tidy, total}
-use Rattle.block_store.specs.Run.{RunSpot, run_at, movers, settle, with_run}
-use Rattle.block_store.specs.Rest.{Rest, IsRest}
-use Rattle.block_store.specs.Slot.{Slot}
-use Rattle.block_store.specs.Inner.Packing.{Loose}
-use Rattle.block_store.proofs.Regroup.Ends.{settled-tidy}
-use Rattle.block_store.proofs.Regroup.Packed.{settle-total}
-use Rattle.block_store.proofs.Zone.Tidy.{Adds}
-use Rattle.block_store.proofs.Regroup.Lifted.{total-changed}
-use Rattle.block_store.proofs.Regroup.RunLists.{run_at-parts}
-use Rattle.zone_bytes.specs.Decode.{zone_in}
-use Rattle.zone_bytes.specs.Changes.{Replaced}
-use Rattle.zone_bytes.specs.PurgeableBytes.{purgeable_of, purgeable_sum}
-use Rattle.zone_bytes.specs.Table.{slot_in}
-use Rattle.zone_bytes.specs.Lawful.{IsSound, IsKept}
-use Rattle.zone_bytes.specs.Beside.{KeepsPlace, rest_in}
+use Rattle.zone_bytes.proofs.Cited.{◌≡◌, ℕ, ◌+◌, Some, List, ◌++◌, cond, refl, sym, ap, ◌∙◌, arith, append_assoc, IfSome, IsSomeAnd, Bytes}
+use Rattle.zone_bytes.proofs.Cited.{Block, is_masters, free_sum, sizes, tidy, total, RunSpot, run_at, movers, settle, with_run, Rest}
+use Rattle.zone_bytes.proofs.Cited.{IsRest, Slot, Loose, settled-tidy, settle-total, Adds, total-changed, run_at-parts, zone_in, Replaced}
+use Rattle.zone_bytes.proofs.Cited.{purgeable_of, purgeable_sum, slot_in, IsSound, IsKept, KeepsPlace, rest_in, run_at-bottom}
 use Rattle.zone_bytes.proofs.Laws.Lawful.{rest-made}
 use Rattle.zone_bytes.proofs.Places.Options.{the-spot, the-if}
-use Rattle.block_store.proofs.Regroup.RunsAbove.{run_at-bottom}
 use Rattle.zone_bytes.proofs.Runs.Changed.{ChangedRun}
 
 -- the zone that the bytes spell is `old` with its run from place to stop packed, whose Free block begins at top

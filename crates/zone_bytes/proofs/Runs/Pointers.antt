@@ -1,18 +1,10 @@
 -- A run whose slots are made to lead to it.
-use Rattle.std.proofs.Common.{◌≡◌, ℕ, ◌+◌, ◌<◌, ◌≤◌, List, [], ◌∷◌, ◌++◌, length, drop, refl, ap, subst}
-use Rattle.std.proofs.Common.{arith, append_assoc}
-use Rattle.std.proofs.lemmas.List.{take-append-drop}
-use Rattle.memory_windows.specs.Writes.{written, piece}
-use Rattle.memory_windows.proofs.Pieces.{written-same}
-use Rattle.block_headers.specs.Words.{word}
-use Rattle.block_store.specs.Block.{Block, Free, sizes}
-use Rattle.zone_bytes.specs.Layout.{head_of}
-use Rattle.zone_bytes.specs.Settling.{Lay, Passing}
-use Rattle.zone_bytes.specs.Pointing.{IsMoved, Pointing, Pointed}
+use Rattle.zone_bytes.proofs.Cited.{◌≡◌, ℕ, ◌+◌, ◌<◌, ◌≤◌, List, [], ◌∷◌, ◌++◌, length, drop, refl, ap, subst, arith, append_assoc}
+use Rattle.zone_bytes.proofs.Cited.{take-append-drop, written, piece, written-same, word, Block, Free, sizes, head_of, Lay, Passing}
+use Rattle.zone_bytes.proofs.Cited.{IsMoved, Pointing, Pointed, GREATEST_ZONE}
 use Rattle.zone_bytes.proofs.Tiles.Tiling.{tiles-append, tiles-none}
 use Rattle.zone_bytes.proofs.Tiles.Leading.{leads-joined}
 use Rattle.zone_bytes.proofs.Runs.Packed.{bounds, start, step-stay, NextMover}
-use Rattle.block_store.specs.declared.measures.TheConstants.{GREATEST_ZONE}
 
 module _ (lay : Lay) (place stop : ℕ) (r : IsMoved lay place stop) where
   pub start-pointing : Pointing lay place lay.bytes

@@ -1,18 +1,7 @@
 -- The run at a place of a zone in bytes is raised.
-use Rattle.std.proofs.Common.{◌≡◌, ℕ, ◌+◌, ◌%◌, ◌<◌, ◌≤◌, IsTrue, Some, List, sym, ap, arith, ◌∙◌, subst, append_assoc}
-use Rattle.std.specs.Option.{IsSomeAnd}
-use Rattle.block_store.specs.Block.{Block, Free, free_sum, sizes, tidy}
-use Rattle.block_store.specs.Run.{RunSpot, run_at, has_free, low, with_run}
-use Rattle.block_store.proofs.Zone.Apart.{apart-tidy}
-use Rattle.block_store.proofs.Zone.Tidy.{total-tidy}
-use Rattle.block_store.proofs.Regroup.Lifted.{low-none}
-use Rattle.block_store.proofs.Regroup.Packed.{low-total}
-use Rattle.block_store.proofs.Regroup.Regrouping.{tidy-change}
-use Rattle.zone_bytes.specs.Raising.{lifted, MayLift, Lifted}
-use Rattle.zone_bytes.specs.Decode.{zone_in}
-use Rattle.zone_bytes.specs.Table.{slot_in}
-use Rattle.zone_bytes.specs.Lawful.{IsSound}
-use Rattle.zone_bytes.specs.Placing.{lay_at}
+use Rattle.zone_bytes.proofs.Cited.{◌≡◌, ℕ, ◌+◌, ◌%◌, ◌<◌, ◌≤◌, IsTrue, Some, List, sym, ap, arith, ◌∙◌, subst, append_assoc, IsSomeAnd}
+use Rattle.zone_bytes.proofs.Cited.{Block, Free, free_sum, sizes, tidy, RunSpot, run_at, has_free, low, with_run, apart-tidy, total-tidy}
+use Rattle.zone_bytes.proofs.Cited.{low-none, low-total, tidy-change, lifted, MayLift, Lifted, zone_in, slot_in, IsSound, lay_at}
 use Rattle.zone_bytes.proofs.Runs.Changed.{ChangedRun, relaid-run}
 use Rattle.zone_bytes.proofs.Runs.RunsAt.{whole, in-run, lay-is, may-settle}
 use Rattle.zone_bytes.proofs.Runs.Raises.{lifted-some, any-movers, lifted-instead}

@@ -1,18 +1,11 @@
 -- A run that is packed and raised.
-use Rattle.std.proofs.Common.{◌≡◌, ℕ, ◌+◌, ◌-◌, ◌%◌, ◌<◌, ◌≤◌, ◌⊎◌, inl, inr, List, [], ◌∷◌, ◌++◌, length, drop, sym}
-use Rattle.std.proofs.Common.{refl, ◌∙◌, subst, arith, append_assoc, ap, rules}
-use Rattle.std.proofs.lemmas.List.{length-take-le, length-drop}
-use Rattle.memory_windows.specs.Writes.{written, piece}
-use Rattle.block_headers.specs.Words.{word}
-use Rattle.block_headers.proofs.Words.{length-word}
-use Rattle.memory_windows.proofs.Pieces.{length-written, piece-written, piece-written_below, piece-written_above}
-use Rattle.block_store.specs.Block.{Block, Free, free, free_sum, sizes}
-use Rattle.block_store.proofs.Zone.Spots.{free-some}
-use Rattle.zone_bytes.specs.Layout.{head_of, Tiles, Leads}
-use Rattle.block_store.proofs.Regroup.Packed.{loose-append, loose-parts}
-use Rattle.zone_bytes.specs.Splicing.{SameOutside}
-use Rattle.zone_bytes.specs.Pointing.{IsMoved}
-use Rattle.zone_bytes.specs.Raising.{MayRaise, lifted, MayLift, Lifted}
+use Rattle.zone_bytes.proofs.Cited.{◌≡◌, ℕ, ◌+◌, ◌-◌, ◌%◌, ◌<◌, ◌≤◌, ◌⊎◌, inl, inr, List, [], ◌∷◌, ◌++◌, length, drop, sym, refl, ◌∙◌}
+use Rattle.zone_bytes.proofs.Cited.{subst, arith, append_assoc, ap, rules, length-take-le, length-drop, written, piece, word, length-word}
+use Rattle.zone_bytes.proofs.Cited.{length-written, piece-written, piece-written_below, piece-written_above, Block, Free, free, free_sum}
+use Rattle.zone_bytes.proofs.Cited.{sizes, free-some, head_of, Tiles, Leads, loose-append, loose-parts, SameOutside, IsMoved, MayRaise}
+use Rattle.zone_bytes.proofs.Cited.{lifted, MayLift, Lifted, movers, settle, low, Loose, sizes-low, sizes-settle, sizes-movers, in-settle}
+use Rattle.zone_bytes.proofs.Cited.{tidy-apart, total-append, free_sum-free, apart-low, no-movers, Lay, EndsRun, IsRunFrom, Packed, cut}
+use Rattle.zone_bytes.proofs.Cited.{UntilAt, Settled, AreEdges, Edges}
 use Rattle.zone_bytes.proofs.Tiles.Heads.{free-at}
 use Rattle.zone_bytes.proofs.Tiles.Tiling.{span-append, span-whole}
 use Rattle.zone_bytes.proofs.Tiles.Leading.{each-names, Clear, leads-append, leads-joined}
@@ -20,16 +13,6 @@ use Rattle.zone_bytes.proofs.Tiles.Splices.{tiles-parts, tiles-next, outside-sam
 use Rattle.zone_bytes.proofs.Tiles.Keeping.{Instead, instead, names-left, span-free, each-free, leads-free}
 use Rattle.zone_bytes.proofs.Tiles.Keeping.{names-movers, others-now, slots-now, instead-settle}
 use Rattle.zone_bytes.proofs.Runs.Packed.{run-bounds, is-moved, clears, others-moved, run-moved}
-use Rattle.block_store.specs.Run.{movers, settle, low}
-use Rattle.block_store.specs.Inner.Packing.{Loose}
-use Rattle.block_store.proofs.Nonrelocatable.Placing.{sizes-low, sizes-settle, sizes-movers}
-use Rattle.block_store.proofs.Regroup.Parts.{in-settle}
-use Rattle.block_store.proofs.Zone.Apart.{tidy-apart}
-use Rattle.block_store.proofs.Zone.Totals.{total-append, free_sum-free}
-use Rattle.block_store.proofs.Regroup.Lifted.{apart-low, no-movers}
-use Rattle.zone_bytes.specs.Settling.{Lay, EndsRun, IsRunFrom, Packed, cut, UntilAt, Settled}
-use Rattle.zone_bytes.specs.Edges.{AreEdges}
-use Rattle.zone_bytes.specs.declared.edges.Edges.{Edges}
 use Rattle.zone_bytes.proofs.Runs.Settled.{cut-same, cut-movers, cut-sums, settled-of, whole}
 
 -- a Free block has no relocatable one, and its bytes

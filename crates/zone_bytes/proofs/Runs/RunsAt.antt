@@ -1,25 +1,11 @@
 -- The run at a place of a RawZone, and how it is settled.
-use Rattle.std.proofs.Common.{◌≡◌, ℕ, Bool, not, cond, nat_lt, zero, suc, ◌+◌, ◌<◌, ◌≤◌, Some, List, [], ◌∷◌, ◌++◌}
-use Rattle.std.proofs.Common.{drop, sym, refl, ap, subst, arith}
-use Rattle.std.proofs.lemmas.Bool.{false≢true}
-use Rattle.block_store.specs.Block.{Block, Free, Relocatable, size, sizes, count, is_mover, free_of}
-use Rattle.block_store.specs.Run.{RunSpot, run_at}
-use Rattle.block_store.specs.Inner.Packing.{Loose}
-use Rattle.block_store.specs.Rest.{lowered_in_run}
-use Rattle.block_store.proofs.Regroup.Ends.{Stops, run_at-ended}
-use Rattle.block_store.proofs.Regroup.RunLists.{run_at-is, run_at-parts}
-use Rattle.zone_bytes.specs.Layout.{Tiles}
-use Rattle.zone_bytes.specs.Settling.{EndsRun, IsRunFrom, lowered_in_run_from}
-use Rattle.zone_bytes.specs.Decode.{zone_in}
-use Rattle.zone_bytes.specs.Table.{slot_in}
-use Rattle.zone_bytes.specs.Lawful.{IsSound}
-use Rattle.zone_bytes.specs.Placing.{lay_from, lay_at}
-use Rattle.zone_bytes.specs.Stepping.{left_in, IsOnWay}
-use Rattle.block_store.proofs.Regroup.RunsAbove.{run_at-bottom}
+use Rattle.zone_bytes.proofs.Cited.{◌≡◌, ℕ, Bool, not, cond, nat_lt, zero, suc, ◌+◌, ◌<◌, ◌≤◌, Some, List, [], ◌∷◌, ◌++◌, drop, sym, refl}
+use Rattle.zone_bytes.proofs.Cited.{ap, subst, arith, false≢true, Block, Free, Relocatable, size, sizes, count, is_mover, free_of, RunSpot}
+use Rattle.zone_bytes.proofs.Cited.{run_at, Loose, lowered_in_run, Stops, run_at-ended, run_at-is, run_at-parts, Tiles, EndsRun, IsRunFrom}
+use Rattle.zone_bytes.proofs.Cited.{lowered_in_run_from, zone_in, slot_in, IsSound, lay_from, lay_at, left_in, IsOnWay, run_at-bottom}
+use Rattle.zone_bytes.proofs.Cited.{is_resource, GREATEST_ZONE}
 use Rattle.zone_bytes.proofs.Places.AtPlace.{way-above}
 use Rattle.zone_bytes.proofs.Places.Stepped.{left-is}
-use Rattle.block_store.specs.Slot.{is_resource}
-use Rattle.block_store.specs.declared.measures.TheConstants.{GREATEST_ZONE}
 
 ends-run : (above : List Block) → Stops above → EndsRun above
 ends-run above s = grind arith

@@ -1,28 +1,16 @@
 -- The blocks of a run are packed one after another, all of them or the first of them.
-use Rattle.std.proofs.Common.{◌≡◌, ℕ, ◌+◌, ◌-◌, ◌≤◌, true, cond, nat_lt, List, [], ◌∷◌, ◌++◌, sym, refl, ap, ◌∙◌, subst}
-use Rattle.std.proofs.Common.{arith, ◌<◌, ◌⊎◌, inl, inr, nat_le, rules, length, append_assoc}
-use Rattle.std.proofs.lemmas.List.{append-nil}
-use Rattle.std.proofs.lemmas.List.Elements.{filter-append}
-use Rattle.memory_windows.specs.Writes.{written, piece}
-use Rattle.block_headers.specs.Words.{word}
-use Rattle.block_store.specs.Block.{Block, Free, size, sizes, is_mover, free_of, free_sum, free}
-use Rattle.block_store.specs.Run.{movers, settle}
-use Rattle.zone_bytes.specs.Layout.{Leads, head_of, Tiles, IsSlot, names, Each}
-use Rattle.zone_bytes.specs.Settling.{lowered_in_run_from, Lay, IsRunFrom, Passing, Packing, Packed, cut, first_in}
-use Rattle.zone_bytes.specs.Settling.{left_behind, gone_to, UntilAt, PackedUntil, Settled}
-use Rattle.zone_bytes.specs.Pointing.{IsMoved}
+use Rattle.zone_bytes.proofs.Cited.{◌≡◌, ℕ, ◌+◌, ◌-◌, ◌≤◌, true, cond, nat_lt, List, [], ◌∷◌, ◌++◌, sym, refl, ap, ◌∙◌, subst, arith, ◌<◌}
+use Rattle.zone_bytes.proofs.Cited.{◌⊎◌, inl, inr, nat_le, rules, length, append_assoc, append-nil, filter-append, written, piece, word}
+use Rattle.zone_bytes.proofs.Cited.{Block, Free, size, sizes, is_mover, free_of, free_sum, free, movers, settle, Leads, head_of, Tiles}
+use Rattle.zone_bytes.proofs.Cited.{IsSlot, names, Each, lowered_in_run_from, Lay, IsRunFrom, Passing, Packing, Packed, cut, first_in}
+use Rattle.zone_bytes.proofs.Cited.{left_behind, gone_to, UntilAt, PackedUntil, Settled, IsMoved, length-word, piece-written, total-append}
+use Rattle.zone_bytes.proofs.Cited.{sizes-settle, sizes-movers, SameOutside, GREATEST_ZONE}
 use Rattle.zone_bytes.proofs.Tiles.Leading.{leads-left, leads-from, Clear, each-map, each-names, leads-append}
 use Rattle.zone_bytes.proofs.Runs.Packed.{run-moved, start, bounds, step-free, NextMover, gap-left, run-bounds}
 use Rattle.zone_bytes.proofs.Runs.Packed.{slot-clear}
-use Rattle.block_headers.proofs.Words.{length-word}
-use Rattle.memory_windows.proofs.Pieces.{piece-written}
-use Rattle.block_store.proofs.Zone.Totals.{total-append}
-use Rattle.block_store.proofs.Nonrelocatable.Placing.{sizes-settle, sizes-movers}
-use Rattle.zone_bytes.specs.Splicing.{SameOutside}
 use Rattle.zone_bytes.proofs.Tiles.Heads.{free-at}
 use Rattle.zone_bytes.proofs.Tiles.Tiling.{span-append}
 use Rattle.zone_bytes.proofs.Tiles.Splices.{outside-same, outside-written, piece-outside, leads-outside, tiles-joined}
-use Rattle.block_store.specs.declared.measures.TheConstants.{GREATEST_ZONE}
 
 -- those that come lower among the first blocks, and those among the others
 falling-append : (gap : ℕ) (gone rest : List Block)

@@ -1,16 +1,6 @@
 -- The handles of a RawZone.
-use Rattle.std.proofs.Common.{◌≡◌, ℕ, Bool, IsTrue, Option, List}
-use Rattle.std.specs.Option.{option_map}
-use Rattle.block_store.specs.Block.{sizes, is_relocatable}
-use Rattle.block_store.specs.Find.{FindsLowest}
-use Rattle.block_store.specs.Room.{Spot, spot}
-use Rattle.block_store.specs.Slot.{Used, set_slot, is_used, is_resource}
-use Rattle.block_store.proofs.Zone.Apart.{apart-tidied}
-use Rattle.block_store.proofs.Zone.Spots.{finds}
-use Rattle.zone_bytes.specs.Decode.{zone_in}
-use Rattle.zone_bytes.specs.Lawful.{IsSound}
-use Rattle.zone_bytes.specs.Looking.{IsHandle}
-use Rattle.zone_bytes.specs.Table.{Table, Lays, slot_in}
+use Rattle.zone_bytes.proofs.Cited.{◌≡◌, ℕ, Bool, IsTrue, Option, List, option_map, sizes, is_relocatable, FindsLowest, Spot, spot, Used}
+use Rattle.zone_bytes.proofs.Cited.{set_slot, is_used, is_resource, apart-tidied, finds, zone_in, IsSound, IsHandle, Table, Lays, slot_in}
 use Rattle.zone_bytes.proofs.Laws.Lawful.{Made, made}
 
 module _ (xs : List ℕ) (first count : ℕ) (i : IsSound xs first count) (number : ℕ)

@@ -1,33 +1,17 @@
 -- What the slot of a handle says: the place of its block, or that the handle is emptied.
-use Rattle.std.proofs.Common.{◌≡◌, ℕ, Bool, true, false, IsTrue, ◌+◌, ◌%◌, ◌==◌, ◌≤◌, nat_le, ◌⊎◌, inl, inr, Option}
-use Rattle.std.proofs.Common.{Some, None, List, [], ◌∷◌, ◌++◌, length, drop, sym, refl, ap, ◌∙◌, subst, arith, is_some}
-use Rattle.std.proofs.Common.{◌-◌}
-use Rattle.std.proofs.lemmas.Bool.{false≢true}
-use Rattle.std.proofs.lemmas.Bool.Decides.{eqb_tells}
-use Rattle.std.proofs.lemmas.List.{length-drop}
-use Rattle.std.specs.Option.{option_map}
-use Rattle.block_headers.specs.Slots.{slot_number}
-use Rattle.block_headers.specs.declared.slot.SlotWord.TheVariants.{Empty}
-use Rattle.block_headers.specs.Words.{word_at, word, header}
-use Rattle.block_headers.proofs.Words.{read_back, length-word}
-use Rattle.block_store.specs.declared.flags.Flags.{Flags}
-use Rattle.block_store.specs.Block.{Block, Relocatable, size, sizes, is_relocatable}
-use Rattle.block_store.specs.Room.{Spot, spot}
-use Rattle.block_store.specs.Slot.{Slot, Used, is_used, is_resource, Unused, set_slot}
-use Rattle.zone_bytes.specs.Layout.{flag_word, head_of, Tile, Tiles, names, Leads, Apart, Each, IsSlot, Pairs}
-use Rattle.zone_bytes.specs.Looking.{place_of_word, IsHandle}
-use Rattle.zone_bytes.specs.Table.{Has, empty_word, Lays, Table}
+use Rattle.zone_bytes.proofs.Cited.{◌≡◌, ℕ, Bool, true, false, IsTrue, ◌+◌, ◌%◌, ◌==◌, ◌≤◌, nat_le, ◌⊎◌, inl, inr, Option, Some, None, List}
+use Rattle.zone_bytes.proofs.Cited.{[], ◌∷◌, ◌++◌, length, drop, sym, refl, ap, ◌∙◌, subst, arith, is_some, ◌-◌, false≢true, eqb_tells}
+use Rattle.zone_bytes.proofs.Cited.{length-drop, option_map, slot_number, Empty, word_at, word, header, read_back, length-word, Flags}
+use Rattle.zone_bytes.proofs.Cited.{Block, Relocatable, size, sizes, is_relocatable, Spot, spot, Slot, Used, is_used, is_resource, Unused}
+use Rattle.zone_bytes.proofs.Cited.{set_slot, flag_word, head_of, Tile, Tiles, names, Leads, Apart, Each, IsSlot, Pairs, place_of_word}
+use Rattle.zone_bytes.proofs.Cited.{IsHandle, Has, empty_word, Lays, Table, spot-passes, spot-is, has-spot, written, piece, piece-written}
+use Rattle.zone_bytes.proofs.Cited.{SameOutside}
 use Rattle.zone_bytes.proofs.Tiles.Tiling.{span-whole, tiles-split}
 use Rattle.zone_bytes.proofs.Places.Stepped.{header-told}
 use Rattle.zone_bytes.proofs.SlotTable.Tables.{slot-in, none-apart, each-has, no-name, used-is, tiles-agree, set-other}
 use Rattle.zone_bytes.proofs.SlotTable.Tables.{set-same, used-apart, lays-set, chain-written, lays-written}
 use Rattle.zone_bytes.proofs.Tiles.Decoding.{flag_word-small}
-use Rattle.block_store.proofs.Zone.Tidy.{spot-passes, spot-is}
-use Rattle.block_store.proofs.Regroup.Settling.{has-spot}
 use Rattle.zone_bytes.proofs.Tiles.Leading.{leads-from, each-map, names-append, pairs-before, pairs-after, leads-same}
-use Rattle.memory_windows.specs.Writes.{written, piece}
-use Rattle.memory_windows.proofs.Pieces.{piece-written}
-use Rattle.zone_bytes.specs.Splicing.{SameOutside}
 use Rattle.zone_bytes.proofs.Blocks.InPlace.{Stretch, word-outside, no-slots, tile-inside, tiles-piece}
 use Rattle.zone_bytes.proofs.Blocks.Marked.{flagged-header}
 use Rattle.zone_bytes.proofs.Tiles.Keeping.{chain-kept}

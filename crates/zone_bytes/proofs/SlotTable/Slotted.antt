@@ -1,26 +1,13 @@
 -- A RawZone whose slot is taken or given back.
-use Rattle.std.proofs.Common.{◌≡◌, ℕ, Bool, true, false, IsTrue, eqb, ◌+◌, ◌-◌, ◌<◌, ◌≤◌, inl, inr, [], ◌∷◌, ◌==◌}
-use Rattle.std.proofs.Common.{◌%◌, List, length, sym, refl, ap, ◌∙◌, subst, arith, ◌*◌}
-use Rattle.std.proofs.lemmas.Bool.{false≢true}
-use Rattle.std.proofs.lemmas.Bool.Decides.{eqb_tells}
-use Rattle.std.proofs.lemmas.Map.Steps.{length-le_from_distinct_below}
-use Rattle.std.specs.List.{IsDistinct, AllByRecursion, list_any}
-use Rattle.block_store.specs.Block.{is_relocatable, Block}
-use Rattle.block_store.specs.Run.{has}
-use Rattle.block_store.specs.Slot.{Unused, Used, set_slot, is_used, is_resource, Slot}
-use Rattle.zone_bytes.specs.Decode.{zone_in}
-use Rattle.zone_bytes.specs.Lawful.{IsSound}
-use Rattle.zone_bytes.specs.Table.{Table, Says, Lays, MayGive, slot_in, first_of}
-use Rattle.zone_bytes.specs.Layout.{IsSlot, names, Apart, Each, Pairs}
+use Rattle.zone_bytes.proofs.Cited.{◌≡◌, ℕ, Bool, true, false, IsTrue, eqb, ◌+◌, ◌-◌, ◌<◌, ◌≤◌, inl, inr, [], ◌∷◌, ◌==◌, ◌%◌, List, length}
+use Rattle.zone_bytes.proofs.Cited.{sym, refl, ap, ◌∙◌, subst, arith, ◌*◌, false≢true, eqb_tells, length-le_from_distinct_below, IsDistinct}
+use Rattle.zone_bytes.proofs.Cited.{AllByRecursion, list_any, is_relocatable, Block, has, Unused, Used, set_slot, is_used, is_resource}
+use Rattle.zone_bytes.proofs.Cited.{Slot, zone_in, IsSound, Table, Says, Lays, MayGive, slot_in, first_of, IsSlot, names, Apart, Each}
+use Rattle.zone_bytes.proofs.Cited.{Pairs, word_at, word, read_back, length-word, written, piece-written, GREATEST_ZONE}
 use Rattle.zone_bytes.proofs.SlotTable.Tables.{each-both, apart-of, slot-in, each-has, no-name, set-other, used-apart}
 use Rattle.zone_bytes.proofs.SlotTable.Tables.{unused-apart, chain-written, lays-written, set-same, used-is}
 use Rattle.zone_bytes.proofs.Tiles.Zones.{SomeUnused}
 use Rattle.zone_bytes.proofs.Laws.Lawful.{Made, made}
-use Rattle.block_headers.specs.Words.{word_at, word}
-use Rattle.block_headers.proofs.Words.{read_back, length-word}
-use Rattle.memory_windows.specs.Writes.{written}
-use Rattle.memory_windows.proofs.Pieces.{piece-written}
-use Rattle.block_store.specs.declared.measures.TheConstants.{GREATEST_ZONE}
 
 module _ {xs : List ℕ} {blocks : List Block} {slots : ℕ → Slot} {first : ℕ} {unused : List ℕ}
     (h : Lays xs blocks slots (first ∷ unused)) where

@@ -1,21 +1,11 @@
 -- A slot's word is written.
-use Rattle.std.proofs.Common.{◌≡◌, ℕ, Bool, ◌+◌, ◌%◌, ◌≤◌, inl, inr, List, [], ◌∷◌, length, drop, sym, false, refl, ◌∙◌}
-use Rattle.std.proofs.Common.{subst, arith, IsTrue}
-use Rattle.std.proofs.lemmas.Bool.{ne_eqb, eq-eqb}
-use Rattle.memory_windows.specs.Writes.{written, piece}
-use Rattle.block_headers.specs.Words.{word}
-use Rattle.block_headers.proofs.Words.{length-word}
-use Rattle.memory_windows.proofs.Pieces.{length-written}
-use Rattle.block_store.specs.Block.{Block, Relocatable, size, is_relocatable}
-use Rattle.block_store.specs.Slot.{Slot, Unused, Used, set_slot, is_resource, is_used}
-use Rattle.zone_bytes.specs.Layout.{head_of, Tiles, IsSlot, names, names_of, Apart, Each, Pairs}
-use Rattle.zone_bytes.specs.Settling.{Lies}
-use Rattle.zone_bytes.specs.Table.{Has, Chain, Says, IsUsed, Lays}
+use Rattle.zone_bytes.proofs.Cited.{◌≡◌, ℕ, Bool, ◌+◌, ◌%◌, ◌≤◌, inl, inr, List, [], ◌∷◌, length, drop, sym, false, refl, ◌∙◌, subst, arith}
+use Rattle.zone_bytes.proofs.Cited.{IsTrue, ne_eqb, eq-eqb, written, piece, word, length-word, length-written, Block, Relocatable, size}
+use Rattle.zone_bytes.proofs.Cited.{is_relocatable, Slot, Unused, Used, set_slot, is_resource, is_used, head_of, Tiles, IsSlot, names}
+use Rattle.zone_bytes.proofs.Cited.{names_of, Apart, Each, Pairs, Lies, Has, Chain, Says, IsUsed, Lays, has, eqb_tells}
 use Rattle.zone_bytes.proofs.Tiles.Tiling.{length-tiles, slot-inside, tiles-slot, slot-even}
 use Rattle.zone_bytes.proofs.Tiles.Leading.{Clear, piece-clear, each-map, each-left, each-right, leads-written}
 use Rattle.zone_bytes.proofs.Tiles.Heads.{length-masters}
-use Rattle.block_store.specs.Run.{has}
-use Rattle.std.proofs.lemmas.Bool.Decides.{eqb_tells}
 
 pub each-both : {A : Type 0} (P Q R : A → Type 0) → ((x : A) → P x → Q x → R x) → (xs : List A) → Each P xs
     → Each Q xs → Each R xs

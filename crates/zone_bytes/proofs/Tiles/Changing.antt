@@ -1,12 +1,6 @@
 -- A zone with one relocatable block more, or one fewer.
-use Rattle.std.proofs.Common.{◌≡◌, ℕ, Bool, inl, inr, List, ◌∷◌, length, ap, ◌∙◌, subst}
-use Rattle.memory_windows.specs.Writes.{piece}
-use Rattle.block_headers.specs.Words.{word}
-use Rattle.block_store.specs.Block.{Block}
-use Rattle.block_store.specs.Slot.{Slot, Used, is_resource}
-use Rattle.zone_bytes.specs.Layout.{IsSlot, names, Apart, Each, ArePlaced}
-use Rattle.zone_bytes.specs.Settling.{Lies, HasSlots, SameOthers}
-use Rattle.zone_bytes.specs.Table.{IsUsed, empty_word, Lays}
+use Rattle.zone_bytes.proofs.Cited.{◌≡◌, ℕ, Bool, inl, inr, List, ◌∷◌, length, ap, ◌∙◌, subst, piece, word, Block, Slot, Used, is_resource}
+use Rattle.zone_bytes.proofs.Cited.{IsSlot, names, Apart, Each, ArePlaced, Lies, HasSlots, SameOthers, IsUsed, empty_word, Lays}
 use Rattle.zone_bytes.proofs.Tiles.Leading.{each-map}
 use Rattle.zone_bytes.proofs.Tiles.Permuted.{SameNames, each-front}
 use Rattle.zone_bytes.proofs.SlotTable.Tables.{unused-apart}

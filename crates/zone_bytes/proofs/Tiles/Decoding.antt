@@ -1,17 +1,10 @@
 -- Bytes spell one list of blocks.
-use Rattle.std.proofs.Common.{◌≡◌, ℕ, Bool, cond, ◌+◌, ◌-◌, ◌%◌, ◌<◌, ◌≤◌, ◌^◌, zero, suc, nat_le, List}
-use Rattle.std.proofs.Common.{[], ◌∷◌, length, drop, sym, refl, ap, ◌∙◌, arith}
-use Rattle.std.proofs.lemmas.List.{length-drop}
-use Rattle.memory_windows.specs.Writes.{piece}
-use Rattle.block_headers.specs.Words.{word_at}
-use Rattle.block_headers.proofs.Words.{read_back}
-use Rattle.block_store.specs.declared.flags.Flags.{Flags}
-use Rattle.block_store.specs.Block.{Block, Nonrelocatable, Relocatable, size}
-use Rattle.zone_bytes.specs.Layout.{kind, flag_word, head_of, Tile, Tiles, names, names_of, Each, IsPlaced, ArePlaced}
-use Rattle.zone_bytes.specs.Decode.{flags_of, block_of_kind, block_in, blocks_in, zone_in}
+use Rattle.zone_bytes.proofs.Cited.{◌≡◌, ℕ, Bool, cond, ◌+◌, ◌-◌, ◌%◌, ◌<◌, ◌≤◌, ◌^◌, zero, suc, nat_le, List, [], ◌∷◌, length, drop, sym}
+use Rattle.zone_bytes.proofs.Cited.{refl, ap, ◌∙◌, arith, length-drop, piece, word_at, read_back, Flags, Block, Nonrelocatable, Relocatable}
+use Rattle.zone_bytes.proofs.Cited.{size, kind, flag_word, head_of, Tile, Tiles, names, names_of, Each, IsPlaced, ArePlaced, flags_of}
+use Rattle.zone_bytes.proofs.Cited.{block_of_kind, block_in, blocks_in, zone_in, GREATEST_ZONE}
 use Rattle.zone_bytes.proofs.Tiles.Leading.{each-left, each-right}
 use Rattle.zone_bytes.proofs.Tiles.Heads.{first-word, kind-small, header-told, relocatable-told}
-use Rattle.block_store.specs.declared.measures.TheConstants.{GREATEST_ZONE}
 
 -- the flags of a block, above the resource flag of its handle
 pub high-flags : (flags : Flags) → ((cond {A = ℕ} flags.locked 128 0 + cond {A = ℕ} flags.purgeable 64 0) % 64 ≡ 0)

@@ -1,19 +1,11 @@
 -- What the words of a block's header say.
-use Rattle.std.proofs.Common.{◌≡◌, ℕ, Bool, ◌+◌, ◌<◌, ◌≤◌, ◌^◌, inl, inr, List, [], ◌∷◌, ◌++◌, length, take, drop, sym}
-use Rattle.std.proofs.Common.{refl, ap, ◌∙◌, arith, length-append, ◌%◌, ◌⊎◌, subst}
-use Rattle.std.proofs.lemmas.List.{length-drop, length-take-le, drop-drop, drop-take, take-take, take_all}
-use Rattle.memory_windows.specs.Writes.{piece}
+use Rattle.zone_bytes.proofs.Cited.{◌≡◌, ℕ, Bool, ◌+◌, ◌<◌, ◌≤◌, ◌^◌, inl, inr, List, [], ◌∷◌, ◌++◌, length, take, drop, sym, refl, ap, ◌∙◌}
+use Rattle.zone_bytes.proofs.Cited.{arith, length-append, ◌%◌, ◌⊎◌, subst, length-drop, length-take-le, drop-drop, drop-take, take-take}
+use Rattle.zone_bytes.proofs.Cited.{take_all, piece, word, word_at, header, length-word, read_back, length-header, Flags, Block, Free}
+use Rattle.zone_bytes.proofs.Cited.{Masters, Relocatable, size, free, kind, flag_word, head_of, Tile, Tiles, tag_number, Header}
+use Rattle.zone_bytes.proofs.Cited.{GREATEST_ZONE}
 use Rattle.zone_bytes.proofs.Tiles.Tiling.{tiles-one}
-use Rattle.block_headers.specs.Words.{word, word_at, header}
-use Rattle.block_headers.proofs.Words.{length-word, read_back}
-use Rattle.block_headers.proofs.Headers.{length-header}
-use Rattle.block_store.specs.declared.flags.Flags.{Flags}
-use Rattle.block_store.specs.Block.{Block, Free, Masters, Relocatable, size, free}
-use Rattle.zone_bytes.specs.Layout.{kind, flag_word, head_of, Tile, Tiles}
 use Rattle.zone_bytes.proofs.Tiles.Tags.{tag-small}
-use Rattle.block_headers.specs.Headers.{tag_number}
-use Rattle.block_headers.specs.declared.header.Header.{Header}
-use Rattle.block_store.specs.declared.measures.TheConstants.{GREATEST_ZONE}
 
 -- the pieces of what a block begins with
 pub tile-piece : (h : List ℕ) (n : ℕ) (ys : List ℕ) → Tile h n ys → (i k : ℕ) → i + k ≤ length h

@@ -1,20 +1,10 @@
 -- A change that keeps the names and the slots keeps the table.
-use Rattle.std.proofs.Common.{◌≡◌, ℕ, ◌+◌, ◌-◌, inl, inr, List, [], ◌∷◌, ◌++◌, length, sym, refl, ap, ◌∙◌}
-use Rattle.std.proofs.Common.{subst, arith, cond, Bool, ◌⊎◌}
-use Rattle.std.proofs.lemmas.List.{append-nil}
-use Rattle.std.proofs.lemmas.Bool.{false≢true}
-use Rattle.memory_windows.specs.Writes.{piece}
-use Rattle.block_headers.specs.Words.{word}
-use Rattle.block_store.specs.Block.{Block, Free, Nonrelocatable, Masters, Relocatable, size, free, sizes}
-use Rattle.block_store.specs.Run.{movers, settle}
-use Rattle.block_store.specs.Slot.{Slot, NoSlot, Unused, Used, is_resource}
-use Rattle.block_store.specs.Inner.Packing.{Loose}
-use Rattle.block_store.proofs.Nonrelocatable.Placing.{sizes-settle}
-use Rattle.block_store.proofs.Regroup.Parts.{in-settle}
+use Rattle.zone_bytes.proofs.Cited.{◌≡◌, ℕ, ◌+◌, ◌-◌, inl, inr, List, [], ◌∷◌, ◌++◌, length, sym, refl, ap, ◌∙◌, subst, arith, cond, Bool}
+use Rattle.zone_bytes.proofs.Cited.{◌⊎◌, append-nil, false≢true, piece, word, Block, Free, Nonrelocatable, Masters, Relocatable, size, free}
+use Rattle.zone_bytes.proofs.Cited.{sizes, movers, settle, Slot, NoSlot, Unused, Used, is_resource, Loose, sizes-settle, in-settle, IsSlot}
+use Rattle.zone_bytes.proofs.Cited.{names, Apart, Each, ArePlaced, Leads, Lies, HasSlots, SameOthers, Relaid, IsUsed, Chain, Says, Lays}
+use Rattle.zone_bytes.proofs.Cited.{Has, empty_word}
 pub use Rattle.block_store.proofs.Regroup.Parts.{in-free as each-free}
-use Rattle.zone_bytes.specs.Layout.{IsSlot, names, Apart, Each, ArePlaced, Leads}
-use Rattle.zone_bytes.specs.Settling.{Lies, HasSlots, SameOthers, Relaid}
-use Rattle.zone_bytes.specs.Table.{IsUsed, Chain, Says, Lays, Has, empty_word}
 use Rattle.zone_bytes.proofs.Tiles.Tiling.{slot-swap}
 use Rattle.zone_bytes.proofs.Tiles.Leading.{names-append, each-map}
 use Rattle.zone_bytes.proofs.Tiles.Permuted.{SameNames, each-moved}

@@ -1,10 +1,7 @@
 -- Slot words that lead to their blocks.
-use Rattle.std.proofs.Common.{◌≡◌, ℕ, ◌+◌, ◌≤◌, ◌⊎◌, inl, inr, List, [], ◌∷◌, ◌++◌, length, sym, refl, ap, ◌∙◌, subst}
-use Rattle.std.proofs.Common.{arith}
-use Rattle.memory_windows.specs.Writes.{written, piece}
-use Rattle.memory_windows.proofs.Pieces.{piece-written_below, piece-written_above}
-use Rattle.block_store.specs.Block.{Block, Relocatable, size, sizes}
-use Rattle.zone_bytes.specs.Layout.{names, names_of, Leads, Apart, Each, Pairs}
+use Rattle.zone_bytes.proofs.Cited.{◌≡◌, ℕ, ◌+◌, ◌≤◌, ◌⊎◌, inl, inr, List, [], ◌∷◌, ◌++◌, length, sym, refl, ap, ◌∙◌, subst, arith, written}
+use Rattle.zone_bytes.proofs.Cited.{piece, piece-written_below, piece-written_above, Block, Relocatable, size, sizes, names, names_of}
+use Rattle.zone_bytes.proofs.Cited.{Leads, Apart, Each, Pairs}
 
 module _ {A : Type 0} (P : A → Type 0) where
   pub each-append : (xs ys : List A) → Each P xs → Each P ys → Each P (xs ++ ys)

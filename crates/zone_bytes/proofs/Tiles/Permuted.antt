@@ -1,8 +1,5 @@
 -- Names in another order.
-use Rattle.std.proofs.Common.{◌≡◌, ℕ, inl, inr, List, [], ◌∷◌, ◌++◌, refl, subst, arith}
-use Rattle.std.proofs.lemmas.List.{append-nil}
-use Rattle.zone_bytes.specs.Layout.{Apart, Each, Pairs}
-use Rattle.zone_bytes.specs.Table.{Has}
+use Rattle.zone_bytes.proofs.Cited.{◌≡◌, ℕ, inl, inr, List, [], ◌∷◌, ◌++◌, refl, subst, arith, append-nil, Apart, Each, Pairs, Has}
 use Rattle.zone_bytes.proofs.Tiles.Leading.{apart-turned, each-append}
 use Rattle.zone_bytes.proofs.SlotTable.Tables.{each-has}
 

@@ -1,21 +1,13 @@
 -- Bytes spell one table of slots.
-use Rattle.std.proofs.Common.{◌≡◌, ℕ, Bool, true, cond, nat_le, ◌&&◌, ◌==◌, ◌+◌, ◌-◌, ◌*◌, ◌%◌, ◌<◌, ◌≤◌}
-use Rattle.std.proofs.Common.{inl, inr, List, [], ◌∷◌, length, take, drop, sym, refl, ap, ◌∙◌, subst, arith}
-use Rattle.std.proofs.lemmas.List.{length-drop, drop-drop}
-use Rattle.std.proofs.lemmas.Bool.{false≢true, or_left, or_right, or_cases, and_from, and_parts}
-use Rattle.memory_windows.specs.Writes.{piece}
-use Rattle.block_headers.specs.Words.{word, word_at}
-use Rattle.block_headers.proofs.Words.{read_back}
-use Rattle.block_store.specs.Block.{Block, Masters, Relocatable, size, is_masters}
-use Rattle.block_store.specs.Slot.{Slot, NoSlot, Unused, Used, is_resource}
-use Rattle.zone_bytes.specs.Layout.{head_of, Tiles, IsSlot, IsSlotOf, names, Leads, Each}
-use Rattle.zone_bytes.specs.Decode.{zone_in}
-use Rattle.zone_bytes.specs.Table.{Has, empty_word, Chain, Says, Lays, is_slot, slot_of_word, slot_in}
+use Rattle.zone_bytes.proofs.Cited.{◌≡◌, ℕ, Bool, true, cond, nat_le, ◌&&◌, ◌==◌, ◌+◌, ◌-◌, ◌*◌, ◌%◌, ◌<◌, ◌≤◌, inl, inr, List, [], ◌∷◌}
+use Rattle.zone_bytes.proofs.Cited.{length, take, drop, sym, refl, ap, ◌∙◌, subst, arith, length-drop, drop-drop, false≢true, or_left}
+use Rattle.zone_bytes.proofs.Cited.{or_right, or_cases, and_from, and_parts, piece, word, word_at, read_back, Block, Masters, Relocatable}
+use Rattle.zone_bytes.proofs.Cited.{size, is_masters, Slot, NoSlot, Unused, Used, is_resource, head_of, Tiles, IsSlot, IsSlotOf, names}
+use Rattle.zone_bytes.proofs.Cited.{Leads, Each, zone_in, Has, empty_word, Chain, Says, Lays, is_slot, slot_of_word, slot_in, GREATEST_ZONE}
 use Rattle.zone_bytes.proofs.Tiles.Tiling.{length-tiles, slot-inside}
 use Rattle.zone_bytes.proofs.Tiles.Leading.{each-map}
 use Rattle.zone_bytes.proofs.Tiles.Heads.{relocatable-told}
 use Rattle.zone_bytes.proofs.Tiles.Decoding.{flag_word-small, zone-back}
-use Rattle.block_store.specs.declared.measures.TheConstants.{GREATEST_ZONE}
 
 pub is_slot-true : (s : ℕ) (blocks : List Block) → IsSlot s blocks → is_slot s blocks ≡ true
 is_slot-true s [] i = absurd i

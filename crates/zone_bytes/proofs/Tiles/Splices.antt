@@ -1,13 +1,7 @@
 -- A stretch of a zone that is written anew.
-use Rattle.std.proofs.Common.{◌≡◌, ℕ, ◌+◌, ◌-◌, ◌≤◌, inl, inr, List, ◌++◌, length, take, drop, sym, refl, ap, ◌∙◌}
-use Rattle.std.proofs.Common.{subst, arith}
-use Rattle.std.proofs.lemmas.List.{take-take, drop-drop, drop-take, take-append-drop}
-use Rattle.std.proofs.Math.Seq.{take-add}
-use Rattle.memory_windows.specs.Writes.{written, piece}
-use Rattle.memory_windows.proofs.Pieces.{length-written, take-written_below, drop-written_above}
-use Rattle.block_store.specs.Block.{Block, sizes}
-use Rattle.zone_bytes.specs.Layout.{Tiles, names, Leads, Each}
-use Rattle.zone_bytes.specs.Splicing.{SameOutside}
+use Rattle.zone_bytes.proofs.Cited.{◌≡◌, ℕ, ◌+◌, ◌-◌, ◌≤◌, inl, inr, List, ◌++◌, length, take, drop, sym, refl, ap, ◌∙◌, subst, arith}
+use Rattle.zone_bytes.proofs.Cited.{take-take, drop-drop, drop-take, take-append-drop, take-add, written, piece, length-written}
+use Rattle.zone_bytes.proofs.Cited.{take-written_below, drop-written_above, Block, sizes, Tiles, names, Leads, Each, SameOutside}
 use Rattle.zone_bytes.proofs.Tiles.Tiling.{tiles-append, tiles-split}
 use Rattle.zone_bytes.proofs.Tiles.Leading.{Clear, leads-same, each-map, leads-joined, leads-left, leads-right}
 

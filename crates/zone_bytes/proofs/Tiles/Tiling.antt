@@ -1,13 +1,8 @@
 -- Blocks that lie one after another.
-use Rattle.std.proofs.Common.{◌≡◌, ℕ, ◌+◌, ◌-◌, ◌%◌, ◌≤◌, ◌⊎◌, inl, inr, List, [], ◌∷◌, ◌++◌, length, take, drop, refl}
-use Rattle.std.proofs.Common.{ap, subst, arith, length-append}
-use Rattle.std.proofs.lemmas.List.{length-take-le, length-drop, take-append-le, drop-append-le, drop-drop, take-take}
-use Rattle.std.proofs.lemmas.List.{drop-take, drop_all}
-use Rattle.memory_windows.specs.Writes.{written}
-use Rattle.memory_windows.proofs.Pieces.{length-written, take-written_below, drop-written_above, drop-written_below}
-use Rattle.block_store.specs.Block.{Block, Masters, size, sizes}
-use Rattle.block_store.proofs.Zone.Totals.{total-append}
-use Rattle.zone_bytes.specs.Layout.{Tile, Tiles, IsSlot}
+use Rattle.zone_bytes.proofs.Cited.{◌≡◌, ℕ, ◌+◌, ◌-◌, ◌%◌, ◌≤◌, ◌⊎◌, inl, inr, List, [], ◌∷◌, ◌++◌, length, take, drop, refl, ap, subst}
+use Rattle.zone_bytes.proofs.Cited.{arith, length-append, length-take-le, length-drop, take-append-le, drop-append-le, drop-drop, take-take}
+use Rattle.zone_bytes.proofs.Cited.{drop-take, drop_all, written, length-written, take-written_below, drop-written_above}
+use Rattle.zone_bytes.proofs.Cited.{drop-written_below, Block, Masters, size, sizes, total-append, Tile, Tiles, IsSlot}
 
 pub span-append : (ls ms : List Block) → sizes (ls ++ ms) ≡ sizes ls + sizes ms
 span-append ls ms = total-append size ls ms

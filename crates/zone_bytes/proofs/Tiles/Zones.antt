@@ -1,9 +1,5 @@
 -- The zone that bytes spell, after a call.
-use Rattle.std.proofs.Common.{◌≡◌, ℕ, List, ◌∷◌, arith}
-use Rattle.block_store.specs.Block.{Block}
-use Rattle.block_store.specs.Slot.{Slot}
-use Rattle.zone_bytes.specs.Decode.{zone_in}
-use Rattle.zone_bytes.specs.Table.{Lays, slot_in}
+use Rattle.zone_bytes.proofs.Cited.{◌≡◌, ℕ, List, ◌∷◌, arith, Block, Slot, zone_in, Lays, slot_in}
 use Rattle.zone_bytes.proofs.Tiles.Spelling.{zone-of, slots-of}
 
 -- the spelling of bytes that lay a zone is that zone

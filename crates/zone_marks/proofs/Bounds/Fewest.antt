@@ -1,27 +1,9 @@
 -- The blocks that may be purged below a run, counted from an edge of a zone below which none may be.
-use Rattle.zone_summary.specs.declared.stretch.Counting.{Counting}
-use Rattle.zone_summary.specs.Stretches.{stretch_by, load, join}
-use Rattle.zone_summary.proofs.Monoid.{stretch_by-append}
-use Rattle.zone_summary.proofs.Sums.{load-counted}
-use Rattle.std.proofs.Common.{◌≡◌, ℕ, ◌+◌, ◌-◌, ◌≤◌, List, ◌++◌, inl, refl, sym, ap, ◌∙◌, subst, arith}
-use Rattle.block_store.specs.Block.{Block, sizes}
-use Rattle.block_store.specs.Room.{count_of}
-use Rattle.block_store.specs.Sparing.{most_purges, opened, spared}
-use Rattle.block_store.specs.declared.measures.TheConstants.{GREATEST_ZONE}
-use Rattle.block_store.specs.declared.sparing.Sparing.{Sparing}
-use Rattle.block_store.proofs.Purged.Purges.{sizes-opened}
-use Rattle.zone_summary.specs.Fewest.{count_within}
-use Rattle.zone_summary.proofs.Fewest.{count-few, count-past, opened-append}
-use Rattle.zone_bytes.specs.Decode.{zone_in}
-use Rattle.zone_bytes.specs.Lawful.{IsSound}
-use Rattle.zone_bytes.specs.Changes.{Begins}
-use Rattle.zone_marks.specs.Marks.{IsTally, between}
-use Rattle.zone_marks.specs.declared.landmark.Tally.{Tally}
-use Rattle.zone_marks.specs.Purgeable.{NoneGoes, Stays}
-use Rattle.zone_marks.specs.Searching.{IsStretch}
-use Rattle.zone_bytes.specs.Stepping.{left_in}
+use Rattle.zone_marks.proofs.Cited.{Counting, stretch_by, load, join, stretch_by-append, load-counted, ◌≡◌, ℕ, ◌+◌, ◌-◌, ◌≤◌, List, ◌++◌}
+use Rattle.zone_marks.proofs.Cited.{inl, refl, sym, ap, ◌∙◌, subst, arith, Block, sizes, count_of, most_purges, opened, spared}
+use Rattle.zone_marks.proofs.Cited.{GREATEST_ZONE, Sparing, sizes-opened, count_within, count-few, count-past, opened-append, zone_in}
+use Rattle.zone_marks.proofs.Cited.{IsSound, Begins, IsTally, between, Tally, NoneGoes, Stays, IsStretch, left_in, Stretch}
 use Rattle.zone_marks.specs.declared.landmark.Tally.TheVariants as tally
-use Rattle.zone_summary.specs.declared.stretch.Stretch.{Stretch}
 use Rattle.zone_marks.proofs.Bounds.Going.{count-none}
 use Rattle.zone_marks.proofs.Marks.Lowering.{seen-from, one-here}
 use Rattle.zone_marks.proofs.Marks.Passing.{at-left}

@@ -1,37 +1,16 @@
 -- A place below which no block may be purged, through each change of a zone.
-use Rattle.std.proofs.Common.{◌≡◌, ℕ, ◌+◌, ◌-◌, ◌≤◌, zero, suc, Bool, true, false, not, ◌&&◌, List, [], ◌∷◌, ◌++◌}
-use Rattle.std.proofs.Common.{refl, sym, ap, ◌∙◌, subst, cond, arith, Some, rules, None, length}
-use Rattle.std.proofs.lemmas.Bool.{false≢true}
-use Rattle.std.specs.Option.{option_map}
-use Rattle.block_store.specs.Block.{Block, Free, Relocatable, size, sizes, free, free_sum, is_mover, is_purgeable}
-use Rattle.block_store.specs.Inner.Stretch.{opened_block}
-use Rattle.block_store.proofs.Purged.Stretches.{opened-more}
-use Rattle.block_store.specs.Find.{FindsLowest}
-use Rattle.block_store.specs.Room.{Spot, spot, count_of, lowest_purged, may_be_purged}
-use Rattle.block_store.specs.Run.{RunSpot, run_at, movers, settle}
-use Rattle.block_store.specs.Sparing.{most_purges, opened, purged, spared}
-use Rattle.block_store.specs.declared.sparing.Sparing.{Sparing}
-use Rattle.block_store.specs.declared.sparing.Seen.{Seen}
+use Rattle.zone_marks.proofs.Cited.{◌≡◌, ℕ, ◌+◌, ◌-◌, ◌≤◌, zero, suc, Bool, true, false, not, ◌&&◌, List, [], ◌∷◌, ◌++◌, refl, sym, ap, ◌∙◌}
+use Rattle.zone_marks.proofs.Cited.{subst, cond, arith, Some, rules, None, length, false≢true, option_map, Block, Free, Relocatable, size}
+use Rattle.zone_marks.proofs.Cited.{sizes, free, free_sum, is_mover, is_purgeable, opened_block, opened-more, FindsLowest, Spot, spot}
+use Rattle.zone_marks.proofs.Cited.{count_of, lowest_purged, may_be_purged, RunSpot, run_at, movers, settle, most_purges, opened, purged}
+use Rattle.zone_marks.proofs.Cited.{spared, Sparing, Seen, Loose, run_at-is, run_at-parts, settle-total, opened-none, next_from, next-is}
+use Rattle.zone_marks.proofs.Cited.{next-stays, place_from, place-tidy, sizes-lowest_purged, apart-tidy, finds, spot-is, total-tidy}
+use Rattle.zone_marks.proofs.Cited.{total-append, zone_in, IsSound, AtEach, Begins, Replaced, NoneGoes, Stays, left_in, Steps}
+use Rattle.zone_marks.proofs.Cited.{run_at-bottom, span-append}
 use Rattle.block_store.specs.declared.sparing.Sparing.TheVariants as sparing
-use Rattle.block_store.specs.Inner.Packing.{Loose}
-use Rattle.block_store.proofs.Regroup.RunLists.{run_at-is, run_at-parts}
-use Rattle.block_store.proofs.Regroup.Packed.{settle-total}
-use Rattle.block_store.proofs.Purged.Looks.{opened-none, next_from, next-is, next-stays, place_from, place-tidy}
-use Rattle.block_store.proofs.Purged.Purges.{sizes-lowest_purged}
-use Rattle.block_store.proofs.Zone.Apart.{apart-tidy}
-use Rattle.block_store.proofs.Zone.Spots.{finds}
-use Rattle.block_store.proofs.Zone.Tidy.{spot-is, total-tidy}
-use Rattle.block_store.proofs.Zone.Totals.{total-append}
-use Rattle.zone_bytes.specs.Decode.{zone_in}
-use Rattle.zone_bytes.specs.Lawful.{IsSound}
-use Rattle.zone_bytes.specs.Changes.{AtEach, Begins, Replaced}
-use Rattle.zone_marks.specs.Purgeable.{NoneGoes, Stays}
-use Rattle.zone_bytes.specs.Stepping.{left_in, Steps}
 use Rattle.zone_marks.proofs.Marks.Lowering.{Seen as Edge, seen-from}
 use Rattle.zone_marks.proofs.Searches.Pieces.{left-long}
 use Rattle.zone_marks.proofs.Marks.Passing.{Passed, at-all, at-append, at-left, at-map, at-right, passed-on}
-use Rattle.block_store.proofs.Regroup.RunsAbove.{run_at-bottom}
-use Rattle.zone_bytes.proofs.Tiles.Tiling.{span-append}
 
 -- a lower place
 pub stays-lower : (bound lower x : ℕ) (blocks : List Block) → lower ≤ bound → AtEach (Stays bound) x blocks

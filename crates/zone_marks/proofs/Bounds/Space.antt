@@ -1,26 +1,13 @@
 -- The largest Free block of a zone, as it stands and after purges.
-use Rattle.std.proofs.Common.{◌≡◌, ◌⊎◌, ℕ, ◌+◌, ◌≤◌, ◌<◌, zero, suc, inl, inr, Bool, true, false, max, cond, List, []}
-use Rattle.std.proofs.Common.{◌∷◌, ◌++◌, refl, ap, ◌∙◌, subst, arith}
-use Rattle.block_store.specs.Block.{Block, Free, Relocatable, free_of, is_room, size, sizes, tidy}
-use Rattle.block_store.specs.Compact.{largest_free}
-use Rattle.block_store.specs.Room.{lowest_purged, may_be_purged}
-use Rattle.block_store.specs.Sparing.{purged, spared}
+use Rattle.zone_marks.proofs.Cited.{◌≡◌, ◌⊎◌, ℕ, ◌+◌, ◌≤◌, ◌<◌, zero, suc, inl, inr, Bool, true, false, max, cond, List, [], ◌∷◌, ◌++◌}
+use Rattle.zone_marks.proofs.Cited.{refl, ap, ◌∙◌, subst, arith, Block, Free, Relocatable, free_of, is_room, size, sizes, tidy}
+use Rattle.zone_marks.proofs.Cited.{largest_free, lowest_purged, may_be_purged, purged, spared, top_free, largest-purged, largest_stretch}
+use Rattle.zone_marks.proofs.Cited.{apart-top_free, lowest_purged-none, lowest_purged-stays, Apart, apart-size, apart-tidied, zone_in}
+use Rattle.zone_marks.proofs.Cited.{IsSound, AtEach, Begins, NoRoom, above_all, MayStart, NoneGoes, Stays, purgeable_sum, left_in}
+use Rattle.zone_marks.proofs.Cited.{sizes-length, left-zone}
 use Rattle.block_store.specs.declared.sparing.Sparing.TheVariants as sparing
-use Rattle.block_store.proofs.Purged.Looks.{top_free}
-use Rattle.block_store.proofs.Purged.PurgedSums.{largest-purged, largest_stretch, apart-top_free}
-use Rattle.block_store.proofs.Purged.Rising.{lowest_purged-none, lowest_purged-stays}
-use Rattle.block_store.proofs.Zone.Apart.{Apart, apart-size, apart-tidied}
-use Rattle.zone_bytes.specs.Decode.{zone_in}
-use Rattle.zone_bytes.specs.Lawful.{IsSound}
-use Rattle.zone_bytes.specs.Changes.{AtEach, Begins}
-use Rattle.zone_marks.specs.Marks.{NoRoom, above_all}
-use Rattle.zone_marks.specs.Purgeable.{MayStart, NoneGoes, Stays}
-use Rattle.zone_bytes.specs.PurgeableBytes.{purgeable_sum}
-use Rattle.zone_bytes.specs.Stepping.{left_in}
-use Rattle.zone_bytes.proofs.Laws.Lawful.{sizes-length}
 use Rattle.zone_marks.proofs.Marks.Lowering.{seen-from}
 use Rattle.zone_marks.proofs.Marks.Passing.{at-left, at-map, at-right}
-use Rattle.zone_bytes.proofs.Places.AtPlace.{left-zone}
 
 abbrev spares : Block → Bool
 spares = spared sparing.Nothing

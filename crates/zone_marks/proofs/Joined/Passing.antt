@@ -1,30 +1,10 @@
 -- One step of a pass that empties blocks, and its end.
-use Rattle.std.proofs.Common.{◌≡◌, ℕ, ◌+◌, ◌-◌, ◌≤◌, Some, None, List, []}
-use Rattle.std.proofs.Common.{◌∷◌, ◌++◌, length, sym, ap, ◌∙◌, subst, arith, append_assoc}
-use Rattle.block_store.specs.Block.{Block, size, sizes, free, free_of, free_sum}
-use Rattle.block_store.specs.Room.{lowest_purged}
-use Rattle.block_store.specs.declared.sparing.Seen.{Seen}
-use Rattle.block_store.specs.Sparing.{spared, opened}
-use Rattle.block_store.specs.Inner.Stretch.{opened_block}
-use Rattle.block_store.specs.Inner.Purging.{left_past}
-use Rattle.block_store.specs.declared.sparing.Sparing.{Sparing}
-use Rattle.block_store.proofs.Zone.Totals.{total-append}
-use Rattle.block_store.proofs.Zone.Apart.{Apart, apart-tidied, tidy-apart}
-use Rattle.block_store.proofs.Zone.Joining.{joined-below, closed-apart, closed-tidy, closed-free}
-use Rattle.block_store.proofs.Purged.Rising.{lowest_purged-none}
-use Rattle.block_store.proofs.Purged.Purges.{lowest_purged-free, lowest_purged-kept, opened-same}
-use Rattle.block_store.proofs.Purged.Stretches.{size-opened}
-use Rattle.zone_bytes.specs.Stepping.{left_in, IsOnWay, Steps}
-use Rattle.zone_bytes.specs.Table.{Lays}
-use Rattle.zone_bytes.specs.Joining.{Freeing, MayFree}
-use Rattle.zone_bytes.specs.Changes.{Replaced}
-use Rattle.zone_marks.specs.Purging.{Purge, Purging, Purged}
-use Rattle.zone_bytes.proofs.Tiles.Tiling.{span-append}
-use Rattle.zone_bytes.proofs.Tiles.Keeping.{span-free}
-use Rattle.zone_bytes.proofs.Places.Stepped.{left-none}
-use Rattle.zone_bytes.proofs.Joined.Ways.{way, left}
-use Rattle.zone_bytes.proofs.Joined.Handles.{free-fits}
-use Rattle.block_store.specs.declared.measures.TheConstants.{GREATEST_ZONE}
+use Rattle.zone_marks.proofs.Cited.{◌≡◌, ℕ, ◌+◌, ◌-◌, ◌≤◌, Some, None, List, [], ◌∷◌, ◌++◌, length, sym, ap, ◌∙◌, subst, arith}
+use Rattle.zone_marks.proofs.Cited.{append_assoc, Block, size, sizes, free, free_of, free_sum, lowest_purged, Seen, spared, opened}
+use Rattle.zone_marks.proofs.Cited.{opened_block, left_past, Sparing, total-append, Apart, apart-tidied, tidy-apart, joined-below}
+use Rattle.zone_marks.proofs.Cited.{closed-apart, closed-tidy, closed-free, lowest_purged-none, lowest_purged-free, lowest_purged-kept}
+use Rattle.zone_marks.proofs.Cited.{opened-same, size-opened, left_in, IsOnWay, Steps, Lays, Freeing, MayFree, Replaced, Purge, Purging}
+use Rattle.zone_marks.proofs.Cited.{Purged, span-append, span-free, left-none, way, left, free-fits, GREATEST_ZONE}
 
 module _ (p : Purge) (n : Sparing) (start at k freed : ℕ) (xs : List ℕ) (u : Purging p n start at k freed xs) where
   abbrev gap : List Block

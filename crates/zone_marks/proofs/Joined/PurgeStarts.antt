@@ -1,32 +1,13 @@
 -- Where a pass that empties blocks begins, and what it makes of the zone that bytes spell.
-use Rattle.zone_bytes.proofs.Tiles.Keeping.{span-free}
-use Rattle.block_store.specs.Block.{free_of, Block, size, sizes, free, free_sum, tidy}
-use Rattle.block_store.specs.declared.sparing.Seen.{Seen}
-use Rattle.std.proofs.Common.{◌≡◌, ℕ, zero, suc, Bool, true, false, cond, ◌+◌, ◌-◌, ◌≤◌, rules}
-use Rattle.std.proofs.Common.{Option, Some, None, List, [], ◌∷◌, ◌++◌, sym, refl, ap, ◌∙◌, subst, arith, append_assoc}
-use Rattle.std.proofs.lemmas.List.{append-nil}
-use Rattle.std.proofs.lemmas.Option.{none-some, same_Some}
-use Rattle.std.specs.Option.{option_map}
-use Rattle.block_store.specs.Inner.Joining.{Closed, last_free}
-use Rattle.block_store.specs.Room.{Spot, raised, spot, spot_at, may_be_purged, lowest_purged}
-use Rattle.block_store.specs.Sparing.{spared, opened, purged}
-use Rattle.block_store.specs.declared.sparing.Sparing.{Sparing}
-use Rattle.block_store.proofs.Zone.Apart.{Apart, apart-tidied, apart-above, tidy-apart}
-use Rattle.block_store.proofs.Zone.Tidy.{total-tidy, spot-is, spot-passes}
-use Rattle.block_store.proofs.Zone.Totals.{total-append}
-use Rattle.block_store.proofs.Zone.Joining.{apart-front, ending}
-use Rattle.block_store.proofs.Purged.Purges.{masters-lowest_purged, masters-opened}
-use Rattle.block_store.proofs.Zone.Listing.{free_of-le}
-use Rattle.zone_bytes.specs.Decode.{zone_in}
-use Rattle.zone_bytes.specs.Joining.{Freeing, MayRelease}
-use Rattle.zone_bytes.specs.Lawful.{IsSound}
-use Rattle.zone_marks.specs.Purging.{Purge, Purging, Purged, MayPurge, purge_above, purge_zone}
-use Rattle.zone_bytes.specs.Stepping.{left_in, IsOnWay, Steps}
-use Rattle.zone_bytes.specs.Table.{Lays, slot_in}
-use Rattle.zone_bytes.proofs.Tiles.Tiling.{span-append}
-use Rattle.zone_bytes.proofs.Places.AtPlace.{whole, low, left-zone}
-use Rattle.zone_bytes.proofs.Joined.Ways.{Read, read, way, left as left-there}
-use Rattle.zone_bytes.proofs.Joined.Handles.{Gained, gained}
+use Rattle.zone_marks.proofs.Cited.{span-free, free_of, Block, size, sizes, free, free_sum, tidy, Seen, ◌≡◌, ℕ, zero, suc, Bool, true}
+use Rattle.zone_marks.proofs.Cited.{false, cond, ◌+◌, ◌-◌, ◌≤◌, rules, Option, Some, None, List, [], ◌∷◌, ◌++◌, sym, refl, ap, ◌∙◌, subst}
+use Rattle.zone_marks.proofs.Cited.{arith, append_assoc, append-nil, none-some, same_Some, option_map, Closed, last_free, Spot, raised}
+use Rattle.zone_marks.proofs.Cited.{spot, spot_at, may_be_purged, lowest_purged, spared, opened, purged, Sparing, Apart, apart-tidied}
+use Rattle.zone_marks.proofs.Cited.{apart-above, tidy-apart, total-tidy, spot-is, spot-passes, total-append, apart-front, ending}
+use Rattle.zone_marks.proofs.Cited.{masters-lowest_purged, masters-opened, free_of-le, zone_in, Freeing, MayRelease, IsSound, Purge}
+use Rattle.zone_marks.proofs.Cited.{Purging, Purged, MayPurge, purge_above, purge_zone, left_in, IsOnWay, Steps, Lays, slot_in, span-append}
+use Rattle.zone_marks.proofs.Cited.{whole, low, left-zone, Read, read, way, Gained, gained}
+use Rattle.zone_bytes.proofs.Joined.Ways.{left as left-there}
 
 -- a pass may begin below blocks that are as they were
 begun : (p : Purge) (n : Sparing) (start at k : ℕ) (xs : List ℕ) (done rest : List Block)

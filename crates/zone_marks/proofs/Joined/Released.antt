@@ -1,24 +1,12 @@
 -- A block that is made Free, and its Free neighbours one with it.
-use Rattle.zone_bytes.proofs.Joined.Above.{next, joined-none, joined-other, joined-two, one, may-free as free-one}
-use Rattle.zone_bytes.specs.Layout.{kind}
-use Rattle.std.proofs.lemmas.Bool.{cases_lt}
-use Rattle.std.proofs.Common.{inl, inr, ◌≤◌, ◌≡◌, ℕ, ◌+◌, ◌-◌, ◌<◌, ◌⊎◌, length, List, [], ◌∷◌, ◌++◌, sym, refl, ap}
-use Rattle.std.proofs.Common.{◌∙◌, subst, arith, append_assoc}
-use Rattle.block_store.specs.Block.{Block, Free, size, sizes, free, add, tidy}
-use Rattle.block_store.specs.Inner.Joining.{last_free}
-use Rattle.block_store.proofs.Zone.Apart.{apart-tidied, apart-above, tidy-apart}
-use Rattle.block_store.proofs.Zone.Joining.{Ending, ending, apart-front, released-tidy}
-use Rattle.zone_bytes.specs.Stepping.{left_in, IsOnWay}
-use Rattle.zone_bytes.specs.Table.{Lays}
-use Rattle.zone_bytes.specs.Laying.{free_first}
-use Rattle.zone_bytes.specs.Changes.{Begins, Replaced}
+use Rattle.zone_marks.proofs.Cited.{next, joined-none, joined-other, joined-two, kind, cases_lt, inl, inr, ◌≤◌, ◌≡◌, ℕ, ◌+◌, ◌-◌, ◌<◌, ◌⊎◌}
+use Rattle.zone_marks.proofs.Cited.{length, List, [], ◌∷◌, ◌++◌, sym, refl, ap, ◌∙◌, subst, arith, append_assoc, Block, Free, size, sizes}
+use Rattle.zone_marks.proofs.Cited.{free, add, tidy, last_free, apart-tidied, apart-above, tidy-apart, Ending, ending, apart-front}
+use Rattle.zone_marks.proofs.Cited.{released-tidy, left_in, IsOnWay, Lays, free_first, Begins, Replaced, LeadsUp, Freeing, MayFree}
+use Rattle.zone_marks.proofs.Cited.{MayRelease, Joining, MayJoin, span-append, span-free, way, left, inside, Read, read, GREATEST_ZONE}
+use Rattle.zone_bytes.proofs.Joined.Above.{one, may-free as free-one}
 use Rattle.zone_marks.proofs.Marks.Passing.{parts}
 use Rattle.zone_marks.proofs.Marks.Keeping.{joined-replaced, first-small}
-use Rattle.zone_bytes.specs.Joining.{LeadsUp, Freeing, MayFree, MayRelease, Joining, MayJoin}
-use Rattle.zone_bytes.proofs.Tiles.Tiling.{span-append}
-use Rattle.zone_bytes.proofs.Tiles.Keeping.{span-free}
-use Rattle.zone_bytes.proofs.Joined.Ways.{way, left, inside, Read, read}
-use Rattle.block_store.specs.declared.measures.TheConstants.{GREATEST_ZONE}
 
 -- the Free bytes at the lower end tell whether the first block is Free
 first-free : (b : Block) (above : List Block) → 0 < free_first (b ∷ above) → kind b ≡ 0

@@ -1,19 +1,10 @@
 -- The blocks that begin between two places, and what tallies say of them.
-use Rattle.std.proofs.Common.{◌≡◌, ℕ, ◌+◌, ◌≤◌, ◌<◌, ◌⊎◌, Bool, true, false, ◌&&◌, cond, List, [], ◌∷◌, ◌++◌}
-use Rattle.std.proofs.Common.{inl, inr, nat_le, nat_lt, refl, ap, ◌∙◌, arith}
-use Rattle.std.proofs.lemmas.Bool.{le-leb, lt-ltb, leb-true, leb-false, ltb-true, ltb-false}
-use Rattle.std.proofs.lemmas.List.{append-nil}
-use Rattle.block_store.specs.Block.{Block, size, sizes}
-use Rattle.zone_bytes.specs.Changes.{AtEach}
-use Rattle.zone_marks.specs.Marks.{AreTold, IsTally, between}
-use Rattle.zone_marks.specs.declared.landmark.Tallies.{Tallies}
-use Rattle.zone_marks.specs.declared.landmark.Tally.{Tally}
+use Rattle.zone_marks.proofs.Cited.{◌≡◌, ℕ, ◌+◌, ◌≤◌, ◌<◌, ◌⊎◌, Bool, true, false, ◌&&◌, cond, List, [], ◌∷◌, ◌++◌, inl, inr, nat_le}
+use Rattle.zone_marks.proofs.Cited.{nat_lt, refl, ap, ◌∙◌, arith, le-leb, lt-ltb, leb-true, leb-false, ltb-true, ltb-false, append-nil}
+use Rattle.zone_marks.proofs.Cited.{Block, size, sizes, AtEach, AreTold, IsTally, between, Tallies, Tally, stretch_by, stretch_of, Counting}
+use Rattle.zone_marks.proofs.Cited.{Stretch, stretch_by-append}
 use Rattle.zone_marks.specs.declared.landmark.Tally.TheVariants as tally
-use Rattle.zone_summary.specs.Stretches.{stretch_by, stretch_of}
-use Rattle.zone_summary.specs.declared.stretch.Counting.{Counting}
 use Rattle.zone_summary.specs.declared.stretch.Counting.TheVariants as counting
-use Rattle.zone_summary.specs.declared.stretch.Stretch.{Stretch}
-use Rattle.zone_summary.proofs.Monoid.{stretch_by-append}
 
 -- blocks that come to the same, counted in each way
 pub record CountAlike (some others : List Block) : Type 0 where

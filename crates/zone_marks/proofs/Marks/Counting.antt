@@ -1,20 +1,10 @@
 -- A walk that counts what it passes.
-use Rattle.std.proofs.Common.{◌≡◌, ℕ, ◌+◌, ◌≤◌, ◌<◌, ◌⊎◌, Bool, true, false, List, [], ◌∷◌, length, rules, sym, refl}
-use Rattle.std.proofs.Common.{ap, arith, inl}
-use Rattle.block_store.specs.Block.{Block, size, free_of}
-use Rattle.zone_bytes.specs.Changes.{AtEach}
-use Rattle.zone_marks.specs.Marks.{AtMost, Measures, between}
-use Rattle.zone_bytes.specs.Stepping.{left_in, IsOnWay}
+use Rattle.zone_marks.proofs.Cited.{◌≡◌, ℕ, ◌+◌, ◌≤◌, ◌<◌, ◌⊎◌, Bool, true, false, List, [], ◌∷◌, length, rules, sym, refl, ap, arith, inl}
+use Rattle.zone_marks.proofs.Cited.{Block, size, free_of, AtEach, AtMost, Measures, between, left_in, IsOnWay, left-none, counted, join}
+use Rattle.zone_marks.proofs.Cited.{load, prefix, stretch_by, suffix, Counting, Runs, Stretch, Whole, Ended, counted-none, joined-is}
+use Rattle.zone_marks.proofs.Cited.{load-counted}
 use Rattle.zone_marks.proofs.Marks.Between.{CountAlike, all-begin, all-within, between-append, none-above}
 use Rattle.zone_marks.proofs.Marks.Passing.{Passed, at-map, passed-all, passed-more, passed-on}
-use Rattle.zone_bytes.proofs.Places.Stepped.{left-none}
-use Rattle.zone_summary.specs.Stretches.{counted, join, load, prefix, stretch_by, suffix}
-use Rattle.zone_summary.specs.declared.stretch.Counting.{Counting}
-use Rattle.zone_summary.specs.declared.stretch.Counting.TheVariants.{Runs}
-use Rattle.zone_summary.specs.declared.stretch.Stretch.{Stretch}
-use Rattle.zone_summary.specs.declared.stretch.Stretch.TheVariants.{Whole, Ended}
-use Rattle.zone_summary.proofs.Monoid.{counted-none, joined-is}
-use Rattle.zone_summary.proofs.Sums.{load-counted}
 
 -- the blocks from a place on up to another, of each of which something holds, and what they come to
 pub record Walked (w : Counting) (xs : List ℕ) (from at : ℕ) (R : ℕ → Block → Type 0) (total : Stretch) : Type 0 where

@@ -1,20 +1,9 @@
 -- Landmarks that are laid anew, one after another, and by edges which were noted while blocks were moved.
-use Rattle.zone_marks.specs.Marks.{IsMark, AreMarks, AtMost, between, next_of, no_mark, above_all}
-use Rattle.std.proofs.Common.{◌<◌, set, length-set, ◌≡◌, ℕ, ◌+◌, ◌≤◌, ◌⊎◌, inl, inr, List, [], ◌∷◌, ◌++◌, length, take}
-use Rattle.std.proofs.Common.{drop, max, refl, sym, ap, ◌∙◌, subst, arith}
-use Rattle.std.proofs.lemmas.Bool.{cases_lt, false≢true}
-use Rattle.std.proofs.lemmas.List.{drop_all, drop_more, drop-drop, drop-set, take_more_set}
-use Rattle.block_store.specs.Block.{Block, Free, Relocatable, size, sizes, free_of}
-use Rattle.zone_bytes.specs.Layout.{Each}
-use Rattle.zone_bytes.specs.Edges.{Starts, AreEdges, IsMover, ByEdges}
-use Rattle.zone_marks.specs.LaidMarks.{IsBare, AreLaid}
-use Rattle.zone_bytes.specs.Changes.{AtEach, Begins}
-use Rattle.zone_marks.specs.declared.landmark.Landmark.{Landmark}
-use Rattle.zone_bytes.specs.declared.edges.Edges.{Edges}
-use Rattle.zone_summary.specs.Stretches.{counted, join, one, stretch_of}
-use Rattle.zone_summary.specs.declared.stretch.Counting.TheVariants.{Runs}
-use Rattle.zone_summary.specs.declared.stretch.Stretch.TheVariants.{Whole}
-use Rattle.zone_summary.proofs.Monoid.{join-unit_left, stretch_of-append}
+use Rattle.zone_marks.proofs.Cited.{IsMark, AreMarks, AtMost, between, next_of, no_mark, above_all, ◌<◌, set, length-set, ◌≡◌, ℕ, ◌+◌, ◌≤◌}
+use Rattle.zone_marks.proofs.Cited.{◌⊎◌, inl, inr, List, [], ◌∷◌, ◌++◌, length, take, drop, max, refl, sym, ap, ◌∙◌, subst, arith, cases_lt}
+use Rattle.zone_marks.proofs.Cited.{false≢true, drop_all, drop_more, drop-drop, drop-set, take_more_set, Block, Free, Relocatable, size}
+use Rattle.zone_marks.proofs.Cited.{sizes, free_of, Each, Starts, AreEdges, IsMover, ByEdges, IsBare, AreLaid, AtEach, Begins, Landmark}
+use Rattle.zone_marks.proofs.Cited.{Edges, counted, join, one, stretch_of, Runs, Whole, join-unit_left, stretch_of-append}
 use Rattle.zone_marks.proofs.Marks.Between.{between-append, between-each, between-none, none-below, none-above}
 use Rattle.zone_marks.proofs.Marks.Lowering.{mark-begins, mark-first, marks-join, marks-parted}
 use Rattle.zone_marks.proofs.Marks.Passing.{at-each, at-append, at-all, begins-left, begins-right, begins-within}

@@ -1,18 +1,11 @@
 -- The groups of landmarks.
-use Rattle.std.proofs.Common.{length-take, ◌≡◌, ◌⊎◌, ℕ, ◌+◌, ◌*◌, ◌≤◌, ◌<◌, inl, inr, List, length, take}
-use Rattle.std.proofs.Common.{drop, get_or, set, sym, ap, ◌∙◌, subst, arith, length-set, replicate}
-use Rattle.zone_marks.specs.Marks.{IsGroup, AreGroups, marks_in, no_group, no_mark, told}
+use Rattle.zone_marks.proofs.Cited.{length-take, ◌≡◌, ◌⊎◌, ℕ, ◌+◌, ◌*◌, ◌≤◌, ◌<◌, inl, inr, List, length, take, drop, get_or, set, sym, ap}
+use Rattle.zone_marks.proofs.Cited.{◌∙◌, subst, arith, length-set, replicate, IsGroup, AreGroups, marks_in, no_group, no_mark, told}
+use Rattle.zone_marks.proofs.Cited.{Stretch, eqb_tells, get_or-take, get_or-drop, get_or-set_same, get_or-set_other, length-drop}
+use Rattle.zone_marks.proofs.Cited.{get_or-replicate, length-replicate, drop-take, drop-set-lt, take-set-le, Group, Landmark, Tallies}
+use Rattle.zone_marks.proofs.Cited.{GROUP, Counting}
 use Rattle.zone_summary.specs.declared.stretch.Counting.TheVariants as counting
-use Rattle.zone_summary.specs.declared.stretch.Stretch.{Stretch}
-use Rattle.std.proofs.lemmas.Bool.Decides.{eqb_tells}
-use Rattle.std.proofs.lemmas.List.{get_or-take, get_or-drop, get_or-set_same, get_or-set_other}
-use Rattle.std.proofs.lemmas.List.{length-drop, get_or-replicate, length-replicate, drop-take, drop-set-lt, take-set-le}
-use Rattle.zone_marks.specs.declared.landmark.Group.{Group}
-use Rattle.zone_marks.specs.declared.landmark.Landmark.{Landmark}
-use Rattle.zone_marks.specs.declared.landmark.Tallies.{Tallies}
 use Rattle.zone_marks.specs.declared.landmark.Tally.TheVariants as tally
-use Rattle.zone_marks.specs.declared.landmark.TheConstants.{GROUP}
-use Rattle.zone_summary.specs.declared.stretch.Counting.{Counting}
 
 -- nothing known is nothing that is known, in either way
 abbrev pub unknown : Tallies

@@ -1,17 +1,9 @@
 -- Landmarks where a block changes in place, and where one is put into a Free block.
-use Rattle.zone_summary.proofs.Monoid.{stretch_by-append}
+use Rattle.zone_marks.proofs.Cited.{stretch_by-append, ◌≡◌, ℕ, ◌+◌, ◌≤◌, ◌<◌, List, [], ◌∷◌, ◌++◌, sym, refl, ap, ◌∙◌, arith, zero, suc}
+use Rattle.zone_marks.proofs.Cited.{append_assoc, Block, Free, size, sizes, free, free_of, add, free_first, Became, Replaced, AreMarks}
+use Rattle.zone_marks.proofs.Cited.{between, next_of, Landmark, one, space, span-append, span-free}
 use Rattle.zone_marks.proofs.Marks.Passing.{begins-either, begins-left, begins-right, at-other}
 use Rattle.zone_marks.proofs.Marks.Between.{between-append, CountAlike, alike-as}
-use Rattle.std.proofs.Common.{◌≡◌, ℕ, ◌+◌, ◌≤◌, ◌<◌, List, [], ◌∷◌, ◌++◌, sym, refl, ap, ◌∙◌, arith}
-use Rattle.std.proofs.Common.{zero, suc, append_assoc}
-use Rattle.block_store.specs.Block.{Block, Free, size, sizes, free, free_of, add}
-use Rattle.zone_bytes.specs.Laying.{free_first}
-use Rattle.zone_bytes.specs.Changes.{Became, Replaced}
-use Rattle.zone_marks.specs.Marks.{AreMarks, between, next_of}
-use Rattle.zone_marks.specs.declared.landmark.Landmark.{Landmark}
-use Rattle.zone_summary.specs.Stretches.{one, space}
-use Rattle.zone_bytes.proofs.Tiles.Tiling.{span-append}
-use Rattle.zone_bytes.proofs.Tiles.Keeping.{span-free}
 
 tally-same : (lo hi : ℕ) (below above : List Block) (b c : Block) → size c ≡ size b → one c ≡ one b → space c ≡ space b
     → CountAlike (between lo hi 0 (below ++ c ∷ above)) (between lo hi 0 (below ++ b ∷ above))

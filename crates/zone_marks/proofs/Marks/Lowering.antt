@@ -1,32 +1,17 @@
 -- Landmarks once a stretch of the zone became another.
-use Rattle.zone_summary.specs.Stretches.{stretch_by}
-use Rattle.std.proofs.Common.{length-set}
-use Rattle.zone_summary.proofs.Monoid.{stretch_by-append}
-use Rattle.std.proofs.Common.{◌≡◌, ℕ, ◌+◌, ◌-◌, ◌≤◌, ◌<◌, ◌⊎◌, inl, inr, List, [], ◌∷◌, ◌++◌, sym, refl, ap, ◌∙◌, subst}
-use Rattle.std.proofs.Common.{arith, length, take, drop, take-append-drop, get_or, set, replicate, zero, suc}
-use Rattle.std.proofs.lemmas.List.{drop_all, take_more, take-set, drop-set, drop_more, drop-drop}
-use Rattle.block_store.specs.Block.{Block, size, sizes}
-use Rattle.zone_bytes.specs.Decode.{zone_in}
-use Rattle.zone_bytes.specs.Lawful.{IsSound}
-use Rattle.zone_bytes.specs.Stepping.{left_in, IsOnWay}
-use Rattle.zone_bytes.specs.Changes.{AtEach, Begins, Replaced}
-use Rattle.zone_marks.specs.Marks.{AtMost, AreMarks, AreTold, IsMark, IsTally, Lowered, Measures, between, next_of}
-use Rattle.zone_marks.specs.Marks.{no_mark}
-use Rattle.zone_marks.specs.declared.landmark.Landmark.{Landmark}
-use Rattle.zone_marks.specs.declared.landmark.Tally.{Tally}
+use Rattle.zone_marks.proofs.Cited.{stretch_by, length-set, stretch_by-append, ◌≡◌, ℕ, ◌+◌, ◌-◌, ◌≤◌, ◌<◌, ◌⊎◌, inl, inr, List, [], ◌∷◌}
+use Rattle.zone_marks.proofs.Cited.{◌++◌, sym, refl, ap, ◌∙◌, subst, arith, length, take, drop, take-append-drop, get_or, set, replicate}
+use Rattle.zone_marks.proofs.Cited.{zero, suc, drop_all, take_more, take-set, drop-set, drop_more, drop-drop, Block, size, sizes, zone_in}
+use Rattle.zone_marks.proofs.Cited.{IsSound, left_in, IsOnWay, AtEach, Begins, Replaced, AtMost, AreMarks, AreTold, IsMark, IsTally}
+use Rattle.zone_marks.proofs.Cited.{Lowered, Measures, between, next_of, no_mark, Landmark, Tally, Measured, Counting, way-above}
+use Rattle.zone_marks.proofs.Cited.{left-above, above_all, GREATEST_ZONE, free_of-le}
 use Rattle.zone_marks.specs.declared.landmark.Tally.TheVariants as tally
-use Rattle.zone_marks.specs.declared.measuring.Measured.{Measured}
-use Rattle.zone_summary.specs.declared.stretch.Counting.{Counting}
 use Rattle.zone_summary.specs.declared.stretch.Counting.TheVariants as counting
 use Rattle.zone_marks.proofs.Marks.Groups.{unknown}
-use Rattle.zone_bytes.proofs.Places.AtPlace.{way-above, left-above}
 use Rattle.zone_marks.proofs.Marks.Passing.{at-each, at-map, at-append, at-left, at-right, begins-here, begins-left}
 use Rattle.zone_marks.proofs.Marks.Passing.{begins-right, begins-either, begins-within, parts}
 use Rattle.zone_marks.proofs.Marks.Between.{CountAlike, alike-as, tally-as}
 use Rattle.zone_marks.proofs.Marks.Between.{between-append, none-below, none-above, told-both}
-use Rattle.zone_marks.specs.Marks.{above_all}
-use Rattle.block_store.specs.declared.measures.TheConstants.{GREATEST_ZONE}
-use Rattle.block_store.proofs.Zone.Listing.{free_of-le}
 
 -- the first of some landmarks is no higher than where they end
 pub marks-below : (end : ℕ) (zone : List Block) (marks : List Landmark) → AreMarks end zone marks → next_of end marks

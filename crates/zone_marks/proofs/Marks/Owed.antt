@@ -1,30 +1,11 @@
 -- What each change of a zone owes of its landmarks.
 use Rattle.zone_marks.proofs.Marks.Passing.{begins-here, at-other}
-use Rattle.zone_bytes.proofs.Places.AtPlace.{left-zone}
-use Rattle.zone_bytes.proofs.Bounds.Short.{free-given}
-use Rattle.std.proofs.Common.{◌≡◌, ℕ, ◌+◌, ◌-◌, ◌≤◌, false, List, ◌∷◌, ◌++◌, length, refl, sym, ap, ◌∙◌, subst, []}
-use Rattle.std.proofs.Common.{arith}
-use Rattle.memory_windows.specs.Writes.{written}
-use Rattle.memory_windows.proofs.Pieces.{length-written}
-use Rattle.block_store.specs.Block.{Block, Free, Relocatable, size, free, free_of, content_of, is_purgeable}
-use Rattle.block_store.specs.Block.{with_content}
-use Rattle.block_store.specs.Inner.Stretch.{is_free}
-use Rattle.block_store.specs.Room.{filled}
-use Rattle.block_store.proofs.Zone.Spots.{size-content}
-use Rattle.block_store.proofs.Zone.Totals.{total-append}
-use Rattle.zone_bytes.specs.Decode.{zone_in}
-use Rattle.zone_bytes.specs.Lawful.{IsKept}
-use Rattle.zone_marks.specs.Marked.{AreOf, IsMarked}
-use Rattle.zone_bytes.specs.Changes.{Replaced}
-use Rattle.zone_marks.specs.Marks.{ends_run}
-use Rattle.zone_bytes.specs.PurgeableBytes.{purgeable_of, purgeable_sum}
-use Rattle.zone_marks.specs.declared.keeping.Landmarks.{Landmarks}
-use Rattle.zone_marks.specs.Purgeable.{Stays}
+use Rattle.zone_marks.proofs.Cited.{left-zone, free-given, ◌≡◌, ℕ, ◌+◌, ◌-◌, ◌≤◌, false, List, ◌∷◌, ◌++◌, length, refl, sym, ap, ◌∙◌, subst}
+use Rattle.zone_marks.proofs.Cited.{[], arith, written, length-written, Block, Free, Relocatable, size, free, free_of, content_of}
+use Rattle.zone_marks.proofs.Cited.{is_purgeable, with_content, is_free, filled, size-content, total-append, zone_in, IsKept, AreOf}
+use Rattle.zone_marks.proofs.Cited.{IsMarked, Replaced, ends_run, purgeable_of, purgeable_sum, Landmarks, Stays, one, space, Roomy}
+use Rattle.zone_marks.proofs.Cited.{filled-is, free-content, span-free}
 use Rattle.zone_marks.proofs.Marks.Keeping.{marks-same}
-use Rattle.zone_summary.specs.Stretches.{one, space}
-use Rattle.zone_bytes.proofs.Placed.Carved.{Roomy, filled-is}
-use Rattle.zone_bytes.proofs.Blocks.Writes.{free-content}
-use Rattle.zone_bytes.proofs.Tiles.Keeping.{span-free}
 
 -- a block whose content is another of as many bytes
 content-same : (x : List ℕ) (b : Block) → length x ≡ length (content_of b)

@@ -1,11 +1,6 @@
 -- A walk that goes over blocks one after another, of each of which something holds.
-use Rattle.std.proofs.Common.{◌≡◌, ℕ, ◌+◌, ◌≤◌, ◌<◌, inl, inr, ◌⊎◌, List, [], ◌∷◌, ◌++◌, length, sym, refl, ap, ◌∙◌}
-use Rattle.std.proofs.Common.{subst, rules, arith, append_assoc}
-use Rattle.block_store.specs.Block.{Block, size, sizes}
-use Rattle.zone_bytes.specs.Stepping.{left_in, IsOnWay}
-use Rattle.zone_bytes.specs.Changes.{AtEach, Begins}
-use Rattle.zone_bytes.proofs.Tiles.Tiling.{span-append}
-use Rattle.zone_bytes.proofs.Places.Stepped.{left-none}
+use Rattle.zone_marks.proofs.Cited.{◌≡◌, ℕ, ◌+◌, ◌≤◌, ◌<◌, inl, inr, ◌⊎◌, List, [], ◌∷◌, ◌++◌, length, sym, refl, ap, ◌∙◌, subst, rules}
+use Rattle.zone_marks.proofs.Cited.{arith, append_assoc, Block, size, sizes, left_in, IsOnWay, AtEach, Begins, span-append, left-none}
 
 -- what holds of each block, from where it stands and where it ends
 pub at-each : (S : ℕ → Block → Type 0) (x : ℕ) (blocks : List Block)

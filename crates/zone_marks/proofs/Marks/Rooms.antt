@@ -1,27 +1,12 @@
 -- Room that is found stretch by stretch.
 use Rattle.zone_marks.proofs.Marks.Lowering.{mark-begins, marks-in, next-in, mark-at, seen-from, begins-further}
 use Rattle.zone_marks.proofs.Marks.Lowering.{mark-first}
-use Rattle.zone_marks.specs.Marks.{marks_in, AtMost, NoRoom, NoneBelow, AreMarks, AreGroups, RoomAt, next_of, no_group}
-use Rattle.zone_marks.specs.Marks.{no_mark}
-use Rattle.std.proofs.Common.{◌≡◌, ℕ, true, false, ◌+◌, ◌≤◌, ◌<◌, Option, Some, None, List, [], ◌∷◌, ◌++◌, sym, refl}
-use Rattle.std.proofs.Common.{ap, ◌∙◌, subst, arith, cond, suc, ◌*◌, length, drop, get_or, rules}
-use Rattle.std.proofs.lemmas.List.{drop_all}
-use Rattle.std.specs.Option.{option_map, IfSome, MatchOption}
-use Rattle.block_store.specs.Block.{Block, size, sizes, is_room}
-use Rattle.block_store.specs.Room.{Spot, spot, spot_at, raised}
-use Rattle.block_store.specs.Find.{FindsLowest}
-use Rattle.block_store.proofs.Zone.Apart.{Apart, apart-tidied, apart-size}
-use Rattle.block_store.proofs.Zone.Spots.{spot_at-spot}
-use Rattle.zone_bytes.specs.Decode.{zone_in}
-use Rattle.zone_bytes.specs.Lawful.{IsSound}
-use Rattle.zone_bytes.specs.Stepping.{left_in}
-use Rattle.zone_bytes.specs.Changes.{AtEach, Begins}
-use Rattle.zone_marks.specs.declared.landmark.Group.{Group}
-use Rattle.zone_marks.specs.declared.landmark.Landmark.{Landmark}
-use Rattle.zone_marks.specs.declared.landmark.TheConstants.{GROUP}
-use Rattle.zone_bytes.proofs.Laws.Lawful.{sizes-length}
+use Rattle.zone_marks.proofs.Cited.{marks_in, AtMost, NoRoom, NoneBelow, AreMarks, AreGroups, RoomAt, next_of, no_group, no_mark, ◌≡◌, ℕ}
+use Rattle.zone_marks.proofs.Cited.{true, false, ◌+◌, ◌≤◌, ◌<◌, Option, Some, None, List, [], ◌∷◌, ◌++◌, sym, refl, ap, ◌∙◌, subst, arith}
+use Rattle.zone_marks.proofs.Cited.{cond, suc, ◌*◌, length, drop, get_or, rules, drop_all, option_map, IfSome, MatchOption, Block, size}
+use Rattle.zone_marks.proofs.Cited.{sizes, is_room, Spot, spot, spot_at, raised, FindsLowest, Apart, apart-tidied, apart-size, spot_at-spot}
+use Rattle.zone_marks.proofs.Cited.{zone_in, IsSound, left_in, AtEach, Begins, Group, Landmark, GROUP, sizes-length, above_all}
 use Rattle.zone_marks.proofs.Marks.Passing.{at-map, at-all, at-append, at-both, at-left}
-use Rattle.zone_marks.specs.Marks.{above_all}
 
 filled : (x : ℕ) (blocks : List Block) → Apart blocks → AtEach (λ _ b. 0 < size b) x blocks
 filled x [] a = tt

@@ -1,19 +1,9 @@
 -- A block that is sought from an edge at or below it.
-use Rattle.std.proofs.Common.{◌≡◌, ℕ, ◌+◌, Bool, true, false, cond, ◌<◌, ◌≤◌, ◌^◌, Option, Some, None, List, [], ◌∷◌}
-use Rattle.std.proofs.Common.{◌++◌, refl, sym, ap, ◌∙◌, subst, arith}
-use Rattle.std.proofs.lemmas.Option.{none-some, same_Some}
-use Rattle.std.specs.Option.{option_map, IfSome}
-use Rattle.block_store.specs.Block.{Block, sizes}
-use Rattle.block_store.specs.Room.{Spot, spot, raised}
-use Rattle.block_store.proofs.Zone.Apart.{Apart, apart-tidied, apart-size}
-use Rattle.zone_bytes.specs.Decode.{zone_in}
-use Rattle.zone_bytes.specs.Lawful.{IsSound}
-use Rattle.zone_bytes.specs.Changes.{Begins}
-use Rattle.zone_bytes.specs.Stepping.{left_in}
-use Rattle.zone_bytes.proofs.Tiles.Tiling.{span-append}
-use Rattle.zone_bytes.proofs.Laws.Lawful.{sizes-length}
+use Rattle.zone_marks.proofs.Cited.{◌≡◌, ℕ, ◌+◌, Bool, true, false, cond, ◌<◌, ◌≤◌, ◌^◌, Option, Some, None, List, [], ◌∷◌, ◌++◌, refl, sym}
+use Rattle.zone_marks.proofs.Cited.{ap, ◌∙◌, subst, arith, none-some, same_Some, option_map, IfSome, Block, sizes, Spot, spot, raised}
+use Rattle.zone_marks.proofs.Cited.{Apart, apart-tidied, apart-size, zone_in, IsSound, Begins, left_in, span-append, sizes-length, if-spot}
+use Rattle.zone_marks.proofs.Cited.{the-if}
 use Rattle.zone_marks.proofs.Marks.Lowering.{seen-from}
-use Rattle.zone_bytes.proofs.Places.Options.{if-spot, the-if}
 
 -- the lowest block that passes, seen with fewer blocks below it
 pub record SeenFrom (test : Block → Bool) (below rest : List Block) (s : Spot) : Type 0 where

@@ -1,12 +1,6 @@
 -- What a block's header tells of where it ends, and its Free bytes.
-use Rattle.std.proofs.Common.{◌≡◌, ℕ, Bool, false, not, cond, ◌==◌, ◌+◌, ◌%◌, ◌<◌, ◌≤◌, List, length, refl, arith}
-use Rattle.block_headers.specs.Words.{word_at}
-use Rattle.block_store.specs.Block.{Block, Free, size, free_of, is_room}
-use Rattle.zone_bytes.specs.Settling.{runs_on}
-use Rattle.zone_bytes.specs.Stepping.{left_in, IsOnWay}
-use Rattle.zone_marks.specs.Marks.{Spans}
-use Rattle.zone_bytes.proofs.Places.Stepped.{stepped}
-use Rattle.zone_bytes.proofs.Places.HeaderTells.{same-here}
+use Rattle.zone_marks.proofs.Cited.{◌≡◌, ℕ, Bool, false, not, cond, ◌==◌, ◌+◌, ◌%◌, ◌<◌, ◌≤◌, List, length, refl, arith, word_at, Block}
+use Rattle.zone_marks.proofs.Cited.{Free, size, free_of, is_room, runs_on, left_in, IsOnWay, Spans, stepped, same-here}
 
 -- two words of a header tell where its block ends, its Free bytes, and whether it ends a run
 pub span-made : (at : ℕ) (xs : List ℕ) (w : IsOnWay at xs) → at < length xs → (n t : ℕ) → n + t ≡ word_at at xs

@@ -1,27 +1,13 @@
 -- What landmarks know of the blocks of all of them.
-use Rattle.zone_marks.specs.Marks.{AreOfZone, AreMarks, IsTally, between, join_tallies, known_load, next_of, no_mark}
-use Rattle.zone_marks.specs.Marks.{tally_of, told}
-use Rattle.std.proofs.Common.{◌≡◌, ℕ, ◌+◌, ◌≤◌, ◌<◌, inl, inr, Bool, true, false, ◌&&◌, cond, nat_le, nat_lt, List, []}
-use Rattle.std.proofs.Common.{◌∷◌, ◌++◌, length, take, drop, get_or, take-append-drop, refl, sym, ap, ◌∙◌, subst, arith}
-use Rattle.std.proofs.lemmas.Bool.{cases_lt, le-leb, lt-leb, lt-ltb}
-use Rattle.std.proofs.lemmas.List.{take_more}
-use Rattle.block_store.specs.Block.{Block, size, sizes}
-use Rattle.zone_bytes.specs.Decode.{zone_in}
-use Rattle.zone_bytes.specs.Lawful.{IsSound}
-use Rattle.zone_marks.specs.declared.landmark.Landmark.{Landmark}
-use Rattle.zone_marks.specs.declared.landmark.Tally.{Tally}
+use Rattle.zone_marks.proofs.Cited.{AreOfZone, AreMarks, IsTally, between, join_tallies, known_load, next_of, no_mark, tally_of, told, ◌≡◌}
+use Rattle.zone_marks.proofs.Cited.{ℕ, ◌+◌, ◌≤◌, ◌<◌, inl, inr, Bool, true, false, ◌&&◌, cond, nat_le, nat_lt, List, [], ◌∷◌, ◌++◌, length}
+use Rattle.zone_marks.proofs.Cited.{take, drop, get_or, take-append-drop, refl, sym, ap, ◌∙◌, subst, arith, cases_lt, le-leb, lt-leb}
+use Rattle.zone_marks.proofs.Cited.{lt-ltb, take_more, Block, size, sizes, zone_in, IsSound, Landmark, Tally, sizes-length, span-append}
+use Rattle.zone_marks.proofs.Cited.{stretch_by, load, Counting, Stretch, Whole, counted-none, join-assoc, join-unit_left, join-unit_right}
+use Rattle.zone_marks.proofs.Cited.{stretch_by-append, load-counted, above_all}
 use Rattle.zone_marks.specs.declared.landmark.Tally.TheVariants as tally
-use Rattle.zone_bytes.proofs.Laws.Lawful.{sizes-length}
 use Rattle.zone_marks.proofs.Marks.Between.{between-few, between-none, none-above}
 use Rattle.zone_marks.proofs.Marks.Lowering.{mark-at, mark-first, marks-below, marks-parted}
-use Rattle.zone_bytes.proofs.Tiles.Tiling.{span-append}
-use Rattle.zone_summary.specs.Stretches.{stretch_by, load}
-use Rattle.zone_summary.specs.declared.stretch.Counting.{Counting}
-use Rattle.zone_summary.specs.declared.stretch.Stretch.{Stretch}
-use Rattle.zone_summary.specs.declared.stretch.Stretch.TheVariants.{Whole}
-use Rattle.zone_summary.proofs.Monoid.{counted-none, join-assoc, join-unit_left, join-unit_right, stretch_by-append}
-use Rattle.zone_summary.proofs.Sums.{load-counted}
-use Rattle.zone_marks.specs.Marks.{above_all}
 
 -- tallies are joined as what they tell
 tallies-left : (t : Tally) → join_tallies (tally.Known (Whole 0)) t ≡ t

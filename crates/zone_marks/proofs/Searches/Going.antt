@@ -1,18 +1,9 @@
 -- A search that goes from block to block.
-use Rattle.std.proofs.Common.{◌≡◌, ℕ, ◌<◌, inr, List, [], ◌∷◌, ◌++◌, arith, if◌then◌else◌}
-use Rattle.block_store.specs.Block.{Block}
-use Rattle.block_store.specs.Run.{in_run}
-use Rattle.block_store.specs.declared.sparing.Seen.{Seen}
-use Rattle.zone_bytes.specs.Changes.{Begins}
-use Rattle.zone_bytes.specs.Decode.{zone_in}
-use Rattle.zone_bytes.specs.Lawful.{IsSound}
-use Rattle.zone_bytes.specs.Stepping.{left_in, Steps}
-use Rattle.zone_marks.specs.Searching.{IsPiece}
+use Rattle.zone_marks.proofs.Cited.{◌≡◌, ℕ, ◌<◌, inr, List, [], ◌∷◌, ◌++◌, arith, if◌then◌else◌, Block, in_run, Seen, Begins, zone_in}
+use Rattle.zone_marks.proofs.Cited.{IsSound, left_in, Steps, IsPiece, begun_in, begun-append}
 use Rattle.zone_marks.proofs.Marks.Lowering.{begins-further}
 use Rattle.zone_marks.proofs.Marks.Passing.{begins-here}
 use Rattle.zone_marks.proofs.Searches.Pieces.{piece-more}
-use Rattle.zone_summary.specs.Searches.{begun_in}
-use Rattle.zone_summary.proofs.Searching.{begun-append}
 
 module _ (xs : List ℕ) (at : ℕ) (block : Seen) (end : ℕ) (s : Steps at block end xs) where
   -- an edge above a block is one of those behind it

@@ -1,24 +1,13 @@
 -- A search for a run that passes blocks by what they come to in runs.
-use Rattle.std.proofs.Common.{◌≡◌, ℕ, ◌+◌, ◌≤◌, ◌<◌, ◌^◌, inl, inr, true, false, List, [], ◌++◌, append_assoc, append-nil}
-use Rattle.std.proofs.Common.{refl, sym, ap, ◌∙◌, arith}
-use Rattle.block_store.specs.Block.{Block}
-use Rattle.block_store.specs.declared.run_search.RunScan.{RunScan}
-use Rattle.zone_bytes.specs.Lawful.{IsSound}
-use Rattle.zone_marks.specs.Searching.{HasCome, IsKnown, IsPassed, IsPiece, IsStretch, begun, place_at}
+use Rattle.zone_marks.proofs.Cited.{◌≡◌, ℕ, ◌+◌, ◌≤◌, ◌<◌, ◌^◌, inl, inr, true, false, List, [], ◌++◌, append_assoc, refl, sym, ap, ◌∙◌}
+use Rattle.zone_marks.proofs.Cited.{arith, Block, RunScan, IsSound, HasCome, IsKnown, IsPassed, IsPiece, IsStretch, begun, place_at, Passed}
+use Rattle.zone_marks.proofs.Cited.{Landmark, begun_in, best, is_ended, join, prefix, stretch_of, suffix, Runs, Stretch, Whole}
+use Rattle.zone_marks.proofs.Cited.{stretch_of-append, begun-append, begun-ended, begun-open, ends-load}
+use Rattle.std.proofs.Common.{append-nil}
 use Rattle.zone_marks.proofs.Marks.Passing.{begins-here}
-use Rattle.zone_marks.specs.declared.beginning.Passed.{Passed}
-use Rattle.zone_marks.specs.declared.landmark.Landmark.{Landmark}
 use Rattle.zone_marks.specs.declared.landmark.Tally.TheVariants as tally
 use Rattle.zone_marks.proofs.Searches.Pieces.{edge-within, piece-more}
 use Rattle.zone_marks.proofs.Bounds.Fewest.{known-fits}
-use Rattle.zone_summary.specs.Searches.{begun_in}
-use Rattle.zone_summary.specs.Stretches.{best, is_ended, join, prefix, stretch_of, suffix}
-use Rattle.zone_summary.specs.declared.stretch.Counting.TheVariants.{Runs}
-use Rattle.zone_summary.specs.declared.stretch.Stretch.{Stretch}
-use Rattle.zone_summary.specs.declared.stretch.Stretch.TheVariants.{Whole}
-use Rattle.zone_summary.proofs.Monoid.{stretch_of-append}
-use Rattle.zone_summary.proofs.Searching.{begun-append, begun-ended, begun-open}
-use Rattle.zone_summary.proofs.Sums.{ends-load}
 
 pub none-between : (xs : List ℕ) (from to : ℕ) (here : List Block) → IsPiece from to xs here → IsPiece to to xs []
 none-between xs from to here p = record { is = refl; up = omega arith; edge = p.edge }

@@ -1,33 +1,16 @@
 -- The blocks from one place of a zone up to another.
-use Rattle.std.proofs.Common.{◌≡◌, ℕ, ◌+◌, ◌≤◌, ◌<◌, ◌⊎◌, inl, inr, List, [], ◌∷◌, ◌++◌, length, take, drop, get_or}
-use Rattle.std.proofs.Common.{append_assoc, refl, sym, ap, subst, arith}
-use Rattle.std.proofs.lemmas.List.{drop-drop, drop_more}
+use Rattle.zone_marks.proofs.Cited.{◌≡◌, ℕ, ◌+◌, ◌≤◌, ◌<◌, ◌⊎◌, inl, inr, List, [], ◌∷◌, ◌++◌, length, take, drop, get_or, append_assoc}
+use Rattle.zone_marks.proofs.Cited.{refl, sym, ap, subst, arith, drop-drop, drop_more, Block, sizes, zone_in, IsSound, AreMarks, IsTally}
+use Rattle.zone_marks.proofs.Cited.{between, next_of, no_mark, tally_of, told, above_all, Begins, IsPiece, IsStretch, place_at, left_in}
+use Rattle.zone_marks.proofs.Cited.{slot_in, Landmark, Tally, GROUP, sizes-length, left-above, left-none, span-append, join, joined-is}
+use Rattle.zone_marks.proofs.Cited.{Counting, Stretch}
 use Rattle.zone_marks.proofs.Marks.Lowering.{mark-at}
-use Rattle.block_store.specs.Block.{Block, sizes}
-use Rattle.zone_bytes.specs.Decode.{zone_in}
-use Rattle.zone_bytes.specs.Lawful.{IsSound}
-use Rattle.zone_marks.specs.Marks.{AreMarks, IsTally, between, next_of, no_mark, tally_of, told, above_all}
-use Rattle.zone_bytes.specs.Changes.{Begins}
-use Rattle.zone_marks.specs.Searching.{IsPiece, IsStretch, place_at}
-use Rattle.zone_bytes.specs.Stepping.{left_in}
-use Rattle.zone_bytes.specs.Table.{slot_in}
-use Rattle.zone_marks.specs.declared.landmark.Landmark.{Landmark}
-use Rattle.zone_marks.specs.declared.landmark.Tally.{Tally}
 use Rattle.zone_marks.specs.declared.landmark.Tally.TheVariants as tally
-use Rattle.zone_marks.specs.declared.landmark.TheConstants.{GROUP}
-use Rattle.zone_bytes.proofs.Laws.Lawful.{sizes-length}
 use Rattle.zone_marks.proofs.Marks.Between.{CountAlike, tally-as, between-parts}
 use Rattle.zone_marks.proofs.Marks.Lowering.{begins-way, mark-begins, seen-from, marks-below, marks-parted}
 use Rattle.zone_marks.proofs.Marks.Lowering.{mark-first, begins-end}
 use Rattle.zone_marks.proofs.Marks.Passing.{begins-either, begins-here, begins-within, parts}
 use Rattle.zone_marks.proofs.Marks.Tallies.{group-tally}
-use Rattle.zone_bytes.proofs.Places.AtPlace.{left-above}
-use Rattle.zone_bytes.proofs.Places.Stepped.{left-none}
-use Rattle.zone_bytes.proofs.Tiles.Tiling.{span-append}
-use Rattle.zone_summary.specs.Stretches.{join}
-use Rattle.zone_summary.proofs.Monoid.{joined-is}
-use Rattle.zone_summary.specs.declared.stretch.Counting.{Counting}
-use Rattle.zone_summary.specs.declared.stretch.Stretch.{Stretch}
 
 -- a piece and the one above it
 pub piece-more : (xs : List ℕ) (from at to : ℕ) (low high : List Block) → IsPiece from at xs low → IsPiece at to xs high

@@ -1,33 +1,13 @@
 -- A search for a run that begins above blocks that stay.
 use Rattle.zone_marks.proofs.Marks.Lowering.{begins-end}
-use Rattle.std.proofs.Common.{◌≡◌, ℕ, ◌+◌, ◌≤◌, Bool, true, false, map, Option, Some, None, List, []}
-use Rattle.std.proofs.Common.{◌∷◌, ◌++◌, refl, sym, ap, ◌∙◌, subst, arith}
-use Rattle.std.proofs.lemmas.List.{map-append}
-use Rattle.block_store.specs.Block.{Block, size, free_of}
-use Rattle.block_store.specs.Inner.RunScan.{met_after, scan_runs}
-use Rattle.block_store.specs.Find.{FindsLowestRun}
-use Rattle.block_store.specs.Room.{count_of}
-use Rattle.block_store.specs.Run.{has_free}
-use Rattle.block_store.specs.Sparing.{most_purges, opened, purged, spared}
-use Rattle.block_store.specs.declared.run_search.RunScan.{RunScan}
-use Rattle.block_store.specs.declared.sparing.Sparing.{Sparing}
+use Rattle.zone_marks.proofs.Cited.{◌≡◌, ℕ, ◌+◌, ◌≤◌, Bool, true, false, map, Option, Some, None, List, [], ◌∷◌, ◌++◌, refl, sym, ap, ◌∙◌}
+use Rattle.zone_marks.proofs.Cited.{subst, arith, map-append, Block, size, free_of, met_after, scan_runs, FindsLowestRun, count_of}
+use Rattle.zone_marks.proofs.Cited.{has_free, most_purges, opened, purged, spared, RunScan, Sparing, scan-is, finds_run, total-append}
+use Rattle.zone_marks.proofs.Cited.{serves, Begins, first-is, zone_in, MayStart, NoneGoes, Stays, IsKnown, begun, finds_in, finds_purging}
+use Rattle.zone_marks.proofs.Cited.{left_in, left-zone, all_purged, emptied, emptied-none, past-short, scan-emptied, join-unit_left}
 use Rattle.block_store.specs.declared.sparing.Sparing.TheVariants as sparing
-use Rattle.block_store.proofs.Regroup.RunScans.{scan-is}
-use Rattle.block_store.proofs.Regroup.RunSpots.{finds_run}
-use Rattle.block_store.proofs.Zone.Totals.{total-append}
-use Rattle.block_store.specs.Fewest.{serves}
-use Rattle.zone_bytes.specs.Changes.{Begins}
-use Rattle.zone_summary.proofs.Fewest.{first-is}
-use Rattle.zone_bytes.specs.Decode.{zone_in}
-use Rattle.zone_marks.specs.Purgeable.{MayStart, NoneGoes, Stays}
-use Rattle.zone_marks.specs.Searching.{IsKnown, begun, finds_in, finds_purging}
-use Rattle.zone_bytes.specs.Stepping.{left_in}
 use Rattle.zone_marks.proofs.Bounds.Going.{count-none}
 use Rattle.zone_marks.proofs.Marks.Passing.{at-left, begins-left}
-use Rattle.zone_bytes.proofs.Places.AtPlace.{left-zone}
-use Rattle.zone_summary.specs.Emptied.{all_purged, emptied}
-use Rattle.zone_summary.proofs.Searching.{emptied-none, past-short, scan-emptied}
-use Rattle.zone_summary.proofs.Monoid.{join-unit_left}
 
 -- what a search from the bottom finds
 pub found-lowest : (bytes purges : ℕ) (n : Sparing) (xs : List ℕ) (zone : List Block) (found : Option ℕ)

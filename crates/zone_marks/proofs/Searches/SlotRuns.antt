@@ -1,24 +1,8 @@
 -- The run of a slot's block, by where a search for any run is that has come to the block or below it.
-use Rattle.std.proofs.Common.{◌≡◌, ℕ, ◌≤◌, ◌&&◌, Bool, false, Option, Some, List, []}
-use Rattle.std.proofs.Common.{◌∷◌, ◌++◌, refl, sym, ap, ◌∙◌, arith}
-use Rattle.block_store.specs.Block.{Block, is_relocatable, sizes}
-use Rattle.block_store.specs.Find.{FindsLowestRun}
-use Rattle.block_store.specs.Inner.RunScan.{scan_from, scan_runs, suits}
-use Rattle.block_store.specs.Room.{Spot, spot}
-use Rattle.block_store.specs.Run.{has, has_free}
-use Rattle.block_store.specs.Sparing.{purged, spared}
-use Rattle.block_store.specs.declared.run_search.RunScan.{RunScan}
-use Rattle.block_store.specs.declared.sparing.Sparing.TheVariants.{Nothing}
-use Rattle.block_store.proofs.Regroup.RunScans.{scan-is, suits-slot}
-use Rattle.block_store.proofs.Regroup.RunSpots.{finds_run}
-use Rattle.block_store.proofs.Zone.Apart.{Apart, apart-size}
-use Rattle.std.specs.Option.{IfSome}
-use Rattle.zone_bytes.specs.Decode.{zone_in}
-use Rattle.zone_bytes.specs.Stepping.{left_in}
-use Rattle.zone_bytes.proofs.Places.AtPlace.{left-zone}
-use Rattle.zone_marks.specs.Searching.{IsKnown}
-use Rattle.zone_summary.proofs.Monoid.{join-unit_left}
-use Rattle.zone_summary.proofs.Searching.{past-others}
+use Rattle.zone_marks.proofs.Cited.{◌≡◌, ℕ, ◌≤◌, ◌&&◌, Bool, false, Option, Some, List, [], ◌∷◌, ◌++◌, refl, sym, ap, ◌∙◌, arith, Block}
+use Rattle.zone_marks.proofs.Cited.{is_relocatable, sizes, FindsLowestRun, scan_from, scan_runs, suits, Spot, spot, has, has_free, purged}
+use Rattle.zone_marks.proofs.Cited.{spared, RunScan, Nothing, scan-is, suits-slot, finds_run, Apart, apart-size, IfSome, zone_in, left_in}
+use Rattle.zone_marks.proofs.Cited.{left-zone, IsKnown, join-unit_left, past-others}
 
 pub slot-run : (bytes to : ℕ) (xs : List ℕ) (r : RunScan) (k : IsKnown bytes to xs r) (number p : ℕ) (found : Option ℕ)
     → has (is_relocatable number) k.done ≡ false → purged 0 Nothing (zone_in xs) ≡ zone_in xs

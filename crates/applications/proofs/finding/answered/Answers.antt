@@ -1,21 +1,10 @@
-use Rattle.std.proofs.Common.{refl, ap, rules, true, false, ℕ, ℤ, Option}
-use Rattle.std.specs.Prelude.{FitsSigned}
-use Rattle.std.specs.Int.{w16}
-use Rattle.std.proofs.lemmas.Int.{to_z-of_z}
-use Rattle.byteorder.specs.Endian.{big_number}
-use Rattle.mac_words.specs.Told.{Bytes, Done, Number, Kind}
-use Rattle.res_calls.specs.Asked.{telling, tell_fetched, tell_info}
-use Rattle.res_calls.specs.Given.{managers}
+use Rattle.applications.proofs.Cited.{refl, ap, rules, true, false, ℕ, ℤ, Option, FitsSigned, w16, to_z-of_z, big_number, Bytes, Done}
+use Rattle.applications.proofs.Cited.{Number, Kind, telling, tell_fetched, tell_info, managers, gone_for, Name, on_err, GetResInfo}
+use Rattle.applications.proofs.Cited.{seen_info, served-files}
 use Rattle.res_calls.specs.Rows as rows
 use Rattle.res_calls.specs.Asked as asks
-use Rattle.res_calls.specs.Gone.{gone_for}
 use Rattle.res_calls.specs.Changing as changing
 use Rattle.res_calls.specs.Partial as partial
-use Rattle.mac_words.specs.declared.name.Name.{Name}
-use Rattle.mac_words.proofs.Plain.{on_err}
-use Rattle.res_calls.specs.Asked.{GetResInfo}
-use Rattle.res_calls.specs.Places.{seen_info}
-use Rattle.res_calls.proofs.Walks.Laws.{served-files}
 use Rattle.applications.proofs.Filing.{answered_keeps}
 use Rattle.applications.proofs.Arms.{by_three, arm_told, arm_after, arm_hears}
 use Rattle.applications.proofs.finding.answered.Goals as goal

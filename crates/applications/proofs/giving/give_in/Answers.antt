@@ -1,9 +1,4 @@
-use Rattle.std.proofs.Common.{◌∙◌, ◌++◌, ◌||◌, List, ap, subst, length, take}
-use Rattle.std.specs.Prelude.{nat_lt}
-use Rattle.block_store.specs.Block.{sizes}
-use Rattle.heap_calls.specs.Stored.{IsStored}
-use Rattle.script_text.specs.declared.script.Line.{Line}
-use Rattle.script_text.specs.Transcript.{launch_line}
+use Rattle.applications.proofs.Cited.{◌∙◌, ◌++◌, ◌||◌, List, ap, subst, length, take, nat_lt, sizes, IsStored, Line, launch_line}
 use Rattle.applications.proofs.Quits.{given_alone, launched-lies}
 use Rattle.applications.proofs.Stopping.{heard-alone, stopped-alone}
 use Rattle.applications.proofs.giving.give_in.Goals as goal

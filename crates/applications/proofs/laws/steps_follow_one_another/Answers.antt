@@ -1,4 +1,4 @@
-use Rattle.std.proofs.Common.{refl}
+use Rattle.applications.proofs.Cited.{refl}
 use Rattle.applications.proofs.Counting.{steps-next, steps-past, steps-over, ending-alike}
 use Rattle.applications.proofs.Elsewhere.{step-elsewhere, launched-elsewhere}
 use Rattle.applications.proofs.Quits.{end-elsewhere, ended-elsewhere}

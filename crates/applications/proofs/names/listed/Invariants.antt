@@ -1,5 +1,4 @@
-use Rattle.std.proofs.Common.{◌≡◌, ◌++◌, map}
-use Rattle.applications.specs.Names.{binding, lent_binding}
+use Rattle.applications.proofs.Cited.{◌≡◌, ◌++◌, map, binding, lent_binding}
 use Rattle.applications.proofs.names.listed.Given as goal
 
 -- the names that were taken, with those to come, are all

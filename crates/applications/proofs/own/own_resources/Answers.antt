@@ -1,7 +1,5 @@
-use Rattle.std.proofs.Common.{◌≡◌, ◌∙◌, ap, map, rules, false, [], ◌∷◌}
+use Rattle.applications.proofs.Cited.{◌≡◌, ◌∙◌, ap, map, rules, false, [], ◌∷◌, view_file, own_files}
 use Rattle.res_calls.specs.declared.files.File.{File as StoredFile}
-use Rattle.res_calls.specs.View.{view_file}
-use Rattle.applications.specs.Trying.{own_files}
 use Rattle.applications.proofs.OwnFork.{never_refused, given_own}
 use Rattle.applications.proofs.own.own_resources.Goals as goal
 

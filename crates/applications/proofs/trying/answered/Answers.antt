@@ -1,13 +1,6 @@
-use Rattle.std.proofs.Common.{◌≡◌, sym, subst, List, ℕ}
-use Rattle.std.specs.Prelude.{IfOk, OnOk, IsOk}
-use Rattle.mac_words.specs.declared.call.HeapCall.{HeapCall}
-use Rattle.mac_words.specs.Told.{Given}
-use Rattle.heap_calls.specs.Table.{served, gone_in}
-use Rattle.heap_calls.specs.Gone.{Hears}
+use Rattle.applications.proofs.Cited.{◌≡◌, sym, subst, List, ℕ, IfOk, OnOk, IsOk, HeapCall, Given, served, gone_in, Hears, doing}
+use Rattle.applications.proofs.Cited.{purges_made, new_handle, new_pointer, pointer_to_hand, asked, TellsTold}
 use Rattle.heap_calls.specs.Asked.{telling}
-use Rattle.heap_calls.specs.Rows.{doing, purges_made, new_handle, new_pointer, pointer_to_hand}
-use Rattle.applications.specs.Trying.{asked}
-use Rattle.applications.specs.Replies.{TellsTold}
 use Rattle.applications.proofs.Hearing.{hears_tried}
 use Rattle.applications.proofs.GivenCalls.{given-told, given-after}
 use Rattle.applications.proofs.trying.answered.Goals as goal

@@ -1,5 +1,4 @@
-use Rattle.std.proofs.Common.{◌≡◌, ◌++◌, take, drop}
-use Rattle.applications.specs.Step.{up_to_wait}
+use Rattle.applications.proofs.Cited.{◌≡◌, ◌++◌, take, drop, up_to_wait}
 use Rattle.applications.proofs.turns.up_to_wait.Given as goal
 
 -- the lines so far end no turn

@@ -1,5 +1,4 @@
-use Rattle.std.proofs.Common.{◌≡◌, ◌++◌, drop}
-use Rattle.bin_hex.specs.Packing.{groups_after, IsLeft}
+use Rattle.bin_hex.proofs.Cited.{◌≡◌, ◌++◌, drop, groups_after, IsLeft}
 use Rattle.bin_hex.specs.declared.packing.Left.TheVariants as left_bits
 use Rattle.bin_hex.proofs.packing.groups_of_bytes.Given as goal
 

@@ -1,5 +1,4 @@
-use Rattle.std.proofs.Common.{◌≡◌, ◌++◌, drop}
-use Rattle.bin_hex.specs.Runs.{runs_after, compressed}
+use Rattle.bin_hex.proofs.Cited.{◌≡◌, ◌++◌, drop, runs_after, compressed}
 use Rattle.bin_hex.proofs.runs.compressed_of.Given as goal
 
 -- the text so far, with that to come, is all

@@ -1,6 +1,5 @@
-use Rattle.std.proofs.Common.{◌≡◌, ◌++◌, ◌-◌, replicate}
+use Rattle.bin_hex.proofs.Cited.{◌≡◌, ◌++◌, ◌-◌, replicate, literal}
 use Rattle.std.specs.List.{flat_map}
-use Rattle.bin_hex.specs.Runs.{literal}
 use Rattle.bin_hex.proofs.runs.push_literals.Given as goal
 
 -- the bytes so far, with those to come, are all

@@ -1,5 +1,4 @@
-use Rattle.std.proofs.Common.{◌≡◌, drop}
-use Rattle.bin_hex.specs.Text.{after_colon}
+use Rattle.bin_hex.proofs.Cited.{◌≡◌, drop, after_colon}
 use Rattle.bin_hex.proofs.text.after_colon.Given as goal
 
 -- no colon stands before

@@ -1,8 +1,4 @@
-use Rattle.std.proofs.Common.{◌+◌, sym, ◌∙◌, ap}
-use Rattle.std.specs.Prelude.{Some, ◌==◌}
-use Rattle.std.specs.List.{starts_with}
-use Rattle.std.proofs.lemmas.List.{take_rest}
-use Rattle.bin_hex.specs.Text.{mark}
+use Rattle.bin_hex.proofs.Cited.{◌+◌, sym, ◌∙◌, ap, Some, ◌==◌, starts_with, take_rest, mark}
 use Rattle.bin_hex.proofs.Finding.{mark_here, mark_later}
 use Rattle.bin_hex.proofs.text.after_mark.Goals as goal
 

@@ -1,5 +1,4 @@
-use Rattle.std.proofs.Common.{◌≡◌, drop}
-use Rattle.bin_hex.specs.Text.{after_mark}
+use Rattle.bin_hex.proofs.Cited.{◌≡◌, drop, after_mark}
 use Rattle.bin_hex.proofs.text.after_mark.Given as goal
 
 -- the mark is not found before

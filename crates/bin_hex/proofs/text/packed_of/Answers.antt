@@ -1,5 +1,4 @@
-use Rattle.std.proofs.Common.{◌∙◌}
-use Rattle.bin_hex.specs.BinHex.{packed_in}
+use Rattle.bin_hex.proofs.Cited.{◌∙◌, packed_in}
 use Rattle.bin_hex.proofs.Taking.{blank, six_more}
 use Rattle.bin_hex.proofs.text.packed_of.Goals.{in-Blank, in-Sextet+in_ok-held-in-Sextet}
 use Rattle.bin_hex.proofs.text.packed_of.Goals as goal

@@ -1,7 +1,4 @@
-use Rattle.std.proofs.Common.{◌≡◌, ◌+◌, drop}
-use Rattle.bin_hex.specs.BinHex.{packed_in}
-use Rattle.bin_hex.specs.Packing.{IsHeld}
-use Rattle.bin_hex.specs.Text.{sextets}
+use Rattle.bin_hex.proofs.Cited.{◌≡◌, ◌+◌, drop, packed_in, IsHeld, sextets}
 use Rattle.bin_hex.proofs.Taking.{after}
 use Rattle.bin_hex.proofs.text.packed_of.Given as goal
 

@@ -1,7 +1,4 @@
-use Rattle.std.proofs.Common.{◌≡◌, ◌≤◌, ◌++◌, ◌∷◌, [], drop, map}
-use Rattle.bin_hex.specs.Alphabet.{character}
-use Rattle.bin_hex.specs.Putting.{encoded_lines}
-use Rattle.bin_hex.specs.Text.{in_lines}
+use Rattle.bin_hex.proofs.Cited.{◌≡◌, ◌≤◌, ◌++◌, ◌∷◌, [], drop, map, character, encoded_lines, in_lines}
 use Rattle.bin_hex.proofs.writing.push_lines.Given as goal
 
 -- the lines so far, with those to come, are all

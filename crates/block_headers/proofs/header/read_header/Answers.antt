@@ -1,5 +1,4 @@
-use Rattle.std.proofs.Common.{◌≡◌, ◌+◌, ◌∙◌, ap, arith}
-use Rattle.block_headers.specs.Words.{word_at}
+use Rattle.block_headers.proofs.Cited.{◌≡◌, ◌+◌, ◌∙◌, ap, arith, word_at}
 use Rattle.block_headers.proofs.Headers.{word_within}
 use Rattle.block_headers.proofs.header.read_header.Goals.{After-word_in-first}
 use Rattle.block_headers.proofs.header.read_header.Goals as goal

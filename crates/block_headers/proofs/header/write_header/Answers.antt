@@ -1,6 +1,4 @@
-use Rattle.std.proofs.Common.{ap, ◌∙◌, ◌+◌, arith}
-use Rattle.memory_windows.specs.Writes.{written}
-use Rattle.block_headers.specs.Words.{word, header}
+use Rattle.block_headers.proofs.Cited.{ap, ◌∙◌, ◌+◌, arith, written, word, header}
 use Rattle.block_headers.proofs.Headers.{four_words}
 use Rattle.block_headers.proofs.header.write_header.Goals as goal
 

@@ -1,5 +1,4 @@
-use Rattle.std.proofs.Common.{◌+◌, ℕ, ap, ◌∙◌, arith}
-use Rattle.block_headers.specs.Words.{word_at}
+use Rattle.block_headers.proofs.Cited.{◌+◌, ℕ, ap, ◌∙◌, arith, word_at}
 use Rattle.block_headers.proofs.Headers.{first_reads, logical_reads, slot_reads, flags_read, same_first, tag_low}
 use Rattle.block_headers.proofs.laws.header_read_again.Goals as goal
 

@@ -1,6 +1,4 @@
-use Rattle.std.proofs.Common.{sym, ap, ◌∙◌, subst}
-use Rattle.block_headers.specs.Slots.{slot_number, IsSlotNumber}
-use Rattle.block_headers.specs.Words.{word_at}
+use Rattle.block_headers.proofs.Cited.{sym, ap, ◌∙◌, subst, slot_number, IsSlotNumber, word_at}
 use Rattle.block_headers.proofs.Slots.{slot_reads_as, same_slot}
 use Rattle.block_headers.proofs.Words.{word_reads_at}
 use Rattle.block_headers.proofs.laws.slot_read_again.Goals as goal

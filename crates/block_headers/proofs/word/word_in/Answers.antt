@@ -1,5 +1,4 @@
-use Rattle.std.proofs.Common.{rules}
-use Rattle.block_headers.specs.Words.{word_at}
+use Rattle.block_headers.proofs.Cited.{rules, word_at}
 use Rattle.block_headers.proofs.word.word_in.Goals as goal
 
 pub returns : goal.returns

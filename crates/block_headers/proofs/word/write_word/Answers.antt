@@ -1,6 +1,4 @@
-use Rattle.std.proofs.Common.{ap, ◌∙◌}
-use Rattle.memory_windows.specs.Writes.{written}
-use Rattle.block_headers.specs.Words.{word}
+use Rattle.block_headers.proofs.Cited.{ap, ◌∙◌, written, word}
 use Rattle.block_headers.proofs.word.write_word.Goals as goal
 
 pub returns-clause-bytes : goal.returns-clause-bytes

@@ -1,5 +1,4 @@
-use Rattle.std.proofs.Common.{◌∙◌, sym, ap, is_some}
-use Rattle.block_store.specs.Grow.{taken}
+use Rattle.block_store.proofs.Cited.{◌∙◌, sym, ap, is_some, taken}
 use Rattle.block_store.proofs.Purged.Looks.{taken-room}
 use Rattle.block_store.proofs.Walks.Telling.{told}
 use Rattle.block_store.proofs.looking.begins_with_room.Goals as goal

@@ -1,5 +1,4 @@
-use Rattle.std.proofs.Common.{◌∙◌, sym, ap, arith}
-use Rattle.block_store.specs.Sparing.{spared, opened}
+use Rattle.block_store.proofs.Cited.{◌∙◌, sym, ap, arith, spared, opened}
 use Rattle.block_store.proofs.Purged.Looks.{next_from, next-is, found-here, found-goes, found-stays, found-end}
 use Rattle.block_store.proofs.Walks.Telling.{ReadBlock, told, told-none, told-size, told-sizes}
 use Rattle.block_store.proofs.looking.find_purgeable_in.Given.{Over}

@@ -1,8 +1,4 @@
-use Rattle.std.proofs.Common.{◌≡◌, ◌+◌, length}
-use Rattle.std.specs.Option.{option_map}
-use Rattle.block_store.specs.Block.{sizes}
-use Rattle.block_store.specs.Room.{Spot, spot, may_be_purged}
-use Rattle.block_store.specs.Sparing.{spared, opened, purged}
+use Rattle.block_store.proofs.Cited.{◌≡◌, ◌+◌, length, option_map, sizes, Spot, spot, may_be_purged, spared, opened, purged}
 use Rattle.block_store.proofs.Purged.Looks.{next_from}
 use Rattle.block_store.proofs.looking.find_purgeable_in.Given as goal
 

@@ -1,5 +1,4 @@
-use Rattle.block_store.specs.Room.{may_be_purged, lowest_purged}
-use Rattle.block_store.specs.Sparing.{purged, opened, spared}
+use Rattle.block_store.proofs.Cited.{may_be_purged, lowest_purged, purged, opened, spared}
 use Rattle.block_store.proofs.Zone.Apart.{apart-tidy}
 use Rattle.block_store.proofs.Zone.Spots.{finds}
 use Rattle.block_store.proofs.looking.next_purgeable_in.Goals as goal

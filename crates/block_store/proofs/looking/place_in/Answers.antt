@@ -1,5 +1,4 @@
-use Rattle.std.proofs.Common.{◌∙◌, Some, None, sym, ap}
-use Rattle.block_store.specs.Block.{is_relocatable}
+use Rattle.block_store.proofs.Cited.{◌∙◌, Some, None, sym, ap, is_relocatable}
 use Rattle.block_store.proofs.Zone.Apart.{apart-tidied}
 use Rattle.block_store.proofs.Zone.Listing.{spot-here}
 use Rattle.block_store.proofs.Zone.Spots.{finds}

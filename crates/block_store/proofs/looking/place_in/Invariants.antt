@@ -1,7 +1,4 @@
-use Rattle.std.proofs.Common.{◌≡◌, ◌+◌, length}
-use Rattle.std.specs.Option.{option_map}
-use Rattle.block_store.specs.Block.{sizes, is_relocatable}
-use Rattle.block_store.specs.Room.{Spot, spot}
+use Rattle.block_store.proofs.Cited.{◌≡◌, ◌+◌, length, option_map, sizes, is_relocatable, Spot, spot}
 use Rattle.block_store.proofs.Purged.Looks.{place_from}
 use Rattle.block_store.proofs.looking.place_in.Given as goal
 

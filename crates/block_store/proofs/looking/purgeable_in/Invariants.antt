@@ -1,6 +1,4 @@
-use Rattle.std.proofs.Common.{◌≡◌, ◌+◌, ◌≤◌, length}
-use Rattle.block_store.specs.Block.{sizes}
-use Rattle.block_store.specs.Sparing.{most_purges}
+use Rattle.block_store.proofs.Cited.{◌≡◌, ◌+◌, ◌≤◌, length, sizes, most_purges}
 use Rattle.block_store.proofs.looking.purgeable_in.Given as goal
 
 -- those so far, and those of what is still to come

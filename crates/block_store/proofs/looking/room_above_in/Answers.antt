@@ -1,5 +1,4 @@
-use Rattle.std.proofs.Common.{◌∙◌, sym, ap}
-use Rattle.block_store.specs.Block.{is_relocatable}
+use Rattle.block_store.proofs.Cited.{◌∙◌, sym, ap, is_relocatable}
 use Rattle.block_store.proofs.Purged.Looks.{above_spot, above_spot-here, follows-none, follows-some}
 use Rattle.block_store.proofs.Walks.Telling.{told, told-none}
 use Rattle.block_store.proofs.looking.room_above_in.Goals as goal

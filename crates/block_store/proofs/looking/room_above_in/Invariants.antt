@@ -1,5 +1,4 @@
-use Rattle.std.proofs.Common.{◌≡◌, length}
-use Rattle.block_store.specs.Block.{is_relocatable}
+use Rattle.block_store.proofs.Cited.{◌≡◌, length, is_relocatable}
 use Rattle.block_store.proofs.Purged.Looks.{above_spot}
 use Rattle.block_store.proofs.looking.room_above_in.Given as goal
 

@@ -1,4 +1,4 @@
-use Rattle.std.proofs.Common.{arith}
+use Rattle.block_store.proofs.Cited.{arith}
 use Rattle.block_store.proofs.Purged.PurgedSums.{free-purged}
 use Rattle.block_store.proofs.purged_sums.free_after_in.Goals as goal
 

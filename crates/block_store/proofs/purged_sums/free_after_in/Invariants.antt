@@ -1,6 +1,4 @@
-use Rattle.std.proofs.Common.{◌≡◌, ◌+◌, ◌≤◌, length}
-use Rattle.block_store.specs.Block.{sizes, free_sum}
-use Rattle.block_store.specs.Sparing.{purged}
+use Rattle.block_store.proofs.Cited.{◌≡◌, ◌+◌, ◌≤◌, length, sizes, free_sum, purged}
 use Rattle.block_store.proofs.Purged.PurgedSums.{free_from}
 use Rattle.block_store.proofs.purged_sums.free_after_in.Given as goal
 

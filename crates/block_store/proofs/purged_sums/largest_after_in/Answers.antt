@@ -1,5 +1,4 @@
-use Rattle.std.proofs.Common.{◌∙◌, sym, arith}
-use Rattle.std.proofs.Math.Nat.{zero-max}
+use Rattle.block_store.proofs.Cited.{◌∙◌, sym, arith, zero-max}
 use Rattle.block_store.proofs.Purged.PurgedSums.{largest_from, largest-purged}
 use Rattle.block_store.proofs.purged_sums.largest_after_in.Goals as goal
 

@@ -1,7 +1,4 @@
-use Rattle.std.proofs.Common.{◌≡◌, ◌+◌, ◌≤◌, max, length}
-use Rattle.block_store.specs.Block.{sizes}
-use Rattle.block_store.specs.Sparing.{purged}
-use Rattle.block_store.specs.Compact.{largest_free}
+use Rattle.block_store.proofs.Cited.{◌≡◌, ◌+◌, ◌≤◌, max, length, sizes, purged, largest_free}
 use Rattle.block_store.proofs.Purged.PurgedSums.{largest_from}
 use Rattle.block_store.proofs.purged_sums.largest_after_in.Given as goal
 

@@ -1,5 +1,4 @@
-use Rattle.block_store.specs.Run.{has_free}
-use Rattle.block_store.specs.Sparing.{purged}
+use Rattle.block_store.proofs.Cited.{has_free, purged}
 use Rattle.block_store.proofs.Regroup.RunSpots.{finds_run}
 use Rattle.block_store.proofs.run_search.find_run_in.Goals as goal
 

@@ -1,7 +1,4 @@
-use Rattle.std.proofs.Common.{◌∙◌, ap, is_some}
-use Rattle.mac_words.proofs.Plain.{is_some-map}
-use Rattle.block_store.specs.Run.{run_spot}
-use Rattle.block_store.specs.Sparing.{purged}
+use Rattle.block_store.proofs.Cited.{◌∙◌, ap, is_some, is_some-map, run_spot, purged}
 use Rattle.block_store.proofs.Regroup.RunScans.{suits-slot}
 use Rattle.block_store.proofs.run_search.has_run_of.Goals as goal
 

@@ -1,7 +1,4 @@
-use Rattle.std.proofs.Common.{◌∙◌, ◌&&◌, ap}
-use Rattle.std.specs.Option.{option_map}
-use Rattle.block_store.specs.Block.{sizes, is_relocatable, tidy}
-use Rattle.block_store.specs.Run.{RunSpot, run_spot, has, has_free}
+use Rattle.block_store.proofs.Cited.{◌∙◌, ◌&&◌, ap, option_map, sizes, is_relocatable, tidy, RunSpot, run_spot, has, has_free}
 use Rattle.block_store.proofs.Regroup.RunScans.{suits-slot}
 use Rattle.block_store.proofs.Regroup.RunSpots.{finds_run}
 use Rattle.block_store.proofs.run_search.run_of_in.Goals as goal

@@ -1,6 +1,4 @@
-use Rattle.std.proofs.Common.{◌∙◌, ap, arith}
-use Rattle.block_store.specs.Sparing.{spared, opened}
-use Rattle.block_store.specs.Inner.RunScan.{scan_runs}
+use Rattle.block_store.proofs.Cited.{◌∙◌, ap, arith, spared, opened, scan_runs}
 use Rattle.block_store.proofs.Regroup.RunScans.{scan-is, any-none}
 use Rattle.block_store.proofs.run_search.search_runs_in.Goals as goal
 

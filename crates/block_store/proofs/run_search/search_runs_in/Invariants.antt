@@ -1,9 +1,4 @@
-use Rattle.std.proofs.Common.{◌≡◌, ◌+◌, ◌≤◌, length}
-use Rattle.std.specs.Option.{option_map}
-use Rattle.block_store.specs.Block.{sizes}
-use Rattle.block_store.specs.Run.{RunSpot, run_spot}
-use Rattle.block_store.specs.Sparing.{spared, opened, purged}
-use Rattle.block_store.specs.Inner.RunScan.{suits, scan_runs}
+use Rattle.block_store.proofs.Cited.{◌≡◌, ◌+◌, ◌≤◌, length, option_map, sizes, RunSpot, run_spot, spared, opened, purged, suits, scan_runs}
 use Rattle.block_store.proofs.run_search.search_runs_in.Given as goal
 
 -- the search through what is still to come gives the place

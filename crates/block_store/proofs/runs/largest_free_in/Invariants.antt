@@ -1,5 +1,4 @@
-use Rattle.std.proofs.Common.{◌≡◌, max, length}
-use Rattle.block_store.specs.Compact.{largest_free}
+use Rattle.block_store.proofs.Cited.{◌≡◌, max, length, largest_free}
 use Rattle.block_store.proofs.runs.largest_free_in.Given as goal
 
 -- the most so far, or that of what is still to come

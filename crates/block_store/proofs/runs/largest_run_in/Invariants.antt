@@ -1,7 +1,4 @@
-use Rattle.std.proofs.Common.{◌≡◌, ◌+◌, ◌≤◌, max, length}
-use Rattle.block_store.specs.Block.{sizes}
-use Rattle.block_store.specs.Run.{segments}
-use Rattle.block_store.specs.Compact.{largest_run}
+use Rattle.block_store.proofs.Cited.{◌≡◌, ◌+◌, ◌≤◌, max, length, sizes, segments, largest_run}
 use Rattle.block_store.proofs.Regroup.RunLooks.{largest_from}
 use Rattle.block_store.proofs.runs.largest_run_in.Given as goal
 

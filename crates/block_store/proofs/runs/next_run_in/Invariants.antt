@@ -1,5 +1,4 @@
-use Rattle.std.proofs.Common.{◌≡◌, ◌+◌, length}
-use Rattle.block_store.specs.Block.{sizes}
+use Rattle.block_store.proofs.Cited.{◌≡◌, ◌+◌, length, sizes}
 use Rattle.block_store.proofs.Regroup.RunLooks.{run_behind}
 use Rattle.block_store.proofs.runs.next_run_in.Given as goal
 

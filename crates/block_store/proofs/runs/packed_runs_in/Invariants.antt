@@ -1,6 +1,4 @@
-use Rattle.std.proofs.Common.{◌≡◌, ◌+◌, ◌*◌, ◌≤◌, false, length}
-use Rattle.block_store.specs.Block.{sizes}
-use Rattle.block_store.specs.Run.{segments}
+use Rattle.block_store.proofs.Cited.{◌≡◌, ◌+◌, ◌*◌, ◌≤◌, false, length, sizes, segments}
 use Rattle.block_store.proofs.Regroup.PackedRuns.{packed_from}
 use Rattle.block_store.proofs.runs.packed_runs_in.Given as goal
 

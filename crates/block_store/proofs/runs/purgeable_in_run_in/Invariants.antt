@@ -1,7 +1,4 @@
-use Rattle.std.proofs.Common.{◌≡◌, ◌+◌, ◌≤◌, length}
-use Rattle.block_store.specs.Block.{sizes}
-use Rattle.block_store.specs.Run.{segments}
-use Rattle.block_store.specs.Sparing.{spared}
+use Rattle.block_store.proofs.Cited.{◌≡◌, ◌+◌, ◌≤◌, length, sizes, segments, spared}
 use Rattle.block_store.proofs.Regroup.RunLooks.{goes_first}
 use Rattle.block_store.proofs.runs.purgeable_in_run_in.Given as goal
 

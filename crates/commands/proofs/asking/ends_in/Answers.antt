@@ -1,6 +1,4 @@
-use Rattle.std.proofs.Common.{◌≡◌, ◌++◌, ◌∙◌, Some, sym, ap}
-use Rattle.std.proofs.lemmas.Slice.Eq.{strip_prefix_is}
-use Rattle.std.proofs.lemmas.Bool.Decides.{Decides-eqb}
+use Rattle.commands.proofs.Cited.{◌≡◌, ◌++◌, ◌∙◌, Some, sym, ap, strip_prefix_is, Decides-eqb}
 use Rattle.commands.proofs.Asked.{same_text}
 use Rattle.commands.proofs.asking.ends_in.Goals as goal
 

@@ -1,5 +1,4 @@
-use Rattle.std.proofs.Common.{◌∷◌, sym, subst}
-use Rattle.commands.specs.Asking.{StandIn}
+use Rattle.commands.proofs.Cited.{◌∷◌, sym, subst, StandIn}
 use Rattle.commands.proofs.Asked.{skip, next, same_text, split_or}
 use Rattle.commands.proofs.asking.found_with.Goals as goal
 

@@ -1,5 +1,4 @@
-use Rattle.std.proofs.Common.{◌∷◌, sym, subst, map}
-use Rattle.commands.specs.Asking.{HasValues}
+use Rattle.commands.proofs.Cited.{◌∷◌, sym, subst, map, HasValues}
 use Rattle.commands.proofs.Asked.{skip_values, next_value, split_or}
 use Rattle.commands.proofs.asking.given_with.Goals as goal
 

@@ -1,4 +1,4 @@
-use Rattle.std.proofs.Common.{◌∙◌, sym}
+use Rattle.commands.proofs.Cited.{◌∙◌, sym}
 use Rattle.commands.proofs.Asked.{same_text, given_within, given_beside}
 use Rattle.commands.proofs.asking.gives.Goals as goal
 

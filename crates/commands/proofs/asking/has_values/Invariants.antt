@@ -1,5 +1,4 @@
-use Rattle.std.proofs.Common.{◌≤◌, drop, length, map}
-use Rattle.commands.specs.Asking.{HasValues}
+use Rattle.commands.proofs.Cited.{◌≤◌, drop, length, map, HasValues}
 use Rattle.commands.proofs.asking.has_values.Given as goal
 
 -- where the values that are not yet found are given by the words to come, all are given

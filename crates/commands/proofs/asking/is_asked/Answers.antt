@@ -1,4 +1,4 @@
-use Rattle.std.proofs.Common.{◌∙◌, Some, sym, ap}
+use Rattle.commands.proofs.Cited.{◌∙◌, Some, sym, ap}
 use Rattle.commands.proofs.Asked.{same_text, head_two}
 use Rattle.commands.proofs.asking.is_asked.Goals as goal
 

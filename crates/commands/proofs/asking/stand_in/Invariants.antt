@@ -1,5 +1,4 @@
-use Rattle.std.proofs.Common.{◌≤◌, drop, length, map}
-use Rattle.commands.specs.Asking.{StandIn}
+use Rattle.commands.proofs.Cited.{◌≤◌, drop, length, map, StandIn}
 use Rattle.commands.proofs.asking.stand_in.Given as goal
 
 -- where the texts that are not yet found are among the words to come, all are words

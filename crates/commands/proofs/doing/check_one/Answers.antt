@@ -1,9 +1,5 @@
-use Rattle.std.proofs.Common.{false, refl}
-use Rattle.fork_commands.proofs.Pairs.{also_ok}
-use Rattle.job_tasks.specs.declared.tasks.Task.{Task}
+use Rattle.commands.proofs.Cited.{false, refl, also_ok, Task, message_of, also_err}
 use Rattle.job_tasks.specs.declared.tasks.Work.TheVariants as work
-use Rattle.fork_tasks.specs.Fault.{message_of}
-use Rattle.fork_tasks.proofs.Accesses.{also_err}
 use Rattle.commands.proofs.Checked.{file_checked, file_unchecked, folder_checked, folder_unchecked}
 use Rattle.commands.proofs.doing.check_one.Goals as goal
 

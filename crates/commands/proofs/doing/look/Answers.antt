@@ -1,8 +1,4 @@
-use Rattle.std.proofs.Common.{◌≡◌, ℕ, List, subst, rules}
-use Rattle.fork_tasks.specs.Fault.{message_of}
-use Rattle.job_tasks.specs.Tasks.{IsRefusal}
-use Rattle.commands.specs.Doing.{Refused}
-use Rattle.fork_tasks.proofs.Accesses.{also_err}
+use Rattle.commands.proofs.Cited.{◌≡◌, ℕ, List, subst, rules, message_of, IsRefusal, Refused, also_err}
 use Rattle.commands.proofs.doing.look.Goals as goal
 
 -- the file was read, and then the task was refused

@@ -1,6 +1,4 @@
-use Rattle.std.proofs.Common.{IfErr, sym, subst}
-use Rattle.fork_tasks.specs.Fault.{message_of}
-use Rattle.commands.specs.Doing.{IsUndone}
+use Rattle.commands.proofs.Cited.{IfErr, sym, subst, message_of, IsUndone}
 use Rattle.commands.proofs.doing.perform.Goals as goal
 
 -- the job was not run to its end

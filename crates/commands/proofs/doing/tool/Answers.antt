@@ -1,5 +1,4 @@
-use Rattle.commands.specs.Doing.{Asks}
-use Rattle.fork_tasks.proofs.Accesses.{also_err}
+use Rattle.commands.proofs.Cited.{Asks, also_err}
 use Rattle.commands.proofs.doing.tool.Goals as goal
 
 -- some request was not done

@@ -1,6 +1,4 @@
-use Rattle.std.proofs.Common.{◌≡◌, Err, rules}
-use Rattle.fork_tasks.proofs.Accesses.{told_err}
-use Rattle.fork_tasks.proofs.Faults.{quiet_silent}
+use Rattle.commands.proofs.Cited.{◌≡◌, Err, rules, told_err, quiet_silent}
 use Rattle.commands.proofs.doing.write_packed.Goals as goal
 
 -- nothing was printed

@@ -1,6 +1,4 @@
-use Rattle.std.proofs.Common.{drop, map}
-use Rattle.commands.specs.Asking.{AreParts}
-use Rattle.job_tasks.specs.Loading.{part_seen}
+use Rattle.commands.proofs.Cited.{drop, map, AreParts, part_seen}
 use Rattle.commands.proofs.play_asking.are_parts.Given as goal
 
 -- where the files to come are given, all are

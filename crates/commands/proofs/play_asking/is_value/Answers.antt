@@ -1,7 +1,4 @@
-use Rattle.std.proofs.Common.{◌≡◌, ◌++◌, ◌∙◌, Some, sym, ap, rules}
-use Rattle.std.specs.Prelude.{codes}
-use Rattle.std.proofs.lemmas.Slice.Eq.{strip_prefix_is}
-use Rattle.std.proofs.lemmas.Bool.Decides.{Decides-eqb}
+use Rattle.commands.proofs.Cited.{◌≡◌, ◌++◌, ◌∙◌, Some, sym, ap, rules, codes, strip_prefix_is, Decides-eqb}
 use Rattle.commands.proofs.Asked.{same_text}
 use Rattle.commands.proofs.play_asking.is_value.Goals as goal
 

@@ -1,6 +1,4 @@
-use Rattle.std.proofs.Common.{rules, ◌≤◌, option_map, ap, sym, ◌∙◌}
-use Rattle.memory_windows.specs.Outside.{IsOutside}
-use Rattle.desk.specs.declared.partition.OpenZone.{OpenZone}
+use Rattle.desk.proofs.Cited.{rules, ◌≤◌, option_map, ap, sym, ◌∙◌, IsOutside, OpenZone}
 use Rattle.desk.proofs.Changes.{at-some}
 use Rattle.desk.proofs.Holding.{contains-opened, closed-opened}
 use Rattle.desk.proofs.desk.begin.Goals as goal

@@ -1,6 +1,4 @@
-use Rattle.std.proofs.Common.{sym, ap, ◌∙◌, Some, refl}
-use Rattle.std.proofs.Common.{subst, IfSome}
-use Rattle.memory_windows.specs.Outside.{IsOutside}
+use Rattle.desk.proofs.Cited.{sym, ap, ◌∙◌, Some, refl, subst, IfSome, IsOutside}
 use Rattle.desk.proofs.Holding.{contains-opened, closed-opened}
 use Rattle.desk.proofs.Changes.{granted-some}
 use Rattle.desk.proofs.desk.open_zone.Goals as goal

@@ -1,11 +1,5 @@
-use Rattle.std.proofs.Common.{◌≡◌, ◌≤◌, ◌+◌, ◌∙◌, arith, Option, Some, IfSome, length, slice_get, refl, sym, ap, subst}
-use Rattle.std.specs.Prelude.{vec_len}
-use Rattle.std.specs.Vec.{vec_capacity}
-use Rattle.std.proofs.lemmas.Result.{on_ok_weaker}
-use Rattle.script_text.specs.declared.desk_log.TheConstants.{APP_ROOM}
-use Rattle.desk.specs.Desk.{Place}
-use Rattle.desk.specs.Seated.{Placed}
-use Rattle.desk.specs.View.{place_seen, seen}
+use Rattle.desk.proofs.Cited.{◌≡◌, ◌≤◌, ◌+◌, ◌∙◌, arith, Option, Some, IfSome, length, slice_get, refl, sym, ap, subst, vec_len}
+use Rattle.desk.proofs.Cited.{vec_capacity, on_ok_weaker, APP_ROOM, Place, Placed, place_seen, seen}
 use Rattle.desk.proofs.Changes.{seen-some, seen-none}
 use Rattle.desk.proofs.desk.take_end_room.Goals as goal
 

@@ -1,8 +1,5 @@
-use Rattle.std.proofs.Common.{rules, ◌≡◌, ◌≢◌, ◌∙◌, ◌<◌, [], length, slice_index_or, subst, sym}
-use Rattle.mac_words.proofs.Plain.{on_err}
+use Rattle.desk.proofs.Cited.{rules, ◌≡◌, ◌≢◌, ◌∙◌, ◌<◌, [], length, slice_index_or, subst, sym, on_err, view_file, fork_told}
 use Rattle.res_calls.specs.declared.files.File.{File as StoredFile}
-use Rattle.res_calls.specs.View.{view_file}
-use Rattle.desk.specs.Outcome.{fork_told}
 use Rattle.desk.proofs.ForkLines.{files_next, still-lines}
 use Rattle.desk.proofs.forks.write_files.Goals as goal
 

@@ -1,7 +1,4 @@
-use Rattle.std.proofs.Common.{◌≡◌, ◌++◌, map, drop}
-use Rattle.res_calls.specs.View.{view_file}
-use Rattle.applications.specs.Replies.{Extends}
-use Rattle.desk.specs.Outcome.{forks_told}
+use Rattle.desk.proofs.Cited.{◌≡◌, ◌++◌, map, drop, view_file, Extends, forks_told}
 use Rattle.desk.proofs.forks.write_files.Given as goal
 
 -- the lines so far, and those of the files that are left

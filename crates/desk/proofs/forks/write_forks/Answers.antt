@@ -1,8 +1,4 @@
-use Rattle.std.proofs.Common.{rules, ◌≢◌, ◌∙◌, ◌<◌, [], length, subst, sym}
-use Rattle.mac_words.proofs.Plain.{on_err}
-use Rattle.desk.specs.declared.outcome.AppOutcome.{AppOutcome}
-use Rattle.desk.specs.Outcome.{forks_of}
-use Rattle.desk.specs.View.{told_seen}
+use Rattle.desk.proofs.Cited.{rules, ◌≢◌, ◌∙◌, ◌<◌, [], length, subst, sym, on_err, AppOutcome, forks_of, told_seen}
 use Rattle.desk.proofs.ForkLines.{apps_next, still-lines}
 use Rattle.desk.proofs.forks.write_forks.Goals as goal
 

@@ -1,8 +1,4 @@
-use Rattle.std.proofs.Common.{◌≡◌, ◌++◌, map, drop}
-use Rattle.std.specs.List.{flat_map}
-use Rattle.applications.specs.Replies.{Extends}
-use Rattle.desk.specs.Outcome.{forks_of}
-use Rattle.desk.specs.View.{told_seen}
+use Rattle.desk.proofs.Cited.{◌≡◌, ◌++◌, map, drop, flat_map, Extends, forks_of, told_seen}
 use Rattle.desk.proofs.forks.write_forks.Given as goal
 
 -- the lines so far, and those of the applications that are left

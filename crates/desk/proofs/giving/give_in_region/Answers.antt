@@ -1,10 +1,5 @@
-use Rattle.std.proofs.Common.{◌≡◌, ◌∙◌, ℕ, ap, sym, subst, length, arith, IfOk}
-use Rattle.raw_zone.specs.Parted.{zone_of}
-use Rattle.block_store.specs.Block.{fresh, sizes}
-use Rattle.block_store.specs.Rest.{Site}
-use Rattle.applications.specs.Alone.{alone, heap_alone}
+use Rattle.desk.proofs.Cited.{◌≡◌, ◌∙◌, ℕ, ap, sym, subst, length, arith, IfOk, zone_of, fresh, sizes, Site, alone, heap_alone, sizes-fresh}
 use Rattle.applications.specs.Alone as gives
-use Rattle.applications.proofs.Elsewhere.{sizes-fresh}
 use Rattle.desk.proofs.WholeRegion.{whole_home, whole_laid, whole_lies, whole_there}
 use Rattle.desk.proofs.giving.give_in_region.Goals as goal
 

@@ -1,10 +1,5 @@
-use Rattle.std.proofs.Common.{◌≡◌, ◌∙◌, ℕ, false, ap, slice_get, sym, subst, IfOk}
-use Rattle.std.proofs.lemmas.Result.{IfErr-weaker}
-use Rattle.raw_region.specs.Memory.{Whole}
-use Rattle.raw_zone.specs.declared.region_zones.RegionZones.{RegionZones}
-use Rattle.zone_bytes.specs.Laid.{LiesThere}
-use Rattle.desk.specs.Free.{IsNeverGranted}
-use Rattle.desk.specs.Lying.{LieAtEnd}
+use Rattle.desk.proofs.Cited.{◌≡◌, ◌∙◌, ℕ, false, ap, slice_get, sym, subst, IfOk, IfErr-weaker, Whole, RegionZones, LiesThere}
+use Rattle.desk.proofs.Cited.{IsNeverGranted, LieAtEnd}
 use Rattle.desk.proofs.Free.{same-home}
 use Rattle.desk.proofs.in_region.run.Goals as goal
 

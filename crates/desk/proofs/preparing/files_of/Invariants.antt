@@ -1,6 +1,4 @@
-use Rattle.std.proofs.Common.{◌≡◌, ◌++◌, map, take}
-use Rattle.res_calls.specs.View.{view_file}
-use Rattle.desk.specs.Job.{file_given}
+use Rattle.desk.proofs.Cited.{◌≡◌, ◌++◌, map, take, view_file, file_given}
 use Rattle.desk.proofs.preparing.files_of.Given as goal
 
 -- behind the application's own file lie copies of the first others

@@ -1,10 +1,5 @@
-use Rattle.std.proofs.Common.{subst, sym}
-use Rattle.fork_format.specs.View.{view}
+use Rattle.desk.proofs.Cited.{subst, sym, view, ready, start_of, IsReady, phase_seen}
 use Rattle.desk.specs.declared.phase.Phase.{Phase}
-use Rattle.desk.specs.Desk.{ready}
-use Rattle.desk.specs.Job.{start_of}
-use Rattle.desk.specs.Ready.{IsReady}
-use Rattle.desk.specs.View.{phase_seen}
 use Rattle.desk.proofs.preparing.prepared.Goals as goal
 
 pub returns-in-Waiting-clause-answer : goal.returns-in-Waiting-clause-answer

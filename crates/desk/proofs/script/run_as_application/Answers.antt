@@ -1,5 +1,4 @@
-use Rattle.std.proofs.Common.{◌+◌, List, length, ap}
-use Rattle.script_text.specs.declared.script.Line.{Line}
+use Rattle.desk.proofs.Cited.{◌+◌, List, length, ap, Line}
 use Rattle.desk.proofs.WholeRegion.{script_lies}
 use Rattle.desk.proofs.script.run_as_application.Goals as goal
 

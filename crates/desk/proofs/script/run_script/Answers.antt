@@ -1,6 +1,4 @@
-use Rattle.std.proofs.Common.{◌+◌, length}
-use Rattle.applications.specs.Trying.{own_resources}
-use Rattle.applications.proofs.Runs.{keeps_promises}
+use Rattle.desk.proofs.Cited.{◌+◌, length, own_resources, keeps_promises}
 use Rattle.desk.proofs.script.run_script.Goals as goal
 
 pub returns-clause-laws : goal.returns-clause-laws

@@ -1,7 +1,4 @@
-use Rattle.std.proofs.lemmas.Result.{on_ok_weaker}
-use Rattle.desk.specs.Desk.{coming}
-use Rattle.desk.specs.Seated.{Placed}
-use Rattle.desk.specs.View.{place_seen}
+use Rattle.desk.proofs.Cited.{on_ok_weaker, coming, Placed, place_seen}
 use Rattle.desk.proofs.Halting.{place_within}
 use Rattle.desk.proofs.Places.{come_there}
 use Rattle.desk.proofs.seating.act.Goals as goal

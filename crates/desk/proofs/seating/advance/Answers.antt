@@ -1,8 +1,4 @@
-use Rattle.std.proofs.Common.{◌≡◌, sym, subst}
-use Rattle.std.proofs.lemmas.Result.{on_err_weaker}
-use Rattle.desk.specs.Halting.{WithinPhase}
-use Rattle.desk.specs.Phase.{told_of}
-use Rattle.desk.specs.View.{phase_seen}
+use Rattle.desk.proofs.Cited.{◌≡◌, sym, subst, on_err_weaker, WithinPhase, told_of, phase_seen}
 use Rattle.desk.specs.declared.phase.Phase as declared
 use Rattle.desk.proofs.seating.advance.Goals as goal
 

@@ -1,7 +1,4 @@
-use Rattle.std.proofs.Common.{◌≡◌, Some, false, ap}
-use Rattle.desk.specs.Live.{live_seen}
-use Rattle.desk.specs.Outcome.{Launched}
-use Rattle.desk.specs.Phase.{Running, leaves, told_of}
+use Rattle.desk.proofs.Cited.{◌≡◌, Some, false, ap, live_seen, Launched, Running, leaves, told_of}
 use Rattle.desk.proofs.Halting.{act_then}
 use Rattle.desk.proofs.seating.go_on.Goals as goal
 

@@ -1,6 +1,4 @@
-use Rattle.std.proofs.Common.{rules}
-use Rattle.std.proofs.lemmas.Result.{on_ok_weaker, on_err_weaker}
-use Rattle.desk.specs.View.{place_seen, lot_of, lots, left_of}
+use Rattle.desk.proofs.Cited.{rules, on_ok_weaker, on_err_weaker, place_seen, lot_of, lots, left_of}
 use Rattle.desk.proofs.Places.{acted_there, left_there, name_there, held_there, none_left, none_acted, lot_there}
 use Rattle.desk.proofs.Places.{fewer_same, fewer_there}
 use Rattle.desk.proofs.Halting.{within_there}

@@ -1,10 +1,4 @@
-use Rattle.std.proofs.Common.{Bool, List, ◌+◌, ◌∙◌, ◌||◌, ap, sym, drop}
-use Rattle.std.proofs.lemmas.List.{at_drop_more}
-use Rattle.std.specs.List.{list_any}
-use Rattle.desk.specs.Phase.{runs}
-use Rattle.desk.specs.Desk.{Place}
-use Rattle.desk.specs.Seated.{Placed}
-use Rattle.desk.specs.View.{seen, place_seen}
+use Rattle.desk.proofs.Cited.{Bool, List, ◌+◌, ◌∙◌, ◌||◌, ap, sym, drop, at_drop_more, list_any, runs, Place, Placed, seen, place_seen}
 use Rattle.desk.proofs.seats.any_runs.Goals as goal
 
 pub loop-seat-preserved : goal.loop-seat-preserved

@@ -1,9 +1,4 @@
-use Rattle.std.proofs.Common.{refl, subst, IfSome}
-use Rattle.fork_format.specs.View.{view}
-use Rattle.desk.specs.Job.{start_of}
-use Rattle.desk.specs.Lying.{IsHeapOf}
-use Rattle.desk.specs.Seated.{Placed}
-use Rattle.desk.specs.View.{place_seen}
+use Rattle.desk.proofs.Cited.{refl, subst, IfSome, view, start_of, IsHeapOf, Placed, place_seen}
 use Rattle.desk.proofs.seats.leave.Goals as goal
 
 pub returns-clause-told : goal.returns-clause-told

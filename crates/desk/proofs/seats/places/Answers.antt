@@ -1,8 +1,4 @@
-use Rattle.std.proofs.Common.{rules, refl, ap, ◌∙◌, None, Option}
-use Rattle.fork_format.specs.View.{view}
-use Rattle.desk.specs.Job.{place_given}
-use Rattle.desk.specs.Live.{Lot}
-use Rattle.desk.specs.View.{place_seen, lot_of, seen, lots}
+use Rattle.desk.proofs.Cited.{rules, refl, ap, ◌∙◌, None, Option, view, place_given, Lot, place_seen, lot_of, seen, lots}
 use Rattle.desk.proofs.Places.{pushed_there}
 use Rattle.desk.proofs.seats.places.Goals as goal
 

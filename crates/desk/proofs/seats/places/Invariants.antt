@@ -1,7 +1,5 @@
-use Rattle.std.proofs.Common.{◌≡◌, ◌≤◌, map, take, length, vec_len, vec_capacity, None}
-use Rattle.fork_format.specs.View.{view}
-use Rattle.desk.specs.Job.{place_given}
-use Rattle.desk.specs.View.{seen, lots}
+use Rattle.desk.proofs.Cited.{◌≡◌, ◌≤◌, map, take, length, None, view, place_given, seen, lots}
+use Rattle.std.proofs.Common.{vec_len, vec_capacity}
 use Rattle.desk.proofs.seats.places.Given as goal
 
 abbrev pub invariant-loop-app : goal.invariant-loop-app

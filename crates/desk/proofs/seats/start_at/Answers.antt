@@ -1,7 +1,4 @@
-use Rattle.std.proofs.Common.{◌≡◌, rules, true}
-use Rattle.desk.specs.Phase.{Running, waits}
-use Rattle.desk.specs.Live.{live_seen}
-use Rattle.desk.specs.View.{place_seen, lot_of}
+use Rattle.desk.proofs.Cited.{◌≡◌, rules, true, Running, waits, live_seen, place_seen, lot_of}
 use Rattle.desk.proofs.Places.{known_there, begun_there, lots_after, waiting_seen}
 use Rattle.desk.proofs.seats.start_at.Goals as goal
 

@@ -1,5 +1,4 @@
-use Rattle.std.proofs.Common.{sym, ◌∙◌}
-use Rattle.fork_format.proofs.Codes.{refused}
+use Rattle.desk.proofs.Cited.{sym, ◌∙◌, refused}
 use Rattle.desk.proofs.system.read_system.Goals as goal
 
 pub returns-in-Some-code-clause-system : goal.returns-in-Some-code-clause-system

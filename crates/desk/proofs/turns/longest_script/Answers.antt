@@ -1,8 +1,4 @@
-use Rattle.std.proofs.Common.{ℕ, List, ◌+◌, ◌∙◌, ap, sym, drop, length, max}
-use Rattle.script_text.specs.declared.script.Line.{Line}
-use Rattle.desk.specs.Desk.{longest_or}
-use Rattle.desk.specs.Seated.{Placed}
-use Rattle.desk.specs.View.{seen}
+use Rattle.desk.proofs.Cited.{ℕ, List, ◌+◌, ◌∙◌, ap, sym, drop, length, max, Line, longest_or, Placed, seen}
 use Rattle.desk.proofs.Rounds.{longest_next}
 use Rattle.desk.proofs.turns.longest_script.Goals as goal
 

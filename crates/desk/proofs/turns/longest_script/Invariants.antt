@@ -1,6 +1,4 @@
-use Rattle.std.proofs.Common.{◌≡◌, drop}
-use Rattle.desk.specs.Desk.{longest, longest_or}
-use Rattle.desk.specs.View.{seen}
+use Rattle.desk.proofs.Cited.{◌≡◌, drop, longest, longest_or, seen}
 use Rattle.desk.proofs.turns.longest_script.Given as goal
 
 -- the longest so far, or one of those that are left, is the longest

@@ -1,8 +1,5 @@
-use Rattle.std.proofs.Common.{rules, ◌≡◌, ℕ, refl, subst, ◌+◌, ◌<◌, ◌∙◌, ap, sym, drop, take, length, suc, arith}
-use Rattle.mac_words.proofs.Appending.{known-nil}
-use Rattle.desk.specs.Desk.{State, after_events}
-use Rattle.desk.specs.Free.{StaysFree}
-use Rattle.desk.specs.Halting.{Halt, HaltsAfter, halted}
+use Rattle.desk.proofs.Cited.{rules, ◌≡◌, ℕ, refl, subst, ◌+◌, ◌<◌, ◌∙◌, ap, sym, drop, take, length, suc, arith, known-nil, State}
+use Rattle.desk.proofs.Cited.{after_events, StaysFree, Halt, HaltsAfter, halted}
 use Rattle.desk.proofs.Free.{event-out, halt-out, all-out}
 use Rattle.desk.proofs.Halting.{events_within, events_halt}
 use Rattle.desk.proofs.Rounds.{events_next}

@@ -1,11 +1,5 @@
-use Rattle.std.proofs.Common.{◌≡◌, ℕ, ◌+◌, drop, length, take}
-use Rattle.std.specs.Io.KnownBytes.{append_known}
-use Rattle.memory_windows.specs.declared.Window.{Window}
-use Rattle.block_store.specs.Rest.{Site}
-use Rattle.applications.specs.Reports.{reports}
-use Rattle.desk.specs.Free.{StaysFree}
-use Rattle.desk.specs.Desk.{after_events}
-use Rattle.desk.specs.Halting.{Halt, HaltsAfter, halted}
+use Rattle.desk.proofs.Cited.{◌≡◌, ℕ, ◌+◌, drop, length, take, append_known, Window, Site, reports, StaysFree, after_events, Halt}
+use Rattle.desk.proofs.Cited.{HaltsAfter, halted}
 use Rattle.desk.proofs.turns.serve_all.Given as goal
 
 -- the events that are left make up the whole

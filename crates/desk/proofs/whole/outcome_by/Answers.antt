@@ -1,5 +1,4 @@
-use Rattle.std.proofs.Common.{◌≡◌, ◌≤◌, map, refl, ap, ◌∙◌, true, arith}
-use Rattle.desk.specs.View.{told_seen, outcome_seen}
+use Rattle.desk.proofs.Cited.{◌≡◌, ◌≤◌, map, refl, ap, ◌∙◌, true, arith, told_seen, outcome_seen}
 use Rattle.desk.proofs.Halting.{left_whole, left_halted}
 use Rattle.desk.proofs.whole.outcome_by.Goals as goal
 

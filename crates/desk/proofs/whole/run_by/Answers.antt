@@ -1,10 +1,4 @@
-use Rattle.std.proofs.Common.{◌∙◌, ap, sym, subst}
-use Rattle.std.proofs.Common.{List, suc, take}
-use Rattle.fork_format.specs.View.{view}
-use Rattle.desk.specs.declared.job.App.{App}
-use Rattle.desk.specs.Job.{opening}
-use Rattle.desk.specs.Desk.{State}
-use Rattle.desk.specs.Free.{StaysFree}
+use Rattle.desk.proofs.Cited.{◌∙◌, ap, sym, subst, List, suc, take, view, App, opening, State, StaysFree}
 use Rattle.desk.proofs.whole.run_by.Goals as goal
 
 pub returns-in-Ok-clause-kept : goal.returns-in-Ok-clause-kept

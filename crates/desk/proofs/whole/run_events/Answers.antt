@@ -1,12 +1,5 @@
-use Rattle.std.proofs.Common.{rules, ◌≡◌, ◌∙◌, ap, sym, subst, suc, take, length, ℕ, List, arith}
-use Rattle.std.specs.Io.KnownBytes.{append_known}
-use Rattle.script_text.specs.declared.job.Event.{Event}
-use Rattle.applications.specs.Reports.{reports}
-use Rattle.desk.specs.Desk.{State, after_events}
-use Rattle.desk.specs.Free.{StaysFree}
-use Rattle.desk.specs.Halting.{IsLeft}
-use Rattle.desk.specs.Lying.{AllLie}
-use Rattle.desk.specs.View.{outcome_seen}
+use Rattle.desk.proofs.Cited.{rules, ◌≡◌, ◌∙◌, ap, sym, subst, suc, take, length, ℕ, List, arith, append_known, Event, reports, State}
+use Rattle.desk.proofs.Cited.{after_events, StaysFree, IsLeft, AllLie, outcome_seen}
 use Rattle.desk.proofs.whole.run_events.Goals as goal
 
 pub returns-clause-kept : goal.returns-clause-kept

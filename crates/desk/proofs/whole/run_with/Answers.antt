@@ -1,8 +1,4 @@
-use Rattle.std.proofs.Common.{◌≡◌, false, refl}
-use Rattle.fork_format.specs.View.{view}
-use Rattle.applications.specs.Promises.{KeepsPromises}
-use Rattle.applications.proofs.Runs.{keeps_promises}
-use Rattle.desk.specs.Whole.{IsAlone, InItsSteps}
+use Rattle.desk.proofs.Cited.{◌≡◌, false, refl, view, KeepsPromises, keeps_promises, IsAlone, InItsSteps}
 use Rattle.desk.proofs.Givens.{each-launched}
 use Rattle.desk.proofs.Free.{never-granted}
 use Rattle.desk.proofs.Lying.{lie-at-end}

@@ -1,8 +1,5 @@
-use Rattle.std.proofs.Common.{◌≡◌, Ok, rules}
-use Rattle.fork_format.specs.View.{view}
-use Rattle.rez_statements.specs.View.{types_of}
-use Rattle.rez_text.specs.Reading.{read}
-use Rattle.rez_text.specs.View.{files_of, content_said, content_stated}
+use Rattle.fork_commands.proofs.Cited.{◌≡◌, Ok, rules, view, types_of, read, files_of, content_said}
+use Rattle.rez_text.specs.View.{content_stated}
 use Rattle.fork_commands.proofs.Sources.{assembled_of, read_by, stated_again}
 use Rattle.fork_commands.proofs.assembling.assembled.Goals as goal
 

@@ -1,4 +1,4 @@
-use Rattle.std.specs.Prelude.{string_bytes}
+use Rattle.fork_commands.proofs.Cited.{string_bytes}
 use Rattle.fork_commands.proofs.Pairs.{also_ok}
 use Rattle.fork_commands.proofs.Sources.{name_as_it_is, name_from_roman}
 use Rattle.fork_commands.proofs.assembling.file_name.Goals as goal

@@ -1,6 +1,5 @@
-use Rattle.std.proofs.Common.{arith, rules}
+use Rattle.fork_commands.proofs.Cited.{arith, rules, days_in_month}
 use Rattle.fork_commands.proofs.Counting.{here, later}
-use Rattle.fork_commands.specs.Dates.{days_in_month}
 use Rattle.fork_commands.proofs.dates.month_at.Goals as goal
 
 pub returns-then-left-len-clause-month : goal.returns-then-left-len-clause-month

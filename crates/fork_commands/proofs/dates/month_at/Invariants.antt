@@ -1,5 +1,4 @@
-use Rattle.std.proofs.Common.{◌≡◌, ◌+◌, ◌-◌, ◌≤◌}
-use Rattle.fork_commands.specs.Dates.{days_in_month, day_in}
+use Rattle.fork_commands.proofs.Cited.{◌≡◌, ◌+◌, ◌-◌, ◌≤◌, days_in_month, day_in}
 use Rattle.fork_commands.proofs.dates.month_at.Given as goal
 
 -- the month among those that are left is that among all

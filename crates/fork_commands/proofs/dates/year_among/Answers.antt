@@ -1,6 +1,5 @@
-use Rattle.std.proofs.Common.{arith, rules}
+use Rattle.fork_commands.proofs.Cited.{arith, rules, days_in_year}
 use Rattle.fork_commands.proofs.Counting.{here, later}
-use Rattle.fork_commands.specs.Dates.{days_in_year}
 use Rattle.fork_commands.proofs.dates.year_among.Goals as goal
 
 pub returns-then-left-len-clause-year : goal.returns-then-left-len-clause-year

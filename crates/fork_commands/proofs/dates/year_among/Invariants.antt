@@ -1,5 +1,4 @@
-use Rattle.std.proofs.Common.{◌≡◌, ◌+◌, ◌-◌, ◌≤◌}
-use Rattle.fork_commands.specs.Dates.{days_in_year, day_in}
+use Rattle.fork_commands.proofs.Cited.{◌≡◌, ◌+◌, ◌-◌, ◌≤◌, days_in_year, day_in}
 use Rattle.fork_commands.proofs.dates.year_among.Given as goal
 
 -- the year among those that are left is that among all

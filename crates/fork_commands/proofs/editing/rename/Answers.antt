@@ -1,8 +1,4 @@
-use Rattle.std.proofs.Common.{◌≡◌, Some, rules}
-use Rattle.byteorder.specs.Endian.{big_number}
-use Rattle.fork_format.specs.View.{view}
-use Rattle.fork_edits.specs.Renaming.{refusal}
-use Rattle.fork_edits.specs.View.{view_renaming}
+use Rattle.fork_commands.proofs.Cited.{◌≡◌, Some, rules, big_number, view, refusal, view_renaming}
 use Rattle.fork_commands.proofs.Edits.{renamed_there, renamed_not}
 use Rattle.fork_commands.proofs.editing.rename.Goals as goal
 

@@ -1,7 +1,4 @@
-use Rattle.std.proofs.Common.{◌≡◌, ◌++◌, drop, map}
-use Rattle.fork_edits.specs.View.{view_filed}
-use Rattle.fork_commands.specs.Extracting.{resource_files}
-use Rattle.fork_commands.specs.View.{view_file}
+use Rattle.fork_commands.proofs.Cited.{◌≡◌, ◌++◌, drop, map, view_filed, resource_files, view_file}
 use Rattle.fork_commands.proofs.extracting.resource_files.Given as goal
 
 -- the files so far, with those of the resources to come, are all

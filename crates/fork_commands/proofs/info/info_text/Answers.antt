@@ -1,7 +1,5 @@
-use Rattle.std.proofs.Common.{◌≡◌, ◌∙◌, Some, Ok, ap, sym}
+use Rattle.fork_commands.proofs.Cited.{◌≡◌, ◌∙◌, Some, Ok, ap, sym, info_within, bytes_of, decoded_of, opened}
 use Rattle.bin_hex.specs.File.{view}
-use Rattle.fork_commands.specs.Info.{info_within}
-use Rattle.fork_commands.specs.Opening.{bytes_of, decoded_of, opened}
 use Rattle.fork_commands.proofs.Pairs.{also_ok}
 use Rattle.fork_commands.proofs.Told.{told_decoded}
 use Rattle.fork_commands.proofs.info.info_text.Goals as goal

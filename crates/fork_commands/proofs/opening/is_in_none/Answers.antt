@@ -1,4 +1,4 @@
-use Rattle.std.proofs.Common.{sym}
+use Rattle.fork_commands.proofs.Cited.{sym}
 use Rattle.fork_commands.proofs.Opens.{damaged_wrapper}
 use Rattle.fork_commands.proofs.opening.is_in_none.Goals as goal
 

@@ -1,4 +1,4 @@
-use Rattle.bin_hex.specs.Putting.{with_resource_fork}
+use Rattle.fork_commands.proofs.Cited.{with_resource_fork}
 use Rattle.fork_commands.proofs.Wrappers.{put_not}
 use Rattle.fork_commands.proofs.packaging.encoded.Goals as goal
 

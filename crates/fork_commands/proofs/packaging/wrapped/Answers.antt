@@ -1,4 +1,4 @@
-use Rattle.fork_wrappers.specs.Rewrapped.{rewrapped}
+use Rattle.fork_commands.proofs.Cited.{rewrapped}
 use Rattle.fork_commands.proofs.Wrappers.{unwrapped_not}
 use Rattle.fork_commands.proofs.packaging.wrapped.Goals as goal
 

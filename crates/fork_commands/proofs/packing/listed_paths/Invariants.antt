@@ -1,8 +1,4 @@
-use Rattle.std.proofs.Common.{◌≡◌, ◌++◌, drop, map}
-use Rattle.std.specs.Prelude.{string_bytes}
-use Rattle.fork_edits.specs.Contents.{Entry}
-use Rattle.fork_edits.specs.View.{view_entry}
-use Rattle.fork_commands.specs.Extracting.{within}
+use Rattle.fork_commands.proofs.Cited.{◌≡◌, ◌++◌, drop, map, string_bytes, Entry, view_entry, within}
 use Rattle.fork_commands.proofs.packing.listed_paths.Given as goal
 
 -- the paths so far, with those to come, are all

@@ -1,5 +1,4 @@
-use Rattle.std.proofs.Common.{◌∙◌, ap, sym}
-use Rattle.fork_commands.specs.Works.{canonical}
+use Rattle.fork_commands.proofs.Cited.{◌∙◌, ap, sym, canonical}
 use Rattle.fork_commands.proofs.Pairs.{also_ok}
 use Rattle.fork_commands.proofs.packing.packed_fork.Goals as goal
 

@@ -1,6 +1,4 @@
-use Rattle.std.proofs.Common.{Ok, rules}
-use Rattle.fork_format.specs.View.{view}
-use Rattle.fork_commands.specs.Pairs.{Bytes, forks_merged}
+use Rattle.fork_commands.proofs.Cited.{Ok, rules, view, Bytes, forks_merged}
 use Rattle.fork_commands.proofs.Pairs.{also_ok, also_err, both_there, both_stopped}
 use Rattle.fork_commands.proofs.pair.both_merged.Goals as goal
 

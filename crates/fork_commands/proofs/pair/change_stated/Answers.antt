@@ -1,9 +1,4 @@
-use Rattle.std.proofs.Common.{ap, rules}
-use Rattle.byteorder.specs.Endian.{big_number}
-use Rattle.fork_format.specs.View.{view, view_ref}
-use Rattle.fork_edits.specs.Renaming.{Renaming}
-use Rattle.fork_edits.specs.View.{view_renaming}
-use Rattle.fork_commands.specs.Pairs.{bytes_alone}
+use Rattle.fork_commands.proofs.Cited.{ap, rules, big_number, view, view_ref, Renaming, view_renaming, bytes_alone}
 use Rattle.fork_commands.proofs.Pairs.{no_refusal}
 use Rattle.fork_commands.proofs.pair.change_stated.Goals as goal
 

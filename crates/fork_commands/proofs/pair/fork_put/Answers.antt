@@ -1,4 +1,4 @@
-use Rattle.fork_commands.specs.Pairs.{good_fork_in}
+use Rattle.fork_commands.proofs.Cited.{good_fork_in}
 use Rattle.fork_commands.proofs.Pairs.{put_unmade}
 use Rattle.fork_commands.proofs.pair.fork_put.Goals as goal
 

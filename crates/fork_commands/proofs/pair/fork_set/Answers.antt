@@ -1,7 +1,4 @@
-use Rattle.std.proofs.Common.{◌≡◌, Ok, rules}
-use Rattle.fork_format.specs.View.{view}
-use Rattle.fork_commands.specs.Pairs.{with_setting}
-use Rattle.fork_commands.specs.Reading.{content_in}
+use Rattle.fork_commands.proofs.Cited.{◌≡◌, Ok, rules, view, with_setting, content_in}
 use Rattle.fork_commands.proofs.Pairs.{setting_made, setting_stopped, also_ok, also_err}
 use Rattle.fork_commands.proofs.pair.fork_set.Goals as goal
 

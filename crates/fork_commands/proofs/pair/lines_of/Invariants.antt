@@ -1,7 +1,4 @@
-use Rattle.std.proofs.Common.{◌≡◌, ◌++◌, drop, map}
-use Rattle.std.specs.List.{flat_map}
-use Rattle.fork_edits.specs.Lines.{difference_line}
-use Rattle.fork_edits.specs.View.{view_difference}
+use Rattle.fork_commands.proofs.Cited.{◌≡◌, ◌++◌, drop, map, flat_map, difference_line, view_difference}
 use Rattle.fork_commands.proofs.pair.lines_of.Given as goal
 
 -- the lines so far, with those of the differences to come, are all

@@ -1,5 +1,4 @@
-use Rattle.std.proofs.Common.{rules}
-use Rattle.fork_format.specs.View.{view}
+use Rattle.fork_commands.proofs.Cited.{rules, view}
 use Rattle.fork_commands.specs.Pairs.{names_of}
 use Rattle.fork_commands.proofs.Pairs.{both_texts}
 use Rattle.fork_commands.proofs.pair.sources_compared.Goals as goal

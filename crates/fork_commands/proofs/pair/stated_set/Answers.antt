@@ -1,5 +1,4 @@
-use Rattle.std.proofs.Common.{rules}
-use Rattle.fork_format.specs.View.{view, view_ref}
+use Rattle.fork_commands.proofs.Cited.{rules, view, view_ref}
 use Rattle.fork_commands.proofs.Pairs.{stated_made, stated_stopped}
 use Rattle.fork_commands.proofs.pair.stated_set.Goals as goal
 

@@ -1,6 +1,4 @@
-use Rattle.std.proofs.Common.{◌≡◌, ◌∙◌, None, Ok, ap}
-use Rattle.fork_wrappers.specs.Info.{data_fork_in}
-use Rattle.fork_commands.specs.Opening.{bytes_of, decoded_of, opened}
+use Rattle.fork_commands.proofs.Cited.{◌≡◌, ◌∙◌, None, Ok, ap, data_fork_in, bytes_of, decoded_of, opened}
 use Rattle.fork_commands.proofs.Told.{data_plain, data_damaged}
 use Rattle.fork_commands.proofs.parting.data_in.Goals as goal
 

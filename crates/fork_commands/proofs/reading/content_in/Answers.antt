@@ -1,5 +1,4 @@
-use Rattle.fork_format.specs.View.{view}
-use Rattle.fork_commands.specs.Opening.{bytes_of}
+use Rattle.fork_commands.proofs.Cited.{view, bytes_of}
 use Rattle.fork_commands.proofs.Contents.{content_there, stopped_there}
 use Rattle.fork_commands.proofs.Pairs.{also_ok, also_err}
 use Rattle.fork_commands.proofs.reading.content_in.Goals as goal

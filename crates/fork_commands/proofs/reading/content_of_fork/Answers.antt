@@ -1,7 +1,4 @@
-use Rattle.std.proofs.Common.{sym, ap, ◌∙◌, subst}
-use Rattle.fork_format.specs.View.{view}
-use Rattle.fork_commands.specs.Faults.{of_code, Stops}
-use Rattle.fork_commands.specs.Reading.{content_of_fork}
+use Rattle.fork_commands.proofs.Cited.{sym, ap, ◌∙◌, subst, view, of_code, Stops, content_of_fork}
 use Rattle.fork_commands.proofs.Contents.{refused, spelled}
 use Rattle.fork_commands.proofs.reading.content_of_fork.Goals as goal
 

@@ -1,8 +1,5 @@
-use Rattle.std.proofs.Common.{◌≡◌, ◌∙◌, None, Ok, Err, ap, sym}
-use Rattle.fork_wrappers.specs.Unwrapped.{wrapping_of, unwrapped}
+use Rattle.fork_commands.proofs.Cited.{◌≡◌, ◌∙◌, None, Ok, Err, ap, sym, wrapping_of, unwrapped, bytes_of, decoded_of, opened, fork_found}
 use Rattle.fork_commands.specs.declared.opening.Container.TheVariants as container
-use Rattle.fork_commands.specs.Opening.{bytes_of, decoded_of, opened}
-use Rattle.fork_commands.specs.Reading.{fork_found}
 use Rattle.fork_commands.proofs.Opens.{plain_fork, plain_container}
 use Rattle.fork_commands.proofs.reading.fork_in.Goals as goal
 

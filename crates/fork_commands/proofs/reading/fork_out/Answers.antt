@@ -1,7 +1,4 @@
-use Rattle.std.proofs.Common.{◌≡◌, ◌∙◌, None, Ok, Err, ap, sym}
-use Rattle.fork_wrappers.specs.Unwrapped.{unwrapped}
-use Rattle.fork_commands.specs.Opening.{bytes_of, decoded_of, opened}
-use Rattle.fork_commands.specs.Reading.{fork_found}
+use Rattle.fork_commands.proofs.Cited.{◌≡◌, ◌∙◌, None, Ok, Err, ap, sym, unwrapped, bytes_of, decoded_of, opened, fork_found}
 use Rattle.fork_commands.proofs.Opens.{plain_fork}
 use Rattle.fork_commands.proofs.reading.fork_out.Goals as goal
 

@@ -1,7 +1,5 @@
-use Rattle.std.proofs.Common.{◌≡◌, ◌++◌, drop, map, filter}
-use Rattle.byteorder.specs.Endian.{big_number}
-use Rattle.fork_format.specs.View.{view_ref}
-use Rattle.fork_commands.specs.Sources.{is_selected}
+use Rattle.fork_commands.proofs.Cited.{◌≡◌, ◌++◌, drop, map, big_number, view_ref, is_selected}
+use Rattle.std.proofs.Common.{filter}
 use Rattle.fork_commands.proofs.selecting.selected_group.Given as goal
 
 -- the resources so far, with those of the others that are selected, are all

@@ -1,7 +1,5 @@
-use Rattle.std.proofs.Common.{◌≡◌, ◌++◌, drop, map, filter}
-use Rattle.fork_format.specs.Canonical.{has_refs}
-use Rattle.fork_format.specs.View.{view_group}
-use Rattle.fork_commands.specs.Sources.{selected_group}
+use Rattle.fork_commands.proofs.Cited.{◌≡◌, ◌++◌, drop, map, has_refs, view_group, selected_group}
+use Rattle.std.proofs.Common.{filter}
 use Rattle.fork_commands.proofs.selecting.selected_groups.Given as goal
 
 -- the groups so far, with those of the others that are selected, are all

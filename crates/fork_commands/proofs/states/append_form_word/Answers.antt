@@ -1,4 +1,4 @@
-use Rattle.fork_format.specs.View.{view}
+use Rattle.fork_commands.proofs.Cited.{view}
 use Rattle.fork_commands.proofs.Stated.{word_of_content}
 use Rattle.fork_commands.proofs.states.append_form_word.Goals as goal
 

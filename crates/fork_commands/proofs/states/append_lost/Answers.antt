@@ -1,7 +1,4 @@
-use Rattle.std.proofs.Common.{◌≡◌, ◌++◌, ◌∙◌, ap}
-use Rattle.std.proofs.lemmas.List.{append_assoc}
-use Rattle.std.specs.Prelude.{codes}
-use Rattle.fork_commands.specs.States.{fault_why}
+use Rattle.fork_commands.proofs.Cited.{◌≡◌, ◌++◌, ◌∙◌, ap, append_assoc, codes, fault_why}
 use Rattle.fork_commands.proofs.states.append_lost.Goals as goal
 
 pub returns : goal.returns

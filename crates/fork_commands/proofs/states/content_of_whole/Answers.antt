@@ -1,5 +1,4 @@
-use Rattle.std.proofs.Common.{ap, Err}
-use Rattle.fork_rules.proofs.Reading.{spelled}
+use Rattle.fork_commands.proofs.Cited.{ap, Err, spelled}
 use Rattle.fork_commands.proofs.states.content_of_whole.Goals as goal
 
 pub unreachable-requires-in-Err-BadMap : goal.unreachable-requires-in-Err-BadMap

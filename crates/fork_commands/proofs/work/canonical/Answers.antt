@@ -1,4 +1,4 @@
-use Rattle.fork_format.specs.View.{view}
+use Rattle.fork_commands.proofs.Cited.{view}
 use Rattle.fork_commands.proofs.Contents.{fitting}
 use Rattle.fork_commands.proofs.work.canonical.Goals as goal
 

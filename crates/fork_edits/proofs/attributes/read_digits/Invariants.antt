@@ -1,5 +1,4 @@
-use Rattle.std.proofs.Common.{◌≡◌, drop}
-use Rattle.fork_edits.specs.Attributes.{number_from}
+use Rattle.fork_edits.proofs.Cited.{◌≡◌, drop, number_from}
 use Rattle.fork_edits.proofs.attributes.read_digits.Given as goal
 
 abbrev pub invariant-loop-digit : goal.invariant-loop-digit

@@ -1,11 +1,7 @@
-use Rattle.std.proofs.Common.{◌∙◌, ap, sym, rules, tests, arith, length, drop}
-use Rattle.std.specs.Prelude.{ℕ, bit_or}
-use Rattle.std.specs.List.{slice_split}
-use Rattle.std.proofs.lemmas.List.{at_drop_all, length_push}
-use Rattle.std.specs.Slice.Iter.{split_rest, split_done, split_callee}
-use Rattle.std.proofs.lemmas.Iterator.Splits.{YieldsList-from_slice_split}
-use Rattle.std.proofs.lemmas.Iterator.Consumers.{YieldsList-turn, YieldsList-end}
-use Rattle.fork_edits.specs.Attributes.{is_comma, words_value}
+use Rattle.fork_edits.proofs.Cited.{◌∙◌, ap, sym, rules, tests, arith, length, drop, bit_or, slice_split, at_drop_all, length_push}
+use Rattle.fork_edits.proofs.Cited.{split_rest, split_done, split_callee, YieldsList-from_slice_split, YieldsList-turn, YieldsList-end}
+use Rattle.fork_edits.proofs.Cited.{is_comma, words_value}
+use Rattle.std.specs.Prelude.{ℕ}
 use Rattle.fork_edits.proofs.Words.{word_bad, word_good}
 use Rattle.fork_edits.proofs.attributes.read_words.Goals as goal
 

@@ -1,6 +1,4 @@
-use Rattle.std.proofs.Common.{◌≡◌, length, drop}
-use Rattle.std.specs.List.{slice_split}
-use Rattle.fork_edits.specs.Attributes.{words_value, is_comma}
+use Rattle.fork_edits.proofs.Cited.{◌≡◌, length, drop, slice_split, words_value, is_comma}
 use Rattle.fork_edits.proofs.attributes.read_words.Given as goal
 
 abbrev pub invariant-loop-word : goal.invariant-loop-word

@@ -1,6 +1,4 @@
-use Rattle.std.proofs.Common.{◌≡◌, drop}
-use Rattle.std.specs.Prelude.{◌==◌}
-use Rattle.std.specs.List.{list_all}
+use Rattle.fork_edits.proofs.Cited.{◌≡◌, drop, ◌==◌, list_all}
 use Rattle.fork_edits.proofs.contents.are_zero.Given as goal
 
 abbrev pub invariant-loop-byte : goal.invariant-loop-byte

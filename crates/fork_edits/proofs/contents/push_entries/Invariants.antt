@@ -1,7 +1,4 @@
-use Rattle.std.proofs.Common.{◌≡◌, ◌++◌, drop, map}
-use Rattle.std.specs.List.{flat_map}
-use Rattle.fork_edits.specs.Contents.{entry, entry_line}
-use Rattle.fork_edits.specs.View.{view_filed}
+use Rattle.fork_edits.proofs.Cited.{◌≡◌, ◌++◌, drop, map, flat_map, entry, entry_line, view_filed}
 use Rattle.fork_edits.proofs.contents.push_entries.Given as goal
 
 -- the lines so far, with those of the resources to come, are all

@@ -1,7 +1,4 @@
-use Rattle.std.proofs.Common.{◌≡◌, map, drop}
-use Rattle.std.specs.Cmp.Lexicographic.{pointwise}
-use Rattle.fork_format.specs.View.{view_group}
-use Rattle.fork_edits.specs.Differences.{same_group}
+use Rattle.fork_edits.proofs.Cited.{◌≡◌, map, drop, pointwise, view_group, same_group}
 use Rattle.fork_edits.proofs.differences.are_groups_same.Given as goal
 
 abbrev pub invariant-loop-i : goal.invariant-loop-i

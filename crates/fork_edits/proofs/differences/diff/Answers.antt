@@ -1,5 +1,4 @@
-use Rattle.fork_format.specs.View.{view}
-use Rattle.fork_edits.specs.View.{view_difference}
+use Rattle.fork_edits.proofs.Cited.{view, view_difference}
 use Rattle.fork_edits.proofs.Same.{alike_seen}
 use Rattle.fork_edits.proofs.differences.diff.Goals as goal
 

@@ -1,8 +1,4 @@
-use Rattle.std.proofs.Common.{◌∙◌, ◌++◌, List, ap, sym, map}
-use Rattle.std.specs.Prelude.{option_map}
-use Rattle.std.proofs.lemmas.List.{map-append}
-use Rattle.fork_edits.specs.Differences.{Difference, compared}
-use Rattle.fork_edits.specs.View.{view_row, view_difference}
+use Rattle.fork_edits.proofs.Cited.{◌∙◌, ◌++◌, List, ap, sym, map, option_map, map-append, Difference, compared, view_row, view_difference}
 use Rattle.fork_edits.proofs.differences.note_compared.Goals as goal
 
 pub returns-in_ok-note_changed-in-Some-clause-noted : goal.returns-in_ok-note_changed-in-Some-clause-noted

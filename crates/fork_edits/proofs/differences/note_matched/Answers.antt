@@ -1,7 +1,5 @@
-use Rattle.std.proofs.Common.{◌∙◌, ◌++◌, List, ap, sym, append_assoc, map}
-use Rattle.fork_edits.specs.Differences.{Difference, Added, paired, unmatched}
-use Rattle.fork_edits.specs.Resources.{Row}
-use Rattle.fork_edits.specs.View.{view_row, view_difference}
+use Rattle.fork_edits.proofs.Cited.{◌∙◌, ◌++◌, List, ap, sym, append_assoc, map, Difference, Added, paired, unmatched, Row, view_row}
+use Rattle.fork_edits.proofs.Cited.{view_difference}
 use Rattle.fork_edits.proofs.Pairing.{matched_twice}
 use Rattle.fork_edits.proofs.differences.note_matched.Goals as goal
 

@@ -1,5 +1,4 @@
-use Rattle.std.proofs.Common.{map, refl}
-use Rattle.fork_edits.specs.View.{view_row, view_difference}
+use Rattle.fork_edits.proofs.Cited.{map, refl, view_row, view_difference}
 use Rattle.fork_edits.proofs.Pairing.{paired_further}
 use Rattle.fork_edits.proofs.differences.note_paired.Goals as goal
 

@@ -1,8 +1,4 @@
-use Rattle.std.proofs.Common.{◌≡◌, ◌++◌, List, map, drop}
-use Rattle.fork_edits.specs.Resources.{Row}
-use Rattle.fork_edits.specs.Differences.{paired}
-use Rattle.fork_edits.specs.View.{view_row, view_difference}
-use Rattle.fork_edits.specs.Waiting.{AreWaiting}
+use Rattle.fork_edits.proofs.Cited.{◌≡◌, ◌++◌, List, map, drop, Row, paired, view_row, view_difference, AreWaiting}
 use Rattle.fork_edits.proofs.differences.note_paired.Given as goal
 
 -- some resources wait yet, and the differences so far, with those to come, are all

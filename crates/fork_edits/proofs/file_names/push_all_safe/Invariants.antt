@@ -1,7 +1,4 @@
-use Rattle.std.proofs.Common.{◌≡◌, ◌++◌, drop}
-use Rattle.std.specs.List.{flat_map}
-use Rattle.std.specs.Prelude.{string_bytes}
-use Rattle.fork_edits.specs.FileNames.{safe_byte}
+use Rattle.fork_edits.proofs.Cited.{◌≡◌, ◌++◌, drop, flat_map, string_bytes, safe_byte}
 use Rattle.fork_edits.proofs.file_names.push_all_safe.Given as goal
 
 abbrev pub invariant-loop-byte : goal.invariant-loop-byte

@@ -1,11 +1,5 @@
-use Rattle.std.proofs.Common.{◌++◌, List, ℕ, codes}
-use Rattle.std.specs.Fmt.{signed_decimal}
-use Rattle.std.specs.Prelude.{string_bytes}
-use Rattle.std.specs.List.{flat_map}
-use Rattle.byteorder.specs.Endian.{big_number, big_bytes}
-use Rattle.fork_format.specs.View.{view_name}
-use Rattle.fork_format.proofs.Putting.{put-two}
-use Rattle.fork_edits.specs.FileNames.{safe_byte, name_part}
+use Rattle.fork_edits.proofs.Cited.{◌++◌, List, ℕ, codes, signed_decimal, string_bytes, flat_map, big_number, big_bytes, view_name, put-two}
+use Rattle.fork_edits.proofs.Cited.{safe_byte, name_part}
 use Rattle.fork_edits.proofs.file_names.push_resource.Goals as goal
 
 pub returns : goal.returns

@@ -1,5 +1,4 @@
-use Rattle.std.proofs.Common.{◌≡◌, ◌∙◌, ◌+◌, ◌-◌, ◌++◌, ◌∷◌, [], sym, ap, suc, arith, replicate, append_assoc, List, ℕ}
-use Rattle.std.specs.Prelude.{string_bytes}
+use Rattle.fork_edits.proofs.Cited.{◌≡◌, ◌∙◌, ◌+◌, ◌-◌, ◌++◌, ◌∷◌, [], sym, ap, suc, arith, replicate, append_assoc, List, ℕ, string_bytes}
 use Rattle.fork_edits.proofs.file_names.push_zeros.Goals as goal
 
 pub loop-preserved : goal.loop-preserved

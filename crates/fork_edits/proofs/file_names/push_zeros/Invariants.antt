@@ -1,5 +1,4 @@
-use Rattle.std.proofs.Common.{◌≡◌, ◌++◌, ◌-◌, replicate}
-use Rattle.std.specs.Prelude.{string_bytes}
+use Rattle.fork_edits.proofs.Cited.{◌≡◌, ◌++◌, ◌-◌, replicate, string_bytes}
 use Rattle.fork_edits.proofs.file_names.push_zeros.Given as goal
 
 abbrev pub invariant-loop : goal.invariant-loop

@@ -1,5 +1,4 @@
-use Rattle.std.proofs.Common.{sym}
-use Rattle.std.proofs.lemmas.List.{take_all}
+use Rattle.fork_edits.proofs.Cited.{sym, take_all}
 use Rattle.fork_edits.proofs.file_names.shown.Goals as goal
 
 pub returns-then-bytes-le-SHOWN : goal.returns-then-bytes-le-SHOWN

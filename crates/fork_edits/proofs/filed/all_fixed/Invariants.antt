@@ -1,6 +1,4 @@
-use Rattle.std.proofs.Common.{◌≡◌, ◌++◌, drop, map}
-use Rattle.fork_edits.specs.Filed.{filed_fixed}
-use Rattle.fork_edits.specs.View.{view_row, view_filed}
+use Rattle.fork_edits.proofs.Cited.{◌≡◌, ◌++◌, drop, map, filed_fixed, view_row, view_filed}
 use Rattle.fork_edits.proofs.filed.all_fixed.Given as goal
 
 -- the files so far, with those of the resources to come, are all

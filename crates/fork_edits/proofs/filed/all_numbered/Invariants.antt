@@ -1,6 +1,4 @@
-use Rattle.std.proofs.Common.{◌≡◌, ◌++◌, ◌+◌, drop, map}
-use Rattle.fork_edits.specs.Filed.{numbered_from}
-use Rattle.fork_edits.specs.View.{view_row, view_filed}
+use Rattle.fork_edits.proofs.Cited.{◌≡◌, ◌++◌, ◌+◌, drop, map, numbered_from, view_row, view_filed}
 use Rattle.fork_edits.proofs.filed.all_numbered.Given as goal
 
 -- the files so far, with those of the resources to come, are all

@@ -1,6 +1,4 @@
-use Rattle.std.proofs.Common.{◌≡◌, ◌++◌, drop, false}
-use Rattle.std.specs.Prelude.{string_bytes}
-use Rattle.fork_edits.specs.FixedNames.{fixed_bytes}
+use Rattle.fork_edits.proofs.Cited.{◌≡◌, ◌++◌, drop, false, string_bytes, fixed_bytes}
 use Rattle.fork_edits.proofs.fixed_names.push_all_fixed.Given as goal
 
 abbrev pub invariant-loop-byte : goal.invariant-loop-byte

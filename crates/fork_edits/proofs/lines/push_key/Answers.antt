@@ -1,8 +1,4 @@
-use Rattle.std.proofs.Common.{◌++◌, List, ℕ, codes}
-use Rattle.std.specs.Fmt.{signed_decimal}
-use Rattle.byteorder.specs.Endian.{big_number}
-use Rattle.fork_format.proofs.Putting.{put-two}
-use Rattle.fork_edits.specs.Texts.{type_text}
+use Rattle.fork_edits.proofs.Cited.{◌++◌, List, ℕ, codes, signed_decimal, big_number, put-two, type_text}
 use Rattle.fork_edits.proofs.lines.push_key.Goals as goal
 
 pub returns : goal.returns

@@ -1,6 +1,4 @@
-use Rattle.std.proofs.Common.{◌++◌, List, ℕ, codes}
-use Rattle.fork_format.proofs.Putting.{put-two}
-use Rattle.fork_edits.specs.Lines.{word_if}
+use Rattle.fork_edits.proofs.Cited.{◌++◌, List, ℕ, codes, put-two, word_if}
 use Rattle.fork_edits.proofs.lines.push_parts.Goals as goal
 
 pub returns : goal.returns

@@ -1,6 +1,4 @@
-use Rattle.std.proofs.Common.{map, sym, subst}
-use Rattle.fork_edits.specs.Listing.{lines_read, no_draft, StopsList}
-use Rattle.fork_edits.specs.View.{view_draft}
+use Rattle.fork_edits.proofs.Cited.{map, sym, subst, lines_read, no_draft, StopsList, view_draft}
 use Rattle.fork_edits.proofs.Lining.{next_stops}
 use Rattle.fork_edits.proofs.listing.draft_of.Goals as goal
 

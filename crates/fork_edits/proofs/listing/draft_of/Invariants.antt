@@ -1,6 +1,4 @@
-use Rattle.std.proofs.Common.{◌≡◌, ◌+◌, drop, map}
-use Rattle.fork_edits.specs.Listing.{lines_read, no_draft}
-use Rattle.fork_edits.specs.View.{view_draft}
+use Rattle.fork_edits.proofs.Cited.{◌≡◌, ◌+◌, drop, map, lines_read, no_draft, view_draft}
 use Rattle.fork_edits.proofs.listing.draft_of.Given as goal
 
 -- what the lines to come add to those so far is what all say

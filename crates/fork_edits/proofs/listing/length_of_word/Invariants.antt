@@ -1,5 +1,4 @@
-use Rattle.std.proofs.Common.{◌≡◌, ◌+◌, drop}
-use Rattle.fork_edits.specs.Listing.{word_length}
+use Rattle.fork_edits.proofs.Cited.{◌≡◌, ◌+◌, drop, word_length}
 use Rattle.fork_edits.proofs.listing.length_of_word.Given as goal
 
 -- no blank stands among the bytes so far

@@ -1,8 +1,5 @@
-use Rattle.std.proofs.Common.{◌∙◌, ap, map, rules, tests}
-use Rattle.std.specs.Slice.Iter.{split_rest, split_done, split_callee}
-use Rattle.std.proofs.lemmas.Iterator.Splits.{YieldsList-from_slice_split}
-use Rattle.std.proofs.lemmas.Iterator.Consumers.{YieldsList-end}
-use Rattle.fork_edits.specs.Listing.{is_newline}
+use Rattle.fork_edits.proofs.Cited.{◌∙◌, ap, map, rules, tests, split_rest, split_done, split_callee, YieldsList-from_slice_split}
+use Rattle.fork_edits.proofs.Cited.{YieldsList-end, is_newline}
 use Rattle.fork_edits.proofs.listing.lines_of.Goals as goal
 
 pub returns : goal.returns

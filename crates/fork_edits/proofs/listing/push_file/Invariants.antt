@@ -1,7 +1,4 @@
-use Rattle.std.proofs.Common.{◌≡◌, ◌++◌, drop}
-use Rattle.std.specs.Prelude.{string_bytes}
-use Rattle.std.specs.List.{list_all}
-use Rattle.fork_edits.specs.Listing.{is_file_byte}
+use Rattle.fork_edits.proofs.Cited.{◌≡◌, ◌++◌, drop, string_bytes, list_all, is_file_byte}
 use Rattle.fork_edits.proofs.listing.push_file.Given as goal
 
 abbrev pub invariant-loop-byte : goal.invariant-loop-byte

@@ -1,6 +1,4 @@
-use Rattle.std.proofs.Common.{◌∙◌, arith, rules, take}
-use Rattle.std.proofs.Math.ListN.{length-set}
-use Rattle.fork_edits.specs.Types.{bytes_spelled}
+use Rattle.fork_edits.proofs.Cited.{◌∙◌, arith, rules, take, length-set, bytes_spelled}
 use Rattle.fork_edits.proofs.Spelling.{spelled_all, spelled_bad, spelled_good, spelled_start}
 use Rattle.fork_edits.proofs.listing.spelled.Goals as goal
 

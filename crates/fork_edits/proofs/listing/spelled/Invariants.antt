@@ -1,6 +1,4 @@
-use Rattle.std.proofs.Common.{◌≡◌, ◌++◌, ◌*◌, drop, length, take}
-use Rattle.std.specs.Prelude.{option_map}
-use Rattle.fork_edits.specs.Types.{bytes_spelled}
+use Rattle.fork_edits.proofs.Cited.{◌≡◌, ◌++◌, ◌*◌, drop, length, take, option_map, bytes_spelled}
 use Rattle.fork_edits.proofs.listing.spelled.Given as goal
 
 -- the bytes so far, with those that the digits to come spell, are all

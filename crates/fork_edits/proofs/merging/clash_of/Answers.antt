@@ -1,9 +1,4 @@
-use Rattle.std.proofs.Common.{◌≡◌, ◌∙◌, List, None, true, false, ap, map}
-use Rattle.std.specs.Prelude.{is_some}
-use Rattle.std.specs.List.{find, filter}
-use Rattle.fork_edits.specs.Resources.{Row, is_at}
-use Rattle.fork_edits.specs.Differences.{is_same}
-use Rattle.fork_edits.specs.View.{view_row}
+use Rattle.fork_edits.proofs.Cited.{◌≡◌, ◌∙◌, List, None, true, false, ap, map, is_some, find, filter, Row, is_at, is_same, view_row}
 use Rattle.fork_edits.proofs.Gathering.{clash_further, clash_here, found_some, found_none}
 use Rattle.fork_edits.proofs.Keeping.{all_others}
 use Rattle.fork_edits.proofs.merging.clash_of.Goals as goal

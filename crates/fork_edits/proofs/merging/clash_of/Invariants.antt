@@ -1,7 +1,4 @@
-use Rattle.std.proofs.Common.{◌≡◌, map, drop}
-use Rattle.fork_edits.specs.Merging.{clash}
-use Rattle.fork_edits.specs.View.{view_row}
-use Rattle.fork_edits.specs.Waiting.{AreWaiting}
+use Rattle.fork_edits.proofs.Cited.{◌≡◌, map, drop, clash, view_row, AreWaiting}
 use Rattle.fork_edits.proofs.merging.clash_of.Given as goal
 
 -- all of the second list wait yet, and what stands in both is among the resources to come

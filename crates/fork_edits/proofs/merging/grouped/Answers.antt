@@ -1,5 +1,4 @@
-use Rattle.std.proofs.Common.{map}
-use Rattle.fork_format.specs.View.{view_group}
+use Rattle.fork_edits.proofs.Cited.{map, view_group}
 use Rattle.fork_edits.proofs.Gathering.{rows_further}
 use Rattle.fork_edits.proofs.merging.grouped.Goals as goal
 

@@ -1,8 +1,4 @@
-use Rattle.std.proofs.Common.{◌≡◌, [], map, drop}
-use Rattle.fork_format.specs.Place.{ArePlaces}
-use Rattle.fork_format.specs.View.{view_group}
-use Rattle.fork_edits.specs.Merging.{with_rows}
-use Rattle.fork_edits.specs.View.{view_row}
+use Rattle.fork_edits.proofs.Cited.{◌≡◌, [], map, drop, ArePlaces, view_group, with_rows, view_row}
 use Rattle.fork_edits.proofs.merging.grouped.Given as goal
 
 -- the resources to come, put into the groups so far, make the groups of all

@@ -1,11 +1,5 @@
-use Rattle.std.proofs.Common.{◌≡◌, ◌∙◌, ◌++◌, ◌∷◌, [], sym, ap, map, length, None, cond, Some, List}
-use Rattle.std.specs.Ordering.{nat_cmp, is_eq}
-use Rattle.std.specs.BTreeMap.{get}
-use Rattle.std.proofs.lemmas.List.{length-map}
-use Rattle.fork_format.specs.Content.{Group}
-use Rattle.fork_format.specs.Place.{place, empty}
-use Rattle.fork_format.specs.View.{view_group}
-use Rattle.fork_format.proofs.Placing.{opened-known, opened-new, place-new, view_new, place-own}
+use Rattle.fork_edits.proofs.Cited.{◌≡◌, ◌∙◌, ◌++◌, ◌∷◌, [], sym, ap, map, length, None, cond, Some, List, nat_cmp, is_eq, get, length-map}
+use Rattle.fork_edits.proofs.Cited.{Group, place, empty, view_group, opened-known, opened-new, place-new, view_new, place-own}
 use Rattle.fork_edits.proofs.merging.place_of.Goals.{In_ok-insert}
 use Rattle.fork_edits.proofs.merging.place_of.Goals as goal
 

@@ -1,5 +1,4 @@
-use Rattle.std.proofs.Common.{map, refl}
-use Rattle.fork_edits.specs.View.{view_row}
+use Rattle.fork_edits.proofs.Cited.{map, refl, view_row}
 use Rattle.fork_edits.proofs.Gathering.{replaced_further}
 use Rattle.fork_edits.proofs.merging.push_all_replaced.Goals as goal
 

@@ -1,8 +1,4 @@
-use Rattle.std.proofs.Common.{◌≡◌, ◌++◌, List, map, drop}
-use Rattle.fork_edits.specs.Resources.{Row}
-use Rattle.fork_edits.specs.Merging.{replaced_by}
-use Rattle.fork_edits.specs.View.{view_row}
-use Rattle.fork_edits.specs.Waiting.{AreWaiting}
+use Rattle.fork_edits.proofs.Cited.{◌≡◌, ◌++◌, List, map, drop, Row, replaced_by, view_row, AreWaiting}
 use Rattle.fork_edits.proofs.merging.push_all_replaced.Given as goal
 
 -- some resources wait yet, and the resources so far, with those to come, are all

@@ -1,10 +1,5 @@
-use Rattle.std.proofs.Common.{◌≡◌, ◌∙◌, ◌++◌, ◌∷◌, [], List, Some, ap, sym, map}
-use Rattle.std.specs.Prelude.{option_map, unwrap_or}
-use Rattle.std.specs.List.{find}
-use Rattle.std.proofs.lemmas.List.{map-append}
-use Rattle.fork_edits.specs.Resources.{Row}
-use Rattle.fork_edits.specs.Differences.{is_same}
-use Rattle.fork_edits.specs.View.{view_row}
+use Rattle.fork_edits.proofs.Cited.{◌≡◌, ◌∙◌, ◌++◌, ◌∷◌, [], List, Some, ap, sym, map, option_map, unwrap_or, find, map-append, Row}
+use Rattle.fork_edits.proofs.Cited.{is_same, view_row}
 use Rattle.fork_edits.proofs.merging.push_replaced.Goals as goal
 
 pub returns-in_ok-push-in-Some-clause-pushed : goal.returns-in_ok-push-in-Some-clause-pushed

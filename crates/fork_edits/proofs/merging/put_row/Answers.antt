@@ -1,10 +1,5 @@
-use Rattle.std.proofs.Common.{◌≡◌, ◌<◌, ◌∙◌, sym, ap, map, length, arith, Some}
-use Rattle.std.proofs.lemmas.List.{length-map}
-use Rattle.fork_format.specs.Place.{place, opened}
-use Rattle.fork_format.specs.View.{view_group}
-use Rattle.fork_format.proofs.Placing.{place-inside, put-filled, place-filled}
-use Rattle.fork_edits.specs.Merging.{row_group}
-use Rattle.fork_edits.specs.View.{view_row}
+use Rattle.fork_edits.proofs.Cited.{◌≡◌, ◌<◌, ◌∙◌, sym, ap, map, length, arith, Some, length-map, place, opened, view_group, place-inside}
+use Rattle.fork_edits.proofs.Cited.{put-filled, place-filled, row_group, view_row}
 use Rattle.fork_edits.proofs.merging.put_row.Goals.{In_ok-push_ref}
 use Rattle.fork_edits.proofs.merging.put_row.Goals as goal
 

@@ -1,5 +1,4 @@
-use Rattle.std.proofs.Common.{◌≡◌, ◌≤◌, drop}
-use Rattle.fork_edits.specs.Numbers.{number_after}
+use Rattle.fork_edits.proofs.Cited.{◌≡◌, ◌≤◌, drop, number_after}
 use Rattle.fork_edits.proofs.numbers.read_within.Given as goal
 
 -- the digits to come lead on from the number so far

@@ -1,6 +1,4 @@
-use Rattle.std.proofs.Common.{◌≡◌, ◌++◌, drop, map}
-use Rattle.fork_edits.specs.Packing.{packed_rows}
-use Rattle.fork_edits.specs.View.{view_entry, view_row}
+use Rattle.fork_edits.proofs.Cited.{◌≡◌, ◌++◌, drop, map, packed_rows, view_entry, view_row}
 use Rattle.fork_edits.proofs.packing.rows_of_list.Given as goal
 
 -- the resources so far, with those to come, are all

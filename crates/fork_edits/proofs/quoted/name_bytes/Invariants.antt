@@ -1,6 +1,4 @@
-use Rattle.std.proofs.Common.{◌≡◌, [], drop}
-use Rattle.fork_edits.specs.Quoted.{quoted_from}
-use Rattle.fork_edits.specs.declared.quoted.Within.TheVariants.{Start}
+use Rattle.fork_edits.proofs.Cited.{◌≡◌, [], drop, quoted_from, Start}
 use Rattle.fork_edits.proofs.quoted.name_bytes.Given as goal
 
 -- the bytes to come lead on from where the reader stands

@@ -1,8 +1,4 @@
-use Rattle.std.proofs.Common.{◌∙◌, sym, ap, map}
-use Rattle.fork_format.specs.View.{view_group}
-use Rattle.fork_edits.specs.Resources.{has_id, others}
-use Rattle.fork_edits.specs.Setting.{has_resource}
-use Rattle.fork_edits.specs.Removing.{group_without}
+use Rattle.fork_edits.proofs.Cited.{◌∙◌, sym, ap, map, view_group, has_id, others, has_resource, group_without}
 use Rattle.fork_edits.proofs.Taking.{replaced_first, emptied_first, group_left, group_gone}
 use Rattle.fork_edits.proofs.removing.cut_at.Goals as goal
 

@@ -1,8 +1,5 @@
-use Rattle.std.proofs.Common.{◌∙◌, sym, ap, map}
-use Rattle.std.specs.List.{position}
+use Rattle.fork_edits.proofs.Cited.{◌∙◌, sym, ap, map, position, view_ref, has_id}
 use Rattle.fork_format.specs.declared.content.Ref.{Ref as StoredRef}
-use Rattle.fork_format.specs.View.{view_ref}
-use Rattle.fork_edits.specs.Resources.{has_id}
 use Rattle.fork_edits.proofs.Changing.{none_passes}
 use Rattle.fork_edits.proofs.Taking.{removed_first, none_left_out}
 use Rattle.fork_edits.proofs.removing.cut_first.Goals as goal

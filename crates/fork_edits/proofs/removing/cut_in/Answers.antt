@@ -1,9 +1,5 @@
-use Rattle.std.proofs.Common.{◌∙◌, sym, ap, map}
-use Rattle.std.specs.List.{position}
+use Rattle.fork_edits.proofs.Cited.{◌∙◌, sym, ap, map, position, view_group, has_resource, group_without}
 use Rattle.fork_format.specs.declared.content.Group.{Group as StoredGroup}
-use Rattle.fork_format.specs.View.{view_group}
-use Rattle.fork_edits.specs.Setting.{has_resource}
-use Rattle.fork_edits.specs.Removing.{group_without}
 use Rattle.fork_edits.proofs.Changing.{none_passes}
 use Rattle.fork_edits.proofs.Taking.{none_replaced}
 use Rattle.fork_edits.proofs.removing.cut_in.Goals as goal

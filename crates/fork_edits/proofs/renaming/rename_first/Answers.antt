@@ -1,10 +1,5 @@
-use Rattle.std.proofs.Common.{◌∙◌, sym, ap, map}
-use Rattle.std.specs.List.{position}
+use Rattle.fork_edits.proofs.Cited.{◌∙◌, sym, ap, map, position, view_ref, has_id, renamed, view_renaming}
 use Rattle.fork_format.specs.declared.content.Ref.{Ref as StoredRef}
-use Rattle.fork_format.specs.View.{view_ref}
-use Rattle.fork_edits.specs.Resources.{has_id}
-use Rattle.fork_edits.specs.Renaming.{renamed}
-use Rattle.fork_edits.specs.View.{view_renaming}
 use Rattle.fork_edits.proofs.Changing.{changed_first, first_unchanged, none_passes}
 use Rattle.fork_edits.proofs.renaming.rename_first.Goals as goal
 

@@ -1,10 +1,5 @@
-use Rattle.std.proofs.Common.{◌∙◌, sym, ap, map}
-use Rattle.std.specs.List.{position}
+use Rattle.fork_edits.proofs.Cited.{◌∙◌, sym, ap, map, position, view_group, has_resource, group_renamed, view_renaming}
 use Rattle.fork_format.specs.declared.content.Group.{Group as StoredGroup}
-use Rattle.fork_format.specs.View.{view_group}
-use Rattle.fork_edits.specs.Setting.{has_resource}
-use Rattle.fork_edits.specs.Renaming.{group_renamed}
-use Rattle.fork_edits.specs.View.{view_renaming}
 use Rattle.fork_edits.proofs.Changing.{changed_first, first_unchanged, none_passes}
 use Rattle.fork_edits.proofs.renaming.rename_in.Goals as goal
 

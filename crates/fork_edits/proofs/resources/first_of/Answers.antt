@@ -1,11 +1,6 @@
-use Rattle.std.proofs.Common.{◌≡◌, ◌∙◌, ◌+◌, sym, ap, map, drop, List, true, false}
-use Rattle.std.specs.Prelude.{option_map, is_some}
-use Rattle.std.specs.List.{find}
-use Rattle.fork_format.specs.Content.{Ref}
+use Rattle.fork_edits.proofs.Cited.{◌≡◌, ◌∙◌, ◌+◌, sym, ap, map, drop, List, true, false, option_map, is_some, find, Ref, view_ref}
+use Rattle.fork_edits.proofs.Cited.{view_group, rest-map, Row, group_rows, rows, is_at}
 use Rattle.fork_format.specs.declared.content.Group.{Group as StoredGroup}
-use Rattle.fork_format.specs.View.{view_ref, view_group}
-use Rattle.fork_format.proofs.Rest.{rest-map}
-use Rattle.fork_edits.specs.Resources.{Row, group_rows, rows, is_at}
 use Rattle.fork_edits.proofs.Finding.{find_first, find_second}
 use Rattle.fork_edits.proofs.resources.first_of.Goals as goal
 

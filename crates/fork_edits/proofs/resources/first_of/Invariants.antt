@@ -1,7 +1,4 @@
-use Rattle.std.proofs.Common.{◌≡◌, map, drop}
-use Rattle.std.specs.List.{find}
-use Rattle.fork_format.specs.View.{view_group}
-use Rattle.fork_edits.specs.Resources.{is_at, rows}
+use Rattle.fork_edits.proofs.Cited.{◌≡◌, map, drop, find, view_group, is_at, rows}
 use Rattle.fork_edits.proofs.resources.first_of.Given as goal
 
 abbrev pub invariant-loop-group : goal.invariant-loop-group

@@ -1,8 +1,4 @@
-use Rattle.std.proofs.Common.{◌≡◌, ◌++◌, map, drop}
-use Rattle.byteorder.specs.Endian.{big_number}
-use Rattle.fork_format.specs.View.{view_ref}
-use Rattle.fork_edits.specs.Resources.{row}
-use Rattle.fork_edits.specs.View.{view_row}
+use Rattle.fork_edits.proofs.Cited.{◌≡◌, ◌++◌, map, drop, big_number, view_ref, row, view_row}
 use Rattle.fork_edits.proofs.resources.push_rows.Given as goal
 
 abbrev pub invariant-loop-r : goal.invariant-loop-r

@@ -1,7 +1,4 @@
-use Rattle.std.proofs.Common.{◌≡◌, ◌++◌, map, drop}
-use Rattle.fork_format.specs.View.{view_group}
-use Rattle.fork_edits.specs.Resources.{rows}
-use Rattle.fork_edits.specs.View.{view_row}
+use Rattle.fork_edits.proofs.Cited.{◌≡◌, ◌++◌, map, drop, view_group, rows, view_row}
 use Rattle.fork_edits.proofs.resources.rows_of.Given as goal
 
 abbrev pub invariant-loop-group : goal.invariant-loop-group

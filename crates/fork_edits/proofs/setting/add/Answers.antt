@@ -1,11 +1,6 @@
-use Rattle.std.proofs.Common.{◌≡◌, ◌∙◌, sym, ap, map, false, ℕ}
-use Rattle.std.specs.List.{list_any, position}
-use Rattle.std.proofs.lemmas.Result.{on_ok_weaker}
-use Rattle.byteorder.specs.Endian.{big_number}
+use Rattle.fork_edits.proofs.Cited.{◌≡◌, ◌∙◌, sym, ap, map, false, ℕ, list_any, position, on_ok_weaker, big_number, is_of, view_ref}
+use Rattle.fork_edits.proofs.Cited.{view_group, one_group}
 use Rattle.fork_format.specs.declared.content.Group.{Group as StoredGroup}
-use Rattle.fork_format.specs.Content.{is_of}
-use Rattle.fork_format.specs.View.{view_ref, view_group}
-use Rattle.fork_edits.specs.Setting.{one_group}
 use Rattle.fork_edits.proofs.Changing.{none_passes, put_behind}
 use Rattle.fork_edits.proofs.setting.add.Goals as goal
 

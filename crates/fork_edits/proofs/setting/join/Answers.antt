@@ -1,8 +1,4 @@
-use Rattle.std.proofs.Common.{◌∙◌, sym, map}
-use Rattle.std.proofs.lemmas.Result.{on_ok_weaker, on_err_weaker}
-use Rattle.fork_format.specs.Content.{is_of}
-use Rattle.fork_format.specs.View.{view_ref, view_group}
-use Rattle.fork_edits.specs.Setting.{one_group, with_one}
+use Rattle.fork_edits.proofs.Cited.{◌∙◌, sym, map, on_ok_weaker, on_err_weaker, is_of, view_ref, view_group, one_group, with_one}
 use Rattle.fork_edits.proofs.Changing.{changed_first, unchanged_at, some_passes, put_joined}
 use Rattle.fork_edits.proofs.setting.join.Goals as goal
 

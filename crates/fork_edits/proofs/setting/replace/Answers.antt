@@ -1,6 +1,4 @@
-use Rattle.fork_format.specs.View.{view_group}
-use Rattle.fork_edits.specs.Setting.{has_resource, group_changed}
-use Rattle.fork_edits.specs.View.{view_change}
+use Rattle.fork_edits.proofs.Cited.{view_group, has_resource, group_changed, view_change}
 use Rattle.fork_edits.proofs.Changing.{changed_first}
 use Rattle.fork_edits.proofs.setting.replace.Goals as goal
 

@@ -1,12 +1,6 @@
-use Rattle.std.proofs.Common.{◌≡◌, ◌∙◌, sym, ap, map, true, false, ℕ, List}
-use Rattle.std.specs.List.{list_any, position}
-use Rattle.std.proofs.lemmas.Result.{on_ok_weaker}
+use Rattle.fork_edits.proofs.Cited.{◌≡◌, ◌∙◌, sym, ap, map, true, false, ℕ, List, list_any, position, on_ok_weaker, Ref, Group, put}
+use Rattle.fork_edits.proofs.Cited.{view_ref, view_group, Change, has_resource, replaced, added, one_group, view_change}
 use Rattle.fork_format.specs.declared.content.Group.{Group as StoredGroup}
-use Rattle.fork_format.specs.Content.{Ref, Group}
-use Rattle.fork_format.specs.Place.{put}
-use Rattle.fork_format.specs.View.{view_ref, view_group}
-use Rattle.fork_edits.specs.Setting.{Change, has_resource, replaced, added, one_group}
-use Rattle.fork_edits.specs.View.{view_change}
 use Rattle.fork_edits.proofs.Changing.{some_passes, none_passes, chosen, left}
 use Rattle.fork_edits.proofs.setting.set_in.Goals as goal
 

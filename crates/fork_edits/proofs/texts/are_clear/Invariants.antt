@@ -1,6 +1,4 @@
-use Rattle.std.proofs.Common.{◌≡◌, drop}
-use Rattle.std.specs.List.{list_all}
-use Rattle.fork_edits.specs.Texts.{is_clear}
+use Rattle.fork_edits.proofs.Cited.{◌≡◌, drop, list_all, is_clear}
 use Rattle.fork_edits.proofs.texts.are_clear.Given as goal
 
 abbrev pub invariant-loop-byte : goal.invariant-loop-byte

@@ -1,6 +1,4 @@
-use Rattle.std.proofs.Common.{◌≡◌, ◌++◌, drop}
-use Rattle.std.specs.List.{flat_map}
-use Rattle.mac_roman.specs.Charset.{character}
+use Rattle.fork_edits.proofs.Cited.{◌≡◌, ◌++◌, drop, flat_map, character}
 use Rattle.fork_edits.proofs.texts.push_characters.Given as goal
 
 abbrev pub invariant-loop-byte : goal.invariant-loop-byte

@@ -1,6 +1,4 @@
-use Rattle.std.proofs.Common.{◌≡◌, ◌++◌, drop}
-use Rattle.std.specs.List.{flat_map}
-use Rattle.fork_edits.specs.Texts.{char_text}
+use Rattle.fork_edits.proofs.Cited.{◌≡◌, ◌++◌, drop, flat_map, char_text}
 use Rattle.fork_edits.proofs.texts.push_chars.Given as goal
 
 abbrev pub invariant-loop-byte : goal.invariant-loop-byte

@@ -1,9 +1,4 @@
-use Rattle.std.proofs.Common.{◌≡◌, ◌∙◌, ◌∷◌, None, sym, ap}
-use Rattle.std.specs.List.{find, filter}
-use Rattle.fork_edits.specs.Resources.{Row, is_at}
-use Rattle.fork_edits.specs.Differences.{is_same}
-use Rattle.fork_edits.specs.View.{view_row}
-use Rattle.fork_edits.specs.Waiting.{AreWaiting}
+use Rattle.fork_edits.proofs.Cited.{◌≡◌, ◌∙◌, ◌∷◌, None, sym, ap, find, filter, Row, is_at, is_same, view_row, AreWaiting}
 use Rattle.fork_edits.proofs.Doubles.{without_itself}
 use Rattle.fork_edits.proofs.Gathering.{found_none}
 use Rattle.fork_edits.proofs.Keeping.{all_others}

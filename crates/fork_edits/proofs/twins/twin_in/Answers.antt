@@ -1,8 +1,4 @@
-use Rattle.std.proofs.Common.{◌∷◌, ◌+◌, ◌∙◌, List, sym, ap, map, drop}
-use Rattle.std.specs.List.{filter}
-use Rattle.fork_edits.specs.Resources.{Row, is_at}
-use Rattle.fork_edits.specs.View.{view_row}
-use Rattle.fork_edits.specs.Waiting.{AreWaiting}
+use Rattle.fork_edits.proofs.Cited.{◌∷◌, ◌+◌, ◌∙◌, List, sym, ap, map, drop, filter, Row, is_at, view_row, AreWaiting}
 use Rattle.fork_edits.proofs.Doubles.{rest_rows, twin_further, twin_found}
 use Rattle.fork_edits.proofs.twins.twin_in.Goals.{In_ok-has_twin}
 use Rattle.fork_edits.proofs.twins.twin_in.Goals as goal

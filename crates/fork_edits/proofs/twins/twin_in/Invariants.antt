@@ -1,7 +1,4 @@
-use Rattle.std.proofs.Common.{◌≡◌, map, drop}
-use Rattle.fork_edits.specs.Twins.{twin}
-use Rattle.fork_edits.specs.View.{view_row}
-use Rattle.fork_edits.specs.Waiting.{AreWaiting}
+use Rattle.fork_edits.proofs.Cited.{◌≡◌, map, drop, twin, view_row, AreWaiting}
 use Rattle.fork_edits.proofs.twins.twin_in.Given as goal
 
 -- the resources to come wait, and the first twin is among them

@@ -1,6 +1,4 @@
-use Rattle.std.proofs.Common.{map}
-use Rattle.fork_edits.specs.View.{view_row}
-use Rattle.fork_edits.specs.Waiting.{waits}
+use Rattle.fork_edits.proofs.Cited.{map, view_row, waits}
 use Rattle.fork_edits.proofs.Queues.{first_waits, others_wait, shrunk_rows}
 use Rattle.fork_edits.proofs.waiting.take_counterpart.Goals as goal
 

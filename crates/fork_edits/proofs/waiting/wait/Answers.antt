@@ -1,7 +1,4 @@
-use Rattle.std.proofs.Common.{◌∙◌, ◌∷◌, ◌++◌, [], ap, map}
-use Rattle.fork_edits.specs.Resources.{Row}
-use Rattle.fork_edits.specs.View.{view_row}
-use Rattle.fork_edits.specs.Waiting.{waits}
+use Rattle.fork_edits.proofs.Cited.{◌∙◌, ◌∷◌, ◌++◌, [], ap, map, Row, view_row, waits}
 use Rattle.fork_edits.proofs.Queues.{one_more_waits}
 use Rattle.fork_edits.proofs.waiting.wait.Goals as goal
 

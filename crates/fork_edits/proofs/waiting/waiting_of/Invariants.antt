@@ -1,6 +1,4 @@
-use Rattle.std.proofs.Common.{map, take}
-use Rattle.fork_edits.specs.View.{view_row}
-use Rattle.fork_edits.specs.Waiting.{AreWaiting}
+use Rattle.fork_edits.proofs.Cited.{map, take, view_row, AreWaiting}
 use Rattle.fork_edits.proofs.waiting.waiting_of.Given as goal
 
 -- the resources so far wait

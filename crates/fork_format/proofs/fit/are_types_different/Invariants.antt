@@ -1,7 +1,4 @@
-use Rattle.std.proofs.Common.{◌≡◌, map, drop}
-use Rattle.fork_format.specs.Content.{Group}
-use Rattle.fork_format.specs.Canonical.{are_distinct}
-use Rattle.fork_format.specs.View.{view_group}
+use Rattle.fork_format.proofs.Cited.{◌≡◌, map, drop, Group, are_distinct, view_group}
 use Rattle.fork_format.proofs.fit.are_types_different.Given as goal
 
 abbrev pub invariant-loop-i : goal.invariant-loop-i

@@ -1,7 +1,4 @@
-use Rattle.std.proofs.Common.{◌≡◌, ◌∙◌, ◌+◌, sym, ap, map, drop, List, None, Some}
-use Rattle.fork_format.specs.Content.{Ref, Group, refs_of}
-use Rattle.fork_format.specs.Extent.{behind}
-use Rattle.fork_format.specs.View.{view_ref, view_group}
+use Rattle.fork_format.proofs.Cited.{◌≡◌, ◌∙◌, ◌+◌, sym, ap, map, drop, List, None, Some, Ref, Group, refs_of, behind, view_ref, view_group}
 use Rattle.fork_format.proofs.Extending.{behind-stops, behind-goes_on}
 use Rattle.fork_format.proofs.Rest.{rest-map}
 use Rattle.fork_format.proofs.fit.ends_of.Goals as goal

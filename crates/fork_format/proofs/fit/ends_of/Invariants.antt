@@ -1,9 +1,5 @@
-use Rattle.std.proofs.Common.{◌≡◌, ◌≤◌, map, drop}
-use Rattle.fork_format.specs.Content.{refs_of}
-use Rattle.fork_format.specs.Extent.{behind, no_starts}
-use Rattle.fork_format.specs.View.{view_group}
+use Rattle.fork_format.proofs.Cited.{◌≡◌, ◌≤◌, map, drop, refs_of, behind, no_starts, view_group, most_data}
 use Rattle.fork_format.proofs.fit.ends_of.Given as goal
-use Rattle.fork_format.specs.Limits.{most_data}
 
 abbrev pub invariant-loop-group : goal.invariant-loop-group
 invariant-loop-group l = record {

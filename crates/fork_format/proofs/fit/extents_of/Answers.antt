@@ -1,9 +1,6 @@
-use Rattle.std.proofs.Common.{◌≡◌, ◌∙◌, refl, sym, ap, map, List, true, None}
-use Rattle.fork_format.specs.Content.{Group, refs_of}
-use Rattle.fork_format.specs.Canonical.{are_distinct, refs_offset}
-use Rattle.fork_format.specs.Extent.{refs_end, behind, no_starts}
+use Rattle.fork_format.proofs.Cited.{◌≡◌, ◌∙◌, refl, sym, ap, map, List, true, None, Group, refs_of, are_distinct, refs_offset, refs_end}
+use Rattle.fork_format.proofs.Cited.{behind, no_starts, view_group, view}
 use Rattle.fork_format.specs.declared.content.Group.{Group as StoredGroup}
-use Rattle.fork_format.specs.View.{view_group, view}
 use Rattle.fork_format.proofs.Extending.{fits-found, extents-found, refs_end-found, behind-found, parts-fit}
 use Rattle.fork_format.proofs.fit.extents_of.Goals as goal
 

@@ -1,8 +1,4 @@
-use Rattle.std.proofs.Common.{◌≡◌, ℕ, not, map, drop}
-use Rattle.std.specs.Prelude.{◌==◌}
-use Rattle.std.specs.List.{list_all}
-use Rattle.fork_format.specs.Content.{Group}
-use Rattle.fork_format.specs.View.{view_group}
+use Rattle.fork_format.proofs.Cited.{◌≡◌, ℕ, not, map, drop, ◌==◌, list_all, Group, view_group}
 use Rattle.fork_format.proofs.fit.is_type_new.Given as goal
 
 abbrev pub invariant-loop-group : goal.invariant-loop-group

@@ -1,9 +1,6 @@
-use Rattle.std.proofs.Common.{◌≡◌, ℕ, ◌<◌, ◌≤◌, ◌⊎◌, drop, ◌∙◌, ◌+◌, ◌*◌, sym, ap, length, map, arith, inl, inr}
-use Rattle.std.proofs.lemmas.List.{length-map}
-use Rattle.fork_format.specs.Canonical.{refs_offset}
-use Rattle.fork_format.specs.Extent.{refs_end}
+use Rattle.fork_format.proofs.Cited.{◌≡◌, ℕ, ◌<◌, ◌≤◌, ◌⊎◌, drop, ◌∙◌, ◌+◌, ◌*◌, sym, ap, length, map, arith, inl, inr, length-map}
+use Rattle.fork_format.proofs.Cited.{refs_offset, refs_end, view_ref, view_group}
 use Rattle.fork_format.specs.declared.content.Group.{Group as StoredGroup}
-use Rattle.fork_format.specs.View.{view_ref, view_group}
 use Rattle.fork_format.proofs.Extending.{refs_end-late, refs_end-stops}
 use Rattle.fork_format.proofs.Rest.{rest-map}
 use Rattle.fork_format.proofs.fit.refs_end_of.Goals as goal

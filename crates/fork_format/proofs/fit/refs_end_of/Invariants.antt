@@ -1,7 +1,4 @@
-use Rattle.std.proofs.Common.{◌≡◌, ◌≤◌, map, drop}
-use Rattle.fork_format.specs.Canonical.{refs_offset}
-use Rattle.fork_format.specs.Extent.{refs_end}
-use Rattle.fork_format.specs.View.{view_group}
+use Rattle.fork_format.proofs.Cited.{◌≡◌, ◌≤◌, map, drop, refs_offset, refs_end, view_group}
 use Rattle.fork_format.proofs.fit.refs_end_of.Given as goal
 
 abbrev pub invariant-loop-group : goal.invariant-loop-group

@@ -1,8 +1,5 @@
-use Rattle.std.proofs.Common.{◌≡◌, ◌≤◌, map, drop}
-use Rattle.fork_format.specs.Extent.{behind}
-use Rattle.fork_format.specs.View.{view_ref}
+use Rattle.fork_format.proofs.Cited.{◌≡◌, ◌≤◌, map, drop, behind, view_ref, most_data}
 use Rattle.fork_format.proofs.fit.starts_behind.Given as goal
-use Rattle.fork_format.specs.Limits.{most_data}
 
 abbrev pub invariant-loop-r : goal.invariant-loop-r
 invariant-loop-r l = record {

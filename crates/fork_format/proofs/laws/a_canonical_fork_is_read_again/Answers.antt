@@ -1,4 +1,4 @@
-use Rattle.fork_format.specs.Canonical.{canon, clear}
+use Rattle.fork_format.proofs.Cited.{canon, clear}
 use Rattle.fork_format.proofs.CanSpell.{canon_spells}
 use Rattle.fork_format.proofs.OneContent.{one_content}
 use Rattle.fork_format.proofs.laws.a_canonical_fork_is_read_again.Goals as goal

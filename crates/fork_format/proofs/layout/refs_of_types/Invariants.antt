@@ -1,5 +1,4 @@
-use Rattle.std.proofs.Common.{◌≡◌, ◌+◌, ◌*◌, ◌≤◌, ◌-◌, sum_by}
-use Rattle.fork_format.specs.Fork.{ref_count, offsets}
+use Rattle.fork_format.proofs.Cited.{◌≡◌, ◌+◌, ◌*◌, ◌≤◌, ◌-◌, sum_by, ref_count, offsets}
 use Rattle.fork_format.proofs.layout.refs_of_types.Given as goal
 
 abbrev pub invariant-loop : goal.invariant-loop

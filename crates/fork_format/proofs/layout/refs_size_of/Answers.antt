@@ -1,4 +1,4 @@
-use Rattle.fork_format.specs.Fork.{ref_size, ref_fits}
+use Rattle.fork_format.proofs.Cited.{ref_size, ref_fits}
 use Rattle.fork_format.proofs.Loops.{tally_stops}
 use Rattle.fork_format.proofs.layout.refs_size_of.Goals as goal
 

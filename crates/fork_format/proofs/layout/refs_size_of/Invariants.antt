@@ -1,7 +1,4 @@
-use Rattle.std.proofs.Common.{◌≡◌, ◌+◌, ◌*◌, ◌≤◌, ◌^◌, ◌-◌, sum_by}
-use Rattle.std.specs.List.{list_all}
-use Rattle.fork_format.specs.Fork.{ref_size, ref_fits, offsets}
-use Rattle.fork_format.specs.Layout.{sizes_if}
+use Rattle.fork_format.proofs.Cited.{◌≡◌, ◌+◌, ◌*◌, ◌≤◌, ◌^◌, ◌-◌, sum_by, list_all, ref_size, ref_fits, offsets, sizes_if}
 use Rattle.fork_format.proofs.Loops.{counted}
 use Rattle.fork_format.proofs.layout.refs_size_of.Given as goal
 

@@ -1,4 +1,4 @@
-use Rattle.fork_format.specs.Fork.{type_size, refs_fit}
+use Rattle.fork_format.proofs.Cited.{type_size, refs_fit}
 use Rattle.fork_format.proofs.Loops.{tally_stops}
 use Rattle.fork_format.proofs.layout.types_size_of.Goals as goal
 

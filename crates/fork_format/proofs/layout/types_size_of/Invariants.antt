@@ -1,7 +1,4 @@
-use Rattle.std.proofs.Common.{◌≡◌, ◌+◌, ◌*◌, ◌≤◌, ◌^◌, ◌-◌, sum_by}
-use Rattle.std.specs.List.{list_all}
-use Rattle.fork_format.specs.Fork.{type_size, refs_fit, offsets}
-use Rattle.fork_format.specs.Layout.{sizes_if}
+use Rattle.fork_format.proofs.Cited.{◌≡◌, ◌+◌, ◌*◌, ◌≤◌, ◌^◌, ◌-◌, sum_by, list_all, type_size, refs_fit, offsets, sizes_if}
 use Rattle.fork_format.proofs.Loops.{counted}
 use Rattle.fork_format.proofs.layout.types_size_of.Given as goal
 

@@ -1,5 +1,4 @@
-use Rattle.std.proofs.Common.{ℕ, ◌+◌, ◌<◌}
-use Rattle.std.specs.Prelude.{slice_index}
+use Rattle.fork_format.proofs.Cited.{ℕ, ◌+◌, ◌<◌, slice_index}
 use Rattle.fork_format.proofs.read.do_rise.Given as goal
 
 -- the numbers so far rise

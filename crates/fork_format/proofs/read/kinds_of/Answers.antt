@@ -1,5 +1,4 @@
-use Rattle.std.proofs.Common.{arith, ◌≡◌, ◌∙◌, ap, ◌++◌, ◌∷◌, []}
-use Rattle.fork_format.specs.Fork.{kind_in}
+use Rattle.fork_format.proofs.Cited.{arith, ◌≡◌, ◌∙◌, ap, ◌++◌, ◌∷◌, [], kind_in}
 use Rattle.fork_format.proofs.Loops.{map-goes_on}
 use Rattle.fork_format.proofs.read.kinds_of.Goals as goal
 

@@ -1,5 +1,4 @@
-use Rattle.std.proofs.Common.{◌≡◌, ◌+◌, ◌*◌, ◌-◌, ◌++◌, map}
-use Rattle.fork_format.specs.Fork.{kind_in, offsets}
+use Rattle.fork_format.proofs.Cited.{◌≡◌, ◌+◌, ◌*◌, ◌-◌, ◌++◌, map, kind_in, offsets}
 use Rattle.fork_format.proofs.read.kinds_of.Given as goal
 
 -- the types so far, with those to come, are all

@@ -1,6 +1,4 @@
-use Rattle.std.proofs.Common.{arith}
-use Rattle.fork_format.specs.Fork.{group_at, refs_fit}
-use Rattle.fork_format.specs.View.{view_group}
+use Rattle.fork_format.proofs.Cited.{arith, group_at, refs_fit, view_group}
 use Rattle.fork_format.proofs.Loops.{GoesOn, all_goes_on, pushed_goes_on}
 use Rattle.fork_format.proofs.read.read_apart.Goals.{In-loop}
 use Rattle.fork_format.proofs.read.read_apart.Goals as goal

@@ -1,7 +1,4 @@
-use Rattle.std.proofs.Common.{◌≡◌, ◌+◌, ◌*◌, ◌-◌, ◌++◌, map, true}
-use Rattle.std.specs.List.{list_all}
-use Rattle.fork_format.specs.Fork.{group_at, refs_fit, offsets}
-use Rattle.fork_format.specs.View.{view_group}
+use Rattle.fork_format.proofs.Cited.{◌≡◌, ◌+◌, ◌*◌, ◌-◌, ◌++◌, map, true, list_all, group_at, refs_fit, offsets, view_group}
 use Rattle.fork_format.proofs.read.read_apart.Given as goal
 
 -- the groups so far, with those to come, are all

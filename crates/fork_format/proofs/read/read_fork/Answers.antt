@@ -1,6 +1,4 @@
-use Rattle.std.proofs.Common.{refl, sym}
-use Rattle.fork_format.specs.Fork.{Spells}
-use Rattle.fork_format.specs.View.{view}
+use Rattle.fork_format.proofs.Cited.{refl, sym, Spells, view}
 use Rattle.fork_format.proofs.OneContent.{one_content}
 use Rattle.fork_format.proofs.Spelled.{spelled_types, spelled_references}
 use Rattle.fork_format.proofs.read.read_fork.Goals as goal

@@ -1,6 +1,4 @@
-use Rattle.std.proofs.Common.{arith, ◌∙◌, ap, sym}
-use Rattle.fork_format.specs.Fork.{group_at, refs_fit}
-use Rattle.fork_format.specs.Place.{put}
+use Rattle.fork_format.proofs.Cited.{arith, ◌∙◌, ap, sym, group_at, refs_fit, put}
 use Rattle.fork_format.proofs.Loops.{GoesOn, all_goes_on}
 use Rattle.fork_format.proofs.Joining.{joined-offsets}
 use Rattle.fork_format.proofs.read.read_joined.Goals.{In-loop}

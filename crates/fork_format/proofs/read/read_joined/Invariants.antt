@@ -1,9 +1,4 @@
-use Rattle.std.proofs.Common.{◌≡◌, ◌+◌, ◌*◌, ◌-◌, map, true}
-use Rattle.std.specs.List.{list_all}
-use Rattle.fork_format.specs.Content.{joined}
-use Rattle.fork_format.specs.Fork.{group_at, refs_fit, offsets}
-use Rattle.fork_format.specs.Place.{ArePlaces}
-use Rattle.fork_format.specs.View.{view_group}
+use Rattle.fork_format.proofs.Cited.{◌≡◌, ◌+◌, ◌*◌, ◌-◌, map, true, list_all, joined, group_at, refs_fit, offsets, ArePlaces, view_group}
 use Rattle.fork_format.proofs.read.read_joined.Given as goal
 
 abbrev pub invariant-loop : goal.invariant-loop

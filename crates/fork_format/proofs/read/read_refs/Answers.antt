@@ -1,4 +1,4 @@
-use Rattle.fork_format.specs.Fork.{ref_fits}
+use Rattle.fork_format.proofs.Cited.{ref_fits}
 use Rattle.fork_format.proofs.Loops.{all_goes_on}
 use Rattle.fork_format.proofs.read.read_refs.Goals as goal
 

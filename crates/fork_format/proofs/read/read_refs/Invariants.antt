@@ -1,7 +1,4 @@
-use Rattle.std.proofs.Common.{◌≡◌, ◌+◌, ◌*◌, ◌-◌, ◌++◌, map, true}
-use Rattle.std.specs.List.{list_all}
-use Rattle.fork_format.specs.Fork.{ref_at, ref_fits, offsets}
-use Rattle.fork_format.specs.View.{view_ref}
+use Rattle.fork_format.proofs.Cited.{◌≡◌, ◌+◌, ◌*◌, ◌-◌, ◌++◌, map, true, list_all, ref_at, ref_fits, offsets, view_ref}
 use Rattle.fork_format.proofs.read.read_refs.Given as goal
 
 abbrev pub invariant-loop : goal.invariant-loop

@@ -1,8 +1,4 @@
-use Rattle.std.proofs.Common.{◌≡◌, ◌<◌, ◌∙◌, sym, ap, map, length, arith, Some}
-use Rattle.std.proofs.lemmas.List.{length-map}
-use Rattle.fork_format.specs.Fork.{group_at}
-use Rattle.fork_format.specs.Place.{place, opened}
-use Rattle.fork_format.specs.View.{view_group}
+use Rattle.fork_format.proofs.Cited.{◌≡◌, ◌<◌, ◌∙◌, sym, ap, map, length, arith, Some, length-map, group_at, place, opened, view_group}
 use Rattle.fork_format.proofs.Placing.{place-inside, put-filled, place-filled}
 use Rattle.fork_format.proofs.read.read_type.Goals.{In_ok-fill}
 use Rattle.fork_format.proofs.read.read_type.Goals as goal

@@ -1,9 +1,4 @@
-use Rattle.std.proofs.Common.{◌≡◌, ◌∙◌, sym, ap, subst, true, map, ℕ, List}
-use Rattle.std.specs.Prelude.{IfOk}
-use Rattle.fork_format.specs.Canonical.{are_distinct}
-use Rattle.fork_format.specs.Content.{Group}
-use Rattle.fork_format.specs.Fork.{kind_in, offsets}
-use Rattle.fork_format.specs.View.{view_group}
+use Rattle.fork_format.proofs.Cited.{◌≡◌, ◌∙◌, sym, ap, subst, true, map, ℕ, List, IfOk, are_distinct, Group, kind_in, offsets, view_group}
 use Rattle.fork_format.proofs.Apart.{joined-apart}
 use Rattle.fork_format.proofs.read.read_types.Goals as goal
 

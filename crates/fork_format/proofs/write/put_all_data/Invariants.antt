@@ -1,8 +1,4 @@
-use Rattle.std.proofs.Common.{◌≡◌, ◌++◌, map, drop, true}
-use Rattle.std.specs.List.{list_all}
-use Rattle.fork_format.specs.Canonical.{data_of}
-use Rattle.fork_format.specs.Extent.{are_short}
-use Rattle.fork_format.specs.View.{view_group}
+use Rattle.fork_format.proofs.Cited.{◌≡◌, ◌++◌, map, drop, true, list_all, data_of, are_short, view_group}
 use Rattle.fork_format.proofs.write.put_all_data.Given as goal
 
 abbrev pub invariant-loop-group : goal.invariant-loop-group

@@ -1,6 +1,4 @@
-use Rattle.std.proofs.Common.{◌≡◌, ◌++◌, map, drop}
-use Rattle.fork_format.specs.Canonical.{names_of}
-use Rattle.fork_format.specs.View.{view_group}
+use Rattle.fork_format.proofs.Cited.{◌≡◌, ◌++◌, map, drop, names_of, view_group}
 use Rattle.fork_format.proofs.write.put_all_names.Given as goal
 
 abbrev pub invariant-loop-group : goal.invariant-loop-group

@@ -1,12 +1,6 @@
-use Rattle.std.proofs.Common.{◌≡◌, ◌∙◌, ◌+◌, ◌++◌, ◌∷◌, sym, ap, subst, map, drop, length, List, Some}
-use Rattle.std.specs.Prelude.{is_some}
-use Rattle.std.specs.List.{flat_map}
-use Rattle.fork_format.specs.Content.{Ref, Group, refs_of, AreRefs}
-use Rattle.fork_format.specs.Canonical.{datum, name, references}
-use Rattle.fork_format.specs.Extent.{behind, no_starts}
-use Rattle.fork_format.specs.declared.fit.Starts.{Starts}
+use Rattle.fork_format.proofs.Cited.{◌≡◌, ◌∙◌, ◌+◌, ◌++◌, ◌∷◌, sym, ap, subst, map, drop, length, List, Some, is_some, flat_map, Ref, Group}
+use Rattle.fork_format.proofs.Cited.{refs_of, AreRefs, datum, name, references, behind, no_starts, Starts, view_ref, view_group}
 use Rattle.fork_format.specs.declared.content.Ref.{Ref as StoredRef}
-use Rattle.fork_format.specs.View.{view_ref, view_group}
 use Rattle.fork_format.proofs.Groups.{references-two}
 use Rattle.fork_format.proofs.Extending.{behind-front, behind-goes_on, behind-sums}
 use Rattle.fork_format.proofs.Putting.{put-next}

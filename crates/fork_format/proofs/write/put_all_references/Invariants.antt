@@ -1,8 +1,4 @@
-use Rattle.std.proofs.Common.{◌≡◌, ◌++◌, map, drop}
-use Rattle.fork_format.specs.Content.{refs_of, HaveRefs}
-use Rattle.fork_format.specs.Canonical.{references}
-use Rattle.fork_format.specs.Extent.{behind, no_starts}
-use Rattle.fork_format.specs.View.{view_group}
+use Rattle.fork_format.proofs.Cited.{◌≡◌, ◌++◌, map, drop, refs_of, HaveRefs, references, behind, no_starts, view_group}
 use Rattle.fork_format.proofs.write.put_all_references.Given as goal
 
 abbrev pub invariant-loop-group : goal.invariant-loop-group

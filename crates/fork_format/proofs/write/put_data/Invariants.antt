@@ -1,8 +1,4 @@
-use Rattle.std.proofs.Common.{◌≡◌, ◌++◌, map, drop, true}
-use Rattle.std.specs.List.{list_all, flat_map}
-use Rattle.fork_format.specs.Canonical.{datum}
-use Rattle.fork_format.specs.Extent.{is_short}
-use Rattle.fork_format.specs.View.{view_ref}
+use Rattle.fork_format.proofs.Cited.{◌≡◌, ◌++◌, map, drop, true, list_all, flat_map, datum, is_short, view_ref}
 use Rattle.fork_format.proofs.write.put_data.Given as goal
 
 abbrev pub invariant-loop-r : goal.invariant-loop-r

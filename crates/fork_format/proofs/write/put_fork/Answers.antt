@@ -1,10 +1,6 @@
-use Rattle.std.proofs.Common.{rules, ◌≡◌, ◌∙◌, ◌++◌, ap, map, List, ℕ}
-use Rattle.std.specs.List.{list_all}
-use Rattle.fork_format.specs.Canonical.{header, data_of, map_of}
-use Rattle.fork_format.specs.Content.{Content}
-use Rattle.fork_format.specs.Extent.{are_short}
+use Rattle.fork_format.proofs.Cited.{rules, ◌≡◌, ◌∙◌, ◌++◌, ap, map, List, ℕ, list_all, header, data_of, map_of, Content, are_short}
+use Rattle.fork_format.proofs.Cited.{view_group, view}
 use Rattle.fork_format.specs.declared.content.Group.{Group as StoredGroup}
-use Rattle.fork_format.specs.View.{view_group, view}
 use Rattle.fork_format.proofs.Extending.{fits-short}
 use Rattle.fork_format.proofs.Putting.{put-two}
 use Rattle.fork_format.proofs.Sized.{are_groups}

@@ -1,8 +1,4 @@
-use Rattle.std.proofs.Common.{◌≡◌, ◌∙◌, ◌+◌, ◌++◌, ap, length, List, ℕ, arith}
-use Rattle.byteorder.specs.Endian.{big_bytes}
-use Rattle.fork_format.specs.Content.{Group}
-use Rattle.fork_format.specs.Canonical.{data_of, lists}
-use Rattle.fork_format.specs.View.{view}
+use Rattle.fork_format.proofs.Cited.{◌≡◌, ◌∙◌, ◌+◌, ◌++◌, ap, length, List, ℕ, arith, big_bytes, Group, data_of, lists, view}
 use Rattle.fork_format.proofs.Putting.{put-two, length-lists}
 use Rattle.fork_format.proofs.write.put_header.Goals as goal
 

@@ -1,11 +1,6 @@
-use Rattle.std.proofs.Common.{◌∙◌, ◌+◌, ◌*◌, ap, map, List, sym}
-use Rattle.std.specs.Prelude.{is_some}
-use Rattle.std.proofs.lemmas.List.{length-map}
-use Rattle.fork_format.specs.Content.{refs_of}
-use Rattle.fork_format.specs.Canonical.{refs_offset}
-use Rattle.fork_format.specs.Extent.{refs_end, behind, no_starts}
+use Rattle.fork_format.proofs.Cited.{◌∙◌, ◌+◌, ◌*◌, ap, map, List, sym, is_some, length-map, refs_of, refs_offset, refs_end, behind}
+use Rattle.fork_format.proofs.Cited.{no_starts, view_group, view}
 use Rattle.fork_format.specs.declared.content.Group.{Group as StoredGroup}
-use Rattle.fork_format.specs.View.{view_group, view}
 use Rattle.fork_format.proofs.Extending.{refs_end-some, behind-some}
 use Rattle.fork_format.proofs.write.put_lists.Goals as goal
 

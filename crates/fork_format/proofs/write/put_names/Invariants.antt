@@ -1,7 +1,4 @@
-use Rattle.std.proofs.Common.{◌≡◌, ◌++◌, map, drop}
-use Rattle.std.specs.List.{flat_map}
-use Rattle.fork_format.specs.Canonical.{name}
-use Rattle.fork_format.specs.View.{view_ref}
+use Rattle.fork_format.proofs.Cited.{◌≡◌, ◌++◌, map, drop, flat_map, name, view_ref}
 use Rattle.fork_format.proofs.write.put_names.Given as goal
 
 abbrev pub invariant-loop-r : goal.invariant-loop-r

@@ -1,10 +1,5 @@
-use Rattle.std.proofs.Common.{◌≡◌, ◌∙◌, ◌++◌, ap, List, ℕ, rules}
-use Rattle.std.specs.Prelude.{FitsSigned}
-use Rattle.std.proofs.lemmas.Int.{to_z-of_z}
-use Rattle.std.specs.Int.{cast_unsigned, w16}
-use Rattle.byteorder.specs.Endian.{big_bytes}
-use Rattle.fork_format.specs.Canonical.{name_offset}
-use Rattle.fork_format.specs.View.{view_name}
+use Rattle.fork_format.proofs.Cited.{◌≡◌, ◌∙◌, ◌++◌, ap, List, ℕ, rules, FitsSigned, to_z-of_z, cast_unsigned, w16, big_bytes, name_offset}
+use Rattle.fork_format.proofs.Cited.{view_name}
 use Rattle.fork_format.proofs.Putting.{put-two}
 use Rattle.fork_format.proofs.Sized.{name-short}
 use Rattle.fork_format.proofs.write.put_reference.Goals as goal

@@ -1,10 +1,5 @@
-use Rattle.std.proofs.Common.{◌≡◌, ◌∙◌, ◌+◌, ◌++◌, ◌∷◌, sym, ap, map, drop, length, List, true}
-use Rattle.std.specs.Prelude.{is_some}
-use Rattle.fork_format.specs.Content.{Ref}
-use Rattle.fork_format.specs.Canonical.{datum, name, reference, references}
-use Rattle.fork_format.specs.Extent.{is_low, behind}
-use Rattle.fork_format.specs.declared.fit.Starts.{Starts}
-use Rattle.fork_format.specs.View.{view_ref}
+use Rattle.fork_format.proofs.Cited.{◌≡◌, ◌∙◌, ◌+◌, ◌++◌, ◌∷◌, sym, ap, map, drop, length, List, true, is_some, Ref, datum, name, reference}
+use Rattle.fork_format.proofs.Cited.{references, is_low, behind, Starts, view_ref}
 use Rattle.fork_format.proofs.Putting.{put-next, behind-first, behind-next}
 use Rattle.fork_format.proofs.Rest.{rest-map}
 use Rattle.fork_format.proofs.Sized.{refs-next}

@@ -1,8 +1,4 @@
-use Rattle.std.proofs.Common.{◌≡◌, ◌++◌, map, drop}
-use Rattle.fork_format.specs.Canonical.{references}
-use Rattle.fork_format.specs.Content.{AreRefs}
-use Rattle.fork_format.specs.Extent.{behind}
-use Rattle.fork_format.specs.View.{view_ref}
+use Rattle.fork_format.proofs.Cited.{◌≡◌, ◌++◌, map, drop, references, AreRefs, behind, view_ref}
 use Rattle.fork_format.proofs.write.put_references.Given as goal
 
 abbrev pub invariant-loop-r : goal.invariant-loop-r

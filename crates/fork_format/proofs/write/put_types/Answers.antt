@@ -1,4 +1,4 @@
-use Rattle.std.proofs.Common.{◌≡◌, ℕ, ◌+◌, ◌*◌, ◌≤◌, arith}
+use Rattle.fork_format.proofs.Cited.{◌≡◌, ℕ, ◌+◌, ◌*◌, ◌≤◌, arith}
 use Rattle.fork_format.proofs.Putting.{type-first}
 use Rattle.fork_format.proofs.write.put_types.Goals.{After-len}
 use Rattle.fork_format.proofs.write.put_types.Goals as goal

@@ -1,9 +1,4 @@
-use Rattle.std.proofs.Common.{◌≡◌, ◌++◌, map, drop}
-use Rattle.std.specs.Prelude.{IsSome}
-use Rattle.fork_format.specs.Canonical.{types}
-use Rattle.fork_format.specs.Content.{AreKinds}
-use Rattle.fork_format.specs.Extent.{refs_end}
-use Rattle.fork_format.specs.View.{view_group}
+use Rattle.fork_format.proofs.Cited.{◌≡◌, ◌++◌, map, drop, IsSome, types, AreKinds, refs_end, view_group}
 use Rattle.fork_format.proofs.write.put_types.Given as goal
 
 abbrev pub invariant-loop-group : goal.invariant-loop-group

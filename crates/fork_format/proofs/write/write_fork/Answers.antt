@@ -1,8 +1,4 @@
-use Rattle.std.proofs.Common.{◌≡◌, ◌∙◌, ◌++◌, ap, refl, subst, sym, true, List, ℕ}
-use Rattle.fork_format.specs.Canonical.{canon, clear, fits}
-use Rattle.fork_format.specs.Content.{Content}
-use Rattle.fork_format.specs.Fork.{Spells}
-use Rattle.fork_format.specs.View.{view}
+use Rattle.fork_format.proofs.Cited.{◌≡◌, ◌∙◌, ◌++◌, ap, refl, subst, sym, true, List, ℕ, canon, clear, fits, Content, Spells, view}
 use Rattle.fork_format.proofs.CanSpell.{canon_spells}
 use Rattle.fork_format.proofs.write.write_fork.Goals as goal
 

@@ -1,5 +1,4 @@
-use Rattle.std.proofs.Common.{◌∙◌, ap, sym, Some}
-use Rattle.fork_rules.specs.declared.rules.Broken.{Broken}
+use Rattle.fork_rules.proofs.Cited.{◌∙◌, ap, sym, Some, Broken}
 use Rattle.fork_rules.specs.declared.rules.Rule.TheVariants as rule
 use Rattle.fork_rules.proofs.Keeping.{limit_broken}
 use Rattle.fork_rules.proofs.breaking.broken_limit_of.Goals as goal

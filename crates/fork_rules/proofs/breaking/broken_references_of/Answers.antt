@@ -1,4 +1,4 @@
-use Rattle.fork_rules.specs.Breaking.{broken_reference}
+use Rattle.fork_rules.proofs.Cited.{broken_reference}
 use Rattle.fork_rules.proofs.Walking.{breaks}
 use Rattle.fork_rules.proofs.breaking.broken_references_of.Goals as goal
 

@@ -1,6 +1,4 @@
-use Rattle.std.proofs.Common.{◌≡◌, ◌+◌, ◌*◌, ◌-◌}
-use Rattle.fork_format.specs.Fork.{offsets}
-use Rattle.fork_rules.specs.Breaking.{broken_reference, first_of}
+use Rattle.fork_rules.proofs.Cited.{◌≡◌, ◌+◌, ◌*◌, ◌-◌, offsets, broken_reference, first_of}
 use Rattle.fork_rules.proofs.breaking.broken_references_of.Given as goal
 
 -- what the references that are left break is what all break

@@ -1,4 +1,4 @@
-use Rattle.fork_rules.specs.Breaking.{broken_type}
+use Rattle.fork_rules.proofs.Cited.{broken_type}
 use Rattle.fork_rules.proofs.Walking.{breaks}
 use Rattle.fork_rules.proofs.breaking.broken_types_of.Goals as goal
 

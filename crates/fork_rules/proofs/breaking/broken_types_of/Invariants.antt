@@ -1,6 +1,4 @@
-use Rattle.std.proofs.Common.{◌≡◌, ◌+◌, ◌*◌, ◌-◌}
-use Rattle.fork_format.specs.Fork.{offsets}
-use Rattle.fork_rules.specs.Breaking.{broken_type, first_of}
+use Rattle.fork_rules.proofs.Cited.{◌≡◌, ◌+◌, ◌*◌, ◌-◌, offsets, broken_type, first_of}
 use Rattle.fork_rules.proofs.breaking.broken_types_of.Given as goal
 
 -- what the types that are left break is what all break

@@ -1,7 +1,4 @@
-use Rattle.std.proofs.Common.{◌≡◌, drop}
-use Rattle.std.specs.Str.{bytes_eq}
-use Rattle.std.specs.Cmp.Lexicographic.{pointwise}
-use Rattle.fork_rules.specs.Regions.{column}
+use Rattle.fork_rules.proofs.Cited.{◌≡◌, drop, bytes_eq, pointwise, column}
 use Rattle.fork_rules.proofs.comparing.are_fields_same.Given as goal
 
 -- whether the fields that are left are the same is whether all are

@@ -1,8 +1,4 @@
-use Rattle.std.proofs.Common.{◌≡◌, ◌∙◌, ap, subst, true, arith}
-use Rattle.fork_format.specs.Canonical.{canon, fits}
-use Rattle.fork_format.specs.Content.{Content, IsContent}
-use Rattle.fork_format.specs.View.{view}
-use Rattle.fork_rules.specs.Regions.{differences}
+use Rattle.fork_rules.proofs.Cited.{◌≡◌, ◌∙◌, ap, subst, true, arith, canon, fits, Content, IsContent, view, differences}
 use Rattle.fork_rules.proofs.Alike.{exactly}
 use Rattle.fork_rules.proofs.Bounds.{AreBytes, spelled_content}
 use Rattle.fork_rules.proofs.Following.{follow}

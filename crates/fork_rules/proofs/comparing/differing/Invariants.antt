@@ -1,6 +1,4 @@
-use Rattle.std.proofs.Common.{◌≡◌, ◌++◌, drop}
-use Rattle.std.specs.Prelude.{filter}
-use Rattle.fork_rules.specs.Regions.{differs}
+use Rattle.fork_rules.proofs.Cited.{◌≡◌, ◌++◌, drop, filter, differs}
 use Rattle.fork_rules.proofs.comparing.differing.Given as goal
 
 -- the regions so far, with those of the others that differ, are all

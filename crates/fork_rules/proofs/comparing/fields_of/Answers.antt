@@ -1,6 +1,4 @@
-use Rattle.std.proofs.Common.{◌-◌, ℕ, ◌∷◌, [], ◌∙◌, ap, sym, refl, arith, length}
-use Rattle.fork_format.specs.Fork.{map_end}
-use Rattle.fork_rules.specs.Regions.{bytes_of}
+use Rattle.fork_rules.proofs.Cited.{◌-◌, ℕ, ◌∷◌, [], ◌∙◌, ap, sym, refl, arith, length, map_end, bytes_of}
 use Rattle.fork_rules.proofs.Columns.{one_place, all_the_rest}
 use Rattle.fork_rules.proofs.comparing.fields_of.Goals as goal
 

@@ -1,6 +1,4 @@
-use Rattle.std.proofs.Common.{refl}
-use Rattle.fork_format.specs.Canonical.{canon}
-use Rattle.fork_rules.specs.Regions.{differences}
+use Rattle.fork_rules.proofs.Cited.{refl, canon, differences}
 use Rattle.fork_rules.proofs.Alike.{exactly}
 use Rattle.fork_rules.proofs.Following.{follow}
 use Rattle.fork_rules.proofs.laws.no_difference_is_the_canonical_fork.Goals as goal

@@ -1,6 +1,4 @@
-use Rattle.std.proofs.Common.{arith}
-use Rattle.fork_format.specs.Fork.{ref_count}
-use Rattle.fork_format.proofs.Loops.{sum-goes_on}
+use Rattle.fork_rules.proofs.Cited.{arith, ref_count, sum-goes_on}
 use Rattle.fork_rules.proofs.parts.refs_of_types.Goals as goal
 
 pub loop-preserved : goal.loop-preserved

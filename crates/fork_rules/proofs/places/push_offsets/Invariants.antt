@@ -1,5 +1,4 @@
-use Rattle.std.proofs.Common.{◌≡◌, ◌+◌, ◌*◌, ◌-◌, ◌≤◌, ◌++◌}
-use Rattle.fork_format.specs.Fork.{offsets}
+use Rattle.fork_rules.proofs.Cited.{◌≡◌, ◌+◌, ◌*◌, ◌-◌, ◌≤◌, ◌++◌, offsets}
 use Rattle.fork_rules.proofs.places.push_offsets.Given as goal
 
 -- the offsets so far, with those that are left, are all

@@ -1,6 +1,4 @@
-use Rattle.std.proofs.Common.{arith, ◌∙◌, ◌+◌, ◌-◌, ap, ◌++◌}
-use Rattle.std.specs.List.{flat_map}
-use Rattle.fork_format.specs.Fork.{offsets, ref_places}
+use Rattle.fork_rules.proofs.Cited.{arith, ◌∙◌, ◌+◌, ◌-◌, ap, ◌++◌, flat_map, offsets, ref_places}
 use Rattle.fork_rules.proofs.Listing.{next_listed}
 use Rattle.fork_rules.proofs.places.references_of.Goals as goal
 

@@ -1,6 +1,4 @@
-use Rattle.std.proofs.Common.{◌≡◌, ◌+◌, ◌*◌, ◌-◌, ◌++◌}
-use Rattle.std.specs.List.{flat_map}
-use Rattle.fork_format.specs.Fork.{offsets, ref_places}
+use Rattle.fork_rules.proofs.Cited.{◌≡◌, ◌+◌, ◌*◌, ◌-◌, ◌++◌, flat_map, offsets, ref_places}
 use Rattle.fork_rules.proofs.places.references_of.Given as goal
 
 -- the references of the types so far, with those of the types that are left, are all

@@ -1,4 +1,4 @@
-use Rattle.fork_format.proofs.Apart.{told_apart}
+use Rattle.fork_rules.proofs.Cited.{told_apart}
 use Rattle.fork_rules.proofs.sharing.are_apart.Goals as goal
 
 pub returns : goal.returns

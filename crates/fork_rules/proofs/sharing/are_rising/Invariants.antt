@@ -1,5 +1,4 @@
-use Rattle.std.proofs.Common.{◌≡◌, ◌-◌, drop}
-use Rattle.fork_rules.specs.Sharing.{do_rise}
+use Rattle.fork_rules.proofs.Cited.{◌≡◌, ◌-◌, drop, do_rise}
 use Rattle.fork_rules.proofs.sharing.are_rising.Given as goal
 
 -- whether the numbers rise from the one before the next is whether all do

@@ -1,5 +1,4 @@
-use Rattle.std.proofs.Common.{◌+◌, ◌∙◌, ap, drop}
-use Rattle.std.proofs.lemmas.List.{drop-drop}
+use Rattle.fork_rules.proofs.Cited.{◌+◌, ◌∙◌, ap, drop, drop-drop}
 use Rattle.fork_rules.proofs.Columns.{of_three}
 use Rattle.fork_rules.proofs.sharing.datum_offset.Goals as goal
 

@@ -1,5 +1,4 @@
-use Rattle.std.proofs.Common.{ℕ, ◌+◌, ◌∙◌, ap, map}
-use Rattle.fork_format.specs.Fork.{number}
+use Rattle.fork_rules.proofs.Cited.{ℕ, ◌+◌, ◌∙◌, ap, map, number}
 use Rattle.fork_rules.proofs.sharing.datum_offsets_of.Goals as goal
 
 pub returns : goal.returns

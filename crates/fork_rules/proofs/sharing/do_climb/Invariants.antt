@@ -1,5 +1,4 @@
-use Rattle.std.proofs.Common.{ℕ, ◌+◌, ◌<◌}
-use Rattle.std.specs.Prelude.{slice_index}
+use Rattle.fork_rules.proofs.Cited.{ℕ, ◌+◌, ◌<◌, slice_index}
 use Rattle.fork_rules.proofs.sharing.do_climb.Given as goal
 
 -- the numbers so far rise

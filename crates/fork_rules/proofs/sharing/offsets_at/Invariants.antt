@@ -1,5 +1,4 @@
-use Rattle.std.proofs.Common.{ℕ, ◌≡◌, ◌+◌, ◌++◌, drop, map}
-use Rattle.fork_format.specs.Fork.{number}
+use Rattle.fork_rules.proofs.Cited.{ℕ, ◌≡◌, ◌+◌, ◌++◌, drop, map, number}
 use Rattle.fork_rules.proofs.sharing.offsets_at.Given as goal
 
 -- the offsets so far, with those of the places that are left, are all

@@ -1,5 +1,4 @@
-use Rattle.std.proofs.Common.{ap, Err}
-use Rattle.fork_format.specs.View.{view}
+use Rattle.fork_rules.proofs.Cited.{ap, Err, view}
 use Rattle.fork_rules.proofs.Forming.{on_ok, on_cond, formed, unformed}
 use Rattle.fork_rules.proofs.texts.append_form.Goals as goal
 

@@ -1,5 +1,4 @@
-use Rattle.std.proofs.Common.{◌∙◌, ◌++◌, ap, sym}
-use Rattle.fork_rules.specs.Texts.{form_text}
+use Rattle.fork_rules.proofs.Cited.{◌∙◌, ◌++◌, ap, sym, form_text}
 use Rattle.fork_rules.proofs.texts.append_whole.Goals as goal
 
 pub returns : goal.returns

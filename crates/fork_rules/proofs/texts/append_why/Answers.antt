@@ -1,4 +1,4 @@
-use Rattle.std.proofs.Common.{sym}
+use Rattle.fork_rules.proofs.Cited.{sym}
 use Rattle.fork_rules.proofs.Forming.{on_ok}
 use Rattle.fork_rules.proofs.Keeping.{kept}
 use Rattle.fork_rules.proofs.Reading.{damaged, undamaged}

@@ -1,4 +1,4 @@
-use Rattle.std.proofs.Common.{ap, Err}
+use Rattle.fork_rules.proofs.Cited.{ap, Err}
 use Rattle.fork_rules.proofs.Reading.{spelled}
 use Rattle.fork_rules.proofs.texts.content_of_whole.Goals as goal
 

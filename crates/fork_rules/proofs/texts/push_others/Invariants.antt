@@ -1,6 +1,4 @@
-use Rattle.std.proofs.Common.{◌≡◌, ◌++◌, drop}
-use Rattle.std.specs.List.{flat_map}
-use Rattle.fork_rules.specs.Texts.{next_text}
+use Rattle.fork_rules.proofs.Cited.{◌≡◌, ◌++◌, drop, flat_map, next_text}
 use Rattle.fork_rules.proofs.texts.push_others.Given as goal
 
 -- what is written so far, with the regions that are left, is all

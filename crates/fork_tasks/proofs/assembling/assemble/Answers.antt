@@ -1,10 +1,8 @@
-use Rattle.std.proofs.Common.{◌≡◌, ◌∙◌, Err, refl, rules}
-use Rattle.fork_tasks.specs.Fault.{message_of}
+use Rattle.fork_tasks.proofs.Cited.{◌≡◌, ◌∙◌, Err, refl, rules, message_of, NewFile}
 use Rattle.fork_tasks.proofs.Accesses.{told_err}
 use Rattle.fork_tasks.proofs.Assembled.{unknown, unforked, unplaced, unwritten, assembles}
 use Rattle.fork_tasks.proofs.Faults.{quiet_silent}
 use Rattle.fork_tasks.proofs.OneFile.{quiet_undelivered}
-use Rattle.fork_tasks.specs.declared.delivering.Target.TheVariants.{NewFile}
 use Rattle.fork_tasks.proofs.assembling.assemble.Goals as goal
 
 pub returns-in_err-types-clause-undone : goal.returns-in_err-types-clause-undone

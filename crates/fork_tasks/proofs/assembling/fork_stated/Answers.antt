@@ -1,6 +1,4 @@
-use Rattle.std.proofs.Common.{◌≡◌, [], Err, refl, rules}
-use Rattle.rez_statements.specs.View.{types_of}
-use Rattle.fork_commands.specs.Sources.{Faulty, assembled}
+use Rattle.fork_tasks.proofs.Cited.{◌≡◌, [], Err, refl, rules, types_of, Faulty, assembled}
 use Rattle.fork_tasks.proofs.Assembled.{refused_alone}
 use Rattle.fork_tasks.proofs.assembling.fork_stated.Goals as goal
 

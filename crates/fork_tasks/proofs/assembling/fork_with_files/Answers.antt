@@ -1,9 +1,6 @@
-use Rattle.std.proofs.Common.{◌≡◌, ◌∙◌, Err, ap, length, map, refl, rules, string_bytes, sym}
-use Rattle.std.proofs.lemmas.List.{length-map}
-use Rattle.rez_statements.specs.View.{types_of}
-use Rattle.fork_commands.proofs.Pairs.{also_ok}
+use Rattle.fork_tasks.proofs.Cited.{◌≡◌, ◌∙◌, Err, ap, length, map, refl, rules, string_bytes, sym, length-map, types_of, also_ok}
+use Rattle.fork_tasks.proofs.Cited.{message_of}
 use Rattle.fork_tasks.specs.declared.fault.ToolFault.TheVariants.{HostMemory as NoMemory}
-use Rattle.fork_tasks.specs.Fault.{message_of}
 use Rattle.fork_tasks.proofs.Accesses.{told_err, also_err}
 use Rattle.fork_tasks.proofs.Assembled.{named_so, unstated_memory, unread_named, states_with, refused_with}
 use Rattle.fork_tasks.proofs.assembling.fork_with_files.Goals as goal

@@ -1,7 +1,5 @@
-use Rattle.std.proofs.Common.{◌≡◌, ◌++◌, drop, map}
+use Rattle.fork_tasks.proofs.Cited.{◌≡◌, ◌++◌, drop, map, FileName, path_from}
 use Rattle.std.specs.Prelude.{string_bytes}
-use Rattle.rez_text.specs.declared.fault.FileName.{FileName}
-use Rattle.fork_tasks.specs.Assembling.{path_from}
 use Rattle.fork_tasks.proofs.assembling.paths_from.Given as goal
 
 -- the paths so far, with those to come, are all

@@ -1,5 +1,4 @@
-use Rattle.fork_commands.proofs.Pairs.{also_ok}
-use Rattle.fork_tasks.specs.Fault.{message_of}
+use Rattle.fork_tasks.proofs.Cited.{also_ok, message_of}
 use Rattle.fork_tasks.proofs.Accesses.{also_err}
 use Rattle.fork_tasks.proofs.Assembled.{forks_of, unforked_of}
 use Rattle.fork_tasks.proofs.assembling.read_fork.Goals as goal

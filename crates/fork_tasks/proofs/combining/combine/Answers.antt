@@ -1,4 +1,4 @@
-use Rattle.std.proofs.Common.{◌≡◌, ◌∙◌, Err, rules}
+use Rattle.fork_tasks.proofs.Cited.{◌≡◌, ◌∙◌, Err, rules}
 use Rattle.fork_tasks.proofs.Accesses.{told_err}
 use Rattle.fork_tasks.proofs.TwoFiles.{both, second_unread, unmade, undelivered, combines}
 use Rattle.fork_tasks.proofs.OneFile.{quiet_undelivered}

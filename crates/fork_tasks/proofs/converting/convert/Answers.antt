@@ -1,4 +1,4 @@
-use Rattle.std.proofs.Common.{◌≡◌, Err, refl, rules}
+use Rattle.fork_tasks.proofs.Cited.{◌≡◌, Err, refl, rules}
 use Rattle.fork_tasks.proofs.Accesses.{told_err}
 use Rattle.fork_tasks.proofs.OneFile.{unmade, undelivered, converts, quiet_undelivered}
 use Rattle.fork_tasks.proofs.Faults.{quiet_silent}

@@ -1,6 +1,4 @@
-use Rattle.rez_statements.specs.View.{types_of}
-use Rattle.fork_commands.proofs.Pairs.{also_ok}
-use Rattle.fork_tasks.specs.Fault.{message_of}
+use Rattle.fork_tasks.proofs.Cited.{types_of, also_ok, message_of}
 use Rattle.fork_tasks.proofs.Accesses.{also_err}
 use Rattle.fork_tasks.proofs.Declared.{declares_one, undeclared_one}
 use Rattle.fork_tasks.proofs.declaring.declare_file.Goals as goal

@@ -1,6 +1,4 @@
-use Rattle.std.proofs.Common.{◌≡◌, ◌+◌, ◌∷◌, ◌∙◌, [], ℕ, List, Err, drop, get_or, map, subst, arith, rules}
-use Rattle.std.proofs.lemmas.Grind.{common_steps}
-use Rattle.rez_statements.specs.View.{types_of}
+use Rattle.fork_tasks.proofs.Cited.{◌≡◌, ◌+◌, ◌∷◌, ◌∙◌, [], ℕ, List, Err, drop, get_or, map, subst, arith, rules, common_steps, types_of}
 use Rattle.fork_tasks.proofs.Accesses.{told_err}
 use Rattle.fork_tasks.proofs.Declared.{Known, further, all_known, stopped}
 use Rattle.fork_tasks.proofs.declaring.declare_files.Goals as goal

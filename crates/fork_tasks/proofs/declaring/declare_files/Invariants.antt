@@ -1,5 +1,4 @@
-use Rattle.std.proofs.Common.{◌≡◌, drop, map}
-use Rattle.rez_statements.specs.View.{types_of}
+use Rattle.fork_tasks.proofs.Cited.{◌≡◌, drop, map, types_of}
 use Rattle.fork_tasks.proofs.Declared.{Known}
 use Rattle.fork_tasks.proofs.declaring.declare_files.Given as goal
 

@@ -1,6 +1,5 @@
-use Rattle.std.proofs.Common.{◌≡◌, [], Err, rules}
+use Rattle.fork_tasks.proofs.Cited.{◌≡◌, [], Err, rules, Folder}
 use Rattle.fork_tasks.specs.declared.fault.ToolFault.TheVariants.{HostMemory}
-use Rattle.fork_tasks.specs.Accesses.{Folder}
 use Rattle.fork_tasks.proofs.Accesses.{told_err, unwritten_so, unreported}
 use Rattle.fork_tasks.proofs.Extracted.{stops_first}
 use Rattle.fork_tasks.proofs.extracting.make_folder.Goals as goal

@@ -1,5 +1,4 @@
-use Rattle.std.proofs.Common.{◌≡◌, map, Err, rules}
-use Rattle.fork_commands.specs.View.{view_file}
+use Rattle.fork_tasks.proofs.Cited.{◌≡◌, map, Err, rules, view_file}
 use Rattle.fork_tasks.proofs.Accesses.{told_err}
 use Rattle.fork_tasks.proofs.Extracted.{folder_stopped, files_stopped}
 use Rattle.fork_tasks.proofs.extracting.write_all.Goals as goal

@@ -1,7 +1,5 @@
-use Rattle.std.proofs.Common.{◌≡◌, ◌∙◌, Err, ap, rules}
-use Rattle.fork_commands.specs.View.{view_file}
+use Rattle.fork_tasks.proofs.Cited.{◌≡◌, ◌∙◌, Err, ap, rules, view_file, write_message}
 use Rattle.fork_tasks.specs.declared.fault.ToolFault.TheVariants.{HostMemory}
-use Rattle.fork_tasks.specs.Fault.{write_message}
 use Rattle.fork_tasks.proofs.Accesses.{told_err}
 use Rattle.fork_tasks.proofs.Extracted.{not_written, not_reported}
 use Rattle.fork_tasks.proofs.extracting.write_file.Goals as goal

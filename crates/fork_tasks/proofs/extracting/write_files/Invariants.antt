@@ -1,6 +1,4 @@
-use Rattle.std.proofs.Common.{◌≡◌, drop, map}
-use Rattle.fork_commands.specs.View.{view_file}
-use Rattle.fork_tasks.specs.Extracting.{write_in}
+use Rattle.fork_tasks.proofs.Cited.{◌≡◌, drop, map, view_file, write_in}
 use Rattle.fork_tasks.proofs.Writes.{Made}
 use Rattle.fork_tasks.proofs.extracting.write_files.Given as goal
 

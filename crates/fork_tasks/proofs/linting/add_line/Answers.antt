@@ -1,4 +1,4 @@
-use Rattle.std.proofs.lemmas.Result.{on_ok_weaker}
+use Rattle.fork_tasks.proofs.Cited.{on_ok_weaker}
 use Rattle.fork_tasks.proofs.linting.add_line.Goals as goal
 
 pub returns : goal.returns

@@ -1,4 +1,4 @@
-use Rattle.std.proofs.Common.{drop, map}
+use Rattle.fork_tasks.proofs.Cited.{drop, map}
 use Rattle.fork_tasks.proofs.Linted.{GoesOn}
 use Rattle.fork_tasks.proofs.linting.add_lines.Given as goal
 

@@ -1,5 +1,4 @@
-use Rattle.std.proofs.lemmas.Result.{on_ok_weaker}
-use Rattle.rez_statements.specs.View.{types_of}
+use Rattle.fork_tasks.proofs.Cited.{on_ok_weaker, types_of}
 use Rattle.fork_tasks.specs.declared.linting.TextKind.TheVariants as kind
 use Rattle.fork_tasks.proofs.Linted.{text_linted, text_clean}
 use Rattle.fork_tasks.proofs.linting.add_read.Goals as goal

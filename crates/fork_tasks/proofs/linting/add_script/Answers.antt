@@ -1,4 +1,4 @@
-use Rattle.std.proofs.lemmas.Result.{on_ok_weaker}
+use Rattle.fork_tasks.proofs.Cited.{on_ok_weaker}
 use Rattle.fork_tasks.proofs.Linted.{found_lines, found_clean}
 use Rattle.fork_tasks.proofs.linting.add_script.Goals as goal
 

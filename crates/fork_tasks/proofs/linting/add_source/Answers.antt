@@ -1,8 +1,5 @@
-use Rattle.std.proofs.Common.{◌≡◌, [], Ok, Err, ap, rules}
-use Rattle.rez_statements.specs.View.{types_of}
-use Rattle.rez_text.specs.Reading.{Wrong, Lacking, read}
-use Rattle.rez_text.specs.View.{content_stated, names_of}
-use Rattle.fork_tasks.specs.Linting.{stopped_at}
+use Rattle.fork_tasks.proofs.Cited.{◌≡◌, [], Ok, Err, ap, rules, types_of, Wrong, Lacking, read, content_stated, stopped_at}
+use Rattle.rez_text.specs.View.{names_of}
 use Rattle.fork_tasks.proofs.Linted.{no_lines, none_clean, some_lines, some_clean}
 use Rattle.fork_tasks.proofs.linting.add_source.Goals as goal
 

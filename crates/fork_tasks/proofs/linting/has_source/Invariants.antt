@@ -1,6 +1,4 @@
-use Rattle.std.proofs.Common.{◌≡◌, drop}
-use Rattle.std.specs.List.{list_any}
-use Rattle.fork_tasks.specs.Linting.{is_source, kind_at}
+use Rattle.fork_tasks.proofs.Cited.{◌≡◌, drop, list_any, is_source, kind_at}
 use Rattle.fork_tasks.proofs.linting.has_source.Given as goal
 
 -- whether one of the paths is that of a source is whether one of those that are left is

@@ -1,7 +1,4 @@
-use Rattle.std.proofs.Common.{◌≡◌, [], ◌∷◌, rules}
-use Rattle.rez_statements.specs.View.{types_of}
-use Rattle.fork_tasks.specs.Accesses.{Failed, and_then}
-use Rattle.fork_tasks.specs.Linting.{lines_by}
+use Rattle.fork_tasks.proofs.Cited.{◌≡◌, [], ◌∷◌, rules, types_of, Failed, and_then, lines_by}
 use Rattle.fork_tasks.proofs.Linted.{unread_linted}
 use Rattle.fork_tasks.proofs.linting.lint_file.Goals as goal
 

@@ -1,8 +1,5 @@
-use Rattle.std.proofs.Common.{◌≡◌, ◌+◌, ◌∷◌, ◌∙◌, [], ℕ, List, drop, map, true, get_or, subst, arith}
-use Rattle.std.proofs.lemmas.Grind.{common_steps}
-use Rattle.mac_words.proofs.Plain.{on_err}
-use Rattle.rez_statements.specs.View.{types_of}
-use Rattle.fork_tasks.specs.Linting.{lines_by}
+use Rattle.fork_tasks.proofs.Cited.{◌≡◌, ◌+◌, ◌∷◌, ◌∙◌, [], ℕ, List, drop, map, true, get_or, subst, arith, common_steps, on_err, types_of}
+use Rattle.fork_tasks.proofs.Cited.{lines_by}
 use Rattle.fork_tasks.proofs.Surveyed.{reads_on}
 use Rattle.fork_tasks.proofs.Linted.{Come, further, all_linted}
 use Rattle.fork_tasks.proofs.linting.lint_files.Goals as goal

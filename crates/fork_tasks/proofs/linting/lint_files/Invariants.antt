@@ -1,6 +1,4 @@
-use Rattle.std.proofs.Common.{◌≡◌, [], true, drop, map}
-use Rattle.rez_statements.specs.View.{types_of}
-use Rattle.fork_tasks.specs.Linting.{lines_by}
+use Rattle.fork_tasks.proofs.Cited.{◌≡◌, [], true, drop, map, types_of, lines_by}
 use Rattle.fork_tasks.proofs.Linted.{Come}
 use Rattle.fork_tasks.proofs.linting.lint_files.Given as goal
 

@@ -1,7 +1,4 @@
-use Rattle.std.proofs.Common.{◌≡◌, Err, rules}
-use Rattle.rez_statements.specs.View.{types_of}
-use Rattle.fork_commands.proofs.Pairs.{also_ok}
-use Rattle.fork_tasks.specs.Fault.{message_of}
+use Rattle.fork_tasks.proofs.Cited.{◌≡◌, Err, rules, types_of, also_ok, message_of}
 use Rattle.fork_tasks.specs.Linting.{Unknown}
 use Rattle.fork_tasks.proofs.Accesses.{also_err, told_err}
 use Rattle.fork_tasks.proofs.Faults.{quiet_silent, quiet_from}

@@ -1,7 +1,5 @@
-use Rattle.std.proofs.Common.{◌≡◌, [], Err, map, rules, subst, sym}
+use Rattle.fork_tasks.proofs.Cited.{◌≡◌, [], Err, map, rules, subst, sym, types_of, Adds, AreLinted, lines_by}
 use Rattle.fork_tasks.proofs.Accesses.{told_err}
-use Rattle.rez_statements.specs.View.{types_of}
-use Rattle.fork_tasks.specs.Linting.{Adds, AreLinted, lines_by}
 use Rattle.fork_tasks.proofs.Linted.{unprinted}
 use Rattle.fork_tasks.proofs.linting.print_lines.Goals as goal
 

@@ -1,7 +1,4 @@
-use Rattle.std.proofs.Common.{refl, sym, ◌∙◌}
-use Rattle.rez_statements.specs.View.{types_of}
-use Rattle.fork_commands.proofs.Pairs.{also_ok}
-use Rattle.fork_tasks.specs.Fault.{message_of}
+use Rattle.fork_tasks.proofs.Cited.{refl, sym, ◌∙◌, types_of, also_ok, message_of}
 use Rattle.fork_tasks.proofs.Accesses.{also_err}
 use Rattle.fork_tasks.proofs.Linted.{known_needed, known_spared, same_paths, unknown_all}
 use Rattle.fork_tasks.proofs.linting.types_for.Goals as goal

@@ -1,6 +1,4 @@
-use Rattle.std.proofs.Common.{◌≡◌, ◌≤◌, ◌+◌, ◌*◌, ◌^◌, drop, map, length}
-use Rattle.fork_format.specs.Content.{refs_of}
-use Rattle.fork_format.specs.View.{view_group}
+use Rattle.fork_tasks.proofs.Cited.{◌≡◌, ◌≤◌, ◌+◌, ◌*◌, ◌^◌, drop, map, length, refs_of, view_group}
 use Rattle.fork_tasks.proofs.listing.count_of.Given as goal
 
 -- the resources so far, with those of the types to come, are all

@@ -1,10 +1,6 @@
-use Rattle.std.proofs.Common.{◌≡◌, ◌∙◌, ◌++◌, ◌+◌, List, ℕ, drop, map, rules, arith}
-use Rattle.std.proofs.lemmas.Grind.{common_steps}
-use Rattle.std.specs.List.{flat_map}
-use Rattle.byteorder.specs.Endian.{big_number}
-use Rattle.fork_format.specs.View.{view_ref}
+use Rattle.fork_tasks.proofs.Cited.{◌≡◌, ◌∙◌, ◌++◌, ◌+◌, List, ℕ, drop, map, rules, arith, common_steps, flat_map, big_number, view_ref}
+use Rattle.fork_tasks.proofs.Cited.{PrintsBut}
 use Rattle.fork_tasks.specs.Listing.{line_of}
-use Rattle.fork_tasks.specs.Printing.{PrintsBut}
 use Rattle.fork_tasks.proofs.Prints.{first-further, first-front-further}
 use Rattle.fork_tasks.proofs.listing.print_group.Goals as goal
 

@@ -1,9 +1,5 @@
-use Rattle.std.proofs.Common.{◌≡◌, ◌++◌, drop, map}
-use Rattle.std.specs.List.{flat_map}
-use Rattle.byteorder.specs.Endian.{big_number}
-use Rattle.fork_format.specs.View.{view_ref, view_group}
-use Rattle.fork_tasks.specs.Listing.{line_of, group_lines}
-use Rattle.fork_tasks.specs.Printing.{PrintsBut}
+use Rattle.fork_tasks.proofs.Cited.{◌≡◌, ◌++◌, drop, map, flat_map, big_number, view_ref, view_group, group_lines, PrintsBut}
+use Rattle.fork_tasks.specs.Listing.{line_of}
 use Rattle.fork_tasks.proofs.listing.print_group.Given as goal
 
 -- the lines that wait, with those of the resources to come, are the rest of the whole

@@ -1,9 +1,5 @@
-use Rattle.std.proofs.Common.{◌≡◌, ◌∙◌, ◌++◌, ◌+◌, List, ℕ, drop, map, rules, arith}
-use Rattle.std.proofs.lemmas.Grind.{common_steps}
-use Rattle.std.specs.List.{flat_map}
-use Rattle.fork_format.specs.View.{view_group}
-use Rattle.fork_tasks.specs.Listing.{group_lines}
-use Rattle.fork_tasks.specs.Printing.{PrintsBut}
+use Rattle.fork_tasks.proofs.Cited.{◌≡◌, ◌∙◌, ◌++◌, ◌+◌, List, ℕ, drop, map, rules, arith, common_steps, flat_map, view_group, group_lines}
+use Rattle.fork_tasks.proofs.Cited.{PrintsBut}
 use Rattle.fork_tasks.proofs.Prints.{first-further, first-front-further}
 use Rattle.fork_tasks.proofs.listing.print_groups.Goals as goal
 

@@ -1,8 +1,4 @@
-use Rattle.std.proofs.Common.{◌≡◌, ◌++◌, drop, map}
-use Rattle.std.specs.List.{flat_map}
-use Rattle.fork_format.specs.View.{view_group}
-use Rattle.fork_tasks.specs.Listing.{group_lines}
-use Rattle.fork_tasks.specs.Printing.{PrintsBut}
+use Rattle.fork_tasks.proofs.Cited.{◌≡◌, ◌++◌, drop, map, flat_map, view_group, group_lines, PrintsBut}
 use Rattle.fork_tasks.proofs.listing.print_groups.Given as goal
 
 -- the lines that wait, with those of the types to come, are the rest of the whole

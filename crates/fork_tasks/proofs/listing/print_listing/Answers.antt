@@ -1,7 +1,4 @@
-use Rattle.std.proofs.Common.{rules}
-use Rattle.fork_tasks.specs.Listing.{listing}
-use Rattle.fork_format.specs.View.{view}
-use Rattle.fork_tasks.specs.Printing.{PrintsBut}
+use Rattle.fork_tasks.proofs.Cited.{rules, listing, view, PrintsBut}
 use Rattle.fork_tasks.proofs.Prints.{nothing, front-further}
 use Rattle.fork_tasks.proofs.listing.print_listing.Goals as goal
 

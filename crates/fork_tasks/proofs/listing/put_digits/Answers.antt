@@ -1,4 +1,4 @@
-use Rattle.std.proofs.Common.{arith}
+use Rattle.fork_tasks.proofs.Cited.{arith}
 use Rattle.fork_tasks.proofs.Digits.{two_more}
 use Rattle.fork_tasks.proofs.listing.put_digits.Goals as goal
 

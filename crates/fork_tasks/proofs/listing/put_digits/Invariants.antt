@@ -1,5 +1,4 @@
-use Rattle.std.proofs.Common.{◌≡◌, ◌*◌, take}
-use Rattle.script_text.specs.Transcript.{hex}
+use Rattle.fork_tasks.proofs.Cited.{◌≡◌, ◌*◌, take, hex}
 use Rattle.fork_tasks.proofs.listing.put_digits.Given as goal
 
 -- the digits of the bytes so far

@@ -1,8 +1,5 @@
-use Rattle.std.proofs.Common.{◌≡◌, ◌∙◌, Err, length, map, rules, sym}
-use Rattle.std.proofs.lemmas.List.{length-map}
+use Rattle.fork_tasks.proofs.Cited.{◌≡◌, ◌∙◌, Err, length, map, rules, sym, length-map, on_ok_weaker, view_list}
 use Rattle.std.specs.Prelude.{string_bytes}
-use Rattle.std.proofs.lemmas.Result.{on_ok_weaker}
-use Rattle.fork_edits.specs.View.{view_list}
 use Rattle.fork_tasks.specs.declared.fault.ToolFault.TheVariants.{HostMemory as NoMemory}
 use Rattle.fork_tasks.proofs.Accesses.{told_err, also_err}
 use Rattle.fork_tasks.proofs.Packed.{no_paths, files_unread, all_read, unfit, unwritten, packs}

@@ -1,9 +1,5 @@
-use Rattle.std.proofs.Common.{◌≡◌, ◌+◌, ◌∷◌, [], ℕ, List, Err, drop, map, string_bytes, subst, arith, rules}
-use Rattle.std.proofs.Common.{◌∙◌, ap, length, length-append, sym}
-use Rattle.std.proofs.lemmas.List.{map-append}
-use Rattle.std.proofs.lemmas.Grind.{common_steps}
-use Rattle.fork_tasks.specs.Accesses.{Read, and_then, IsUnread}
-use Rattle.fork_tasks.specs.Fault.{message_of}
+use Rattle.fork_tasks.proofs.Cited.{◌≡◌, ◌+◌, ◌∷◌, [], ℕ, List, Err, drop, map, string_bytes, subst, arith, rules, ◌∙◌, ap, length}
+use Rattle.fork_tasks.proofs.Cited.{length-append, sym, map-append, common_steps, Read, and_then, IsUnread, message_of}
 use Rattle.fork_tasks.specs.declared.fault.ToolFault.TheVariants.{HostMemory as NoMemory}
 use Rattle.fork_tasks.proofs.Accesses.{told_err}
 use Rattle.fork_tasks.proofs.Packed.{Came, further, all_came, unread_file, unkept_file}

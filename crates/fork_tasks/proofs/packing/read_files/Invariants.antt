@@ -1,4 +1,4 @@
-use Rattle.std.proofs.Common.{◌≡◌, drop, length, map, string_bytes}
+use Rattle.fork_tasks.proofs.Cited.{◌≡◌, drop, length, map, string_bytes}
 use Rattle.fork_tasks.proofs.Packed.{Came}
 use Rattle.fork_tasks.proofs.packing.read_files.Given as goal
 

@@ -1,8 +1,4 @@
-use Rattle.std.proofs.Common.{◌≡◌, rules}
-use Rattle.fork_commands.specs.Packing.{listed_in}
-use Rattle.fork_tasks.specs.Fault.{message_of}
-use Rattle.fork_tasks.specs.Packing.{list_path, IsUnpacked}
-use Rattle.fork_tasks.specs.Fault.{IsForkFault}
+use Rattle.fork_tasks.proofs.Cited.{◌≡◌, rules, listed_in, message_of, list_path, IsUnpacked, IsForkFault}
 use Rattle.fork_tasks.proofs.Accesses.{also_err}
 use Rattle.fork_tasks.proofs.Packed.{list_faulty}
 use Rattle.fork_tasks.proofs.packing.read_list.Goals as goal

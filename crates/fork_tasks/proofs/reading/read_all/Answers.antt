@@ -1,4 +1,4 @@
-use Rattle.std.proofs.Common.{◌+◌, rules, arith}
+use Rattle.fork_tasks.proofs.Cited.{◌+◌, rules, arith}
 use Rattle.fork_tasks.proofs.Wholes.{below_limit}
 use Rattle.fork_tasks.proofs.reading.read_all.Goals as goal
 

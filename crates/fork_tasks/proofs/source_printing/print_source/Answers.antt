@@ -1,6 +1,4 @@
-use Rattle.std.proofs.Common.{◌≡◌, ◌∙◌, Err, refl, rules}
-use Rattle.fork_tasks.specs.declared.delivering.Target.TheVariants.{Printed}
-use Rattle.fork_tasks.specs.Fault.{message_of}
+use Rattle.fork_tasks.proofs.Cited.{◌≡◌, ◌∙◌, Err, refl, rules, Printed, message_of}
 use Rattle.fork_tasks.proofs.Accesses.{told_err}
 use Rattle.fork_tasks.proofs.Faults.{quiet_silent}
 use Rattle.fork_tasks.proofs.OneFile.{quiet_undelivered}

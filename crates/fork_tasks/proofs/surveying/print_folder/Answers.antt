@@ -1,7 +1,4 @@
-use Rattle.std.proofs.Common.{◌++◌, ◌∙◌, false, ap}
-use Rattle.std.specs.List.{flat_map}
-use Rattle.fork_tasks.specs.Fault.{message_of}
-use Rattle.fork_tasks.specs.Surveying.{line_of, IsFolderSurveyed}
+use Rattle.fork_tasks.proofs.Cited.{◌++◌, ◌∙◌, false, ap, flat_map, message_of, line_of, IsFolderSurveyed}
 use Rattle.fork_tasks.proofs.Accesses.{also_err}
 use Rattle.fork_tasks.proofs.Surveyed.{unlisted}
 use Rattle.fork_tasks.proofs.surveying.print_folder.Goals as goal

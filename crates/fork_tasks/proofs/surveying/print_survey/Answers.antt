@@ -1,6 +1,4 @@
-use Rattle.std.proofs.Common.{map, subst}
-use Rattle.fork_tasks.specs.Fault.{message_of}
-use Rattle.fork_tasks.specs.Surveying.{AreSurveyed}
+use Rattle.fork_tasks.proofs.Cited.{map, subst, message_of, AreSurveyed}
 use Rattle.fork_tasks.proofs.Accesses.{also_err}
 use Rattle.fork_tasks.proofs.Surveyed.{unlisted}
 use Rattle.fork_tasks.proofs.surveying.print_survey.Goals as goal

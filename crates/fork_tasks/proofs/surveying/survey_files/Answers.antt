@@ -1,7 +1,5 @@
-use Rattle.std.proofs.Common.{◌≡◌, ◌+◌, ◌∷◌, ◌∙◌, [], ℕ, List, drop, map, string_bytes, subst, arith}
-use Rattle.std.proofs.lemmas.Grind.{common_steps}
-use Rattle.mac_words.proofs.Plain.{on_err}
-use Rattle.fork_tasks.specs.Surveying.{IsSeen, AreSeen}
+use Rattle.fork_tasks.proofs.Cited.{◌≡◌, ◌+◌, ◌∷◌, ◌∙◌, [], ℕ, List, drop, map, string_bytes, subst, arith, common_steps, on_err, IsSeen}
+use Rattle.fork_tasks.proofs.Cited.{AreSeen}
 use Rattle.fork_tasks.proofs.Surveyed.{Come, further, seen_step, seen_reads, reads_on, all_seen}
 use Rattle.fork_tasks.proofs.surveying.survey_files.Goals as goal
 

@@ -1,5 +1,4 @@
-use Rattle.std.proofs.Common.{◌≡◌, drop, map, string_bytes}
-use Rattle.fork_tasks.specs.Surveying.{AreSeen}
+use Rattle.fork_tasks.proofs.Cited.{◌≡◌, drop, map, string_bytes, AreSeen}
 use Rattle.fork_tasks.proofs.Surveyed.{Come}
 use Rattle.fork_tasks.proofs.surveying.survey_files.Given as goal
 

@@ -1,7 +1,5 @@
-use Rattle.std.proofs.Common.{List, map, string_bytes, subst}
+use Rattle.fork_tasks.proofs.Cited.{List, map, string_bytes, subst, Access, AreSeen, Went}
 use Rattle.std.specs.Prelude.{OnOk}
-use Rattle.fork_tasks.specs.Accesses.{Access}
-use Rattle.fork_tasks.specs.Surveying.{AreSeen, Went}
 use Rattle.fork_tasks.proofs.Surveyed.{folder_surveyed, folder_stopped}
 use Rattle.fork_tasks.proofs.surveying.survey_folder.Goals as goal
 

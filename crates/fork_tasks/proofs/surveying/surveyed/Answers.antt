@@ -1,7 +1,5 @@
-use Rattle.std.proofs.Common.{◌≡◌, ◌+◌, ◌∷◌, ◌∙◌, [], ℕ, List, drop, map, true, get_or, subst, arith}
-use Rattle.std.proofs.lemmas.Grind.{common_steps}
-use Rattle.mac_words.proofs.Plain.{on_err}
-use Rattle.fork_tasks.specs.Surveying.{AreSurveyed}
+use Rattle.fork_tasks.proofs.Cited.{◌≡◌, ◌+◌, ◌∷◌, ◌∙◌, [], ℕ, List, drop, map, true, get_or, subst, arith, common_steps, on_err}
+use Rattle.fork_tasks.proofs.Cited.{AreSurveyed}
 use Rattle.fork_tasks.proofs.Surveyed.{Come, further, surveyed_step, surveyed_reads, reads_on, all_surveyed}
 use Rattle.fork_tasks.proofs.surveying.surveyed.Goals as goal
 

@@ -1,5 +1,4 @@
-use Rattle.std.proofs.Common.{◌≡◌, [], true, drop, map}
-use Rattle.fork_tasks.specs.Surveying.{AreSurveyed}
+use Rattle.fork_tasks.proofs.Cited.{◌≡◌, [], true, drop, map, AreSurveyed}
 use Rattle.fork_tasks.proofs.Surveyed.{Come}
 use Rattle.fork_tasks.proofs.surveying.surveyed.Given as goal
 

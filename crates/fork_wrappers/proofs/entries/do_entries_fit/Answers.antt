@@ -1,4 +1,4 @@
-use Rattle.fork_wrappers.specs.Entries.{entry_fits}
+use Rattle.fork_wrappers.proofs.Cited.{entry_fits}
 use Rattle.fork_wrappers.proofs.Walking.{fails}
 use Rattle.fork_wrappers.proofs.entries.do_entries_fit.Goals as goal
 

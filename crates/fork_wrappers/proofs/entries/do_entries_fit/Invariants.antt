@@ -1,7 +1,4 @@
-use Rattle.std.proofs.Common.{◌≡◌, ◌+◌, ◌*◌, ◌-◌}
-use Rattle.std.specs.List.{list_all}
-use Rattle.fork_format.specs.Fork.{offsets}
-use Rattle.fork_wrappers.specs.Entries.{entry_fits}
+use Rattle.fork_wrappers.proofs.Cited.{◌≡◌, ◌+◌, ◌*◌, ◌-◌, list_all, offsets, entry_fits}
 use Rattle.fork_wrappers.proofs.entries.do_entries_fit.Given as goal
 
 -- whether the entries that are left fit is whether all do

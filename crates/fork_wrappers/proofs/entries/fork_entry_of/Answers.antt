@@ -1,6 +1,4 @@
-use Rattle.std.proofs.Common.{arith}
-use Rattle.fork_format.proofs.Loops.{GoesOn, all_goes_on}
-use Rattle.fork_wrappers.specs.Entries.{entry_fits, is_fork_entry}
+use Rattle.fork_wrappers.proofs.Cited.{arith, GoesOn, all_goes_on, entry_fits, is_fork_entry}
 use Rattle.fork_wrappers.proofs.Walking.{goes_on, stops}
 use Rattle.fork_wrappers.proofs.entries.fork_entry_of.Goals.{In-loop}
 use Rattle.fork_wrappers.proofs.entries.fork_entry_of.Goals as goal

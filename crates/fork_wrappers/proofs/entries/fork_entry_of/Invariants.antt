@@ -1,9 +1,5 @@
-use Rattle.std.proofs.Common.{◌≡◌, ◌+◌, ◌*◌, ◌≤◌, ◌-◌, ◌++◌, length, true}
-use Rattle.std.specs.Prelude.{IfSome, filter}
-use Rattle.std.specs.List.{list_all}
-use Rattle.std.specs.Option.{option_to_list}
-use Rattle.fork_format.specs.Fork.{offsets}
-use Rattle.fork_wrappers.specs.Entries.{entry_fits, is_fork_entry}
+use Rattle.fork_wrappers.proofs.Cited.{◌≡◌, ◌+◌, ◌*◌, ◌≤◌, ◌-◌, ◌++◌, length, true, IfSome, filter, list_all, option_to_list, offsets}
+use Rattle.fork_wrappers.proofs.Cited.{entry_fits, is_fork_entry}
 use Rattle.fork_wrappers.proofs.entries.fork_entry_of.Given as goal
 
 -- the entry that was found, with those that are left, are all

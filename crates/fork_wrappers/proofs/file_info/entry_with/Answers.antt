@@ -1,4 +1,4 @@
-use Rattle.std.proofs.Common.{arith, rules}
+use Rattle.fork_wrappers.proofs.Cited.{arith, rules}
 use Rattle.fork_wrappers.proofs.Firsts.{found_here, passed_by}
 use Rattle.fork_wrappers.proofs.file_info.entry_with.Goals as goal
 

@@ -1,6 +1,4 @@
-use Rattle.std.proofs.Common.{◌≡◌, ◌+◌, ◌*◌, ◌-◌}
-use Rattle.fork_format.specs.Fork.{offsets}
-use Rattle.fork_wrappers.specs.Info.{first_with}
+use Rattle.fork_wrappers.proofs.Cited.{◌≡◌, ◌+◌, ◌*◌, ◌-◌, offsets, first_with}
 use Rattle.fork_wrappers.proofs.file_info.entry_with.Given as goal
 
 -- the first of the entries that are left is the first of all

@@ -1,5 +1,4 @@
-use Rattle.std.proofs.Common.{sym, ◌∙◌}
-use Rattle.std.proofs.lemmas.Bool.{cond-false}
+use Rattle.fork_wrappers.proofs.Cited.{sym, ◌∙◌, cond-false}
 use Rattle.fork_wrappers.proofs.finding.wrapping.Goals as goal
 
 pub returns-else-is_first_file-clause-wrapping : goal.returns-else-is_first_file-clause-wrapping

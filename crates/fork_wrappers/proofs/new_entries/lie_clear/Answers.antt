@@ -1,4 +1,4 @@
-use Rattle.fork_wrappers.specs.Rewrapped.{is_clear}
+use Rattle.fork_wrappers.proofs.Cited.{is_clear}
 use Rattle.fork_wrappers.proofs.Walking.{fails}
 use Rattle.fork_wrappers.proofs.new_entries.lie_clear.Goals as goal
 

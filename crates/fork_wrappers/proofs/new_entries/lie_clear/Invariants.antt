@@ -1,7 +1,4 @@
-use Rattle.std.proofs.Common.{◌≡◌, ◌+◌, ◌*◌, ◌-◌}
-use Rattle.std.specs.List.{list_all}
-use Rattle.fork_format.specs.Fork.{offsets}
-use Rattle.fork_wrappers.specs.Rewrapped.{is_clear}
+use Rattle.fork_wrappers.proofs.Cited.{◌≡◌, ◌+◌, ◌*◌, ◌-◌, list_all, offsets, is_clear}
 use Rattle.fork_wrappers.proofs.new_entries.lie_clear.Given as goal
 
 -- whether the entries that are left are clear is whether all are

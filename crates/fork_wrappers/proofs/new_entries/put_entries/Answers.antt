@@ -1,7 +1,4 @@
-use Rattle.std.proofs.Common.{arith, rules}
-use Rattle.fork_format.proofs.Loops.{GoesOn, all_goes_on}
-use Rattle.fork_wrappers.specs.Entries.{entry_fits}
-use Rattle.fork_wrappers.specs.Rewrapped.{is_clear, new_entry}
+use Rattle.fork_wrappers.proofs.Cited.{arith, rules, GoesOn, all_goes_on, entry_fits, is_clear, new_entry}
 use Rattle.fork_wrappers.proofs.Pieces.{piece_more}
 use Rattle.fork_wrappers.proofs.new_entries.put_entries.Goals.{In-loop}
 use Rattle.fork_wrappers.proofs.new_entries.put_entries.Goals as goal

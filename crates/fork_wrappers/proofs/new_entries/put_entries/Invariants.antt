@@ -1,8 +1,4 @@
-use Rattle.std.proofs.Common.{◌≡◌, ◌+◌, ◌*◌, ◌-◌, ◌++◌, true}
-use Rattle.std.specs.List.{list_all, flat_map}
-use Rattle.fork_format.specs.Fork.{offsets}
-use Rattle.fork_wrappers.specs.Entries.{entry_fits}
-use Rattle.fork_wrappers.specs.Rewrapped.{is_clear, new_entry}
+use Rattle.fork_wrappers.proofs.Cited.{◌≡◌, ◌+◌, ◌*◌, ◌-◌, ◌++◌, true, list_all, flat_map, offsets, entry_fits, is_clear, new_entry}
 use Rattle.fork_wrappers.proofs.new_entries.put_entries.Given as goal
 
 -- what was written, with the entries that are left

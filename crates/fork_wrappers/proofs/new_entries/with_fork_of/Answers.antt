@@ -1,5 +1,4 @@
-use Rattle.std.proofs.Common.{◌≡◌, length, true, rules}
-use Rattle.fork_wrappers.specs.Rewrapped.{are_clear, is_entries_file, with_fork}
+use Rattle.fork_wrappers.proofs.Cited.{◌≡◌, length, true, rules, are_clear, is_entries_file, with_fork}
 use Rattle.fork_wrappers.proofs.Rewraps.{is_made_among}
 use Rattle.fork_wrappers.proofs.new_entries.with_fork_of.Goals as goal
 

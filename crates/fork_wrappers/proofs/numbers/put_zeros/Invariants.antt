@@ -1,4 +1,4 @@
-use Rattle.std.proofs.Common.{◌≡◌, ◌-◌, ◌++◌, replicate}
+use Rattle.fork_wrappers.proofs.Cited.{◌≡◌, ◌-◌, ◌++◌, replicate}
 use Rattle.fork_wrappers.proofs.numbers.put_zeros.Given as goal
 
 -- what was written, with the zeros that are left

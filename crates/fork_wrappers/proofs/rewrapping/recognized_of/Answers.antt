@@ -1,6 +1,4 @@
-use Rattle.std.proofs.Common.{◌≡◌, true, false, sym, ap, ◌∙◌}
-use Rattle.fork_wrappers.specs.Rewrapped.{remade, same_wrapping}
-use Rattle.fork_wrappers.specs.Unwrapped.{wrapping_of}
+use Rattle.fork_wrappers.proofs.Cited.{◌≡◌, true, false, sym, ap, ◌∙◌, remade, same_wrapping, wrapping_of}
 use Rattle.fork_wrappers.proofs.Rewraps.{is_recognized}
 use Rattle.fork_wrappers.proofs.rewrapping.recognized_of.Goals.{After-is_same}
 use Rattle.fork_wrappers.proofs.rewrapping.recognized_of.Goals as goal

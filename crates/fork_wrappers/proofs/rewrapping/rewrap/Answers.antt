@@ -1,4 +1,4 @@
-use Rattle.std.proofs.Common.{arith}
+use Rattle.fork_wrappers.proofs.Cited.{arith}
 use Rattle.fork_wrappers.proofs.Rewraps.{wrapped_alike, found_rewrapped}
 use Rattle.fork_wrappers.proofs.rewrapping.rewrap.Goals as goal
 use Rattle.fork_wrappers.proofs.HeldBytes.{held_bytes}

@@ -1,5 +1,5 @@
-use Rattle.std.proofs.Common.{◌≡◌, IfOk, IfErr, Ok, sym, subst}
-use Rattle.fork_wrappers.specs.Rewrapped.{placed, rewrapped, Refuses}
+use Rattle.fork_wrappers.proofs.Cited.{◌≡◌, IfOk, IfErr, sym, subst, placed, rewrapped, Refuses}
+use Rattle.std.proofs.Common.{Ok}
 use Rattle.fork_wrappers.proofs.Rewraps.{found_header, is_placed}
 use Rattle.fork_wrappers.proofs.rewrapping.rewrapped_of.Goals.{In-Ok}
 use Rattle.fork_wrappers.proofs.rewrapping.rewrapped_of.Goals as goal

@@ -1,10 +1,7 @@
-use Rattle.std.proofs.Common.{◌≡◌, ◌+◌, ◌∙◌, ap, true, refl, arith, take}
-use Rattle.block_store.specs.Block.{is_relocatable}
-use Rattle.block_store.specs.Sparing.{spared}
-use Rattle.block_store.specs.Room.{spot}
+use Rattle.heap_calls.proofs.Cited.{◌≡◌, ◌+◌, ◌∙◌, ap, true, refl, arith, take, is_relocatable, spared, spot, bytes_of, length_of}
+use Rattle.heap_calls.proofs.Cited.{made_zone}
 use Rattle.block_store.specs.declared.sparing.Sparing.TheVariants as sparing
-use Rattle.heap_calls.specs.Inner.Appending.{behind, bytes_of, length_of}
-use Rattle.heap_calls.specs.Inner.GrowingInPlace.{made_zone}
+use Rattle.heap_calls.specs.Inner.Appending.{behind}
 use Rattle.heap_calls.proofs.Sizes.Behind.{HasRoom, room-made, lengthened-is}
 use Rattle.heap_calls.proofs.Sizes.Steady.{nonrelocatable-longer}
 use Rattle.heap_calls.proofs.appending.append_block.Given.{Over}

@@ -1,4 +1,4 @@
-use Rattle.block_store.specs.Block.{is_relocatable}
+use Rattle.heap_calls.proofs.Cited.{is_relocatable}
 use Rattle.heap_calls.proofs.Sizes.Behind.{longer-fits}
 use Rattle.heap_calls.proofs.Sizes.Steady.{nonrelocatable-longer}
 use Rattle.heap_calls.proofs.appending.append_bytes.Goals as goal

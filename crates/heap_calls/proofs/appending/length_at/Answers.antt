@@ -1,9 +1,5 @@
-use Rattle.std.proofs.Common.{◌≡◌, ◌≤◌, ap, arith, length}
+use Rattle.heap_calls.proofs.Cited.{◌≡◌, ◌≤◌, ap, arith, length, length_of, sizes, spot_at, IfSome_then}
 use Rattle.heap_calls.proofs.Sizes.Behind.{length-known}
-use Rattle.heap_calls.specs.Inner.Appending.{length_of}
-use Rattle.block_store.specs.Block.{sizes}
-use Rattle.block_store.specs.Room.{spot_at}
-use Rattle.std.proofs.lemmas.Option.{IfSome_then}
 use Rattle.heap_calls.proofs.appending.length_at.Given.{Over}
 use Rattle.heap_calls.proofs.appending.length_at.Goals.{After-bytes}
 use Rattle.heap_calls.proofs.appending.length_at.Goals as goal

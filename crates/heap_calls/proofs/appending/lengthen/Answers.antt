@@ -1,5 +1,4 @@
-use Rattle.std.proofs.Common.{◌≡◌, ◌+◌, sym, ◌∙◌, ap}
-use Rattle.heap_calls.specs.Inner.Appending.{length_of}
+use Rattle.heap_calls.proofs.Cited.{◌≡◌, ◌+◌, sym, ◌∙◌, ap, length_of}
 use Rattle.heap_calls.proofs.Sizes.Behind.{size-is}
 use Rattle.heap_calls.proofs.appending.lengthen.Given.{Over}
 use Rattle.heap_calls.proofs.appending.lengthen.Goals.{After-fit_block}

@@ -1,6 +1,4 @@
-use Rattle.std.proofs.Common.{length, ◌≤◌, ◌+◌}
-use Rattle.block_store.specs.Block.{content_of}
-use Rattle.block_store.proofs.Zone.Edges.{used-some}
+use Rattle.heap_calls.proofs.Cited.{length, ◌≤◌, ◌+◌, content_of, used-some}
 use Rattle.heap_calls.proofs.appending.write_behind.Goals as goal
 
 pub place_of-requires : goal.place_of-requires

@@ -1,5 +1,4 @@
-use Rattle.block_store.specs.Run.{run_spot, has_free}
-use Rattle.block_store.specs.Sparing.{purged, most_purges}
+use Rattle.heap_calls.proofs.Cited.{run_spot, has_free, purged, most_purges}
 use Rattle.heap_calls.proofs.Room.LeastSearches.{least-of, tries-of}
 use Rattle.heap_calls.proofs.base.count_for_base.Goals as goal
 

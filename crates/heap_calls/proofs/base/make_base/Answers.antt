@@ -1,9 +1,7 @@
-use Rattle.std.proofs.Common.{◌≡◌, Some, sym, ◌∙◌, ap, subst, refl}
-use Rattle.block_store.specs.Block.{Free, is_nonrelocatable, tidy}
-use Rattle.block_store.specs.Run.{has, has_free, low, run_spot, with_run}
+use Rattle.heap_calls.proofs.Cited.{◌≡◌, Some, sym, ◌∙◌, ap, subst, refl, Free, is_nonrelocatable, tidy, has, has_free, low, run_spot}
+use Rattle.heap_calls.proofs.Cited.{with_run, IsBaseAt}
 use Rattle.heap_calls.proofs.Room.Searching.{at_run}
 use Rattle.heap_calls.proofs.Room.Staying.{nonrelocatable-purged, nonrelocatable-run, none-low}
-use Rattle.heap_calls.specs.Inner.Base.{IsBaseAt}
 use Rattle.heap_calls.proofs.Room.Packing.{base-found, raise-allowed}
 use Rattle.heap_calls.proofs.base.make_base.Goals as goal
 

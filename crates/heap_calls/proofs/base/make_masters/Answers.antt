@@ -1,6 +1,4 @@
-use Rattle.std.proofs.Common.{ap, ◌∙◌, refl}
-use Rattle.block_store.specs.Block.{Masters, is_nonrelocatable}
-use Rattle.block_store.specs.Run.{has}
+use Rattle.heap_calls.proofs.Cited.{ap, ◌∙◌, refl, Masters, is_nonrelocatable, has}
 use Rattle.heap_calls.proofs.Numbering.Changing.{nonrelocatable-carved}
 use Rattle.heap_calls.proofs.NewBlocks.NewSlots.{masters-none, masters-some, made-some, made-none, base-wide}
 use Rattle.heap_calls.proofs.Room.Placements.{at_none}

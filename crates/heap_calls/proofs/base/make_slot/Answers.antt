@@ -1,8 +1,5 @@
-use Rattle.std.proofs.Common.{◌≡◌, ℕ, Option, Some, false, ap, sym, subst, arith, refl, ◌∙◌}
-use Rattle.block_store.specs.Block.{is_nonrelocatable, is_relocatable}
-use Rattle.block_store.specs.Slot.{is_used}
-use Rattle.heap_calls.specs.Inner.NewSlot.{IsMade, zone_slotted, zone_with_masters}
-use Rattle.block_store.specs.Run.{has}
+use Rattle.heap_calls.proofs.Cited.{◌≡◌, ℕ, Option, Some, false, ap, sym, subst, arith, refl, ◌∙◌, is_nonrelocatable, is_relocatable}
+use Rattle.heap_calls.proofs.Cited.{is_used, IsMade, zone_slotted, zone_with_masters, has}
 use Rattle.heap_calls.proofs.NewBlocks.NewSlots.{slot-none}
 use Rattle.heap_calls.proofs.base.make_slot.Goals as goal
 

@@ -1,5 +1,4 @@
-use Rattle.std.proofs.Common.{◌≡◌, false, rules}
-use Rattle.block_store.specs.Compact.{has_room}
+use Rattle.heap_calls.proofs.Cited.{◌≡◌, false, rules, has_room}
 use Rattle.heap_calls.proofs.Room.SettlingRuns.{IsCompacted, packed}
 use Rattle.heap_calls.proofs.compaction.compact.Given.{Over}
 use Rattle.heap_calls.proofs.compaction.compact.Goals.{In-Some}

@@ -1,7 +1,4 @@
-use Rattle.std.proofs.Common.{refl, sym, ◌∙◌, ap}
-use Rattle.block_store.specs.Block.{is_room}
-use Rattle.block_store.specs.Compact.{has_room}
-use Rattle.block_store.proofs.Regroup.Settling.{room-found}
+use Rattle.heap_calls.proofs.Cited.{refl, sym, ◌∙◌, ap, is_room, has_room, room-found}
 use Rattle.heap_calls.proofs.compaction.has_room.Goals as goal
 
 pub returns-in-Some : goal.returns-in-Some

@@ -1,5 +1,4 @@
-use Rattle.std.proofs.Common.{◌+◌, sym, ◌∙◌, arith}
-use Rattle.block_store.proofs.Regroup.NextRuns.{run-edge}
+use Rattle.heap_calls.proofs.Cited.{◌+◌, sym, ◌∙◌, arith, run-edge}
 use Rattle.heap_calls.proofs.Room.SettlingRuns.{Counts, IsCompacted, SettledTo, begins, few, one-more, goes-on, higher}
 use Rattle.heap_calls.proofs.Room.SettlingRuns.{ends-there, ends-above}
 use Rattle.heap_calls.proofs.compaction.settle_runs.Given.{Over}

@@ -1,5 +1,4 @@
-use Rattle.std.proofs.Common.{◌-◌}
-use Rattle.block_store.specs.Block.{sizes}
+use Rattle.heap_calls.proofs.Cited.{◌-◌, sizes}
 use Rattle.heap_calls.proofs.Room.SettlingRuns.{IsNext}
 use Rattle.heap_calls.proofs.compaction.settle_runs.Given as goal
 

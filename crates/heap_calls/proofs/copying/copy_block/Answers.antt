@@ -1,8 +1,4 @@
-use Rattle.std.proofs.Common.{◌≡◌, ℕ, ◌+◌, ◌≤◌, length, Option, Some, sym, subst, arith}
-use Rattle.std.specs.Option.{IsSomeAnd}
-use Rattle.block_store.specs.Block.{content_of}
-use Rattle.block_store.specs.Room.{spot_at}
-use Rattle.heap_calls.specs.Inner.Copied.{IsCopy}
+use Rattle.heap_calls.proofs.Cited.{◌≡◌, ℕ, ◌+◌, ◌≤◌, length, Option, Some, sym, subst, arith, IsSomeAnd, content_of, spot_at, IsCopy}
 use Rattle.heap_calls.proofs.NewBlocks.Copies.{source-there, new-there, may-read, may-write, copy-done}
 use Rattle.heap_calls.proofs.Room.Staying.{nonrelocatable-then}
 use Rattle.heap_calls.proofs.Sizes.Steady.{nonrelocatable-copied}

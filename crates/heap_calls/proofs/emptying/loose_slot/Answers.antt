@@ -1,8 +1,4 @@
-use Rattle.std.proofs.Common.{◌≡◌, ◌<◌, true, false, sym, ◌∙◌, ap, arith}
-use Rattle.block_store.specs.Block.{is_mover}
-use Rattle.heap_calls.specs.Inner.Given.{seen_mover}
-use Rattle.heap_calls.specs.Purging.{is_loose}
-use Rattle.heap_calls.specs.Inner.Numbered.{no_number}
+use Rattle.heap_calls.proofs.Cited.{◌≡◌, ◌<◌, true, false, sym, ◌∙◌, ap, arith, is_mover, seen_mover, is_loose, no_number}
 use Rattle.heap_calls.proofs.Numbering.Answering.{slot_of-ok}
 use Rattle.heap_calls.proofs.Numbering.Hoisting.{seen-at, seen_mover-is}
 use Rattle.heap_calls.proofs.Numbering.Loosening.{loose_at-by}

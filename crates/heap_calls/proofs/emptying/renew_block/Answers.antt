@@ -1,17 +1,9 @@
-use Rattle.std.proofs.Common.{◌≡◌, Some, None, Option, ℕ, sym, ◌∙◌, ap, refl, subst, is_some}
-use Rattle.std.specs.Option.{MatchOption}
-use Rattle.heap_calls.specs.Inner.Loose.{renewed}
+use Rattle.heap_calls.proofs.Cited.{◌≡◌, Some, None, Option, ℕ, sym, ◌∙◌, ap, refl, subst, is_some, MatchOption, renewed, padded}
+use Rattle.heap_calls.proofs.Cited.{is_nonrelocatable, has, fresh_block, cond-false, counted, renewed_moves}
 use Rattle.heap_calls.proofs.Room.Placements.{at_none}
 use Rattle.heap_calls.proofs.NewBlocks.Renewing.{renewed_searches-is, renewed-none, renew-room, renew-gone}
 use Rattle.heap_calls.proofs.NewBlocks.Renewing.{renewed-some}
-use Rattle.mac_words.specs.Size.{padded}
-use Rattle.block_store.specs.Block.{is_nonrelocatable}
-use Rattle.block_store.specs.Run.{has}
-use Rattle.heap_calls.specs.Inner.NewBlock.{fresh_block}
 use Rattle.heap_calls.proofs.Numbering.Changing.{nonrelocatable-carved}
-use Rattle.std.proofs.lemmas.Bool.{cond-false}
-use Rattle.block_store.specs.Rest.{counted}
-use Rattle.heap_calls.specs.Inner.Loose.{renewed_moves}
 use Rattle.heap_calls.proofs.Room.MoveCounts.{packs-none}
 use Rattle.heap_calls.proofs.NewBlocks.Renewing.{renewed_moves-is}
 use Rattle.heap_calls.proofs.emptying.renew_block.Goals as goal

@@ -1,11 +1,5 @@
-use Rattle.std.proofs.Common.{rules, ◌≡◌, ℕ, true, Option, Some, None, inl, inr, refl, length}
-use Rattle.mac_words.proofs.Plain.{on_err}
-use Rattle.heap_calls.specs.State.{Plain}
-use Rattle.heap_calls.specs.Answer.{nothing}
-use Rattle.heap_calls.specs.Gone.{Tells, made_gone}
-use Rattle.heap_calls.specs.Inside.{new_inside}
-use Rattle.heap_calls.specs.Inner.Naming.{entered, number_of}
-use Rattle.heap_calls.specs.Inner.Numbered.{memory_of, Agrees}
+use Rattle.heap_calls.proofs.Cited.{rules, ◌≡◌, ℕ, true, Option, Some, None, inl, inr, refl, length, on_err, Plain, nothing, Tells}
+use Rattle.heap_calls.proofs.Cited.{made_gone, new_inside, entered, number_of, memory_of, Agrees}
 use Rattle.heap_calls.proofs.Filled.Unmade.{made-told, left-unmade}
 use Rattle.heap_calls.proofs.Filled.Adding.{added-agrees, added-next, not-added}
 use Rattle.heap_calls.proofs.Made.{made-agrees, filled-slotted, filled-answer}

@@ -1,6 +1,4 @@
-use Rattle.std.proofs.Common.{rules, arith, ◌≡◌, ◌+◌, ◌-◌, ◌<◌, drop, length, refl, ◌∙◌, inl, inr, sym}
-use Rattle.std.proofs.lemmas.List.{length-drop}
-use Rattle.mac_words.proofs.Plain.{on_err}
+use Rattle.heap_calls.proofs.Cited.{rules, arith, ◌≡◌, ◌+◌, ◌-◌, ◌<◌, drop, length, refl, ◌∙◌, inl, inr, sym, length-drop, on_err}
 use Rattle.heap_calls.proofs.Filled.Several.{made-next, stops-here}
 use Rattle.heap_calls.proofs.filling.add_resources.Goals as goal
 

@@ -1,8 +1,4 @@
-use Rattle.std.proofs.Common.{◌≡◌, ◌+◌, ◌≤◌, length, drop, map, vec_len, vec_capacity}
-use Rattle.heap_calls.specs.State.{Memory}
-use Rattle.heap_calls.specs.Gone.{IsIdle}
-use Rattle.heap_calls.specs.Inner.Filling.{wanted_as}
-use Rattle.heap_calls.specs.Inner.Numbered.{Agrees, memory_of}
+use Rattle.heap_calls.proofs.Cited.{◌≡◌, ◌+◌, ◌≤◌, length, drop, map, vec_len, vec_capacity, Memory, IsIdle, wanted_as, Agrees, memory_of}
 use Rattle.heap_calls.proofs.Filled.Several.{MadeSoFar}
 use Rattle.heap_calls.proofs.filling.add_resources.Given as goal
 

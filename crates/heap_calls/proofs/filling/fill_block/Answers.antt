@@ -1,7 +1,5 @@
-use Rattle.std.proofs.Common.{ℕ, Option, Some, sym, subst, length, refl}
+use Rattle.heap_calls.proofs.Cited.{ℕ, Option, Some, sym, subst, length, refl, IsPut, IsNewBlock, IsFilling}
 use Rattle.block_store.specs.declared.sparing.Sparing.TheVariants as sparing
-use Rattle.heap_calls.specs.Inner.NewBlock.{IsPut, IsNewBlock}
-use Rattle.heap_calls.specs.Inner.Filling.{IsFilling}
 use Rattle.heap_calls.proofs.Filled.Replaced.{new-fresh, put-replaced}
 use Rattle.heap_calls.proofs.Room.Staying.{nonrelocatable-then}
 use Rattle.heap_calls.proofs.filling.fill_block.Given.{Over}

@@ -1,6 +1,4 @@
-use Rattle.std.proofs.Common.{◌≡◌, length}
-use Rattle.block_store.proofs.Zone.Edges.{used-some}
-use Rattle.heap_calls.specs.Inner.NewBlock.{fresh_block}
+use Rattle.heap_calls.proofs.Cited.{◌≡◌, length, used-some, fresh_block}
 use Rattle.heap_calls.proofs.Filled.Replaced.{may-flag, is-replaced, nonrelocatable-replaced}
 use Rattle.heap_calls.proofs.filling.fill_new.Goals as goal
 

@@ -1,8 +1,4 @@
-use Rattle.std.proofs.Common.{◌≡◌, ℕ, Option, Some, None, sym, ◌∙◌, ap, subst, length, refl}
-use Rattle.std.specs.Option.{MatchOption}
-use Rattle.block_store.specs.Rest.{counted}
-use Rattle.heap_calls.specs.Inner.Filling.{refilled}
-use Rattle.heap_calls.specs.Inner.Loose.{renewed}
+use Rattle.heap_calls.proofs.Cited.{◌≡◌, ℕ, Option, Some, None, sym, ◌∙◌, ap, subst, length, refl, MatchOption, counted, refilled, renewed}
 use Rattle.heap_calls.proofs.Filled.Refilled.{refilled_searches-is, refilled_moves-is, not-refilled, renewed-fresh}
 use Rattle.heap_calls.proofs.Filled.Refilled.{refilled-done}
 use Rattle.heap_calls.proofs.Room.Placements.{at_none}

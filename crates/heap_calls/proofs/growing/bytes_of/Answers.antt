@@ -1,4 +1,4 @@
-use Rattle.block_store.proofs.Zone.Edges.{used-there}
+use Rattle.heap_calls.proofs.Cited.{used-there}
 use Rattle.heap_calls.proofs.growing.bytes_of.Goals as goal
 
 pub place_of-requires : goal.place_of-requires

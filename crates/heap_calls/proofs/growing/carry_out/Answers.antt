@@ -1,9 +1,4 @@
-use Rattle.std.proofs.Common.{Some, subst}
-use Rattle.block_store.specs.Block.{is_relocatable}
-use Rattle.block_store.specs.Room.{spot}
-use Rattle.heap_calls.specs.Inner.Growing.{FindsGrowth, grown}
-use Rattle.heap_calls.specs.Moves.{grow_moves}
-use Rattle.heap_calls.specs.declared.growing.Growth.{Growth}
+use Rattle.heap_calls.proofs.Cited.{Some, subst, is_relocatable, spot, FindsGrowth, grown, grow_moves, Growth}
 use Rattle.heap_calls.specs.declared.growing.Growth.TheVariants as grows
 use Rattle.heap_calls.proofs.Room.MoveCounts.{packs-none, up-moves}
 use Rattle.heap_calls.proofs.growing.carry_out.Goals as goal

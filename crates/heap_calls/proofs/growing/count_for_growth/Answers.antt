@@ -1,11 +1,5 @@
-use Rattle.std.proofs.Common.{◌≡◌, arith, sym, ◌∙◌, is_some}
-use Rattle.block_store.specs.Block.{is_relocatable}
-use Rattle.block_store.specs.Compact.{least_or_last}
-use Rattle.block_store.specs.Grow.{grow_mover}
-use Rattle.block_store.specs.Room.{spot}
-use Rattle.block_store.specs.Sparing.{purged, most_purges}
-use Rattle.block_store.proofs.Plain.Trials.{least_or_last-le}
-use Rattle.heap_calls.specs.Inner.Growing.{grown}
+use Rattle.heap_calls.proofs.Cited.{◌≡◌, arith, sym, ◌∙◌, is_some, is_relocatable, least_or_last, grow_mover, spot, purged, most_purges}
+use Rattle.heap_calls.proofs.Cited.{least_or_last-le, grown}
 use Rattle.heap_calls.proofs.Room.LeastSearches.{least-of, tries-of}
 use Rattle.heap_calls.proofs.Room.Searching.{most-le}
 use Rattle.heap_calls.proofs.Sizes.FewestForGrowth.{growth-fewest, growth-least, growth-fails, growth-never}

@@ -1,7 +1,5 @@
-use Rattle.std.proofs.lemmas.Result.{on_ok_weaker}
+use Rattle.heap_calls.proofs.Cited.{on_ok_weaker, is_relocatable, run_at, high, settle}
 use Rattle.heap_calls.proofs.Sizes.Carrying.{is-last, last-allowed, last-runs, last-grows, last-grown, rest-last}
-use Rattle.block_store.specs.Block.{is_relocatable}
-use Rattle.block_store.specs.Run.{run_at, high, settle}
 use Rattle.heap_calls.proofs.Room.Staying.{nonrelocatable-then, none-high, none-settle}
 use Rattle.heap_calls.proofs.Sizes.Steady.{nonrelocatable-changed_at, some_of}
 use Rattle.heap_calls.proofs.Room.MoveCounts.{last-moves}

@@ -1,11 +1,6 @@
-use Rattle.std.proofs.lemmas.Result.{on_ok_weaker}
+use Rattle.heap_calls.proofs.Cited.{on_ok_weaker, Some, sym, ◌∙◌, ap, is_relocatable, counted, spot, grown}
 use Rattle.heap_calls.proofs.Sizes.Carrying.{away-room, away-block, away-done}
 use Rattle.heap_calls.proofs.Sizes.Steady.{nonrelocatable-carried}
-use Rattle.std.proofs.Common.{Some, sym, ◌∙◌, ap}
-use Rattle.block_store.specs.Block.{is_relocatable}
-use Rattle.block_store.specs.Rest.{counted}
-use Rattle.block_store.specs.Room.{spot}
-use Rattle.heap_calls.specs.Inner.Growing.{grown}
 use Rattle.heap_calls.proofs.Room.MoveCounts.{away-moves}
 use Rattle.heap_calls.proofs.Numbering.Changing.{may_place}
 use Rattle.heap_calls.proofs.growing.grow_away.Goals as goal

@@ -1,17 +1,8 @@
-use Rattle.std.specs.Option.{IfSome}
-use Rattle.std.proofs.Common.{◌≡◌, ◌+◌, ◌-◌, true, Some, None, is_some, sym, ◌∙◌, ap, refl, rules}
-use Rattle.std.proofs.lemmas.Bool.{not-false, not-true, true≢false}
+use Rattle.heap_calls.proofs.Cited.{IfSome, ◌≡◌, ◌+◌, ◌-◌, true, Some, None, is_some, sym, ◌∙◌, ap, refl, rules, not-false, not-true}
+use Rattle.heap_calls.proofs.Cited.{true≢false, not_some, is_relocatable, is_nonrelocatable, resized, grow_mover, counted, spot, has}
+use Rattle.heap_calls.proofs.Cited.{purged, spared, grown, Packs, grow_moves, room_moves}
 use Rattle.mac_words.specs.Size.{phys as physical_size}
-use Rattle.mac_words.proofs.Plain.{not_some}
-use Rattle.block_store.specs.Block.{is_relocatable, is_nonrelocatable, resized, size as size_of}
-use Rattle.block_store.specs.Grow.{grow_mover}
-use Rattle.block_store.specs.Rest.{counted}
-use Rattle.block_store.specs.Room.{spot}
-use Rattle.block_store.specs.Run.{has}
-use Rattle.block_store.specs.Sparing.{purged, spared}
-use Rattle.heap_calls.specs.Inner.Growing.{grown}
-use Rattle.heap_calls.specs.Inner.Packed.{Packs}
-use Rattle.heap_calls.specs.Moves.{grow_moves, room_moves}
+use Rattle.block_store.specs.Block.{size as size_of}
 use Rattle.heap_calls.proofs.GoneForSizes.{growth-told, growth-untold}
 use Rattle.heap_calls.proofs.Hearing.{hears-none, hears-as}
 use Rattle.heap_calls.proofs.Room.LeastSearches.{first-grows, growth-there, growth-whole, growth-once, growth-once-searches}

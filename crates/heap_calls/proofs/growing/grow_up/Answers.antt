@@ -1,6 +1,4 @@
-use Rattle.std.proofs.Common.{ap, is_some}
-use Rattle.block_store.specs.Block.{is_relocatable}
-use Rattle.block_store.proofs.Zone.Edges.{used-there}
+use Rattle.heap_calls.proofs.Cited.{ap, is_some, is_relocatable, used-there}
 use Rattle.heap_calls.proofs.Sizes.Steady.{nonrelocatable-grown_up}
 use Rattle.heap_calls.proofs.growing.grow_up.Goals as goal
 

@@ -1,6 +1,4 @@
-use Rattle.block_store.specs.Block.{is_relocatable}
-use Rattle.block_store.specs.Room.{spot}
-use Rattle.heap_calls.specs.Inner.Growing.{grown}
+use Rattle.heap_calls.proofs.Cited.{is_relocatable, spot, grown}
 use Rattle.heap_calls.proofs.Sizes.Growth.{up-found, away-found, last-found, none-found}
 use Rattle.heap_calls.proofs.growing.growth_now.Goals as goal
 

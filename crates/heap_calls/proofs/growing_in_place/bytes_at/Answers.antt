@@ -1,9 +1,6 @@
-use Rattle.std.proofs.Common.{sym, ◌∙◌, ap, arith}
-use Rattle.block_store.specs.Room.{spot_at}
-use Rattle.heap_calls.specs.Inner.GrowingInPlace.{seen_size}
+use Rattle.heap_calls.proofs.Cited.{sym, ◌∙◌, ap, arith, spot_at, seen_size, size-seen}
 use Rattle.heap_calls.proofs.Sizes.GrowingInPlace.{seen-some, spot-small}
 use Rattle.heap_calls.proofs.growing_in_place.bytes_at.Goals as goal
-use Rattle.block_store.proofs.Walks.Telling.{size-seen}
 
 pub seen_bytes-requires : goal.seen_bytes-requires
 seen_bytes-requires g c =

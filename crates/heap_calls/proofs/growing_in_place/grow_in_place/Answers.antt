@@ -1,26 +1,12 @@
-use Rattle.std.proofs.Common.{◌≡◌, ◌+◌, ◌-◌, ◌≤◌, ◌<◌, ◌++◌, ◌∷◌, ◌⊎◌, inr, ℕ, Bool, false, Option, Some, None, List}
-use Rattle.std.proofs.Common.{sym, ◌∙◌, ap, subst, arith, rules}
-use Rattle.std.specs.Option.{IfSome, IsSome}
-use Rattle.std.specs.Prelude.{IsOk}
-use Rattle.block_store.specs.Block.{Block, size, resized}
-use Rattle.block_store.specs.Run.{segments}
-use Rattle.block_store.specs.Room.{Spot, spot_at}
-use Rattle.block_store.specs.Grow.{grow_up, grow_nonrelocatable, growth}
-use Rattle.block_store.specs.Sparing.{spared}
-use Rattle.heap_calls.specs.Gone.{Hears}
-use Rattle.heap_calls.specs.Inner.Telling.{gone_from, still_gone}
+use Rattle.heap_calls.proofs.Cited.{◌≡◌, ◌+◌, ◌-◌, ◌≤◌, ◌<◌, ◌++◌, ◌∷◌, ◌⊎◌, inr, ℕ, Bool, false, Option, Some, None, List, sym, ◌∙◌, ap}
+use Rattle.heap_calls.proofs.Cited.{subst, arith, rules, IfSome, IsSome, IsOk, Block, size, resized, segments, Spot, spot_at, grow_up}
+use Rattle.heap_calls.proofs.Cited.{grow_nonrelocatable, growth, spared, Hears, gone_from, still_gone, FindsPurges, enough, pushed_up}
+use Rattle.heap_calls.proofs.Cited.{room_searches, in_place_searches, is_nonrelocatable, has, some_and, edge-behind, IsEdge}
 use Rattle.heap_calls.proofs.GoneForSizes.{up-untold, still-told, still-untold}
 use Rattle.heap_calls.proofs.Hearing.{hears-none, hears-as}
-use Rattle.heap_calls.specs.Inner.GrowingInPlace.{FindsPurges, enough, pushed_up}
-use Rattle.heap_calls.specs.Searches.{room_searches, in_place_searches}
 use Rattle.heap_calls.proofs.Sizes.GrowingInPlace.{searches-up, searches-run, Grows, grows, spot_if, some_if, spot_and}
 use Rattle.heap_calls.proofs.Sizes.GrowingInPlace.{spot-small, up-allowed, grown-up, grown-none, pushed, pushed-allowed}
 use Rattle.heap_calls.proofs.Sizes.GrowingInPlace.{grown-pushed, spot_at-above, phys-fits}
-use Rattle.block_store.specs.Block.{is_nonrelocatable}
-use Rattle.block_store.specs.Run.{has}
-use Rattle.block_store.proofs.Plain.Options.{some_and}
-use Rattle.block_store.proofs.Zone.Edges.{edge-behind}
-use Rattle.block_store.specs.Find.{IsEdge}
 use Rattle.heap_calls.proofs.Numbering.Changing.{nonrelocatable-at}
 use Rattle.heap_calls.proofs.Room.Staying.{nonrelocatable-grow_nonrelocatable, alike-resized}
 use Rattle.heap_calls.proofs.growing_in_place.grow_in_place.Goals as goal

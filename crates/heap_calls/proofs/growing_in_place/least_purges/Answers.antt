@@ -1,6 +1,4 @@
-use Rattle.std.proofs.Common.{sym, ◌∙◌}
-use Rattle.std.proofs.lemmas.Bool.{not-false, not-true}
-use Rattle.block_store.specs.Room.{spot_at}
+use Rattle.heap_calls.proofs.Cited.{sym, ◌∙◌, not-false, not-true, spot_at}
 use Rattle.heap_calls.proofs.Sizes.GrowingInPlace.{above-searches, above-found, above-none}
 use Rattle.heap_calls.proofs.growing_in_place.least_purges.Goals as goal
 

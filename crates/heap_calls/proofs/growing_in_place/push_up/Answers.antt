@@ -1,11 +1,5 @@
-use Rattle.std.proofs.Common.{ap, ◌∙◌, ◌≡◌, ◌+◌, sym, arith, ◌++◌, ◌∷◌}
-use Rattle.std.proofs.lemmas.Result.{on_ok_weaker}
-use Rattle.std.specs.Option.{IfSome}
-use Rattle.block_store.specs.Block.{Free, is_nonrelocatable, tidy}
-use Rattle.block_store.specs.Run.{has, run_at, with_run, low}
-use Rattle.block_store.specs.Room.{spot_at}
-use Rattle.block_store.specs.Sparing.{spared}
-use Rattle.heap_calls.specs.Inner.GrowingInPlace.{pushed_up}
+use Rattle.heap_calls.proofs.Cited.{ap, ◌∙◌, ◌≡◌, ◌+◌, sym, arith, ◌++◌, ◌∷◌, on_ok_weaker, IfSome, Free, is_nonrelocatable, tidy, has}
+use Rattle.heap_calls.proofs.Cited.{run_at, with_run, low, spot_at, spared, pushed_up}
 use Rattle.heap_calls.proofs.Sizes.GrowingInPlace.{PurgedAbove, purged_above, spot-small}
 use Rattle.heap_calls.proofs.Numbering.Changing.{spot_at-is}
 use Rattle.heap_calls.proofs.Room.Staying.{nonrelocatable-raised, nonrelocatable-above_emptied}

@@ -1,9 +1,5 @@
-use Rattle.std.proofs.Common.{sym, ◌∙◌, ap, arith, Ok}
-use Rattle.std.proofs.lemmas.Option.{same_Some}
-use Rattle.block_store.proofs.Zone.Tidy.{spot-passes}
-use Rattle.block_store.specs.Block.{is_relocatable}
-use Rattle.block_store.specs.Room.{Spot, rename_spot}
-use Rattle.heap_calls.specs.Inner.Numbered.{handle_number, pointer_number}
+use Rattle.heap_calls.proofs.Cited.{sym, ◌∙◌, ap, arith, Ok, same_Some, spot-passes, is_relocatable, Spot, rename_spot, handle_number}
+use Rattle.heap_calls.proofs.Cited.{pointer_number}
 use Rattle.heap_calls.proofs.Numbering.Answering.{place-small, header-fits, held}
 use Rattle.heap_calls.proofs.heap.find_block.Goals as goal
 

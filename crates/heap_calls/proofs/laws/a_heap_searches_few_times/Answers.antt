@@ -1,8 +1,5 @@
-use Rattle.std.proofs.Common.{◌≡◌, ◌<◌, subst, ap, ◌∙◌}
-use Rattle.block_store.specs.Block.{count, is_masters, rename, tidy}
-use Rattle.block_store.proofs.Renamed.Renaming.{tidy-rename}
-use Rattle.heap_calls.specs.State.{Memory}
-use Rattle.heap_calls.specs.Inner.Numbered.{handle_number, pointer_number}
+use Rattle.heap_calls.proofs.Cited.{◌≡◌, ◌<◌, subst, ap, ◌∙◌, count, is_masters, rename, tidy, tidy-rename, Memory, handle_number}
+use Rattle.heap_calls.proofs.Cited.{pointer_number}
 use Rattle.heap_calls.proofs.Numbering.Changing.{some-masters}
 use Rattle.heap_calls.proofs.Tries.Counting.{try_few}
 use Rattle.heap_calls.proofs.Numbering.Memories.{memory_as}

@@ -1,4 +1,4 @@
-use Rattle.std.proofs.Common.{arith}
+use Rattle.heap_calls.proofs.Cited.{arith}
 use Rattle.heap_calls.proofs.ToldGone.Heaps.{heap-once, heap-small}
 use Rattle.heap_calls.proofs.ToldGone.Laws.{tells-what-goes, step-tells-what-goes}
 use Rattle.heap_calls.proofs.Numbering.Memories.{memory_as}

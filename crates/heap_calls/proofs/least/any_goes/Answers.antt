@@ -1,4 +1,4 @@
-use Rattle.std.proofs.Common.{arith, ◌∙◌}
+use Rattle.heap_calls.proofs.Cited.{arith, ◌∙◌}
 use Rattle.heap_calls.proofs.Room.LeastSearches.{next-goes}
 use Rattle.heap_calls.proofs.Room.Searching.{most-le}
 use Rattle.heap_calls.proofs.least.any_goes.Goals as goal

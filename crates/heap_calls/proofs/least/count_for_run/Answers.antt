@@ -1,7 +1,4 @@
-use Rattle.std.proofs.Common.{sym, ◌∙◌, arith}
-use Rattle.block_store.specs.Fewest.{serves}
-use Rattle.block_store.specs.Sparing.{most_purges}
-use Rattle.block_store.proofs.Plain.Trials.{least_or_last-le}
+use Rattle.heap_calls.proofs.Cited.{sym, ◌∙◌, arith, serves, most_purges, least_or_last-le}
 use Rattle.heap_calls.proofs.Room.LeastSearches.{run-fewest, run-never}
 use Rattle.heap_calls.proofs.Room.Searching.{most-le}
 use Rattle.heap_calls.proofs.least.count_for_run.Goals as goal

@@ -1,4 +1,4 @@
-use Rattle.std.proofs.Common.{◌≡◌, ◌<◌, ◌-◌, true, false}
+use Rattle.heap_calls.proofs.Cited.{◌≡◌, ◌<◌, ◌-◌, true, false}
 use Rattle.heap_calls.proofs.least.fewest_within.Given as goal
 
 -- after the number before it isn't there, and after the other it is

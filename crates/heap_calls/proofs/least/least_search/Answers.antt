@@ -1,6 +1,4 @@
-use Rattle.std.proofs.Common.{arith, sym, ◌∙◌}
-use Rattle.block_store.specs.declared.measures.TheConstants.{GREATEST_ZONE}
-use Rattle.block_store.proofs.Plain.Trials.{least_or_last-fails, least_or_last-le, fewest-last}
+use Rattle.heap_calls.proofs.Cited.{arith, sym, ◌∙◌, GREATEST_ZONE, least_or_last-fails, least_or_last-le, fewest-last}
 use Rattle.heap_calls.proofs.Room.LeastSearches.{first-is}
 use Rattle.heap_calls.proofs.least.least_search.Goals as goal
 

@@ -1,5 +1,4 @@
-use Rattle.std.proofs.Common.{◌≡◌, ◌+◌, length}
-use Rattle.heap_calls.specs.Munging.{first_from}
+use Rattle.heap_calls.proofs.Cited.{◌≡◌, ◌+◌, length, first_from}
 use Rattle.heap_calls.proofs.munging.first_from.Given as goal
 
 -- the bytes that are left have the first like the wanted where all have it

@@ -1,5 +1,4 @@
-use Rattle.std.proofs.Common.{◌-◌, List, ℕ, length, take, drop, ap, sym, arith}
-use Rattle.std.proofs.lemmas.List.{length-drop, take_rest}
+use Rattle.heap_calls.proofs.Cited.{◌-◌, List, ℕ, length, take, drop, ap, sym, arith, length-drop, take_rest}
 use Rattle.heap_calls.proofs.Finding.{first-within}
 use Rattle.heap_calls.proofs.munging.found_in.Goals as goal
 

@@ -1,14 +1,7 @@
-use Rattle.std.proofs.Common.{Some, None, ℕ, Option, sym, ◌∙◌, ap, subst, inr, refl, is_some}
-use Rattle.mac_words.specs.Size.{padded}
-use Rattle.block_store.specs.Block.{is_relocatable, is_nonrelocatable}
-use Rattle.block_store.specs.Run.{has}
-use Rattle.block_store.specs.Rest.{KeepsSlots}
-use Rattle.heap_calls.specs.Inner.NewBlock.{IsAdded, fresh_block}
+use Rattle.heap_calls.proofs.Cited.{Some, None, ℕ, Option, sym, ◌∙◌, ap, subst, inr, refl, is_some, padded, is_relocatable}
+use Rattle.heap_calls.proofs.Cited.{is_nonrelocatable, has, KeepsSlots, IsAdded, fresh_block, cond-false, counted, content_moves}
 use Rattle.heap_calls.proofs.Numbering.Changing.{phys-some, nonrelocatable-carved}
 use Rattle.heap_calls.proofs.Room.Placements.{no_placement-no_room, carve-room, carved-put, at_none, kept-back}
-use Rattle.std.proofs.lemmas.Bool.{cond-false}
-use Rattle.block_store.specs.Rest.{counted}
-use Rattle.heap_calls.specs.Inner.Packed.{content_moves}
 use Rattle.heap_calls.proofs.Room.MoveCounts.{packs-none, content-at}
 use Rattle.heap_calls.proofs.new_block.add_block.Goals as goal
 

@@ -1,11 +1,7 @@
-use Rattle.std.proofs.Common.{inr, ◌∙◌, ℕ, Option, Some, None, sym, ap, subst}
+use Rattle.heap_calls.proofs.Cited.{inr, ◌∙◌, ℕ, Option, Some, None, sym, ap, subst, counted, ready_count, TakesSlot, content_moves}
+use Rattle.heap_calls.proofs.Cited.{new_moves, Packs}
 use Rattle.heap_calls.proofs.NewBlocks.NewSlots.{only-slot}
-use Rattle.block_store.specs.Rest.{counted}
-use Rattle.heap_calls.specs.Inner.NewBlock.{ready_count}
-use Rattle.heap_calls.specs.Inner.NewSlot.{TakesSlot}
-use Rattle.heap_calls.specs.Inner.Packed.{content_moves, new_moves}
 use Rattle.heap_calls.proofs.Room.MoveCounts.{packs-none, packs-after}
-use Rattle.heap_calls.specs.Inner.Packed.{Packs}
 use Rattle.heap_calls.proofs.new_block.new_block.Given.{Over}
 use Rattle.heap_calls.proofs.new_block.new_block.Goals.{In_ok-room}
 use Rattle.heap_calls.proofs.new_block.new_block.Goals as goal

@@ -1,13 +1,5 @@
-use Rattle.std.proofs.Common.{◌≡◌, ◌<◌, ◌≤◌, false, sym, ◌∙◌, ap, arith}
-use Rattle.block_store.specs.Block.{is_nonrelocatable, size, resized}
-use Rattle.block_store.specs.Run.{has, in_run}
-use Rattle.block_store.specs.Room.{spot_at, filled}
-use Rattle.block_store.proofs.Zone.Tidy.{spot-passes}
-use Rattle.std.specs.Prelude.{IsOk}
-use Rattle.block_store.specs.declared.sparing.Sparing.TheVariants.{Nothing}
-use Rattle.heap_calls.specs.Answer.{nothing}
-use Rattle.heap_calls.specs.Gone.{Hears}
-use Rattle.heap_calls.specs.Inner.Telling.{still_gone}
+use Rattle.heap_calls.proofs.Cited.{◌≡◌, ◌<◌, ◌≤◌, false, sym, ◌∙◌, ap, arith, is_nonrelocatable, size, resized, has, in_run, spot_at}
+use Rattle.heap_calls.proofs.Cited.{filled, spot-passes, IsOk, Nothing, nothing, Hears, still_gone}
 use Rattle.heap_calls.proofs.GoneForSizes.{stays-gone}
 use Rattle.heap_calls.proofs.Hearing.{hears-as}
 use Rattle.heap_calls.proofs.Numbering.Answering.{at_place}

@@ -1,8 +1,4 @@
-use Rattle.std.proofs.Common.{ℕ, Option, sym, ◌∙◌, ap, subst}
-use Rattle.mac_words.proofs.Plain.{on_err}
-use Rattle.block_store.specs.Block.{is_nonrelocatable}
-use Rattle.block_store.specs.Run.{has}
-use Rattle.heap_calls.specs.Inner.NewPointer.{IsNewNonrelocatable}
+use Rattle.heap_calls.proofs.Cited.{ℕ, Option, sym, ◌∙◌, ap, subst, on_err, is_nonrelocatable, has, IsNewNonrelocatable}
 use Rattle.heap_calls.proofs.Numbering.Changing.{phys-some}
 use Rattle.heap_calls.proofs.NewBlocks.NewPointers.{nonrelocatable-put}
 use Rattle.heap_calls.proofs.pointers.add_nonrelocatable.Goals as goal

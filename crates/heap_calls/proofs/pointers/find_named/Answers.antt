@@ -1,7 +1,4 @@
-use Rattle.std.proofs.Common.{refl, sym, arith, Ok}
-use Rattle.heap_calls.specs.Answer.{look_up}
-use Rattle.heap_calls.specs.Inner.Numbered.{state_of}
-use Rattle.heap_calls.specs.Pointers.{pointed_at, block_named}
+use Rattle.heap_calls.proofs.Cited.{refl, sym, arith, Ok, look_up, state_of, pointed_at, block_named}
 use Rattle.heap_calls.proofs.Numbering.Pointing.{pointer-held, sparing-pointer, sparing-other, finds-same}
 use Rattle.heap_calls.proofs.Numbering.Pointing.{finds-pointer}
 use Rattle.heap_calls.proofs.Numbering.Answering.{finds-block}

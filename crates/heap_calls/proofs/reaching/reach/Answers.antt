@@ -1,8 +1,4 @@
-use Rattle.std.proofs.Common.{sym, ◌∙◌, ap, arith}
-use Rattle.std.specs.Option.{option_map, ok_or}
-use Rattle.mac_words.specs.declared.code.TheConstants.OsErr.{NIL_HANDLE}
-use Rattle.block_store.specs.Room.{rename_spot}
-use Rattle.heap_calls.specs.Inner.Numbered.{handle_number, pointer_number}
+use Rattle.heap_calls.proofs.Cited.{sym, ◌∙◌, ap, arith, option_map, ok_or, NIL_HANDLE, rename_spot, handle_number, pointer_number}
 use Rattle.heap_calls.proofs.Numbering.Answering.{slot_of-ok, look_up-by, held}
 use Rattle.heap_calls.proofs.reaching.reach.Goals as goal
 

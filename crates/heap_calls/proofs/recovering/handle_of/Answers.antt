@@ -1,7 +1,4 @@
-use Rattle.std.proofs.Common.{◌≡◌, ◌≤◌, ◌<◌, length, sym, ◌∙◌, arith, true, false}
-use Rattle.std.proofs.lemmas.List.{length-map}
-use Rattle.heap_calls.specs.State.{State}
-use Rattle.heap_calls.specs.Inner.Numbered.{name_of, state_of}
+use Rattle.heap_calls.proofs.Cited.{◌≡◌, ◌≤◌, ◌<◌, length, sym, ◌∙◌, arith, true, false, length-map, State, name_of, state_of}
 use Rattle.heap_calls.proofs.Recovered.{handle-next, handle-last}
 use Rattle.heap_calls.proofs.recovering.handle_of.Goals as goal
 

@@ -1,7 +1,4 @@
-use Rattle.std.proofs.Common.{◌≡◌, drop}
-use Rattle.heap_calls.specs.State.{State}
-use Rattle.heap_calls.specs.Pointers.{handle_from}
-use Rattle.heap_calls.specs.Inner.Numbered.{state_of}
+use Rattle.heap_calls.proofs.Cited.{◌≡◌, drop, State, handle_from, state_of}
 use Rattle.heap_calls.proofs.recovering.handle_of.Given as goal
 
 -- what is found among the numbers that are left is found among all

@@ -1,5 +1,4 @@
-use Rattle.std.proofs.Common.{sym, ap, Some}
-use Rattle.heap_calls.specs.Pointers.{stands_at}
+use Rattle.heap_calls.proofs.Cited.{sym, ap, Some, stands_at}
 use Rattle.heap_calls.proofs.Recovered.{stands-found}
 use Rattle.heap_calls.proofs.recovering.stands_at.Goals as goal
 

@@ -1,7 +1,4 @@
-use Rattle.std.proofs.Common.{sym, ◌∙◌}
-use Rattle.block_store.specs.Room.{place}
-use Rattle.block_store.specs.Sparing.{purged, most_purges}
-use Rattle.block_store.proofs.Regroup.MostRoom.{placed-is}
+use Rattle.heap_calls.proofs.Cited.{sym, ◌∙◌, place, purged, most_purges, placed-is}
 use Rattle.heap_calls.proofs.Room.LeastSearches.{least-of, tries-of, placement-least}
 use Rattle.heap_calls.proofs.search.count_for_placement.Goals as goal
 

@@ -1,14 +1,5 @@
-use Rattle.std.proofs.Common.{◌∙◌, sym, ap, refl}
-use Rattle.std.proofs.lemmas.Bool.{not-true}
-use Rattle.mac_words.proofs.Plain.{not_some}
-use Rattle.block_store.specs.Block.{is_relocatable, is_nonrelocatable}
-use Rattle.block_store.specs.Rest.{counted}
-use Rattle.block_store.specs.Room.{place}
-use Rattle.block_store.specs.Run.{has}
-use Rattle.block_store.specs.Sparing.{purged}
-use Rattle.block_store.proofs.Zone.Absence.{none-purged}
-use Rattle.heap_calls.specs.Inner.Packed.{placement_moves}
-use Rattle.heap_calls.specs.Moves.{place_moves}
+use Rattle.heap_calls.proofs.Cited.{◌∙◌, sym, ap, refl, not-true, not_some, is_relocatable, is_nonrelocatable, counted, place, has, purged}
+use Rattle.heap_calls.proofs.Cited.{none-purged, placement_moves, place_moves}
 use Rattle.heap_calls.proofs.Room.MoveCounts.{packs-none, packs-after, no-place, placement-at}
 use Rattle.heap_calls.proofs.Room.Staying.{nonrelocatable-purged}
 use Rattle.heap_calls.proofs.search.make_room.Goals as goal

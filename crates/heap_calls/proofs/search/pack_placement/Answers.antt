@@ -1,16 +1,10 @@
-use Rattle.std.proofs.Common.{◌≡◌, Some, ◌∙◌, ap, subst, refl}
-use Rattle.block_store.specs.Block.{is_nonrelocatable, is_relocatable, tidy}
-use Rattle.block_store.specs.Run.{has, has_free, settle, with_run}
-use Rattle.block_store.proofs.Zone.Absence.{none-settled}
-use Rattle.heap_calls.specs.Inner.Search.{FindsPlacement}
-use Rattle.heap_calls.specs.Inner.Growing.{block_of}
-use Rattle.heap_calls.specs.declared.search.Placement.{Placement}
+use Rattle.heap_calls.proofs.Cited.{◌≡◌, Some, ◌∙◌, ap, subst, refl, is_nonrelocatable, is_relocatable, tidy, has, has_free, settle}
+use Rattle.heap_calls.proofs.Cited.{with_run, none-settled, FindsPlacement, block_of, Placement, IsRest, with_moves, lowered_in_run}
+use Rattle.heap_calls.proofs.Cited.{place_moves}
 use Rattle.heap_calls.specs.declared.search.Placement.TheVariants as see
 use Rattle.heap_calls.proofs.Room.Searching.{room-found, at_run}
 use Rattle.heap_calls.proofs.Sizes.Carrying.{settle-blocks}
 use Rattle.heap_calls.proofs.Room.Staying.{nonrelocatable-run_at, none-settle}
-use Rattle.block_store.specs.Rest.{IsRest, with_moves, lowered_in_run}
-use Rattle.heap_calls.specs.Moves.{place_moves}
 use Rattle.heap_calls.proofs.Room.MoveCounts.{packs-none, packs-run, at-free, at-packed}
 use Rattle.heap_calls.proofs.search.pack_placement.Given.{Over}
 use Rattle.heap_calls.proofs.search.pack_placement.Goals.{After-settle}

@@ -1,7 +1,6 @@
-use Rattle.block_store.specs.Sparing.{purged}
+use Rattle.heap_calls.proofs.Cited.{purged, ◌≡◌}
 use Rattle.heap_calls.proofs.Room.LeastSearches.{purged-first, once-least, once-searches}
 use Rattle.heap_calls.proofs.Room.MoveCounts.{placement-once}
-use Rattle.std.proofs.Common.{◌≡◌}
 use Rattle.heap_calls.proofs.search.placement_at_once.Given.{Over}
 use Rattle.heap_calls.proofs.search.placement_at_once.Goals.{After-placement_now}
 use Rattle.heap_calls.proofs.search.placement_at_once.Goals as goal

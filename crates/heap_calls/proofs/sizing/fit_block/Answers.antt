@@ -1,7 +1,4 @@
-use Rattle.std.proofs.Common.{is_some, sym, ◌∙◌, ap, refl}
-use Rattle.block_store.specs.Block.{is_relocatable}
-use Rattle.block_store.specs.Sparing.{spared}
-use Rattle.heap_calls.specs.Moves.{size_moves}
+use Rattle.heap_calls.proofs.Cited.{is_some, sym, ◌∙◌, ap, refl, is_relocatable, spared, size_moves}
 use Rattle.heap_calls.proofs.Room.MoveCounts.{packs-none, too-large}
 use Rattle.heap_calls.proofs.sizing.fit_block.Goals as goal
 

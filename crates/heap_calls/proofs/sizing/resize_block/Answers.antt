@@ -1,23 +1,15 @@
-use Rattle.std.proofs.Common.{◌≡◌, ◌<◌, ◌≤◌, Some, sym, ◌∙◌, ap, subst, Option, Bool, Result, Ok, Err, arith}
-use Rattle.std.specs.Option.{IsSomeAnd}
-use Rattle.std.specs.Prelude.{IsOk}
-use Rattle.std.proofs.lemmas.Result.{on_ok_weaker}
-use Rattle.heap_calls.specs.Gone.{Hears}
-use Rattle.heap_calls.specs.Inner.Telling.{still_gone}
+use Rattle.heap_calls.proofs.Cited.{◌≡◌, ◌<◌, ◌≤◌, Some, sym, ◌∙◌, ap, subst, Option, Bool, Result, Ok, Err, arith, IsSomeAnd, IsOk}
+use Rattle.heap_calls.proofs.Cited.{on_ok_weaker, Hears, still_gone, is_relocatable, is_nonrelocatable, resized, spared, has, in_run, Spot}
+use Rattle.heap_calls.proofs.Cited.{spot_at, filled, on_ok, size_moves}
 use Rattle.heap_calls.proofs.GoneForSizes.{stays-gone}
 use Rattle.heap_calls.proofs.Hearing.{hears-as}
 use Rattle.heap_calls.proofs.Sizes.GrowingInPlace.{spot_if}
-use Rattle.block_store.specs.Block.{is_relocatable, is_nonrelocatable, resized, size as size_of}
-use Rattle.block_store.specs.Sparing.{spared}
-use Rattle.block_store.specs.Run.{has, in_run}
-use Rattle.block_store.specs.Room.{Spot, spot_at, filled}
-use Rattle.block_store.proofs.Content.Resizing.{on_ok}
+use Rattle.block_store.specs.Block.{size as size_of}
 use Rattle.heap_calls.proofs.Numbering.Answering.{at_place}
 use Rattle.heap_calls.proofs.Sizes.Resizing.{stands-still, moves, searches-still, searches-moved, is-to-grow, is-to-fit}
 use Rattle.heap_calls.proofs.Sizes.Resizing.{grown-done}
 use Rattle.heap_calls.proofs.Numbering.Changing.{nonrelocatable-at}
 use Rattle.heap_calls.proofs.Room.Staying.{nonrelocatable-filled, alike-resized}
-use Rattle.heap_calls.specs.Moves.{size_moves}
 use Rattle.heap_calls.proofs.Room.MoveCounts.{packs-none, cut-moves, still-moves, moved-moves}
 use Rattle.heap_calls.proofs.sizing.resize_block.Goals as goal
 

@@ -1,10 +1,5 @@
-use Rattle.std.proofs.Common.{◌≡◌, ◌+◌, ◌∙◌, ℕ, sym, ap, subst, arith, rules}
-use Rattle.block_store.specs.Find.{IsEdge}
-use Rattle.block_store.specs.Room.{spot_at}
-use Rattle.block_store.proofs.Plain.Options.{some_and}
-use Rattle.block_store.proofs.Zone.Edges.{edge-behind}
-use Rattle.heap_calls.specs.Gone.{Hears}
-use Rattle.heap_calls.specs.Inner.Telling.{gone_from, blocks_from}
+use Rattle.heap_calls.proofs.Cited.{◌≡◌, ◌+◌, ◌∙◌, ℕ, sym, ap, subst, arith, rules, IsEdge, spot_at, some_and, edge-behind, Hears}
+use Rattle.heap_calls.proofs.Cited.{gone_from, blocks_from}
 use Rattle.heap_calls.proofs.GoneBlocks.{from-behind}
 use Rattle.heap_calls.proofs.Hearing.{hears-as}
 use Rattle.heap_calls.proofs.Sizes.GrowingInPlace.{some_if, spot-small}

@@ -1,5 +1,4 @@
-use Rattle.std.proofs.Common.{ap, rules}
-use Rattle.heap_calls.specs.Inner.Telling.{gone_from}
+use Rattle.heap_calls.proofs.Cited.{ap, rules, gone_from}
 use Rattle.heap_calls.proofs.GoneBlocks.{edge-bottom, from-bottom}
 use Rattle.heap_calls.proofs.Hearing.{hears-as}
 use Rattle.heap_calls.proofs.telling.purge_telling.Goals as goal

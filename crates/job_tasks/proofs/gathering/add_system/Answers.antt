@@ -1,7 +1,4 @@
-use Rattle.std.proofs.Common.{◌≡◌, ◌∷◌, [], Ok, Err, ap, rules}
-use Rattle.fork_tasks.specs.Fault.{message_of}
-use Rattle.job_tasks.specs.Gathering.{fork_at, given_then, gathered, with_system}
-use Rattle.fork_tasks.proofs.Accesses.{ends_err}
+use Rattle.job_tasks.proofs.Cited.{◌≡◌, ◌∷◌, [], Ok, Err, ap, rules, message_of, fork_at, given_then, gathered, with_system, ends_err}
 use Rattle.job_tasks.proofs.Stops.{stop_given, stop_then}
 use Rattle.job_tasks.proofs.gathering.add_system.Goals as goal
 

@@ -1,9 +1,6 @@
-use Rattle.std.proofs.Common.{◌≡◌, ◌∷◌, ◌∙◌, [], Option, List, ℕ, Err, ap, rules}
+use Rattle.job_tasks.proofs.Cited.{◌≡◌, ◌∷◌, ◌∙◌, [], Option, List, ℕ, Err, ap, rules, message_of, Access, Read, and_then, reads_at}
+use Rattle.job_tasks.proofs.Cited.{fork_found, script_found, app_found, one_more, ends_err, stops_from}
 use Rattle.fork_tasks.specs.declared.fault.ToolFault.TheVariants.{HostMemory}
-use Rattle.fork_tasks.specs.Fault.{message_of}
-use Rattle.fork_tasks.specs.Accesses.{Access, Read, and_then, reads_at}
-use Rattle.job_tasks.specs.Gathering.{fork_found, script_found, app_found}
-use Rattle.fork_tasks.proofs.Accesses.{one_more, ends_err, stops_from}
 use Rattle.job_tasks.proofs.Stops.{stop_given}
 use Rattle.job_tasks.proofs.Forks.{app_unread, app_stop, app_there, app_made}
 use Rattle.job_tasks.proofs.gathering.app_at.Goals as goal

@@ -1,8 +1,6 @@
-use Rattle.std.proofs.Common.{◌≡◌, ◌∷◌, ◌∙◌, [], Ok, Err, sym, ap, rules}
+use Rattle.job_tasks.proofs.Cited.{◌≡◌, ◌∷◌, ◌∙◌, [], Ok, Err, sym, ap, rules, message_of, fork_at, given_then, fork_found, file_found}
+use Rattle.job_tasks.proofs.Cited.{ends_err}
 use Rattle.fork_tasks.specs.declared.fault.ToolFault.TheVariants.{HostMemory}
-use Rattle.fork_tasks.specs.Fault.{message_of}
-use Rattle.job_tasks.specs.Gathering.{fork_at, given_then, fork_found, file_found}
-use Rattle.fork_tasks.proofs.Accesses.{ends_err}
 use Rattle.job_tasks.proofs.Stops.{stop_given, stop_then}
 use Rattle.job_tasks.proofs.gathering.file_at.Goals as goal
 

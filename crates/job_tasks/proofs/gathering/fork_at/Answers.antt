@@ -1,6 +1,5 @@
-use Rattle.std.proofs.Common.{◌≡◌, ◌∷◌, ◌∙◌, [], Err, sym, rules}
-use Rattle.fork_tasks.specs.Fault.{message_of}
-use Rattle.fork_tasks.proofs.Accesses.{none, ends_err, fork_ends, stops_from, told_err, unread_stops}
+use Rattle.job_tasks.proofs.Cited.{◌≡◌, ◌∷◌, ◌∙◌, [], Err, sym, rules, message_of, none, ends_err, fork_ends, stops_from, told_err}
+use Rattle.job_tasks.proofs.Cited.{unread_stops}
 use Rattle.job_tasks.proofs.Stops.{unread_given}
 use Rattle.job_tasks.proofs.Forks.{fork_stop, fork_unread}
 use Rattle.job_tasks.proofs.gathering.fork_at.Goals as goal

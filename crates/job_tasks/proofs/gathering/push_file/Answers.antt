@@ -1,7 +1,4 @@
-use Rattle.std.proofs.Common.{◌≡◌, ◌∷◌, ◌++◌, [], map, refl, ap, arith}
-use Rattle.std.proofs.lemmas.Grind.{common_steps}
-use Rattle.job_tasks.specs.Gathering.{name_of, file_given, app_given}
-use Rattle.script_text.specs.Script.{spelled}
+use Rattle.job_tasks.proofs.Cited.{◌≡◌, ◌∷◌, ◌++◌, [], map, refl, ap, arith, common_steps, name_of, file_given, app_given, spelled}
 use Rattle.job_tasks.proofs.Owners.{map_kept, put_file}
 use Rattle.job_tasks.proofs.gathering.push_file.Goals as goal
 

@@ -1,8 +1,5 @@
-use Rattle.std.proofs.Common.{◌≡◌, ◌+◌, ◌∷◌, ◌++◌, [], ℕ, List, Err, take, drop, map, true, sym, ap, subst, ◌∙◌, arith, rules}
-use Rattle.std.proofs.lemmas.Grind.{common_steps}
-use Rattle.script_text.specs.Job.{Input, input_seen, app_names}
-use Rattle.script_text.specs.JobFacts.{all_follow}
-use Rattle.job_tasks.specs.Gathering.{gathered}
+use Rattle.job_tasks.proofs.Cited.{◌≡◌, ◌+◌, ◌∷◌, ◌++◌, [], ℕ, List, Err, take, drop, map, true, sym, ap, subst, ◌∙◌, arith, rules}
+use Rattle.job_tasks.proofs.Cited.{common_steps, Input, input_seen, app_names, all_follow, gathered}
 use Rattle.job_tasks.proofs.Inputs.{Come, further, stopped, ended}
 use Rattle.job_tasks.proofs.Owners.{order_after, names_more}
 use Rattle.job_tasks.proofs.gathering.read_inputs.Goals as goal

@@ -1,8 +1,4 @@
-use Rattle.std.proofs.Common.{◌≡◌, take, drop, map}
-use Rattle.std.specs.Prelude.{IsTrue}
-use Rattle.script_text.specs.Job.{input_seen, app_names}
-use Rattle.script_text.specs.JobFacts.{all_follow}
-use Rattle.job_tasks.specs.Gathering.{name_of, gathered}
+use Rattle.job_tasks.proofs.Cited.{◌≡◌, take, drop, map, IsTrue, input_seen, app_names, all_follow, name_of, gathered}
 use Rattle.job_tasks.proofs.Inputs.{Come}
 use Rattle.job_tasks.proofs.gathering.read_inputs.Given as goal
 

@@ -1,9 +1,5 @@
-use Rattle.std.proofs.Common.{◌≡◌, ◌∷◌, [], Err, rules}
-use Rattle.script_text.specs.Reading.{FailsAt}
-use Rattle.script_text.specs.Script.{script_of}
+use Rattle.job_tasks.proofs.Cited.{◌≡◌, ◌∷◌, [], Err, rules, FailsAt, script_of, script_found, ends_err}
 use Rattle.fork_tasks.specs.declared.fault.ToolFault.TheVariants.{HostMemory}
-use Rattle.job_tasks.specs.Gathering.{script_found}
-use Rattle.fork_tasks.proofs.Accesses.{ends_err}
 use Rattle.job_tasks.proofs.Stops.{script_ends, script_stop, stop_given}
 use Rattle.job_tasks.proofs.Forks.{script_unread}
 use Rattle.job_tasks.proofs.gathering.script_at.Goals as goal

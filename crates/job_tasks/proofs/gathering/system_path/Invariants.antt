@@ -1,6 +1,4 @@
-use Rattle.std.proofs.Common.{◌≡◌, drop, map}
-use Rattle.script_text.specs.Job.{input_seen}
-use Rattle.job_tasks.specs.Gathering.{system_path}
+use Rattle.job_tasks.proofs.Cited.{◌≡◌, drop, map, input_seen, system_path}
 use Rattle.job_tasks.proofs.gathering.system_path.Given as goal
 
 -- where no line so far names a System, those to come do

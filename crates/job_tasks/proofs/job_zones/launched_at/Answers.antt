@@ -1,4 +1,4 @@
-use Rattle.std.proofs.Common.{rules, sym}
+use Rattle.job_tasks.proofs.Cited.{rules, sym}
 use Rattle.job_tasks.proofs.JobZones.{left_some, left_none}
 use Rattle.job_tasks.proofs.job_zones.launched_at.Goals as goal
 

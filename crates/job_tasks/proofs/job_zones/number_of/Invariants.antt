@@ -1,7 +1,4 @@
-use Rattle.std.proofs.Common.{◌≡◌, drop, map}
-use Rattle.std.specs.Prelude.{bytes_eq}
-use Rattle.std.specs.List.{position_from}
-use Rattle.job_tasks.specs.Gathering.{name_of}
+use Rattle.job_tasks.proofs.Cited.{◌≡◌, drop, map, bytes_eq, position_from, name_of}
 use Rattle.job_tasks.proofs.job_zones.number_of.Given as goal
 
 -- as many applications were looked at as there were, and the first of this name that is still to come has its number

@@ -1,10 +1,5 @@
-use Rattle.std.proofs.Common.{◌≡◌, Ok, Err, map, subst, rules}
-use Rattle.script_text.specs.Job.{job_seen, job_of, input_seen}
-use Rattle.fork_tasks.specs.Fault.{message_of}
-use Rattle.job_tasks.specs.Gathering.{system_path, source_given}
-use Rattle.job_tasks.specs.Running.{Stated, Taken, IsJobFault}
-use Rattle.job_tasks.specs.JobZones.{Misstated}
-use Rattle.fork_tasks.proofs.Accesses.{told_err}
+use Rattle.job_tasks.proofs.Cited.{◌≡◌, Ok, Err, map, subst, rules, job_seen, job_of, input_seen, message_of, system_path, source_given}
+use Rattle.job_tasks.proofs.Cited.{Stated, Taken, IsJobFault, Misstated, told_err}
 use Rattle.job_tasks.proofs.JobZones.{ungathered_zone, not_there, sees}
 use Rattle.job_tasks.proofs.job_zones.see.Goals as goal
 

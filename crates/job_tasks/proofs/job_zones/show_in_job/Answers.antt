@@ -1,7 +1,4 @@
-use Rattle.std.proofs.Common.{◌≡◌, Err, refl, rules}
-use Rattle.job_tasks.specs.JobZones.{Unseen}
-use Rattle.fork_tasks.proofs.Accesses.{told_err}
-use Rattle.fork_tasks.proofs.Faults.{quiet_silent, loud_write}
+use Rattle.job_tasks.proofs.Cited.{◌≡◌, Err, refl, rules, Unseen, told_err, quiet_silent, loud_write}
 use Rattle.job_tasks.proofs.JobZones.{shows, unprinted}
 use Rattle.job_tasks.proofs.job_zones.show_in_job.Goals as goal
 

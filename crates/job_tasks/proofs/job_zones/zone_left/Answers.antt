@@ -1,8 +1,5 @@
-use Rattle.std.proofs.Common.{rules, ◌≡◌, ◌<◌, Some, slice_get, length, sym}
-use Rattle.desk.specs.Live.{leaves_seen}
-use Rattle.desk.specs.View.{outcome_seen}
-use Rattle.desk.specs.Whole.{system_of, IsAlone}
-use Rattle.job_tasks.specs.JobZones.{number_of, launched_at}
+use Rattle.job_tasks.proofs.Cited.{rules, ◌≡◌, ◌<◌, Some, slice_get, length, sym, leaves_seen, outcome_seen, system_of, IsAlone, number_of}
+use Rattle.job_tasks.proofs.Cited.{launched_at}
 use Rattle.job_tasks.proofs.JobZones.{app_there, is_started, named_so}
 use Rattle.job_tasks.proofs.job_zones.zone_left.Goals as goal
 

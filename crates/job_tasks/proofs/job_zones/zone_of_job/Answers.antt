@@ -1,6 +1,4 @@
-use Rattle.std.proofs.Common.{◌≡◌, Err, inl, rules}
-use Rattle.desk.specs.View.{outcome_seen}
-use Rattle.fork_tasks.proofs.Accesses.{told_err}
+use Rattle.job_tasks.proofs.Cited.{◌≡◌, Err, inl, rules, outcome_seen, told_err}
 use Rattle.job_tasks.proofs.job_zones.zone_of_job.Goals as goal
 
 -- the run did not begin

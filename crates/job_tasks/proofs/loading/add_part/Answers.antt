@@ -1,5 +1,4 @@
-use Rattle.std.proofs.Common.{◌≡◌, Err, rules}
-use Rattle.job_tasks.specs.Loading.{part_seen, path_of, forks_seen}
+use Rattle.job_tasks.proofs.Cited.{◌≡◌, Err, rules, part_seen, path_of, forks_seen}
 use Rattle.job_tasks.proofs.Stops.{stop_given}
 use Rattle.job_tasks.proofs.Loaded.{part_stopped}
 use Rattle.job_tasks.proofs.loading.add_part.Goals as goal

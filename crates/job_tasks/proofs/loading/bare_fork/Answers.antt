@@ -1,5 +1,4 @@
-use Rattle.std.proofs.Common.{◌∙◌, ap}
-use Rattle.fork_format.specs.Canonical.{canon}
+use Rattle.job_tasks.proofs.Cited.{◌∙◌, ap, canon}
 use Rattle.job_tasks.proofs.loading.bare_fork.Goals as goal
 
 pub returns-in-Ok : goal.returns-in-Ok

@@ -1,7 +1,5 @@
-use Rattle.std.proofs.Common.{◌≡◌, ◌+◌, ◌∷◌, ◌∙◌, [], ℕ, List, Err, drop, map, sym, ap, arith, rules}
-use Rattle.std.proofs.lemmas.Grind.{common_steps}
-use Rattle.fork_tasks.specs.Fault.{message_of}
-use Rattle.job_tasks.specs.Loading.{AppFork, part_seen, forks_seen, with_parts}
+use Rattle.job_tasks.proofs.Cited.{◌≡◌, ◌+◌, ◌∷◌, ◌∙◌, [], ℕ, List, Err, drop, map, sym, ap, arith, rules, common_steps, message_of}
+use Rattle.job_tasks.proofs.Cited.{AppFork, part_seen, forks_seen, with_parts}
 use Rattle.job_tasks.proofs.Stops.{stop_given}
 use Rattle.job_tasks.proofs.Loaded.{part_next, part_ends}
 use Rattle.job_tasks.proofs.loading.forks_given.Goals as goal

@@ -1,5 +1,5 @@
-use Rattle.std.proofs.Common.{◌≡◌, drop, map}
-use Rattle.job_tasks.specs.Loading.{part_seen, nothing_given, with_parts, forks_seen}
+use Rattle.job_tasks.proofs.Cited.{◌≡◌, drop, map, part_seen, with_parts, forks_seen}
+use Rattle.job_tasks.specs.Loading.{nothing_given}
 use Rattle.job_tasks.proofs.loading.forks_given.Given as goal
 
 -- what the parts to come add to the forks so far is what all parts give

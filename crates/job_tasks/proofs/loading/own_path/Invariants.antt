@@ -1,5 +1,4 @@
-use Rattle.std.proofs.Common.{◌≡◌, drop, map}
-use Rattle.job_tasks.specs.Loading.{part_seen, own_path}
+use Rattle.job_tasks.proofs.Cited.{◌≡◌, drop, map, part_seen, own_path}
 use Rattle.job_tasks.proofs.loading.own_path.Given as goal
 
 -- where no part so far is the application's own fork, it is among those to come

@@ -1,5 +1,5 @@
-use Rattle.std.proofs.Common.{◌≡◌, drop, map}
-use Rattle.job_tasks.specs.Loading.{part_seen, system_path}
+use Rattle.job_tasks.proofs.Cited.{◌≡◌, drop, map, part_seen}
+use Rattle.job_tasks.specs.Loading.{system_path}
 use Rattle.job_tasks.proofs.loading.system_path.Given as goal
 
 -- where no part so far is the System file, it is among those to come

@@ -1,6 +1,4 @@
-use Rattle.std.proofs.Common.{◌≡◌, drop, map}
-use Rattle.job_tasks.specs.Gathering.{source_given}
-use Rattle.job_tasks.specs.Outputs.{source_at}
+use Rattle.job_tasks.proofs.Cited.{◌≡◌, drop, map, source_given, source_at}
 use Rattle.job_tasks.proofs.outputs.source_at.Given as goal
 
 -- the file that is looked for is found among those that are left

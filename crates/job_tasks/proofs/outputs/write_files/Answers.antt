@@ -1,14 +1,6 @@
-use Rattle.std.proofs.Common.{◌≡◌, ◌∷◌, ◌++◌, [], ℕ, List, Err, map, refl, subst, rules}
-use Rattle.std.proofs.lemmas.List.{map-append}
-use Rattle.std.specs.Prelude.{string_bytes}
-use Rattle.desk.specs.Outcome.{Outcome}
-use Rattle.desk.specs.View.{outcome_seen}
-use Rattle.fork_tasks.specs.Accesses.{Access, Write, StopsAt, and_then}
-use Rattle.job_tasks.specs.Gathering.{GivenSource, source_given}
-use Rattle.job_tasks.specs.Outputs.{Written, left_by, logs_left, all_forks_left, sources_unless, desk_within}
-use Rattle.job_tasks.specs.Running.{write_of}
-use Rattle.fork_tasks.proofs.Accesses.{told_err}
-use Rattle.fork_tasks.proofs.Writes.{front_at, sooner_at, later_at}
+use Rattle.job_tasks.proofs.Cited.{◌≡◌, ◌∷◌, ◌++◌, [], ℕ, List, Err, map, refl, subst, rules, map-append, string_bytes, Outcome}
+use Rattle.job_tasks.proofs.Cited.{outcome_seen, Access, Write, StopsAt, and_then, GivenSource, source_given, Written, left_by, logs_left}
+use Rattle.job_tasks.proofs.Cited.{all_forks_left, sources_unless, desk_within, write_of, told_err, front_at, sooner_at, later_at}
 use Rattle.job_tasks.proofs.outputs.write_files.Goals as goal
 
 pub returns-in_err-write-clause-stopped : goal.returns-in_err-write-clause-stopped

@@ -1,11 +1,5 @@
-use Rattle.std.proofs.Common.{◌≡◌, ◌∷◌, [], ℕ, List, Err, map, subst, rules}
-use Rattle.std.specs.Prelude.{string_bytes}
-use Rattle.res_calls.specs.View.{view_file}
-use Rattle.fork_tasks.specs.Accesses.{Write, StopsAt}
-use Rattle.job_tasks.specs.Outputs.{owner_source, kept, forks_within}
-use Rattle.job_tasks.specs.Running.{write_of}
-use Rattle.fork_tasks.proofs.Accesses.{told_err}
-use Rattle.fork_tasks.proofs.Writes.{front_at}
+use Rattle.job_tasks.proofs.Cited.{◌≡◌, ◌∷◌, [], ℕ, List, Err, map, subst, rules, string_bytes, view_file, Write, StopsAt, owner_source}
+use Rattle.job_tasks.proofs.Cited.{kept, forks_within, write_of, told_err, front_at}
 use Rattle.job_tasks.proofs.outputs.write_fork.Goals as goal
 
 pub returns-in_err-write_kept-clause-stopped : goal.returns-in_err-write_kept-clause-stopped

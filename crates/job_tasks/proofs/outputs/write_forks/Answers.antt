@@ -1,7 +1,4 @@
-use Rattle.std.proofs.Common.{◌≡◌, ◌∙◌, Err, map, rules}
-use Rattle.job_tasks.specs.Gathering.{source_given}
-use Rattle.fork_tasks.proofs.Accesses.{told_err}
-use Rattle.fork_tasks.proofs.Writes.{further, stopped}
+use Rattle.job_tasks.proofs.Cited.{◌≡◌, ◌∙◌, Err, map, rules, source_given, told_err, further, stopped}
 use Rattle.job_tasks.proofs.Left.{of_owner}
 use Rattle.job_tasks.proofs.outputs.write_forks.Goals as goal
 

@@ -1,10 +1,4 @@
-use Rattle.std.proofs.Common.{◌≡◌, drop, map}
-use Rattle.std.specs.Prelude.{string_capacity}
-use Rattle.desk.specs.View.{told_seen}
-use Rattle.job_tasks.specs.Gathering.{source_given}
-use Rattle.job_tasks.specs.Outputs.{all_forks_left, HasRoom}
-use Rattle.job_tasks.specs.Running.{write_of}
-use Rattle.fork_tasks.proofs.Writes.{Made}
+use Rattle.job_tasks.proofs.Cited.{◌≡◌, drop, map, string_capacity, told_seen, source_given, all_forks_left, HasRoom, write_of, Made}
 use Rattle.job_tasks.proofs.outputs.write_forks.Given as goal
 
 -- nothing is printed, the forks of the applications so far are written, and there is room for the paths of the others

@@ -1,7 +1,4 @@
-use Rattle.std.proofs.Common.{◌≡◌, ◌∙◌, Err, rules}
-use Rattle.job_tasks.specs.Outputs.{owner_source}
-use Rattle.fork_tasks.proofs.Accesses.{told_err}
-use Rattle.fork_tasks.proofs.Writes.{further, stopped}
+use Rattle.job_tasks.proofs.Cited.{◌≡◌, ◌∙◌, Err, rules, owner_source, told_err, further, stopped}
 use Rattle.job_tasks.proofs.Left.{of_file}
 use Rattle.job_tasks.proofs.outputs.write_forks_within.Goals as goal
 

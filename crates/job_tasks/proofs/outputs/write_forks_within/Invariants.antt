@@ -1,9 +1,4 @@
-use Rattle.std.proofs.Common.{◌≡◌, drop, map}
-use Rattle.std.specs.Prelude.{string_capacity}
-use Rattle.res_calls.specs.View.{view_file}
-use Rattle.job_tasks.specs.Outputs.{owner_source, forks_within, HasRoom}
-use Rattle.job_tasks.specs.Running.{write_of}
-use Rattle.fork_tasks.proofs.Writes.{Made}
+use Rattle.job_tasks.proofs.Cited.{◌≡◌, drop, map, string_capacity, view_file, owner_source, forks_within, HasRoom, write_of, Made}
 use Rattle.job_tasks.proofs.outputs.write_forks_within.Given as goal
 
 -- nothing is printed, the forks so far are written, and there is room for the paths of the others

@@ -1,4 +1,4 @@
-use Rattle.std.proofs.Common.{inl, refl}
+use Rattle.job_tasks.proofs.Cited.{inl, refl}
 use Rattle.job_tasks.proofs.outputs.write_kept.Goals as goal
 
 -- the host is out of memory, and nothing was written

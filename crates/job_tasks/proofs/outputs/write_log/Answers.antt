@@ -1,11 +1,5 @@
-use Rattle.std.proofs.Common.{◌≡◌, ◌∷◌, [], ℕ, List, Err, map, subst, rules}
-use Rattle.std.specs.Prelude.{string_bytes}
-use Rattle.desk.specs.View.{told_seen}
-use Rattle.fork_tasks.specs.Accesses.{Write, StopsAt}
-use Rattle.job_tasks.specs.Outputs.{log_left}
-use Rattle.job_tasks.specs.Running.{write_of}
-use Rattle.fork_tasks.proofs.Accesses.{told_err}
-use Rattle.fork_tasks.proofs.Writes.{front_at}
+use Rattle.job_tasks.proofs.Cited.{◌≡◌, ◌∷◌, [], ℕ, List, Err, map, subst, rules, string_bytes, told_seen, Write, StopsAt, log_left}
+use Rattle.job_tasks.proofs.Cited.{write_of, told_err, front_at}
 use Rattle.job_tasks.proofs.outputs.write_log.Goals as goal
 
 pub returns-in_err-write-clause-stopped : goal.returns-in_err-write-clause-stopped

@@ -1,7 +1,4 @@
-use Rattle.std.proofs.Common.{◌≡◌, ◌∙◌, Err, rules}
-use Rattle.job_tasks.specs.Outputs.{log_left}
-use Rattle.fork_tasks.proofs.Accesses.{told_err}
-use Rattle.fork_tasks.proofs.Writes.{further, stopped}
+use Rattle.job_tasks.proofs.Cited.{◌≡◌, ◌∙◌, Err, rules, log_left, told_err, further, stopped}
 use Rattle.job_tasks.proofs.Left.{of_app}
 use Rattle.job_tasks.proofs.outputs.write_logs.Goals as goal
 

@@ -1,9 +1,4 @@
-use Rattle.std.proofs.Common.{◌≡◌, drop, map}
-use Rattle.std.specs.Prelude.{string_capacity}
-use Rattle.desk.specs.View.{told_seen}
-use Rattle.job_tasks.specs.Outputs.{logs_left, HasRoom}
-use Rattle.job_tasks.specs.Running.{write_of}
-use Rattle.fork_tasks.proofs.Writes.{Made}
+use Rattle.job_tasks.proofs.Cited.{◌≡◌, drop, map, string_capacity, told_seen, logs_left, HasRoom, write_of, Made}
 use Rattle.job_tasks.proofs.outputs.write_logs.Given as goal
 
 -- nothing is printed, the files of the applications so far are written, and there is room for the paths of the others

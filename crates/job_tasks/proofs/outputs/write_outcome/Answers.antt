@@ -1,12 +1,5 @@
-use Rattle.std.proofs.Common.{◌≡◌, ◌∷◌, ◌∙◌, [], List, Err, map, refl, sym, subst, rules}
-use Rattle.std.specs.Prelude.{string_bytes}
-use Rattle.desk.specs.View.{outcome_seen}
-use Rattle.fork_tasks.specs.Accesses.{Access, Folder, StopsAt, and_then}
-use Rattle.job_tasks.specs.Gathering.{source_given}
-use Rattle.job_tasks.specs.Outputs.{left_by}
-use Rattle.job_tasks.specs.Running.{write_of}
-use Rattle.fork_tasks.proofs.Accesses.{told_err}
-use Rattle.fork_tasks.proofs.Writes.{folder_at, later_at}
+use Rattle.job_tasks.proofs.Cited.{◌≡◌, ◌∷◌, ◌∙◌, [], List, Err, map, refl, sym, subst, rules, string_bytes, outcome_seen, Access, Folder}
+use Rattle.job_tasks.proofs.Cited.{StopsAt, and_then, source_given, left_by, write_of, told_err, folder_at, later_at}
 use Rattle.job_tasks.proofs.outputs.write_outcome.Goals as goal
 
 pub returns-in_err-make_folder-clause-stopped : goal.returns-in_err-make_folder-clause-stopped

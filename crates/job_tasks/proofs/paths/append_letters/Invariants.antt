@@ -1,6 +1,4 @@
-use Rattle.std.proofs.Common.{◌≡◌, ◌≤◌, ◌+◌, ◌*◌, ◌++◌, drop}
-use Rattle.std.specs.Prelude.{string_bytes, string_len, string_capacity}
-use Rattle.std.specs.Str.{encode_utf8_all}
+use Rattle.job_tasks.proofs.Cited.{◌≡◌, ◌≤◌, ◌+◌, ◌*◌, ◌++◌, drop, string_bytes, string_len, string_capacity, encode_utf8_all}
 use Rattle.job_tasks.proofs.paths.append_letters.Given as goal
 
 -- the path, with the letters to come, is the whole, and there is room for these

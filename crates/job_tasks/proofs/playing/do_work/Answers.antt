@@ -1,9 +1,4 @@
-use Rattle.std.proofs.Common.{IfErr, OnOk, map, sym, subst}
-use Rattle.std.proofs.lemmas.Result.{on_ok_weaker}
-use Rattle.fork_tasks.specs.Fault.{message_of}
-use Rattle.job_tasks.specs.Gathering.{source_given}
-use Rattle.job_tasks.specs.Playing.{DoesPlay, IsPlayUndone}
-use Rattle.fork_tasks.proofs.Accesses.{also_err}
+use Rattle.job_tasks.proofs.Cited.{IfErr, OnOk, map, sym, subst, on_ok_weaker, message_of, source_given, DoesPlay, IsPlayUndone, also_err}
 use Rattle.job_tasks.proofs.playing.do_work.Goals as goal
 
 -- nothing is printed where something is written

@@ -1,7 +1,5 @@
-use Rattle.std.proofs.Common.{◌≡◌, ◌∙◌, List, ℕ, Some, IfOk, map, option_map, sym, ap, subst, rules}
-use Rattle.desk.specs.Whole.{system_in}
-use Rattle.job_tasks.specs.Loading.{AppFork, part_seen}
-use Rattle.job_tasks.specs.Playing.{path_at_fault}
+use Rattle.job_tasks.proofs.Cited.{◌≡◌, ◌∙◌, List, ℕ, Some, IfOk, map, sym, ap, subst, rules, system_in, AppFork, part_seen, path_at_fault}
+use Rattle.std.proofs.Common.{option_map}
 use Rattle.job_tasks.proofs.Played.{system_read, system_unread}
 use Rattle.job_tasks.proofs.playing.path_at_fault.Goals as goal
 use Rattle.job_tasks.proofs.playing.path_at_fault.Goals.{in-Ok, in-Err-File, in-Err-HostMemory}

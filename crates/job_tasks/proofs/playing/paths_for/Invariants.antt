@@ -1,6 +1,4 @@
-use Rattle.std.proofs.Common.{◌≡◌, ◌∷◌, ◌++◌, drop, map}
-use Rattle.std.specs.Prelude.{string_bytes}
-use Rattle.job_tasks.specs.Loading.{part_seen, path_of}
+use Rattle.job_tasks.proofs.Cited.{◌≡◌, ◌∷◌, ◌++◌, drop, map, string_bytes, part_seen, path_of}
 use Rattle.job_tasks.proofs.playing.paths_for.Given as goal
 
 -- the paths so far, with those to come, are all

@@ -1,8 +1,4 @@
-use Rattle.std.proofs.Common.{◌≡◌, Err, map, refl, rules}
-use Rattle.job_tasks.specs.Loading.{part_seen}
-use Rattle.job_tasks.specs.Playing.{parts_of, NotTaken}
-use Rattle.fork_tasks.proofs.Accesses.{told_err}
-use Rattle.fork_tasks.proofs.Faults.{quiet_silent, quiet_from}
+use Rattle.job_tasks.proofs.Cited.{◌≡◌, Err, map, refl, rules, part_seen, parts_of, NotTaken, told_err, quiet_silent, quiet_from}
 use Rattle.job_tasks.proofs.Played.{plays, not_played, not_opened, quiet_work}
 use Rattle.job_tasks.proofs.playing.play.Goals as goal
 

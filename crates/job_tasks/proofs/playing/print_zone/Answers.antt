@@ -1,6 +1,5 @@
-use Rattle.std.proofs.Common.{◌≡◌, Err, rules}
+use Rattle.job_tasks.proofs.Cited.{◌≡◌, Err, rules, told_err}
 use Rattle.fork_tasks.specs.declared.fault.ToolFault.TheVariants.{HostMemory as NoMemory}
-use Rattle.fork_tasks.proofs.Accesses.{told_err}
 use Rattle.job_tasks.proofs.Played.{unprinted}
 use Rattle.job_tasks.proofs.playing.print_zone.Goals as goal
 

@@ -1,7 +1,5 @@
-use Rattle.std.proofs.Common.{◌≡◌, Err, rules}
+use Rattle.job_tasks.proofs.Cited.{◌≡◌, Err, rules, told_err, none_read}
 use Rattle.fork_tasks.specs.declared.fault.ToolFault.TheVariants.{HostMemory as NoMemory}
-use Rattle.fork_tasks.proofs.Accesses.{told_err}
-use Rattle.fork_tasks.proofs.Packed.{none_read}
 use Rattle.job_tasks.proofs.playing.read_all.Goals as goal
 
 pub returns-in_err-paths-clause-stopped : goal.returns-in_err-paths-clause-stopped

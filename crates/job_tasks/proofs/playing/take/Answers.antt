@@ -1,9 +1,5 @@
-use Rattle.std.proofs.Common.{◌≡◌, ◌∙◌, ℕ, List, Err, map, rules, subst}
-use Rattle.std.proofs.lemmas.List.{length-map}
-use Rattle.fork_tasks.specs.Fault.{message_of}
-use Rattle.job_tasks.specs.Gathering.{source_given}
-use Rattle.job_tasks.specs.Playing.{IsTaken, IsUntaken, Unread, Untaken}
-use Rattle.fork_tasks.proofs.Accesses.{told_err}
+use Rattle.job_tasks.proofs.Cited.{◌≡◌, ◌∙◌, ℕ, List, Err, map, rules, subst, length-map, message_of, source_given, IsTaken, IsUntaken}
+use Rattle.job_tasks.proofs.Cited.{Unread, Untaken, told_err}
 use Rattle.job_tasks.proofs.playing.take.Goals as goal
 
 -- a file was not read

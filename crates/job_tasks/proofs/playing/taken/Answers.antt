@@ -1,10 +1,7 @@
-use Rattle.std.proofs.Common.{◌≡◌, ◌-◌, ◌∙◌, Ok, Err, length, take, drop, map, ap, sym, subst, rules}
+use Rattle.job_tasks.proofs.Cited.{◌≡◌, ◌-◌, ◌∙◌, Ok, Err, length, take, drop, map, ap, sym, subst, rules, message_of, IsStop, part_seen}
+use Rattle.job_tasks.proofs.Cited.{forks_seen, with_parts, Misspelled, Unfound, told_err}
 use Rattle.fork_tasks.specs.declared.fault.ToolFault.TheVariants.{HostMemory as NoMemory}
-use Rattle.fork_tasks.specs.Fault.{message_of}
-use Rattle.job_tasks.specs.Gathering.{IsStop}
-use Rattle.job_tasks.specs.Loading.{part_seen, forks_seen, nothing_given, with_parts}
-use Rattle.job_tasks.specs.Playing.{Misspelled, Unfound}
-use Rattle.fork_tasks.proofs.Accesses.{told_err}
+use Rattle.job_tasks.specs.Loading.{nothing_given}
 use Rattle.job_tasks.proofs.Played.{first_of, others_count, unmade, is_taken}
 use Rattle.job_tasks.proofs.playing.taken.Goals as goal
 

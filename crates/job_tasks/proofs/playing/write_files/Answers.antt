@@ -1,14 +1,6 @@
-use Rattle.std.proofs.Common.{◌≡◌, ◌∷◌, ◌++◌, [], ℕ, List, Err, map, subst, rules}
-use Rattle.std.proofs.lemmas.List.{map-append}
-use Rattle.std.specs.Prelude.{string_bytes}
-use Rattle.res_calls.specs.View.{view_file}
-use Rattle.fork_tasks.specs.Accesses.{Access, Write, StopsAt, and_then}
-use Rattle.job_tasks.specs.Gathering.{source_given}
-use Rattle.job_tasks.specs.Outputs.{log_within, forks_within, source_at}
-use Rattle.job_tasks.specs.Playing.{player_name, left_alone}
-use Rattle.job_tasks.specs.Running.{write_of}
-use Rattle.fork_tasks.proofs.Accesses.{told_err}
-use Rattle.fork_tasks.proofs.Writes.{front_at, sooner_at, later_at}
+use Rattle.job_tasks.proofs.Cited.{◌≡◌, ◌∷◌, ◌++◌, [], ℕ, List, Err, map, subst, rules, map-append, string_bytes, view_file, Access, Write}
+use Rattle.job_tasks.proofs.Cited.{StopsAt, and_then, source_given, log_within, forks_within, source_at, player_name, left_alone, write_of}
+use Rattle.job_tasks.proofs.Cited.{told_err, front_at, sooner_at, later_at}
 use Rattle.job_tasks.proofs.playing.write_files.Goals as goal
 
 -- a fork was not written

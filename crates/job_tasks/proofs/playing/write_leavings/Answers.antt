@@ -1,10 +1,6 @@
-use Rattle.std.proofs.Common.{◌≡◌, Err, IfErr, map, subst, rules}
-use Rattle.fork_tasks.specs.Accesses.{StopsAmong}
+use Rattle.job_tasks.proofs.Cited.{◌≡◌, Err, IfErr, map, subst, rules, StopsAmong, message_of, source_given, leaves_alone, writes_alone}
+use Rattle.job_tasks.proofs.Cited.{told_err}
 use Rattle.fork_tasks.specs.declared.fault.ToolFault.TheVariants.{HostMemory as NoMemory}
-use Rattle.fork_tasks.specs.Fault.{message_of}
-use Rattle.job_tasks.specs.Gathering.{source_given}
-use Rattle.job_tasks.specs.Playing.{leaves_alone, writes_alone}
-use Rattle.fork_tasks.proofs.Accesses.{told_err}
 use Rattle.job_tasks.proofs.Played.{unwritten}
 use Rattle.job_tasks.proofs.playing.write_leavings.Goals as goal
 

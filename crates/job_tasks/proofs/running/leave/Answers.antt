@@ -1,14 +1,7 @@
-use Rattle.std.proofs.Common.{◌≡◌, ◌∙◌, List, ℕ, Err, ap, map, refl, subst, rules}
-use Rattle.desk.specs.Outcome.{Outcome}
-use Rattle.desk.specs.View.{outcome_seen}
-use Rattle.fork_tasks.specs.Accesses.{and_then}
+use Rattle.job_tasks.proofs.Cited.{◌≡◌, ◌∙◌, List, ℕ, Err, ap, map, refl, subst, rules, Outcome, outcome_seen, and_then, message_of}
+use Rattle.job_tasks.proofs.Cited.{GivenSource, source_given, sources_unless, IsUnwell, NotRun, Unspoken, Run, writes_for, written_of}
+use Rattle.job_tasks.proofs.Cited.{told_err}
 use Rattle.fork_tasks.specs.declared.fault.ToolFault.TheVariants.{HostMemory as NoMemory}
-use Rattle.fork_tasks.specs.Fault.{message_of}
-use Rattle.job_tasks.specs.Gathering.{GivenSource, source_given}
-use Rattle.job_tasks.specs.Outputs.{sources_unless}
-use Rattle.job_tasks.specs.Running.{IsUnwell, NotRun, Unspoken, Run, writes_for}
-use Rattle.job_tasks.specs.Speaking.{written_of}
-use Rattle.fork_tasks.proofs.Accesses.{told_err}
 use Rattle.job_tasks.proofs.running.leave.Goals as goal
 
 -- the run did not begin

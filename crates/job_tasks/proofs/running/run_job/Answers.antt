@@ -1,9 +1,6 @@
-use Rattle.std.proofs.Common.{◌≡◌, Ok, Err, ap, map, refl, subst, rules}
-use Rattle.script_text.specs.Job.{job_seen, job_of, input_seen}
-use Rattle.fork_tasks.specs.Fault.{message_of}
-use Rattle.job_tasks.specs.Gathering.{system_path, source_given}
-use Rattle.job_tasks.specs.Running.{Stated, Taken, IsJobFault, Misstated}
-use Rattle.fork_tasks.proofs.Accesses.{told_err}
+use Rattle.job_tasks.proofs.Cited.{◌≡◌, Ok, Err, ap, map, refl, subst, rules, job_seen, job_of, input_seen, message_of, system_path}
+use Rattle.job_tasks.proofs.Cited.{source_given, Stated, Taken, IsJobFault, told_err}
+use Rattle.job_tasks.specs.Running.{Misstated}
 use Rattle.job_tasks.proofs.Jobs.{ungathered, unnamed, unleft, runs}
 use Rattle.job_tasks.proofs.running.run_job.Goals as goal
 

@@ -1,8 +1,4 @@
-use Rattle.std.proofs.Common.{◌≡◌, Err, refl, rules}
-use Rattle.desk.specs.View.{outcome_seen}
-use Rattle.fork_tasks.specs.Fault.{HostMemory}
-use Rattle.job_tasks.specs.Running.{IsUnwell, Halted, NotWritten}
-use Rattle.fork_tasks.proofs.Accesses.{told_err}
+use Rattle.job_tasks.proofs.Cited.{◌≡◌, Err, refl, rules, outcome_seen, HostMemory, IsUnwell, Halted, NotWritten, told_err}
 use Rattle.job_tasks.proofs.running.written.Goals as goal
 
 -- what the run leaves was not written to its end

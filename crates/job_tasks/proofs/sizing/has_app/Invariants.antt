@@ -1,7 +1,4 @@
-use Rattle.std.proofs.Common.{◌≡◌, drop, map}
-use Rattle.std.specs.Prelude.{bytes_eq}
-use Rattle.std.specs.List.{list_any}
-use Rattle.job_tasks.specs.Gathering.{name_of}
+use Rattle.job_tasks.proofs.Cited.{◌≡◌, drop, map, bytes_eq, list_any, name_of}
 use Rattle.job_tasks.proofs.sizing.has_app.Given as goal
 
 -- where no application so far has the name, it is among those to come

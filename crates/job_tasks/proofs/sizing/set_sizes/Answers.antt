@@ -1,7 +1,4 @@
-use Rattle.std.proofs.Common.{rules}
-use Rattle.std.proofs.lemmas.List.Edits.{map_over_more}
-use Rattle.std.proofs.lemmas.List.{take_all, drop_all}
-use Rattle.job_tasks.specs.Sizing.{sized}
+use Rattle.job_tasks.proofs.Cited.{rules, map_over_more, take_all, drop_all, sized}
 use Rattle.job_tasks.proofs.sizing.set_sizes.Goals as goal
 
 pub loop-i-preserved : goal.loop-i-preserved

@@ -1,5 +1,4 @@
-use Rattle.std.proofs.Common.{◌≡◌, ◌++◌, map, take, drop}
-use Rattle.job_tasks.specs.Sizing.{sized}
+use Rattle.job_tasks.proofs.Cited.{◌≡◌, ◌++◌, map, take, drop, sized}
 use Rattle.job_tasks.proofs.sizing.set_sizes.Given as goal
 
 -- those that have their size, with those to come

@@ -1,6 +1,4 @@
-use Rattle.std.proofs.Common.{◌≡◌, drop}
-use Rattle.job_tasks.specs.Gathering.{name_of}
-use Rattle.job_tasks.specs.Sizing.{size_asked}
+use Rattle.job_tasks.proofs.Cited.{◌≡◌, drop, name_of, size_asked}
 use Rattle.job_tasks.proofs.sizing.size_asked.Given as goal
 
 -- where no size so far is for the application, the first that is, is among those to come

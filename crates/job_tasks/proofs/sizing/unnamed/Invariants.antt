@@ -1,6 +1,4 @@
-use Rattle.std.proofs.Common.{◌≡◌, drop, map}
-use Rattle.job_tasks.specs.Gathering.{name_of}
-use Rattle.job_tasks.specs.Sizing.{unnamed_in}
+use Rattle.job_tasks.proofs.Cited.{◌≡◌, drop, map, name_of, unnamed_in}
 use Rattle.job_tasks.proofs.sizing.unnamed.Given as goal
 
 -- where each name so far is an application's, the first that is none is among those to come

@@ -1,8 +1,5 @@
-use Rattle.std.proofs.Common.{◌≡◌, ◌∙◌, ◌<◌, ap, List, ℕ, length, map, slice_get, rules}
-use Rattle.std.specs.Prelude.{option_map}
-use Rattle.desk.specs.View.{told_seen}
-use Rattle.desk.specs.Whole.{system_of}
-use Rattle.job_tasks.specs.Speaking.{app_in_words}
+use Rattle.job_tasks.proofs.Cited.{◌≡◌, ◌∙◌, ◌<◌, ap, List, ℕ, length, map, slice_get, rules, option_map, told_seen, system_of}
+use Rattle.job_tasks.proofs.Cited.{app_in_words}
 use Rattle.job_tasks.proofs.Spoken.{one_more, text_at, got}
 use Rattle.job_tasks.proofs.speaking.speak_apps.Goals as goal
 

@@ -1,6 +1,4 @@
-use Rattle.std.proofs.Common.{◌≡◌, map}
-use Rattle.desk.specs.View.{told_seen}
-use Rattle.job_tasks.specs.Speaking.{apps_in_words}
+use Rattle.job_tasks.proofs.Cited.{◌≡◌, map, told_seen, apps_in_words}
 use Rattle.job_tasks.proofs.Spoken.{from}
 use Rattle.job_tasks.proofs.speaking.speak_apps.Given as goal
 

@@ -1,8 +1,4 @@
-use Rattle.std.proofs.Common.{IfErr, sym, subst}
-use Rattle.fork_tasks.specs.Delivering.{IsUndelivered}
-use Rattle.fork_tasks.specs.Fault.{message_of}
-use Rattle.job_tasks.specs.Tasks.{description_text}
-use Rattle.fork_tasks.specs.declared.delivering.Target.TheVariants.{Printed}
+use Rattle.job_tasks.proofs.Cited.{IfErr, sym, subst, IsUndelivered, message_of, description_text, Printed}
 use Rattle.job_tasks.proofs.tasks.deliver_description.Goals as goal
 
 -- the listing was not printed to its end

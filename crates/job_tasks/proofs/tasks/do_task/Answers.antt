@@ -1,6 +1,4 @@
-use Rattle.std.proofs.Common.{IfErr, sym, subst}
-use Rattle.fork_tasks.specs.Fault.{message_of}
-use Rattle.job_tasks.specs.Tasks.{IsRefusal}
+use Rattle.job_tasks.proofs.Cited.{IfErr, sym, subst, message_of, IsRefusal}
 use Rattle.job_tasks.proofs.tasks.do_task.Goals as goal
 
 -- the fault is that of what is printed

@@ -1,8 +1,5 @@
-use Rattle.std.proofs.Common.{◌≡◌, Err, refl, rules}
+use Rattle.job_tasks.proofs.Cited.{◌≡◌, Err, refl, rules, message_of, description_text, told_err}
 use Rattle.job_tasks.specs.declared.tasks.Work.TheVariants as work
-use Rattle.fork_tasks.specs.Fault.{message_of}
-use Rattle.job_tasks.specs.Tasks.{description_text}
-use Rattle.fork_tasks.proofs.Accesses.{told_err}
 use Rattle.job_tasks.proofs.Described.{refused_sent}
 use Rattle.job_tasks.proofs.tasks.print_description.Goals as goal
 

@@ -1,7 +1,5 @@
-use Rattle.std.proofs.Common.{IfErr, subst}
+use Rattle.job_tasks.proofs.Cited.{IfErr, subst, message_of, IsRefusal}
 use Rattle.job_tasks.specs.declared.tasks.Work.TheVariants as work
-use Rattle.fork_tasks.specs.Fault.{message_of}
-use Rattle.job_tasks.specs.Tasks.{IsRefusal}
 use Rattle.job_tasks.proofs.tasks.print_map.Goals as goal
 
 -- the file that was opened is that of the bytes

@@ -1,10 +1,5 @@
-use Rattle.std.proofs.Common.{◌≡◌, [], Err, refl, rules}
-use Rattle.fork_format.specs.View.{view}
-use Rattle.fork_commands.specs.Opening.{bytes_of}
+use Rattle.job_tasks.proofs.Cited.{◌≡◌, [], Err, refl, rules, view, bytes_of, message_of, listing, told_err}
 use Rattle.job_tasks.specs.declared.tasks.Work.TheVariants as work
-use Rattle.fork_tasks.specs.Fault.{message_of}
-use Rattle.fork_tasks.specs.Listing.{listing}
-use Rattle.fork_tasks.proofs.Accesses.{told_err}
 use Rattle.job_tasks.proofs.Described.{refused_sent}
 use Rattle.job_tasks.proofs.tasks.print_opened.Goals as goal
 

@@ -1,7 +1,5 @@
-use Rattle.std.proofs.Common.{◌≡◌, Err, rules}
+use Rattle.job_tasks.proofs.Cited.{◌≡◌, Err, rules, message_of, told_err}
 use Rattle.job_tasks.specs.declared.tasks.Work.TheVariants as work
-use Rattle.fork_tasks.specs.Fault.{message_of}
-use Rattle.fork_tasks.proofs.Accesses.{told_err}
 use Rattle.job_tasks.proofs.Described.{refused_sent}
 use Rattle.job_tasks.proofs.tasks.print_transcript.Goals as goal
 

@@ -1,6 +1,5 @@
-use Rattle.fork_commands.specs.Opening.{bytes_of}
-use Rattle.fork_commands.proofs.Contents.{stopped_there}
-use Rattle.fork_commands.proofs.Pairs.{also_ok, also_err}
+use Rattle.job_tasks.proofs.Cited.{bytes_of, stopped_there, also_ok}
+use Rattle.fork_commands.proofs.Pairs.{also_err}
 use Rattle.job_tasks.proofs.work.form_in.Goals as goal
 
 -- the form of the fork in the file

@@ -1,4 +1,4 @@
-use Rattle.std.proofs.Common.{◌∙◌}
+use Rattle.lint.proofs.Cited.{◌∙◌}
 use Rattle.lint.proofs.Stepping.{found_some}
 use Rattle.lint.proofs.argument.spells.Goals as goal
 

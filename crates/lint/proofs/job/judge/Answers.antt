@@ -1,4 +1,4 @@
-use Rattle.script_text.specs.Job.{with_line}
+use Rattle.lint.proofs.Cited.{with_line}
 use Rattle.lint.proofs.Stepping.{said_on}
 use Rattle.lint.proofs.job.judge.Goals as goal
 

@@ -1,9 +1,4 @@
-use Rattle.std.proofs.Common.{◌≡◌, ◌+◌, ◌≤◌, ◌++◌, length, map}
-use Rattle.std.specs.Str.Lines.{lines}
-use Rattle.script_text.specs.Job.{nothing}
-use Rattle.lint.specs.Faults.{job_faults_from}
-use Rattle.lint.specs.Reading.{left_by}
-use Rattle.lint.specs.Seen.{seen}
+use Rattle.lint.proofs.Cited.{◌≡◌, ◌+◌, ◌≤◌, ◌++◌, length, map, lines, nothing, job_faults_from, left_by, seen}
 use Rattle.lint.proofs.job.read_lines.Given as goal
 
 -- the lines that are still to be read leave what all of them leave, and their faults, after those so far, are all faults

@@ -1,7 +1,4 @@
-use Rattle.std.proofs.Common.{◌≡◌, ◌∙◌, true, false, is_some, sym, ap, rules}
-use Rattle.script_text.specs.Argument.{value}
-use Rattle.script_text.specs.Token.{token_at}
-use Rattle.lint.specs.Roles.{kind}
+use Rattle.lint.proofs.Cited.{◌≡◌, ◌∙◌, true, false, is_some, sym, ap, rules, value, token_at, kind}
 use Rattle.lint.proofs.Stepping.{argument_there, argument_not}
 use Rattle.lint.proofs.judging.after_value.Goals as goal
 

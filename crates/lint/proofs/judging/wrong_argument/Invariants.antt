@@ -1,5 +1,4 @@
-use Rattle.std.proofs.Common.{◌≡◌, ◌+◌, drop}
-use Rattle.lint.specs.Judging.{first_wrong}
+use Rattle.lint.proofs.Cited.{◌≡◌, ◌+◌, drop, first_wrong}
 use Rattle.lint.proofs.judging.wrong_argument.Given as goal
 
 -- as many arguments were read as are counted, and the first wrong one of those that are still to be read is that of all

@@ -1,7 +1,4 @@
-use Rattle.std.proofs.Common.{◌≡◌, ◌++◌, map, drop}
-use Rattle.script_text.specs.Script.{statement}
-use Rattle.lint.specs.Faults.{missing_lines, unfinished_at}
-use Rattle.lint.specs.Seen.{seen}
+use Rattle.lint.proofs.Cited.{◌≡◌, ◌++◌, map, drop, statement, missing_lines, unfinished_at, seen}
 use Rattle.lint.proofs.script.say_missing.Given as goal
 
 -- the faults so far, and those of the steps that are still to be looked at, are those of all of them

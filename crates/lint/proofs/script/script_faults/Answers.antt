@@ -1,6 +1,4 @@
-use Rattle.std.proofs.Common.{◌≡◌, ◌+◌, ◌++◌, ◌∙◌, ◌==◌, true, length, map, sym, ap, rules}
-use Rattle.lint.specs.Faults.{script_faults, unfinished_lines}
-use Rattle.lint.specs.Seen.{seen}
+use Rattle.lint.proofs.Cited.{◌≡◌, ◌+◌, ◌++◌, ◌∙◌, ◌==◌, true, length, map, sym, ap, rules, script_faults, unfinished_lines, seen}
 use Rattle.lint.proofs.Stepping.{at_end}
 use Rattle.lint.proofs.script.script_faults.Goals as goal
 

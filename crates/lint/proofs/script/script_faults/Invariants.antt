@@ -1,8 +1,4 @@
-use Rattle.std.proofs.Common.{◌≡◌, ◌+◌, ◌≤◌, ◌++◌, length, map}
-use Rattle.std.specs.Str.Lines.{lines}
-use Rattle.script_text.specs.Script.{no_lines}
-use Rattle.lint.specs.Faults.{faults_from}
-use Rattle.lint.specs.Seen.{seen}
+use Rattle.lint.proofs.Cited.{◌≡◌, ◌+◌, ◌≤◌, ◌++◌, length, map, lines, no_lines, faults_from, seen}
 use Rattle.lint.proofs.script.script_faults.Given as goal
 
 -- the faults so far, and those of the lines that are still to be read, are those of the whole text

@@ -1,12 +1,7 @@
-use Rattle.std.proofs.Common.{◌≡◌, ◌≤◌, ◌+◌, ◌++◌, ◌∷◌, ◌∙◌, take, drop, sym, ap, length, get_or, slice_set, arith}
-use Rattle.std.proofs.Math.Nat.{add-sub_cancel_left}
-use Rattle.std.specs.Option.{IfSome}
-use Rattle.std.proofs.lemmas.List.{get_or-set_other, length-set, length-drop}
-use Rattle.block_store.specs.Block.{content_of, with_content}
-use Rattle.memory_windows.specs.Writes.{written}
-use Rattle.list_store.specs.Lists.{blocks_of, block_of, nth_spot}
+use Rattle.list_store.proofs.Cited.{◌≡◌, ◌≤◌, ◌+◌, ◌++◌, ◌∷◌, ◌∙◌, take, drop, sym, ap, length, get_or, slice_set, arith}
+use Rattle.list_store.proofs.Cited.{add-sub_cancel_left, IfSome, get_or-set_other, length-set, length-drop, content_of, with_content}
+use Rattle.list_store.proofs.Cited.{written, blocks_of, block_of, nth_spot, first-bytes}
 use Rattle.list_store.proofs.Content.Copies.{at_nth, from_nth, blocks-replaced}
-use Rattle.block_store.proofs.Content.Copies.{first-bytes}
 use Rattle.list_store.proofs.copying.copy_between.Goals as goal
 
 pub index-requires : goal.index-requires

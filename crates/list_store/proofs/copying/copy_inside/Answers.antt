@@ -1,7 +1,5 @@
-use Rattle.std.proofs.Common.{◌≡◌, ◌≤◌, ◌+◌, ◌++◌, ◌∷◌, ◌∙◌, take, drop, sym, ap, length, get_or, slice_set, arith}
-use Rattle.block_store.specs.Block.{content_of, with_content}
-use Rattle.memory_windows.specs.Writes.{written}
-use Rattle.list_store.specs.Lists.{blocks_of}
+use Rattle.list_store.proofs.Cited.{◌≡◌, ◌≤◌, ◌+◌, ◌++◌, ◌∷◌, ◌∙◌, take, drop, sym, ap, length, get_or, slice_set, arith, content_of}
+use Rattle.list_store.proofs.Cited.{with_content, written, blocks_of}
 use Rattle.list_store.proofs.Content.Copies.{at_nth, from_nth, blocks-replaced}
 use Rattle.list_store.proofs.copying.copy_inside.Goals as goal
 

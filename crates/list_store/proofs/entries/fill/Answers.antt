@@ -1,7 +1,4 @@
-use Rattle.std.proofs.Common.{◌≡◌, ◌+◌, ◌-◌, ◌++◌, ◌∷◌, ◌∙◌, take, drop, ap, arith}
-use Rattle.block_store.specs.Block.{Free, size, tidy}
-use Rattle.block_store.specs.Room.{filled}
-use Rattle.list_store.specs.Lists.{blocks_of, block_of}
+use Rattle.list_store.proofs.Cited.{◌≡◌, ◌+◌, ◌-◌, ◌++◌, ◌∷◌, ◌∙◌, take, drop, ap, arith, Free, size, tidy, filled, blocks_of, block_of}
 use Rattle.list_store.proofs.Zone.Spots.{at_entry}
 use Rattle.list_store.proofs.Content.Fitting.{fits-at, carved-at}
 use Rattle.list_store.proofs.entries.fill.Goals as goal

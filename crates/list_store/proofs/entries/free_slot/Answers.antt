@@ -1,9 +1,6 @@
-use Rattle.std.proofs.Common.{◌++◌, take, drop, ◌∙◌, ap, arith}
-use Rattle.std.proofs.lemmas.List.{length-map}
-use Rattle.block_store.specs.Block.{sizes, is_relocatable}
-use Rattle.list_store.specs.Lists.{blocks_of, block_of, freed_first}
+use Rattle.list_store.proofs.Cited.{◌++◌, take, drop, ◌∙◌, ap, arith, length-map, sizes, is_relocatable, blocks_of, block_of, freed_first}
+use Rattle.list_store.proofs.Cited.{sizes-freed}
 use Rattle.list_store.proofs.Zone.Listing.{freed-step}
-use Rattle.block_store.proofs.Zone.Listing.{sizes-freed}
 use Rattle.list_store.proofs.entries.free_slot.Goals as goal
 
 pub free_if-requires-clause-fits : goal.free_if-requires-clause-fits

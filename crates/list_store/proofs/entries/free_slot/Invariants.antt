@@ -1,7 +1,4 @@
-use Rattle.std.proofs.Common.{◌≡◌, ◌++◌, take, drop}
-use Rattle.block_store.specs.Grow.{freed}
-use Rattle.block_store.specs.Block.{is_relocatable}
-use Rattle.list_store.specs.Lists.{blocks_of}
+use Rattle.list_store.proofs.Cited.{◌≡◌, ◌++◌, take, drop, freed, is_relocatable, blocks_of}
 use Rattle.list_store.proofs.entries.free_slot.Given as goal
 
 -- those so far are freed, the others as they were

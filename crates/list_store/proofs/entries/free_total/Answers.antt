@@ -1,6 +1,4 @@
-use Rattle.std.proofs.Common.{◌≡◌, ap, arith}
-use Rattle.block_store.specs.Block.{free_of}
-use Rattle.list_store.specs.Lists.{block_of}
+use Rattle.list_store.proofs.Cited.{◌≡◌, ap, arith, free_of, block_of}
 use Rattle.list_store.proofs.Zone.Listing.{free-more, free-le, free_of-not_free}
 use Rattle.list_store.proofs.entries.free_total.Goals as goal
 use Rattle.list_store.proofs.entries.free_total.Goals.{in-Free, in_default}

@@ -1,6 +1,4 @@
-use Rattle.std.proofs.Common.{◌≡◌, take}
-use Rattle.block_store.specs.Block.{free_sum}
-use Rattle.list_store.specs.Lists.{blocks_of}
+use Rattle.list_store.proofs.Cited.{◌≡◌, take, free_sum, blocks_of}
 use Rattle.list_store.proofs.entries.free_total.Given as goal
 
 -- the Free bytes so far

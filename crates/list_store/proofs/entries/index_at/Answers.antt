@@ -1,10 +1,6 @@
-use Rattle.std.proofs.Common.{◌+◌, ◌-◌, take, drop, sym, ◌∙◌, ap, arith}
-use Rattle.block_store.specs.Block.{size}
-use Rattle.block_store.specs.Room.{spot_at}
-use Rattle.list_store.specs.Lists.{blocks_of, block_of}
+use Rattle.list_store.proofs.Cited.{◌+◌, ◌-◌, take, drop, sym, ◌∙◌, ap, arith, size, spot_at, blocks_of, block_of, spot_at-more}
+use Rattle.list_store.proofs.Cited.{spot_at-past, raised_by}
 use Rattle.list_store.proofs.Zone.Listing.{drop-blocks, take-blocks, entry_fits, spot_at-here}
-use Rattle.block_store.proofs.Zone.Listing.{spot_at-more}
-use Rattle.block_store.proofs.Zone.Listing.{spot_at-past, raised_by}
 use Rattle.list_store.proofs.entries.index_at.Goals as goal
 
 pub returns-then-rest-eq0 : goal.returns-then-rest-eq0

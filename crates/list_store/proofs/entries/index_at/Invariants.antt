@@ -1,7 +1,4 @@
-use Rattle.std.proofs.Common.{◌≡◌, take, drop}
-use Rattle.block_store.specs.Room.{spot_at}
-use Rattle.list_store.specs.Lists.{blocks_of}
-use Rattle.block_store.proofs.Zone.Listing.{raised_by}
+use Rattle.list_store.proofs.Cited.{◌≡◌, take, drop, spot_at, blocks_of, raised_by}
 use Rattle.list_store.proofs.entries.index_at.Given as goal
 
 -- the rest of the entries gives the spot

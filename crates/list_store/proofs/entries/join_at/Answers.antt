@@ -1,7 +1,5 @@
-use Rattle.std.proofs.Common.{◌≡◌, ◌+◌, ◌∷◌, drop, slice_set, sym, ◌∙◌, ap, arith}
-use Rattle.block_store.specs.Block.{size, add}
+use Rattle.list_store.proofs.Cited.{◌≡◌, ◌+◌, ◌∷◌, drop, slice_set, sym, ◌∙◌, ap, arith, size, add, blocks_of, block_of}
 use Rattle.list_store.specs.declared.entries.StoredBlock.TheVariants as entry
-use Rattle.list_store.specs.Lists.{blocks_of, block_of}
 use Rattle.list_store.proofs.Zone.Listing.{joined-same, joined-empty, joined-two, add-not_free, add-free_other}
 use Rattle.list_store.proofs.Zone.Listing.{drop-blocks, two-le}
 use Rattle.list_store.proofs.entries.join_at.Goals as goal

@@ -1,8 +1,5 @@
-use Rattle.std.proofs.Common.{◌-◌, ◌++◌, take, drop, ◌∙◌, ap, arith}
-use Rattle.std.proofs.lemmas.List.{length-map}
-use Rattle.block_store.specs.Block.{sizes, tidy_top}
-use Rattle.list_store.specs.Lists.{blocks_of, block_of}
-use Rattle.block_store.proofs.Zone.Listing.{tidy-step, sizes-tidied}
+use Rattle.list_store.proofs.Cited.{◌-◌, ◌++◌, take, drop, ◌∙◌, ap, arith, length-map, sizes, tidy_top, blocks_of, block_of, tidy-step}
+use Rattle.list_store.proofs.Cited.{sizes-tidied}
 use Rattle.list_store.proofs.entries.tidy_entries.Goals as goal
 
 pub join_at-requires-clause-fits : goal.join_at-requires-clause-fits

@@ -1,6 +1,4 @@
-use Rattle.std.proofs.Common.{◌≡◌, ◌≤◌, ◌++◌, length, take, drop}
-use Rattle.block_store.specs.Block.{tidy}
-use Rattle.list_store.specs.Lists.{blocks_of}
+use Rattle.list_store.proofs.Cited.{◌≡◌, ◌≤◌, ◌++◌, length, take, drop, tidy, blocks_of}
 use Rattle.list_store.proofs.entries.tidy_entries.Given as goal
 
 -- what is above is tidy

@@ -1,6 +1,4 @@
-use Rattle.std.proofs.Common.{◌≤◌, ◌+◌, ◌∙◌, sym, ap, length, get_or}
-use Rattle.block_store.specs.Block.{content_of, with_content}
-use Rattle.memory_windows.specs.Writes.{written}
+use Rattle.list_store.proofs.Cited.{◌≤◌, ◌+◌, ◌∙◌, sym, ap, length, get_or, content_of, with_content, written}
 use Rattle.list_store.proofs.Zone.Spots.{from_entry, changed-at}
 use Rattle.list_store.proofs.entries.write_at.Goals as goal
 

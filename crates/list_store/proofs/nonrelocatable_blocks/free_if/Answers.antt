@@ -1,5 +1,4 @@
-use Rattle.std.proofs.Common.{◌∙◌, sym, arith}
-use Rattle.block_store.specs.Block.{is_nonrelocatable}
+use Rattle.list_store.proofs.Cited.{◌∙◌, sym, arith, is_nonrelocatable}
 use Rattle.list_store.proofs.Zone.Listing.{entry_fits, freed_first-set, freed_first-same}
 use Rattle.list_store.proofs.nonrelocatable_blocks.free_if.Goals as goal
 

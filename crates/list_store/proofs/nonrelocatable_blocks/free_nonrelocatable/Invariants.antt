@@ -1,7 +1,4 @@
-use Rattle.std.proofs.Common.{◌≡◌, ◌++◌, take, drop}
-use Rattle.block_store.specs.Grow.{freed}
-use Rattle.block_store.specs.Block.{is_nonrelocatable}
-use Rattle.list_store.specs.Lists.{blocks_of}
+use Rattle.list_store.proofs.Cited.{◌≡◌, ◌++◌, take, drop, freed, is_nonrelocatable, blocks_of}
 use Rattle.list_store.proofs.nonrelocatable_blocks.free_nonrelocatable.Given as goal
 
 -- those so far are freed, the others as they were

@@ -1,7 +1,4 @@
-use Rattle.std.proofs.Common.{◌∙◌, ap, arith}
-use Rattle.block_store.specs.Block.{sizes, is_nonrelocatable}
-use Rattle.list_store.specs.Lists.{blocks_of}
-use Rattle.block_store.proofs.Zone.Listing.{size-freed}
+use Rattle.list_store.proofs.Cited.{◌∙◌, ap, arith, sizes, is_nonrelocatable, blocks_of, size-freed}
 use Rattle.list_store.proofs.nonrelocatable_blocks.free_place.Goals as goal
 
 pub tidy_entries-requires : goal.tidy_entries-requires

@@ -1,8 +1,4 @@
-use Rattle.std.proofs.Common.{◌++◌, take, drop, ◌∙◌, ap, arith}
-use Rattle.std.proofs.lemmas.List.{length-map}
-use Rattle.list_store.specs.Lists.{blocks_of, block_of}
-use Rattle.block_store.specs.Inner.Packing.{cleared_first}
-use Rattle.block_store.proofs.Regroup.Packed.{cleared-step}
+use Rattle.list_store.proofs.Cited.{◌++◌, take, drop, ◌∙◌, ap, arith, length-map, blocks_of, block_of, cleared_first, cleared-step}
 use Rattle.list_store.proofs.packing.clear.Goals as goal
 
 pub loop-i-preserved : goal.loop-i-preserved

@@ -1,6 +1,4 @@
-use Rattle.std.proofs.Common.{◌≡◌, ◌++◌, take, drop, map}
-use Rattle.list_store.specs.Lists.{blocks_of}
-use Rattle.block_store.specs.Inner.Packing.{cleared}
+use Rattle.list_store.proofs.Cited.{◌≡◌, ◌++◌, take, drop, map, blocks_of, cleared}
 use Rattle.list_store.proofs.packing.clear.Given as goal
 
 -- those so far are cleared, the others as they were

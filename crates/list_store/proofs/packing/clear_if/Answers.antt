@@ -1,7 +1,5 @@
-use Rattle.std.proofs.Common.{◌∙◌, sym, ap, slice_set}
+use Rattle.list_store.proofs.Cited.{◌∙◌, sym, ap, slice_set, block_of, is_free}
 use Rattle.list_store.specs.declared.entries.StoredBlock.TheVariants as entry
-use Rattle.list_store.specs.Lists.{block_of}
-use Rattle.block_store.specs.Inner.Stretch.{is_free}
 use Rattle.list_store.proofs.Zone.Spots.{blocks-set}
 use Rattle.list_store.proofs.Regroup.Packed.{cleared-set, cleared-same}
 use Rattle.list_store.proofs.packing.clear_if.Goals as goal

@@ -1,9 +1,6 @@
-use Rattle.std.proofs.Common.{◌≡◌, ◌+◌, ◌∷◌, drop, cond, sym, ◌∙◌, ap, arith}
-use Rattle.block_store.specs.Block.{count, is_mover}
-use Rattle.block_store.specs.Rest.{lowered_in_run}
-use Rattle.list_store.specs.Lists.{blocks_of, block_of}
+use Rattle.list_store.proofs.Cited.{◌≡◌, ◌+◌, ◌∷◌, drop, cond, sym, ◌∙◌, ap, arith, count, is_mover, lowered_in_run, blocks_of, block_of}
+use Rattle.list_store.proofs.Cited.{fallen-free, fallen-mover, fallen-barrier, fallen-later}
 use Rattle.list_store.proofs.Zone.Listing.{drop-blocks}
-use Rattle.block_store.proofs.Regroup.Packed.{fallen-free, fallen-mover, fallen-barrier, fallen-later}
 use Rattle.list_store.proofs.packing.count_lowered.Goals as goal
 use Rattle.list_store.proofs.packing.count_lowered.Goals.{then-is_free_entry}
 use Rattle.list_store.proofs.packing.count_lowered.Goals.{else-is_free_entry+then-below+then-is_loose}

@@ -1,7 +1,4 @@
-use Rattle.std.proofs.Common.{◌≡◌, ◌+◌, ◌≤◌, drop, cond}
-use Rattle.block_store.specs.Block.{count, is_mover}
-use Rattle.block_store.specs.Rest.{lowered_in_run}
-use Rattle.list_store.specs.Lists.{blocks_of}
+use Rattle.list_store.proofs.Cited.{◌≡◌, ◌+◌, ◌≤◌, drop, cond, count, is_mover, lowered_in_run, blocks_of}
 use Rattle.list_store.proofs.packing.count_lowered.Given as goal
 
 -- how many so far, and that the rest gives the others

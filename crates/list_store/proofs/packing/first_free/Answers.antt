@@ -1,5 +1,4 @@
-use Rattle.std.proofs.Common.{◌∙◌, sym}
-use Rattle.block_store.specs.Inner.Stretch.{is_free}
+use Rattle.list_store.proofs.Cited.{◌∙◌, sym, is_free}
 use Rattle.list_store.proofs.Regroup.Packed.{has-drop, nth-passes}
 use Rattle.list_store.proofs.packing.first_free.Goals as goal
 

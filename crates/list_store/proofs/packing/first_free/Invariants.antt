@@ -1,7 +1,4 @@
-use Rattle.std.proofs.Common.{◌≡◌, drop}
-use Rattle.block_store.specs.Run.{has}
-use Rattle.block_store.specs.Inner.Stretch.{is_free}
-use Rattle.list_store.specs.Lists.{blocks_of}
+use Rattle.list_store.proofs.Cited.{◌≡◌, drop, has, is_free, blocks_of}
 use Rattle.list_store.proofs.packing.first_free.Given as goal
 
 -- what is Free is among the rest

@@ -1,12 +1,7 @@
-use Rattle.std.proofs.Common.{◌≡◌, ◌-◌, ◌∙◌, ap, arith, refl, cond}
-use Rattle.block_store.specs.Block.{Block, size, tidy, is_relocatable, count}
-use Rattle.block_store.specs.Run.{has, high, with_run}
-use Rattle.list_store.specs.Lists.{blocks_of}
-use Rattle.block_store.specs.Inner.Packing.{run_between}
+use Rattle.list_store.proofs.Cited.{◌≡◌, ◌-◌, ◌∙◌, ap, arith, refl, cond, Block, size, tidy, is_relocatable, count, has, high, with_run}
+use Rattle.list_store.proofs.Cited.{blocks_of, run_between, total-between, changed-fits, high-total}
 use Rattle.list_store.proofs.Regroup.Packed.{blocks-part, part-loose, part-fits, put_between}
-use Rattle.block_store.proofs.Regroup.Packed.{total-between}
 use Rattle.list_store.proofs.Regroup.Packed.{changed-between}
-use Rattle.block_store.proofs.Regroup.Packed.{changed-fits, high-total}
 use Rattle.list_store.proofs.packing.hoist_between.Goals.{After-pack_below}
 use Rattle.list_store.proofs.packing.hoist_between.Goals as goal
 

@@ -1,6 +1,4 @@
-use Rattle.list_store.specs.Lists.{blocks_of}
-use Rattle.block_store.specs.Inner.Packing.{run_between}
-use Rattle.block_store.proofs.Regroup.RunLists.{run_at-parts}
+use Rattle.list_store.proofs.Cited.{blocks_of, run_between, run_at-parts}
 use Rattle.list_store.proofs.Regroup.Packed.{found-between}
 use Rattle.list_store.proofs.packing.hoist_slot.Goals as goal
 

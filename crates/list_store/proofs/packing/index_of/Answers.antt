@@ -1,5 +1,4 @@
-use Rattle.std.proofs.Common.{◌∙◌, sym}
-use Rattle.block_store.specs.Block.{is_relocatable}
+use Rattle.list_store.proofs.Cited.{◌∙◌, sym, is_relocatable}
 use Rattle.list_store.proofs.Regroup.Packed.{has-drop, nth-passes}
 use Rattle.list_store.proofs.packing.index_of.Goals as goal
 

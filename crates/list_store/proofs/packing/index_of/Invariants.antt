@@ -1,7 +1,4 @@
-use Rattle.std.proofs.Common.{◌≡◌, drop}
-use Rattle.block_store.specs.Block.{is_relocatable}
-use Rattle.block_store.specs.Run.{has}
-use Rattle.list_store.specs.Lists.{blocks_of}
+use Rattle.list_store.proofs.Cited.{◌≡◌, drop, is_relocatable, has, blocks_of}
 use Rattle.list_store.proofs.packing.index_of.Given as goal
 
 -- what passes is among the rest

@@ -1,5 +1,4 @@
-use Rattle.std.proofs.Common.{◌-◌, length, arith}
-use Rattle.std.proofs.lemmas.Slice.{put_mid-rotated}
+use Rattle.list_store.proofs.Cited.{◌-◌, length, arith, put_mid-rotated}
 use Rattle.list_store.specs.declared.entries.StoredBlock.TheVariants as entry
 use Rattle.list_store.proofs.Regroup.Packed.{blocks-last}
 use Rattle.list_store.proofs.packing.move_last.Goals as goal

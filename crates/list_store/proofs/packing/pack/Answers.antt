@@ -1,13 +1,8 @@
-use Rattle.std.proofs.Common.{◌≡◌, ◌-◌, ◌++◌, ◌∷◌, [], true, length, refl, ◌∙◌, ap, arith, slice_set}
-use Rattle.block_store.specs.Block.{tidy, free}
-use Rattle.block_store.specs.Run.{movers}
-use Rattle.block_store.specs.Inner.Stretch.{is_free}
-use Rattle.list_store.specs.Lists.{blocks_of, nth_spot}
+use Rattle.list_store.proofs.Cited.{◌≡◌, ◌-◌, ◌++◌, ◌∷◌, [], true, length, refl, ◌∙◌, ap, arith, slice_set, tidy, free, movers, is_free}
+use Rattle.list_store.proofs.Cited.{blocks_of, nth_spot, packed-none, the_some}
 use Rattle.list_store.specs.declared.entries.StoredBlock.TheVariants as entry
-use Rattle.block_store.proofs.Regroup.Packed.{packed-none}
 use Rattle.list_store.proofs.Regroup.Packed.{pack-done}
 use Rattle.list_store.proofs.packing.pack.Goals as goal
-use Rattle.block_store.proofs.Plain.Options.{the_some}
 
 pub returns-in_default : goal.returns-in_default
 returns-in_default c = λ above. ap (λ l. tidy (l ++ above))

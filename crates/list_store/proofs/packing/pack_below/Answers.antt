@@ -1,11 +1,6 @@
-use Rattle.std.proofs.Common.{◌≡◌, ◌-◌, ◌++◌, ◌∷◌, [], length, take, drop, subst, ◌∙◌, ap, sym, arith}
-use Rattle.std.proofs.lemmas.List.{map-append}
-use Rattle.block_store.specs.Block.{is_relocatable, sizes, size, tidy}
-use Rattle.list_store.specs.Lists.{blocks_of, block_of}
-use Rattle.block_store.specs.Inner.Packing.{Loose}
-use Rattle.block_store.proofs.Zone.Totals.{total-append}
+use Rattle.list_store.proofs.Cited.{◌≡◌, ◌-◌, ◌++◌, ◌∷◌, [], length, take, drop, subst, ◌∙◌, ap, sym, arith, map-append, is_relocatable}
+use Rattle.list_store.proofs.Cited.{sizes, size, tidy, blocks_of, block_of, Loose, total-append, loose-without, high-done}
 use Rattle.list_store.proofs.Regroup.Packed.{topped}
-use Rattle.block_store.proofs.Regroup.Packed.{loose-without, high-done}
 use Rattle.list_store.proofs.packing.pack_below.Goals as goal
 
 pub pack-requires-clause-loose : goal.pack-requires-clause-loose

@@ -1,10 +1,6 @@
-use Rattle.std.proofs.Common.{◌≡◌, ◌-◌, ◌∙◌, ap, arith, refl}
-use Rattle.block_store.specs.Block.{size, tidy, free_sum}
-use Rattle.block_store.specs.Run.{with_run}
-use Rattle.list_store.specs.Lists.{blocks_of}
-use Rattle.block_store.specs.Inner.Packing.{packed, run_between}
+use Rattle.list_store.proofs.Cited.{◌≡◌, ◌-◌, ◌∙◌, ap, arith, refl, size, tidy, free_sum, with_run, blocks_of, packed, run_between}
+use Rattle.list_store.proofs.Cited.{changed-fits, packed-total}
 use Rattle.list_store.proofs.Regroup.Packed.{blocks-part, part-loose, part-fits, put_between, changed-between}
-use Rattle.block_store.proofs.Regroup.Packed.{changed-fits, packed-total}
 use Rattle.list_store.proofs.packing.pack_between.Goals.{After-pack}
 use Rattle.list_store.proofs.packing.pack_between.Goals as goal
 

@@ -1,9 +1,4 @@
-use Rattle.std.proofs.Common.{◌≡◌, subst, ◌∙◌, ap, sym, Option}
-use Rattle.std.specs.Option.{IfSome}
-use Rattle.block_store.specs.Block.{Free, tidy}
-use Rattle.block_store.specs.Run.{RunSpot, with_run, low}
-use Rattle.list_store.specs.Lists.{blocks_of}
-use Rattle.block_store.proofs.Regroup.Packed.{Raised}
+use Rattle.list_store.proofs.Cited.{◌≡◌, subst, ◌∙◌, ap, sym, Option, IfSome, Free, tidy, RunSpot, with_run, low, blocks_of, Raised}
 use Rattle.list_store.proofs.Regroup.Packed.{raised-above}
 use Rattle.list_store.proofs.packing.raise_run.Goals.{In_ok-insert}
 use Rattle.list_store.proofs.packing.raise_run.Goals as goal

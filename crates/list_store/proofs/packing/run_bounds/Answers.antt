@@ -1,8 +1,5 @@
-use Rattle.std.proofs.Common.{◌-◌, length, take, drop, ◌∙◌, ap, arith, Some}
-use Rattle.std.proofs.lemmas.List.{take_all, length-drop}
-use Rattle.list_store.specs.Lists.{blocks_of}
+use Rattle.list_store.proofs.Cited.{◌-◌, length, take, drop, ◌∙◌, ap, arith, Some, take_all, length-drop, blocks_of, run-between}
 use Rattle.list_store.proofs.Regroup.Packed.{blocks_of-drop}
-use Rattle.block_store.proofs.Regroup.Packed.{run-between}
 use Rattle.list_store.proofs.packing.run_bounds.Goals as goal
 
 pub returns-clause-run : goal.returns-clause-run

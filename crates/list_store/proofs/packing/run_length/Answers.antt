@@ -1,10 +1,6 @@
-use Rattle.std.proofs.Common.{◌+◌, ◌++◌, ◌∷◌, [], take, drop, sym, ◌∙◌, ap, append_assoc}
-use Rattle.std.proofs.lemmas.List.{append-nil}
-use Rattle.block_store.specs.Run.{segments}
-use Rattle.block_store.specs.Compact.{beyond}
-use Rattle.list_store.specs.Lists.{blocks_of, block_of}
+use Rattle.list_store.proofs.Cited.{◌+◌, ◌++◌, ◌∷◌, [], take, drop, sym, ◌∙◌, ap, append_assoc, append-nil, segments, beyond, blocks_of}
+use Rattle.list_store.proofs.Cited.{block_of, first-stop, beyond-stop, first-more, beyond-more}
 use Rattle.list_store.proofs.Zone.Listing.{drop-blocks, take-blocks}
-use Rattle.block_store.proofs.Regroup.Packed.{first-stop, beyond-stop, first-more, beyond-more}
 use Rattle.list_store.proofs.packing.run_length.Goals as goal
 
 pub returns-then-not-is_loose-clause-run : goal.returns-then-not-is_loose-clause-run

@@ -1,7 +1,4 @@
-use Rattle.std.proofs.Common.{◌≡◌, ◌++◌, take, drop}
-use Rattle.block_store.specs.Run.{segments}
-use Rattle.block_store.specs.Compact.{beyond}
-use Rattle.list_store.specs.Lists.{blocks_of}
+use Rattle.list_store.proofs.Cited.{◌≡◌, ◌++◌, take, drop, segments, beyond, blocks_of}
 use Rattle.list_store.proofs.packing.run_length.Given as goal
 
 -- the run goes on with the rest

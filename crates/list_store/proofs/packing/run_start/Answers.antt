@@ -1,9 +1,6 @@
-use Rattle.std.proofs.Common.{◌≡◌, ◌+◌, ◌-◌, ◌∷◌, [], true, false, not, take, drop, sym, ◌∙◌, ap, arith}
-use Rattle.std.specs.Option.{option_map}
-use Rattle.block_store.specs.Run.{in_run, run_raised}
-use Rattle.list_store.specs.Lists.{blocks_of, block_of}
+use Rattle.list_store.proofs.Cited.{◌≡◌, ◌+◌, ◌-◌, ◌∷◌, [], true, false, not, take, drop, sym, ◌∙◌, ap, arith, option_map, in_run}
+use Rattle.list_store.proofs.Cited.{run_raised, blocks_of, block_of, walked, walked-later, walked-step, walked-past, raised-twice}
 use Rattle.list_store.proofs.Zone.Listing.{drop-blocks, take-blocks, entry_fits}
-use Rattle.block_store.proofs.Regroup.RunLists.{walked, walked-later, walked-step, walked-past, raised-twice}
 use Rattle.list_store.proofs.packing.run_start.Goals as goal
 use Rattle.list_store.proofs.packing.run_start.Goals.{else-bottom-via-then-bottom+else-rest-eq0}
 use Rattle.list_store.proofs.packing.run_start.Goals.{else-bottom-via-else-bottom}

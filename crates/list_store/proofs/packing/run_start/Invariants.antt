@@ -1,8 +1,4 @@
-use Rattle.std.proofs.Common.{◌≡◌, take, drop}
-use Rattle.std.specs.Option.{option_map}
-use Rattle.block_store.specs.Run.{run_at, run_raised}
-use Rattle.list_store.specs.Lists.{blocks_of}
-use Rattle.block_store.proofs.Regroup.RunLists.{walked}
+use Rattle.list_store.proofs.Cited.{◌≡◌, take, drop, option_map, run_at, run_raised, blocks_of, walked}
 use Rattle.list_store.proofs.packing.run_start.Given as goal
 
 -- the rest of the entries gives the run

@@ -1,10 +1,5 @@
-use Rattle.std.proofs.Common.{◌≡◌, ◌-◌, ◌∙◌, sym, ap, subst, Option}
-use Rattle.std.specs.Option.{IfSome}
-use Rattle.block_store.specs.Rest.{lowered_in_run}
-use Rattle.block_store.specs.Run.{RunSpot}
-use Rattle.list_store.specs.Lists.{blocks_of}
-use Rattle.block_store.specs.Inner.Packing.{run_between}
-use Rattle.block_store.proofs.Regroup.RunLists.{run_at-parts}
+use Rattle.list_store.proofs.Cited.{◌≡◌, ◌-◌, ◌∙◌, sym, ap, subst, Option, IfSome, lowered_in_run, RunSpot, blocks_of, run_between}
+use Rattle.list_store.proofs.Cited.{run_at-parts}
 use Rattle.list_store.proofs.Regroup.Packed.{blocks-part, found-between}
 use Rattle.list_store.proofs.packing.settle_run.Goals as goal
 

@@ -1,15 +1,8 @@
-use Rattle.std.proofs.Common.{◌≡◌, ◌∙◌, ◌+◌, ◌++◌, ◌∷◌, ◌&&◌, nat_lt, take, drop, sym, ap, arith}
-use Rattle.std.proofs.lemmas.List.{take-append-drop}
-use Rattle.std.proofs.lemmas.Bool.{and_right}
-use Rattle.block_store.specs.Block.{Free, sizes}
-use Rattle.block_store.specs.Room.{may_be_purged}
-use Rattle.block_store.specs.Sparing.{spared}
-use Rattle.list_store.specs.Lists.{blocks_of, block_of}
+use Rattle.list_store.proofs.Cited.{◌≡◌, ◌∙◌, ◌+◌, ◌++◌, ◌∷◌, ◌&&◌, nat_lt, take, drop, sym, ap, arith, take-append-drop, and_right, Free}
+use Rattle.list_store.proofs.Cited.{sizes, may_be_purged, spared, blocks_of, block_of, sizes-same, emptied-goes, lowest_purged-stays}
 use Rattle.list_store.specs.declared.entries.StoredBlock.TheVariants as entry
 use Rattle.list_store.proofs.Zone.Listing.{entry_fits, drop-blocks}
 use Rattle.list_store.proofs.Zone.Spots.{blocks-set}
-use Rattle.block_store.proofs.Zone.Spots.{sizes-same}
-use Rattle.block_store.proofs.Purged.Purges.{emptied-goes, lowest_purged-stays}
 use Rattle.list_store.proofs.purging.empty_at.Goals as goal
 use Rattle.list_store.proofs.purging.empty_at.Goals.{else-left-gt0-via-then-left-gt0+else-may_purge_at}
 use Rattle.list_store.proofs.purging.empty_at.Goals.{else-left-gt0-via-else-left-gt0}

@@ -1,8 +1,4 @@
-use Rattle.std.proofs.Common.{◌∙◌, sym, arith}
-use Rattle.std.proofs.lemmas.List.{length-map}
-use Rattle.block_store.specs.Sparing.{spared}
-use Rattle.list_store.specs.Lists.{blocks_of, block_of}
-use Rattle.block_store.proofs.Purged.Purges.{lowest_purged-end}
+use Rattle.list_store.proofs.Cited.{◌∙◌, sym, arith, length-map, spared, blocks_of, block_of, lowest_purged-end}
 use Rattle.list_store.proofs.purging.empty_from.Goals as goal
 
 pub returns-clause-blocks : goal.returns-clause-blocks

@@ -1,8 +1,4 @@
-use Rattle.std.proofs.Common.{◌≡◌, ◌++◌, take, drop, length}
-use Rattle.block_store.specs.Block.{sizes}
-use Rattle.block_store.specs.Room.{lowest_purged}
-use Rattle.block_store.specs.Sparing.{spared}
-use Rattle.list_store.specs.Lists.{blocks_of}
+use Rattle.list_store.proofs.Cited.{◌≡◌, ◌++◌, take, drop, length, sizes, lowest_purged, spared, blocks_of}
 use Rattle.list_store.proofs.purging.empty_from.Given as goal
 
 -- the entries so far, followed by the rest with those purged that are left to go, are all

@@ -1,4 +1,4 @@
-use Rattle.block_store.specs.Seen.{with_flags}
+use Rattle.list_store.proofs.Cited.{with_flags}
 use Rattle.list_store.proofs.Zone.Spots.{changed-at}
 use Rattle.list_store.proofs.purging.flag_at.Goals as goal
 

@@ -1,7 +1,4 @@
-use Rattle.std.proofs.Common.{◌∙◌, ap}
-use Rattle.block_store.specs.Block.{tidy}
-use Rattle.block_store.specs.Room.{lowest_purged}
-use Rattle.block_store.specs.Sparing.{spared}
+use Rattle.list_store.proofs.Cited.{◌∙◌, ap, tidy, lowest_purged, spared}
 use Rattle.list_store.proofs.Purged.Purges.{changed_above}
 use Rattle.list_store.proofs.purging.purge_above.Goals as goal
 

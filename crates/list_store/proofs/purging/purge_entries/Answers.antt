@@ -1,7 +1,4 @@
-use Rattle.std.proofs.Common.{◌∙◌, ap, arith}
-use Rattle.block_store.specs.Block.{sizes}
-use Rattle.list_store.specs.Lists.{blocks_of}
-use Rattle.block_store.proofs.Purged.Purges.{sizes-opened}
+use Rattle.list_store.proofs.Cited.{◌∙◌, ap, arith, sizes, blocks_of, sizes-opened}
 use Rattle.list_store.proofs.purging.purge_entries.Goals as goal
 
 pub empty_from-requires-clause-fits : goal.empty_from-requires-clause-fits

@@ -1,12 +1,7 @@
-use Rattle.std.proofs.Common.{◌≡◌, ◌<◌, ◌+◌, ◌-◌, ◌++◌, ◌∷◌, ◌∙◌, take, drop, sym, ap, subst, arith, length, ℕ}
-use Rattle.std.proofs.Common.{slice_set}
-use Rattle.std.proofs.lemmas.List.{length-map}
-use Rattle.std.specs.Option.{IsSome, IfSome}
-use Rattle.block_store.specs.Grow.{growth, taken, grow_up}
-use Rattle.list_store.specs.Lists.{blocks_of, block_of}
+use Rattle.list_store.proofs.Cited.{◌≡◌, ◌<◌, ◌+◌, ◌-◌, ◌++◌, ◌∷◌, ◌∙◌, take, drop, sym, ap, subst, arith, length, ℕ, slice_set, length-map}
+use Rattle.list_store.proofs.Cited.{IsSome, IfSome, growth, taken, grow_up, blocks_of, block_of, if_grown, if_some-map, set-last}
 use Rattle.list_store.proofs.Zone.Spots.{at_entry, blocks-set}
 use Rattle.list_store.proofs.Content.Resizing.{GrowsAt, grows-at, entry_spot}
-use Rattle.block_store.proofs.Content.Resizing.{if_grown, if_some-map, set-last}
 use Rattle.list_store.proofs.Content.Resizing.{grown-within}
 use Rattle.list_store.proofs.sizing.grow.Goals.{After-index, After-entry_size, After-take_bytes}
 use Rattle.list_store.proofs.sizing.grow.Goals as goal

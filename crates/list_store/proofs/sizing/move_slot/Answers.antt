@@ -1,11 +1,5 @@
-use Rattle.std.proofs.Common.{◌≡◌, ℕ, List, sym, subst}
-use Rattle.std.specs.Bool.{IsTrue}
-use Rattle.std.specs.Option.{IfSome, IsSomeAnd}
-use Rattle.block_store.specs.Block.{is_room, is_relocatable, resized}
-use Rattle.block_store.specs.Room.{spot, spot_at}
-use Rattle.list_store.specs.declared.entries.StoredBlock.{StoredBlock}
-use Rattle.list_store.specs.Lists.{blocks_of, block_of}
-use Rattle.block_store.proofs.Content.Resizing.{size-slot}
+use Rattle.list_store.proofs.Cited.{◌≡◌, ℕ, List, sym, subst, IsTrue, IfSome, IsSomeAnd, is_room, is_relocatable, resized, spot, spot_at}
+use Rattle.list_store.proofs.Cited.{StoredBlock, blocks_of, block_of, size-slot}
 use Rattle.list_store.proofs.sizing.move_slot.Goals as goal
 
 pub put_away-requires-clause-room : goal.put_away-requires-clause-room

@@ -1,14 +1,8 @@
-use Rattle.std.proofs.Common.{◌≡◌, ◌<◌, length, ◌+◌, ◌-◌, ◌++◌, ◌∷◌, ◌∙◌, take, drop, ap, arith, slice_set}
-use Rattle.block_store.specs.Block.{Free, size, sizes, tidy, is_relocatable}
-use Rattle.block_store.specs.Room.{filled}
-use Rattle.block_store.specs.Grow.{freed}
-use Rattle.block_store.specs.Seen.{moved_away}
-use Rattle.list_store.specs.Lists.{blocks_of, block_of}
+use Rattle.list_store.proofs.Cited.{◌≡◌, ◌<◌, length, ◌+◌, ◌-◌, ◌++◌, ◌∷◌, ◌∙◌, take, drop, ap, arith, slice_set, Free, size, sizes, tidy}
+use Rattle.list_store.proofs.Cited.{is_relocatable, filled, freed, moved_away, blocks_of, block_of, room-fits, sizes-inserted}
 use Rattle.list_store.proofs.Zone.Spots.{at_entry}
 use Rattle.list_store.proofs.Content.Fitting.{FitsAt, fits-at}
-use Rattle.block_store.proofs.Content.Fitting.{room-fits}
 use Rattle.list_store.proofs.Content.Resizing.{blocks-inserted, sizes-moved, moved-at}
-use Rattle.block_store.proofs.Content.Resizing.{sizes-inserted}
 use Rattle.list_store.proofs.sizing.put_away.Goals.{After-index, After-free_slot}
 use Rattle.list_store.proofs.sizing.put_away.Goals as goal
 

@@ -1,12 +1,7 @@
-use Rattle.std.proofs.Common.{◌≡◌, ◌≤◌, ◌<◌, arith}
-use Rattle.std.specs.Option.{IsSome, IsSomeAnd, IfSome}
-use Rattle.block_store.specs.Block.{size}
-use Rattle.block_store.specs.Room.{Spot, spot_at, filled}
-use Rattle.block_store.specs.Grow.{grow_up}
-use Rattle.list_store.specs.Lists.{blocks_of, block_of}
+use Rattle.list_store.proofs.Cited.{◌≡◌, ◌≤◌, ◌<◌, arith, IsSome, IsSomeAnd, IfSome, size, Spot, spot_at, filled, grow_up, blocks_of}
+use Rattle.list_store.proofs.Cited.{block_of, larger, on_ok}
 use Rattle.list_store.proofs.Zone.Spots.{at_entry}
 use Rattle.list_store.proofs.Content.Resizing.{SizedAt, sized-at, entry_spot, and_entry}
-use Rattle.block_store.proofs.Content.Resizing.{larger, on_ok}
 use Rattle.list_store.proofs.sizing.replace.Goals.{After-index}
 use Rattle.list_store.proofs.sizing.replace.Goals as goal
 

@@ -1,10 +1,5 @@
-use Rattle.std.proofs.Common.{◌≡◌, ◌≤◌, ◌<◌, ◌⊎◌, sym, subst}
-use Rattle.std.proofs.lemmas.Result.{on_ok_weaker}
-use Rattle.std.specs.Option.{IsSome, IfSome}
-use Rattle.block_store.specs.Block.{Block, size, resized}
-use Rattle.block_store.specs.Room.{filled}
-use Rattle.block_store.specs.Grow.{grow_up}
-use Rattle.list_store.specs.Lists.{blocks_of, block_of}
+use Rattle.list_store.proofs.Cited.{◌≡◌, ◌≤◌, ◌<◌, ◌⊎◌, sym, subst, on_ok_weaker, IsSome, IfSome, Block, size, resized, filled, grow_up}
+use Rattle.list_store.proofs.Cited.{blocks_of, block_of}
 use Rattle.list_store.proofs.Zone.Spots.{from_entry}
 use Rattle.list_store.proofs.Content.Resizing.{entry_spot, and_entry, if_entry}
 use Rattle.list_store.proofs.sizing.resize_at.Goals as goal

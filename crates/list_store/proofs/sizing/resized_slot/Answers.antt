@@ -1,10 +1,6 @@
-use Rattle.std.proofs.Common.{◌≡◌, ◌+◌, drop, sym, ◌∙◌, ap, arith}
-use Rattle.std.proofs.lemmas.Result.{IfOk-weaker}
-use Rattle.block_store.specs.Block.{is_relocatable, resized}
-use Rattle.block_store.specs.Room.{spot}
-use Rattle.list_store.specs.Lists.{blocks_of, block_of}
+use Rattle.list_store.proofs.Cited.{◌≡◌, ◌+◌, drop, sym, ◌∙◌, ap, arith, IfOk-weaker, is_relocatable, resized, spot, blocks_of, block_of}
+use Rattle.list_store.proofs.Cited.{found, found-here, found-above, if_found}
 use Rattle.list_store.proofs.Zone.Listing.{drop-blocks}
-use Rattle.block_store.proofs.Content.Resizing.{found, found-here, found-above, if_found}
 use Rattle.list_store.proofs.sizing.resized_slot.Goals as goal
 
 pub returns-then-is_of_slot : goal.returns-then-is_of_slot

@@ -1,7 +1,4 @@
-use Rattle.std.proofs.Common.{◌≡◌, drop}
-use Rattle.block_store.specs.Block.{is_relocatable}
-use Rattle.list_store.specs.Lists.{blocks_of}
-use Rattle.block_store.proofs.Content.Resizing.{found}
+use Rattle.list_store.proofs.Cited.{◌≡◌, drop, is_relocatable, blocks_of, found}
 use Rattle.list_store.proofs.sizing.resized_slot.Given as goal
 
 -- the rest has the same block of the slot

@@ -1,6 +1,4 @@
-use Rattle.std.proofs.Common.{◌≡◌, ◌≤◌, ◌-◌, sym, ap, arith}
-use Rattle.block_store.specs.Block.{size}
-use Rattle.list_store.specs.Lists.{block_of}
+use Rattle.list_store.proofs.Cited.{◌≡◌, ◌≤◌, ◌-◌, sym, ap, arith, size, block_of}
 use Rattle.list_store.proofs.Zone.Listing.{entry_fits}
 use Rattle.list_store.proofs.Content.Resizing.{within-taken, taken-at, taken-none, taken-some}
 use Rattle.list_store.proofs.sizing.take_bytes.Goals as goal

@@ -1,5 +1,4 @@
-use Rattle.std.proofs.Common.{◌≡◌, take, count_by}
-use Rattle.list_store.specs.Lists.{is_unused}
+use Rattle.list_store.proofs.Cited.{◌≡◌, take, count_by, is_unused}
 use Rattle.list_store.proofs.slots.first_unused.Given as goal
 
 -- none so far

@@ -1,9 +1,4 @@
-use Rattle.std.proofs.Common.{◌≡◌, ◌≤◌, false, rules, arith}
-use Rattle.std.proofs.lemmas.Bool.Decides.{nat_tests}
-use Rattle.block_store.specs.Sparing.{most_purges}
-use Rattle.block_store.specs.Fewest.{serves}
-use Rattle.list_store.specs.Lists.{blocks_of}
-use Rattle.block_store.proofs.Purged.Fewest.{none-serve}
+use Rattle.list_store.proofs.Cited.{◌≡◌, ◌≤◌, false, rules, arith, nat_tests, most_purges, serves, blocks_of, none-serve}
 use Rattle.list_store.proofs.walk.fewest_over.Goals as goal
 
 pub returns-else-is_some : goal.returns-else-is_some

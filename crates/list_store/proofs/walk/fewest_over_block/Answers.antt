@@ -1,9 +1,4 @@
-use Rattle.std.proofs.Common.{◌≡◌, ◌≤◌, false, rules, arith}
-use Rattle.std.proofs.lemmas.Bool.Decides.{nat_tests}
-use Rattle.block_store.specs.Sparing.{most_purges}
-use Rattle.block_store.specs.Fewest.{serves_block}
-use Rattle.list_store.specs.Lists.{blocks_of}
-use Rattle.block_store.proofs.Purged.Fewest.{none-serve_block}
+use Rattle.list_store.proofs.Cited.{◌≡◌, ◌≤◌, false, rules, arith, nat_tests, most_purges, serves_block, blocks_of, none-serve_block}
 use Rattle.list_store.proofs.walk.fewest_over_block.Goals as goal
 
 pub returns-else-has_run_of : goal.returns-else-has_run_of

@@ -1,6 +1,4 @@
-use Rattle.std.proofs.Common.{◌≡◌, ◌<◌, ℕ, false}
-use Rattle.block_store.specs.Fewest.{serves_block}
-use Rattle.list_store.specs.Lists.{blocks_of}
+use Rattle.list_store.proofs.Cited.{◌≡◌, ◌<◌, ℕ, false, serves_block, blocks_of}
 use Rattle.list_store.proofs.walk.fewest_over_block.Given as goal
 
 -- none of those so far serves

@@ -1,8 +1,4 @@
-use Rattle.std.proofs.Common.{◌≡◌, ◌+◌, ◌∙◌, ap, arith, List}
-use Rattle.block_store.specs.Block.{Block, sizes}
-use Rattle.block_store.specs.Run.{segments, has_free}
-use Rattle.block_store.specs.Room.{lowest_purged}
-use Rattle.block_store.specs.Sparing.{spared}
+use Rattle.list_store.proofs.Cited.{◌≡◌, ◌+◌, ◌∙◌, ap, arith, List, Block, sizes, segments, has_free, lowest_purged, spared}
 use Rattle.list_store.proofs.Regroup.RunSpots.{above-place, blocks-from, sizes-from}
 use Rattle.list_store.proofs.walk.has_free_above.Goals as goal
 

@@ -1,8 +1,4 @@
-use Rattle.std.proofs.Common.{◌∙◌, ◌+◌, drop, sym, ap, arith, Some}
-use Rattle.std.specs.Option.{option_map}
-use Rattle.block_store.specs.Room.{Spot}
-use Rattle.block_store.specs.Seen.{seen}
-use Rattle.list_store.specs.Lists.{blocks_of, block_of}
+use Rattle.list_store.proofs.Cited.{◌∙◌, ◌+◌, drop, sym, ap, arith, Some, option_map, Spot, seen, blocks_of, block_of}
 use Rattle.list_store.proofs.Zone.Listing.{drop-blocks, entry_fits, nth_spot-at}
 use Rattle.list_store.proofs.walk.look_at.Goals as goal
 

@@ -1,8 +1,4 @@
-use Rattle.std.proofs.Common.{◌≡◌, ℕ, ◌+◌, ◌∙◌, ap, arith, List}
-use Rattle.block_store.specs.Block.{Block, sizes}
-use Rattle.block_store.specs.Run.{segments}
-use Rattle.block_store.specs.Room.{count_of}
-use Rattle.block_store.specs.Sparing.{spared}
+use Rattle.list_store.proofs.Cited.{◌≡◌, ℕ, ◌+◌, ◌∙◌, ap, arith, List, Block, sizes, segments, count_of, spared}
 use Rattle.list_store.proofs.Regroup.RunSpots.{above-place, blocks-from, sizes-from}
 use Rattle.list_store.proofs.walk.purgeable_above.Goals as goal
 

@@ -1,10 +1,6 @@
-use Rattle.std.proofs.Common.{◌≡◌, ◌∙◌, drop, sym, ap, arith}
-use Rattle.block_store.specs.Block.{sizes}
-use Rattle.block_store.specs.Run.{segments}
-use Rattle.block_store.specs.Compact.{beyond, place_behind}
-use Rattle.list_store.specs.Lists.{blocks_of}
+use Rattle.list_store.proofs.Cited.{◌≡◌, ◌∙◌, drop, sym, ap, arith, sizes, segments, beyond, place_behind, blocks_of, above-told}
+use Rattle.list_store.proofs.Cited.{above-within}
 use Rattle.list_store.proofs.Regroup.RunSpots.{blocks-from, sizes-from}
-use Rattle.block_store.proofs.Regroup.RunsAbove.{above-told, above-within}
 use Rattle.list_store.proofs.walk.run_above.Goals.{After-next_run_in}
 use Rattle.list_store.proofs.walk.run_above.Goals as goal
 

@@ -1,5 +1,4 @@
-use Rattle.std.proofs.Common.{rules}
-use Rattle.std.proofs.lemmas.Str.{chars_from_encodes}
+use Rattle.mac_roman.proofs.Cited.{rules, chars_from_encodes}
 use Rattle.mac_roman.proofs.roman.characters.Goals as goal
 
 pub returns : goal.returns

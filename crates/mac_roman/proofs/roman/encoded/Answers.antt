@@ -1,5 +1,4 @@
-use Rattle.std.proofs.Common.{sym}
-use Rattle.mac_roman.specs.Roman.{bytes_of}
+use Rattle.mac_roman.proofs.Cited.{sym, bytes_of}
 use Rattle.mac_roman.proofs.Encoding.{after_next}
 use Rattle.mac_roman.proofs.roman.encoded.Goals as goal
 

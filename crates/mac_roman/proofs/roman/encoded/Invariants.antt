@@ -1,5 +1,4 @@
-use Rattle.std.proofs.Common.{◌≡◌, drop}
-use Rattle.mac_roman.specs.Roman.{bytes_of}
+use Rattle.mac_roman.proofs.Cited.{◌≡◌, drop, bytes_of}
 use Rattle.mac_roman.proofs.Encoding.{after}
 use Rattle.mac_roman.proofs.roman.encoded.Given as goal
 

@@ -1,6 +1,4 @@
-use Rattle.std.proofs.Common.{◌≡◌, ◌++◌, drop}
-use Rattle.std.specs.Prelude.{string_bytes}
-use Rattle.mac_roman.specs.Roman.{from_roman}
+use Rattle.mac_roman.proofs.Cited.{◌≡◌, ◌++◌, drop, string_bytes, from_roman}
 use Rattle.mac_roman.proofs.roman.from_roman.Given as goal
 
 abbrev pub invariant-loop-byte : goal.invariant-loop-byte

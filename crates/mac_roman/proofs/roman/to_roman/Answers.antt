@@ -1,7 +1,4 @@
-use Rattle.std.proofs.Common.{◌≡◌, ◌∙◌, sym, ap, subst}
-use Rattle.std.specs.Prelude.{Ok, IfOk, IfErr, chars}
-use Rattle.mac_roman.specs.Fault.{Stops}
-use Rattle.mac_roman.specs.Roman.{bytes_of, to_roman}
+use Rattle.mac_roman.proofs.Cited.{◌≡◌, ◌∙◌, sym, ap, subst, Ok, IfOk, IfErr, chars, Stops, bytes_of, to_roman}
 use Rattle.mac_roman.proofs.Encoding.{utf8_made, raw_made}
 use Rattle.mac_roman.proofs.roman.to_roman.Goals.{In-Ok}
 use Rattle.mac_roman.proofs.roman.to_roman.Goals as goal

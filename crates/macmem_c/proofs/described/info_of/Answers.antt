@@ -1,4 +1,4 @@
-use Rattle.std.proofs.Common.{◌≡◌, Err, rules}
+use Rattle.macmem_c.proofs.Cited.{◌≡◌, Err, rules}
 use Rattle.macmem_c.proofs.Listing.{info_stopped}
 use Rattle.macmem_c.proofs.described.info_of.Goals as goal
 

@@ -1,7 +1,4 @@
-use Rattle.std.proofs.Common.{◌≡◌, ◌++◌, map, drop}
-use Rattle.std.specs.List.{flat_map}
-use Rattle.fork_edits.specs.View.{view_row}
-use Rattle.macmem_c.specs.Described.{listed_line}
+use Rattle.macmem_c.proofs.Cited.{◌≡◌, ◌++◌, map, drop, flat_map, view_row, listed_line}
 use Rattle.macmem_c.proofs.described.lines_of.Given as goal
 
 -- the lines so far, with those of the rows that are left, are the lines of all

@@ -1,5 +1,4 @@
-use Rattle.std.proofs.Common.{◌≡◌, ◌∙◌, Err, refl, ap, map, rules}
-use Rattle.fork_edits.specs.View.{view_row}
+use Rattle.macmem_c.proofs.Cited.{◌≡◌, ◌∙◌, Err, refl, ap, map, rules, view_row}
 use Rattle.macmem_c.proofs.Listing.{lines_there, lines_stopped}
 use Rattle.macmem_c.proofs.described.listing_of.Goals as goal
 

@@ -1,5 +1,4 @@
-use Rattle.std.proofs.Common.{◌≡◌, true, rules, w32, SFits}
-use Rattle.fork_commands.specs.States.{state_words}
+use Rattle.macmem_c.proofs.Cited.{◌≡◌, true, rules, w32, SFits, state_words}
 use Rattle.macmem_c.proofs.Writing.{written}
 use Rattle.macmem_c.proofs.described.macmem_fork_check.Goals as goal
 

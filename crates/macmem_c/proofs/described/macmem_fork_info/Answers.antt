@@ -1,4 +1,4 @@
-use Rattle.std.proofs.Common.{rules, w32, SFits}
+use Rattle.macmem_c.proofs.Cited.{rules, w32, SFits}
 use Rattle.macmem_c.proofs.Handing.{handed}
 use Rattle.macmem_c.proofs.described.macmem_fork_info.Goals as goal
 

@@ -1,6 +1,4 @@
-use Rattle.std.proofs.Common.{◌∙◌, Some, refl, sym, ap, rules, w32, SFits}
-use Rattle.heap_calls.specs.Asked.{DisposeHandle, telling}
-use Rattle.heap_calls.specs.Table.{done}
+use Rattle.macmem_c.proofs.Cited.{◌∙◌, Some, refl, sym, ap, rules, w32, SFits, DisposeHandle, telling, done}
 use Rattle.macmem_c.proofs.Serving.{serves-c}
 use Rattle.macmem_c.proofs.handles.macmem_dispose_handle.Goals as goal
 

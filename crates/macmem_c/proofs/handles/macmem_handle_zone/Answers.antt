@@ -1,6 +1,4 @@
-use Rattle.std.proofs.Common.{◌∙◌, Some, refl, sym, ap, rules, w32, SFits}
-use Rattle.mac_words.specs.Told.{Number}
-use Rattle.heap_calls.specs.Asked.{HandleZone, telling}
+use Rattle.macmem_c.proofs.Cited.{◌∙◌, Some, refl, sym, ap, rules, w32, SFits, Number, HandleZone, telling}
 use Rattle.macmem_c.proofs.Serving.{serves-c, numbers}
 use Rattle.macmem_c.proofs.handles.macmem_handle_zone.Goals as goal
 

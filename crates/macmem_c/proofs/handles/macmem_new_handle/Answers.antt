@@ -1,6 +1,4 @@
-use Rattle.std.proofs.Common.{◌∙◌, Some, refl, sym, ap, rules, w32, SFits}
-use Rattle.mac_words.specs.Told.{Given}
-use Rattle.heap_calls.specs.Asked.{NewHandle, Zeros}
+use Rattle.macmem_c.proofs.Cited.{◌∙◌, Some, refl, sym, ap, rules, w32, SFits, Given, NewHandle, Zeros}
 use Rattle.macmem_c.proofs.Serving.{serves-in-c, numbers-in-c}
 use Rattle.macmem_c.proofs.handles.macmem_new_handle.Goals as goal
 

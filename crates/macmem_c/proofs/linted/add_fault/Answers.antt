@@ -1,4 +1,4 @@
-use Rattle.std.proofs.lemmas.Result.{on_ok_weaker}
+use Rattle.macmem_c.proofs.Cited.{on_ok_weaker}
 use Rattle.macmem_c.proofs.linted.add_fault.Goals as goal
 
 pub returns : goal.returns

@@ -1,4 +1,4 @@
-use Rattle.std.proofs.Common.{drop, map}
+use Rattle.macmem_c.proofs.Cited.{drop, map}
 use Rattle.macmem_c.proofs.Lining.{GoesOn}
 use Rattle.macmem_c.proofs.linted.lines_of.Given as goal
 

@@ -1,5 +1,4 @@
-use Rattle.std.proofs.Common.{rules, w32, SFits}
-use Rattle.macmem_c.specs.Described.{AreFaulty}
+use Rattle.macmem_c.proofs.Cited.{rules, w32, SFits, AreFaulty}
 use Rattle.macmem_c.proofs.Writing.{written}
 use Rattle.macmem_c.proofs.linted.macmem_script_faults.Goals as goal
 

@@ -1,5 +1,4 @@
-use Rattle.std.proofs.Common.{rules, w32, SFits}
-use Rattle.macmem_c.specs.Described.{IsUnstated}
+use Rattle.macmem_c.proofs.Cited.{rules, w32, SFits, IsUnstated}
 use Rattle.macmem_c.proofs.Writing.{written}
 use Rattle.macmem_c.proofs.linted.macmem_source_faults.Goals as goal
 

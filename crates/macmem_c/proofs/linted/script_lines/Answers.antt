@@ -1,4 +1,4 @@
-use Rattle.fork_commands.proofs.Pairs.{also_ok}
+use Rattle.macmem_c.proofs.Cited.{also_ok}
 use Rattle.macmem_c.proofs.Lining.{found_lines}
 use Rattle.macmem_c.proofs.linted.script_lines.Goals as goal
 

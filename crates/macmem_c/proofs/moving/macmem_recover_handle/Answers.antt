@@ -1,6 +1,4 @@
-use Rattle.std.proofs.Common.{◌∙◌, Some, refl, sym, ap, rules, w32, SFits}
-use Rattle.mac_words.specs.Told.{Given}
-use Rattle.heap_calls.specs.Asked.{RecoverHandle, telling}
+use Rattle.macmem_c.proofs.Cited.{◌∙◌, Some, refl, sym, ap, rules, w32, SFits, Given, RecoverHandle, telling}
 use Rattle.macmem_c.proofs.Serving.{serves-c, numbers}
 use Rattle.macmem_c.proofs.moving.macmem_recover_handle.Goals as goal
 

@@ -1,4 +1,4 @@
-use Rattle.std.proofs.Common.{[], rules, w32, SFits}
+use Rattle.macmem_c.proofs.Cited.{[], rules, w32, SFits}
 use Rattle.macmem_c.proofs.Pairing.{paired}
 use Rattle.macmem_c.proofs.pairs.macmem_fork_diff.Goals as goal
 

@@ -1,6 +1,4 @@
-use Rattle.std.proofs.Common.{◌∙◌, Some, refl, sym, ap, rules, w32, SFits}
-use Rattle.heap_calls.specs.Asked.{HSetState, telling}
-use Rattle.heap_calls.specs.Table.{done}
+use Rattle.macmem_c.proofs.Cited.{◌∙◌, Some, refl, sym, ap, rules, w32, SFits, HSetState, telling, done}
 use Rattle.macmem_c.proofs.Serving.{serves-c}
 use Rattle.macmem_c.proofs.properties.macmem_h_set_state.Goals as goal
 

@@ -1,10 +1,5 @@
-use Rattle.std.proofs.Common.{◌≡◌, ◌∙◌, ℕ, ap, sym, subst, length, arith, IfOk}
-use Rattle.raw_zone.specs.Parted.{zone_of}
-use Rattle.block_store.specs.Block.{fresh, sizes}
-use Rattle.block_store.specs.Rest.{Site}
-use Rattle.applications.proofs.Elsewhere.{sizes-fresh}
-use Rattle.desk.proofs.WholeRegion.{whole_home, whole_there}
-use Rattle.zone_replay.specs.Sight.{sight_text}
+use Rattle.macmem_c.proofs.Cited.{◌≡◌, ◌∙◌, ℕ, ap, sym, subst, length, arith, IfOk, zone_of, fresh, sizes, Site, sizes-fresh, whole_home}
+use Rattle.macmem_c.proofs.Cited.{whole_there, sight_text}
 use Rattle.macmem_c.proofs.replaying.show_in_region.Goals as goal
 
 -- the zone is fresh, and fills the region

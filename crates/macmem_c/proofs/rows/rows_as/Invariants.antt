@@ -1,6 +1,4 @@
-use Rattle.std.proofs.Common.{◌≡◌, ◌++◌, map, drop}
-use Rattle.fork_edits.specs.View.{view_row}
-use Rattle.macmem_c.specs.Listed.{row_as}
+use Rattle.macmem_c.proofs.Cited.{◌≡◌, ◌++◌, map, drop, view_row, row_as}
 use Rattle.macmem_c.proofs.rows.rows_as.Given as goal
 
 abbrev pub invariant-loop-row : goal.invariant-loop-row

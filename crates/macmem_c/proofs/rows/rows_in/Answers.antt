@@ -1,5 +1,4 @@
-use Rattle.std.proofs.Common.{◌≡◌, ◌∙◌, Err, refl, ap, map, rules}
-use Rattle.fork_edits.specs.View.{view_row}
+use Rattle.macmem_c.proofs.Cited.{◌≡◌, ◌∙◌, Err, refl, ap, map, rules, view_row}
 use Rattle.macmem_c.proofs.Listing.{rows_there, rows_stopped}
 use Rattle.macmem_c.proofs.rows.rows_in.Goals as goal
 

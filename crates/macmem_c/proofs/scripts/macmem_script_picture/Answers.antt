@@ -1,5 +1,4 @@
-use Rattle.std.proofs.Common.{rules, w32, SFits}
-use Rattle.macmem_c.specs.Replayed.{IsShowing}
+use Rattle.macmem_c.proofs.Cited.{rules, w32, SFits, IsShowing}
 use Rattle.macmem_c.specs.declared.replaying.Showing.TheVariants as showing
 use Rattle.macmem_c.proofs.Giving.{given}
 use Rattle.macmem_c.proofs.scripts.macmem_script_picture.Goals as goal

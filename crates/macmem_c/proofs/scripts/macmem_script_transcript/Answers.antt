@@ -1,5 +1,4 @@
-use Rattle.std.proofs.Common.{rules, w32, SFits}
-use Rattle.macmem_c.specs.Replayed.{IsTranscript}
+use Rattle.macmem_c.proofs.Cited.{rules, w32, SFits, IsTranscript}
 use Rattle.macmem_c.proofs.Giving.{given}
 use Rattle.macmem_c.proofs.scripts.macmem_script_transcript.Goals as goal
 

@@ -1,7 +1,4 @@
-use Rattle.std.proofs.Common.{◌∙◌, Some, Ok, refl, sym, ap}
-use Rattle.mac_words.specs.Codes.{noErr}
-use Rattle.mac_words.specs.Told.{Number}
-use Rattle.heap_calls.specs.Asked.{CompactMem, telling}
+use Rattle.macmem_c.proofs.Cited.{◌∙◌, Some, Ok, refl, sym, ap, noErr, Number, CompactMem, telling}
 use Rattle.macmem_c.proofs.Serving.{serves, numbers}
 use Rattle.macmem_c.proofs.space.macmem_compact_mem.Goals as goal
 

@@ -1,6 +1,4 @@
-use Rattle.std.proofs.Common.{◌∙◌, Some, refl, sym, ap, rules, w32, SFits}
-use Rattle.mac_words.specs.Told.{Number}
-use Rattle.heap_calls.specs.Asked.{MaxMem}
+use Rattle.macmem_c.proofs.Cited.{◌∙◌, Some, refl, sym, ap, rules, w32, SFits, Number, MaxMem}
 use Rattle.macmem_c.proofs.Serving.{serves-in-c, numbers-in-c}
 use Rattle.macmem_c.proofs.space.macmem_max_mem.Goals as goal
 

@@ -1,6 +1,4 @@
-use Rattle.std.proofs.Common.{◌∙◌, Some, refl, sym, ap, rules, w32, SFits}
-use Rattle.heap_calls.specs.Asked.{MoreMasters}
-use Rattle.heap_calls.specs.Table.{done}
+use Rattle.macmem_c.proofs.Cited.{◌∙◌, Some, refl, sym, ap, rules, w32, SFits, MoreMasters, done}
 use Rattle.macmem_c.proofs.Serving.{serves-in-c}
 use Rattle.macmem_c.proofs.space.macmem_more_masters.Goals as goal
 

@@ -1,5 +1,4 @@
-use Rattle.std.proofs.Common.{rules, w32, SFits}
-use Rattle.macmem_c.specs.Described.{IsTold}
+use Rattle.macmem_c.proofs.Cited.{rules, w32, SFits, IsTold}
 use Rattle.macmem_c.proofs.Giving.{given}
 use Rattle.macmem_c.proofs.told.macmem_script_words.Goals as goal
 

@@ -1,6 +1,4 @@
-use Rattle.std.proofs.Common.{length, ◌-◌, ◌≡◌, ◌+◌, ◌≤◌, drop}
-use Rattle.std.specs.List.{prefix_len}
-use Rattle.memory_windows.specs.Windows.{ends_by}
+use Rattle.memory_windows.proofs.Cited.{length, ◌-◌, ◌≡◌, ◌+◌, ◌≤◌, drop, prefix_len, ends_by}
 use Rattle.memory_windows.proofs.list.index_after.Given as goal
 
 abbrev pub invariant-loop-i : goal.invariant-loop-i

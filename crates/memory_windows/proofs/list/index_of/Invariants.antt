@@ -1,6 +1,4 @@
-use Rattle.std.proofs.Common.{length, ◌-◌, ◌≡◌, ◌+◌, ◌≤◌, drop}
-use Rattle.std.specs.List.{position_or_len}
-use Rattle.memory_windows.specs.Windows.{is_window}
+use Rattle.memory_windows.proofs.Cited.{length, ◌-◌, ◌≡◌, ◌+◌, ◌≤◌, drop, position_or_len, is_window}
 use Rattle.memory_windows.proofs.list.index_of.Given as goal
 
 abbrev pub invariant-loop-i : goal.invariant-loop-i

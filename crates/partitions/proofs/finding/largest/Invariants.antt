@@ -1,6 +1,4 @@
-use Rattle.std.proofs.Common.{◌≡◌, drop}
-use Rattle.memory_windows.specs.Windows.{InOrder}
-use Rattle.partitions.specs.Grant.{holes, larger_hole, largest}
+use Rattle.partitions.proofs.Cited.{◌≡◌, drop, InOrder, holes, larger_hole, largest}
 use Rattle.partitions.proofs.finding.largest.Given as goal
 
 abbrev pub invariant-loop-window : goal.invariant-loop-window

@@ -1,7 +1,4 @@
-use Rattle.std.proofs.Common.{◌≡◌, drop}
-use Rattle.std.specs.List.{find}
-use Rattle.memory_windows.specs.Windows.{InOrder}
-use Rattle.partitions.specs.Grant.{holes, has_room}
+use Rattle.partitions.proofs.Cited.{◌≡◌, drop, find, InOrder, holes, has_room}
 use Rattle.partitions.proofs.finding.lowest.Given as goal
 
 abbrev pub invariant-loop-window : goal.invariant-loop-window

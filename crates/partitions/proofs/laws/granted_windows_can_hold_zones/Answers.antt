@@ -1,4 +1,4 @@
-use Rattle.partitions.specs.Granted.{granted-zones}
+use Rattle.partitions.proofs.Cited.{granted-zones}
 use Rattle.partitions.proofs.laws.granted_windows_can_hold_zones.Goals as goal
 
 pub returns : goal.returns

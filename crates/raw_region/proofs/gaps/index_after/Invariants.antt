@@ -1,6 +1,4 @@
-use Rattle.std.proofs.Common.{length, ◌-◌, ◌≡◌, ◌+◌, ◌≤◌, drop}
-use Rattle.std.specs.List.{prefix_len}
-use Rattle.raw_region.specs.Gaps.{gap_ends_by}
+use Rattle.raw_region.proofs.Cited.{length, ◌-◌, ◌≡◌, ◌+◌, ◌≤◌, drop, prefix_len, gap_ends_by}
 use Rattle.raw_region.proofs.gaps.index_after.Given as goal
 
 abbrev pub invariant-loop-i : goal.invariant-loop-i

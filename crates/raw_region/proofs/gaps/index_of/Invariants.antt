@@ -1,6 +1,4 @@
-use Rattle.std.proofs.Common.{length, ◌-◌, ◌≡◌, ◌+◌, ◌≤◌, drop}
-use Rattle.std.specs.List.{position_or_len}
-use Rattle.raw_region.specs.Gaps.{gap_is}
+use Rattle.raw_region.proofs.Cited.{length, ◌-◌, ◌≡◌, ◌+◌, ◌≤◌, drop, position_or_len, gap_is}
 use Rattle.raw_region.proofs.gaps.index_of.Given as goal
 
 abbrev pub invariant-loop-i : goal.invariant-loop-i

@@ -1,5 +1,4 @@
-use Rattle.std.proofs.Common.{List, ℕ, ◌+◌, take, drop, ap, ◌∙◌, arith}
-use Rattle.memory_windows.specs.Writes.{written}
+use Rattle.raw_region.proofs.Cited.{List, ℕ, ◌+◌, take, drop, ap, ◌∙◌, arith, written}
 use Rattle.raw_region.proofs.Moving.{stride_down}
 use Rattle.raw_region.proofs.moves.move_down.Goals as goal
 

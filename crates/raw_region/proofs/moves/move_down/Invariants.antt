@@ -1,5 +1,4 @@
-use Rattle.std.proofs.Common.{◌≡◌, ◌≤◌, ◌-◌, take, drop}
-use Rattle.memory_windows.specs.Writes.{written}
+use Rattle.raw_region.proofs.Cited.{◌≡◌, ◌≤◌, ◌-◌, take, drop, written}
 use Rattle.raw_region.proofs.moves.move_down.Given as goal
 
 -- the first i are in place

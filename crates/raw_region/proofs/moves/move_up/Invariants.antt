@@ -1,5 +1,4 @@
-use Rattle.std.proofs.Common.{◌≡◌, ◌≤◌, ◌+◌, ◌-◌, take, drop}
-use Rattle.memory_windows.specs.Writes.{written}
+use Rattle.raw_region.proofs.Cited.{◌≡◌, ◌≤◌, ◌+◌, ◌-◌, take, drop, written}
 use Rattle.raw_region.proofs.moves.move_up.Given as goal
 
 -- all but the first i are in place

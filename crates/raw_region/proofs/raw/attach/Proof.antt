@@ -1,9 +1,6 @@
 -- The frame takes the bytes of a run as the elements that it waits for. Assumes `Logic`.
-use Rattle.std.proofs.Common.{◌≡◌, ℕ, List, [], ◌∷◌, ◌++◌, length, refl, sym, ◌∙◌, subst}
-use Rattle.std.proofs.alloc.Calls.{Goes-blank}
-use Rattle.std.proofs.lemmas.List.{with_items_is}
-use Rattle.std.proofs.raw_atomic.Walks.{proved_at}
-use Rattle.std.specs.Vec.{with_items}
+use Rattle.raw_region.proofs.Cited.{◌≡◌, ℕ, List, [], ◌∷◌, ◌++◌, length, refl, sym, ◌∙◌, subst, Goes-blank, with_items_is, proved_at}
+use Rattle.raw_region.proofs.Cited.{with_items, run_owns}
 use base.Fml.{fsep, feq, fwand}
 use base.Logic.{all_e, apply∗}
 use contract.Monad.{fact}
@@ -24,7 +21,6 @@ use types.Kit.{feq_l, feq_i, regoal, rewrite, use1, use2}
 use types.Logic.{sem}
 use types.Part.{sub, whole}
 use types.Run.{enter, returns, of_opd, fld, stop}
-use Rattle.raw_region.specs.Ownership.{run_owns}
 use Rattle.raw_region.specs.contracts.raw.Frame as F
 use Rattle.raw_region.specs.contracts.raw.OwnBytes as R
 use Rattle.raw_region.specs.contracts.raw.attach as f

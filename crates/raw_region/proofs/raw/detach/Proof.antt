@@ -1,7 +1,5 @@
 -- The elements go out as a run, and the frame is the `Vec` without them. Assumes `Logic`.
-use Rattle.std.proofs.Common.{◌≡◌, ◌<◌, List, [], ◌∷◌, ◌++◌, refl, sym, subst}
-use Rattle.std.proofs.alloc.Calls.{Goes-blank}
-use Rattle.std.proofs.raw_atomic.Walks.{proved_at}
+use Rattle.raw_region.proofs.Cited.{◌≡◌, ◌<◌, List, [], ◌∷◌, ◌++◌, refl, sym, subst, Goes-blank, proved_at, run_owns, OwnBytes}
 use base.Fml.{ftrue}
 use base.Logic.{id⊢, never}
 use contract.Monad.{fact}
@@ -24,11 +22,9 @@ use types.Kit.{regoal}
 use types.Kit.{rewrite, use1}
 use types.Part.{agg}
 use types.Run.{enter, returns, of_opd, no_more, and_then}
-use Rattle.raw_region.specs.Ownership.{run_owns}
 use Rattle.raw_region.specs.contracts.raw.Frame as F
 use Rattle.raw_region.specs.contracts.raw.OwnBytes as R
 use Rattle.raw_region.specs.contracts.raw.detach as f
-use Rattle.raw_region.specs.declared.raw.OwnBytes.{OwnBytes}
 use Rattle.raw_region.proofs.Frames.{Owned, owned-laws, extent_of, framed}
 use Rattle.raw_region.proofs.Leaving.{all_gone, shown}
 use Rattle.raw_region.proofs.Runs.{here}

@@ -1,12 +1,8 @@
 -- The bytes of a run are lent to a `Vec` over them. Assumes `Logic`.
-use Rattle.std.proofs.Common.{◌≡◌, ℕ, ◌^◌, ◌<◌, ◌≤◌, List, [], ◌∷◌, ◌++◌, length, refl, sym, ap, ◌∙◌, subst, arith, Vec}
-use Rattle.std.proofs.VecSteps.Shapes.{after}
-use Rattle.std.proofs.alloc.Calls.{Goes-blank}
-use Rattle.std.proofs.raw_atomic.Walks.{proved_at}
+use Rattle.raw_region.proofs.Cited.{◌≡◌, ℕ, ◌^◌, ◌<◌, ◌≤◌, List, [], ◌∷◌, ◌++◌, length, refl, sym, ap, ◌∙◌, subst, arith, Vec, after}
+use Rattle.raw_region.proofs.Cited.{Goes-blank, proved_at, lodged, Lodged, run_owns}
 use Rattle.std_alloc.proofs.vec.lodge.Met as lodge
-use Rattle.std_alloc.specs.Vec.Ownership.{lodged}
 use Rattle.std_alloc.specs.contracts.vec.lodge as g
-use Rattle.std_alloc.specs.declared.vec.lodged.Lodged.{Lodged}
 use base.Fml.{ftrue, fsep, flft}
 use base.Fraction.{full_share}
 use base.Logic.{emp, id⊢, never}
@@ -32,7 +28,6 @@ use types.Kit.{‵, group, raw, ◌⊛◌, some as exists, later, prop, at_ret, 
 use types.Kit.{split}
 use types.Kit.{split3, join, pick, await, fsplit, fjoin, feq_l, feq_i, flt_l, flt_i, regoal, rewrite, use0, use1}
 use types.Run.{enter, returns, of_opd, no_more, and_then, first, blocks, exec}
-use Rattle.raw_region.specs.Ownership.{run_owns}
 use Rattle.raw_region.specs.contracts.raw.OwnBytes as R
 use Rattle.raw_region.specs.contracts.raw.house as f
 use Rattle.raw_region.proofs.Blocks.{housed}

@@ -1,12 +1,9 @@
 -- The bytes of a `Vec` over a run are the run's again. Assumes `Logic`.
-use Rattle.std.proofs.Common.{◌≡◌, ℕ, ◌<◌, List, [], ◌∷◌, ◌++◌, refl, ap, arith}
-use Rattle.std.proofs.alloc.Calls.{Goes-blank}
-use Rattle.std.proofs.raw_atomic.Walks.{proved_at}
+use Rattle.raw_region.proofs.Cited.{◌≡◌, ℕ, ◌<◌, List, [], ◌∷◌, ◌++◌, refl, ap, arith, Goes-blank, proved_at, lodged, ghosts, run_owns}
+use Rattle.raw_region.proofs.Cited.{OwnBytes}
 use Rattle.std_alloc.proofs.vec.lodged.Vec+T+Lodged.dislodge.Met as dislodge
-use Rattle.std_alloc.specs.Vec.Ownership.{lodged}
 use Rattle.std_alloc.specs.contracts.vec.Vec as V
 use Rattle.std_alloc.specs.contracts.vec.lodged.Lodged as L
-use Rattle.std_alloc.specs.contracts.vec.lodged.LodgedAllocator.TheImpl.{ghosts}
 use Rattle.std_alloc.specs.contracts.vec.lodged.Vec+T+Lodged.dislodge as g
 use base.Fml.{ftrue, fsep, flft}
 use base.Fraction.{full_share}
@@ -33,9 +30,7 @@ use types.Kit.{‵, group, raw, ◌⊛◌, some, later, prop, ◌$◌, ◌∵◌
 use types.Kit.{pick, await, fsplit, fjoin, feq_l, flt_l, regoal, rewrite, use0, use1}
 use types.Part.{agg}
 use types.Run.{enter, returns, of_opd, no_more, and_then}
-use Rattle.raw_region.specs.Ownership.{run_owns}
 use Rattle.raw_region.specs.contracts.raw.vacate as f
-use Rattle.raw_region.specs.declared.raw.OwnBytes.{OwnBytes}
 use Rattle.raw_region.proofs.Blocks.{vacated}
 use Rattle.raw_region.proofs.Frames.{byte_laws}
 use Rattle.raw_region.proofs.Leaving.{all_gone, shown}

@@ -1,5 +1,4 @@
-use Rattle.std.proofs.Common.{◌≡◌, ◌-◌, ◌≤◌, length}
-use Rattle.real_zone.specs.Rules.{damages_of_blocks}
+use Rattle.real_zone.proofs.Cited.{◌≡◌, ◌-◌, ◌≤◌, length, damages_of_blocks}
 use Rattle.real_zone.proofs.Ruling.{damages_past}
 use Rattle.real_zone.proofs.blocks.damage_of_blocks.Given as goal
 

@@ -1,5 +1,4 @@
-use Rattle.std.proofs.Common.{arith}
-use Rattle.real_zone.specs.Blocks.{free_size}
+use Rattle.real_zone.proofs.Cited.{arith, free_size}
 use Rattle.real_zone.proofs.Walking.{passes, tiled_here, tiled_after, sum_goes_on, sum_ends}
 use Rattle.real_zone.proofs.blocks.free_bytes_of.Goals as goal
 

@@ -1,6 +1,4 @@
-use Rattle.std.proofs.Common.{◌≡◌, ◌+◌, ◌-◌, ◌≤◌, length, true, sum_by}
-use Rattle.std.specs.List.{list_all}
-use Rattle.real_zone.specs.Blocks.{is_passable, places_from, free_size, free_bytes}
+use Rattle.real_zone.proofs.Cited.{◌≡◌, ◌+◌, ◌-◌, ◌≤◌, length, true, sum_by, list_all, is_passable, places_from, free_size, free_bytes}
 use Rattle.real_zone.proofs.blocks.free_bytes_of.Given as goal
 
 -- the blocks that are left tile the rest, and with what is counted their sum is that of all

@@ -1,7 +1,4 @@
-use Rattle.std.proofs.Common.{◌≡◌, ◌-◌, ◌≤◌, ◌++◌, length}
-use Rattle.std.specs.List.{list_all}
-use Rattle.real_zone.specs.Blocks.{is_passable, places_from, is_tiled}
-use Rattle.real_zone.specs.Rules.{damages_of_blocks}
+use Rattle.real_zone.proofs.Cited.{◌≡◌, ◌-◌, ◌≤◌, ◌++◌, length, list_all, is_passable, places_from, is_tiled, damages_of_blocks}
 use Rattle.real_zone.proofs.Ruling.{damages_past}
 use Rattle.real_zone.proofs.checking.push_blocks.Given as goal
 

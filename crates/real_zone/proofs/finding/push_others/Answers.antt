@@ -1,4 +1,4 @@
-use Rattle.std.proofs.Common.{◌/◌, length}
+use Rattle.real_zone.proofs.Cited.{◌/◌, length}
 use Rattle.real_zone.proofs.Fourths.{others_end}
 use Rattle.real_zone.proofs.finding.push_others.Goals as goal
 

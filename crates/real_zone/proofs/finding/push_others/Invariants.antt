@@ -1,6 +1,4 @@
-use Rattle.std.proofs.Common.{◌≡◌, ◌+◌, ◌*◌, ◌/◌, ◌-◌, ◌++◌}
-use Rattle.std.specs.List.{flat_map}
-use Rattle.real_zone.specs.Finding.{found_unnamed, found_others, fourths}
+use Rattle.real_zone.proofs.Cited.{◌≡◌, ◌+◌, ◌*◌, ◌/◌, ◌-◌, ◌++◌, flat_map, found_unnamed, found_others, fourths}
 use Rattle.real_zone.proofs.finding.push_others.Given as goal
 
 -- the zones so far, with those at the addresses that are left, are all

@@ -1,4 +1,4 @@
-use Rattle.std.proofs.Common.{sym, arith}
+use Rattle.real_zone.proofs.Cited.{sym, arith}
 use Rattle.real_zone.proofs.Judged.{counted_more, counted_last, counted_all}
 use Rattle.real_zone.proofs.judging.reached_in.Goals as goal
 

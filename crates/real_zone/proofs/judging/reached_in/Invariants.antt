@@ -1,5 +1,4 @@
-use Rattle.std.proofs.Common.{◌≡◌, ◌+◌, ◌-◌, ◌≤◌, length}
-use Rattle.real_zone.specs.Blocks.{places_from, block_places}
+use Rattle.real_zone.proofs.Cited.{◌≡◌, ◌+◌, ◌-◌, ◌≤◌, length, places_from, block_places}
 use Rattle.real_zone.proofs.judging.reached_in.Given as goal
 
 -- those that were counted, and those that are left, are all

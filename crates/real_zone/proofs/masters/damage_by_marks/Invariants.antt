@@ -1,6 +1,4 @@
-use Rattle.std.proofs.Common.{◌≡◌, ◌-◌, ◌<◌, ◌^◌, length}
-use Rattle.real_zone.specs.Lists.{first}
-use Rattle.real_zone.specs.Masters.{list_damages, damages_of_list}
+use Rattle.real_zone.proofs.Cited.{◌≡◌, ◌-◌, ◌<◌, ◌^◌, length, first, list_damages, damages_of_list}
 use Rattle.real_zone.proofs.masters.damage_by_marks.Given as goal
 
 -- what is wrong with the rest of the list is what is wrong with the whole

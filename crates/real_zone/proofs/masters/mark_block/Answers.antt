@@ -1,6 +1,4 @@
-use Rattle.std.proofs.Common.{◌≡◌, ◌-◌, ◌/◌, ◌++◌, ap, arith}
-use Rattle.real_zone.specs.Header.{size_at}
-use Rattle.real_zone.specs.Masters.{marks, block_marks}
+use Rattle.real_zone.proofs.Cited.{◌≡◌, ◌-◌, ◌/◌, ◌++◌, ap, arith, size_at, marks, block_marks}
 use Rattle.real_zone.proofs.Walking.{passes}
 use Rattle.real_zone.proofs.Marking.{marks_end}
 use Rattle.real_zone.proofs.masters.mark_block.Goals as goal

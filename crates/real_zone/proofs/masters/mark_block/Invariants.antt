@@ -1,5 +1,4 @@
-use Rattle.std.proofs.Common.{◌≡◌, ◌+◌, ◌*◌, ◌-◌, ◌++◌}
-use Rattle.real_zone.specs.Masters.{marks, block_marks}
+use Rattle.real_zone.proofs.Cited.{◌≡◌, ◌+◌, ◌*◌, ◌-◌, ◌++◌, marks, block_marks}
 use Rattle.real_zone.proofs.masters.mark_block.Given as goal
 
 -- the marks so far, with those that are left, are all

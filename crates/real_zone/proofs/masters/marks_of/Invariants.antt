@@ -1,7 +1,4 @@
-use Rattle.std.proofs.Common.{◌≡◌, ◌-◌, ◌≤◌, ◌++◌, length, true}
-use Rattle.std.specs.List.{list_all, flat_map}
-use Rattle.real_zone.specs.Blocks.{is_passable, places_from}
-use Rattle.real_zone.specs.Masters.{block_marks, zone_marks}
+use Rattle.real_zone.proofs.Cited.{◌≡◌, ◌-◌, ◌≤◌, ◌++◌, length, true, list_all, flat_map, is_passable, places_from, block_marks, zone_marks}
 use Rattle.real_zone.proofs.masters.marks_of.Given as goal
 
 -- the marks so far, with those of the blocks that are left, are all

@@ -1,5 +1,4 @@
-use Rattle.std.proofs.Common.{arith}
-use Rattle.real_zone.specs.Resources.{reference_count}
+use Rattle.real_zone.proofs.Cited.{arith, reference_count}
 use Rattle.real_zone.proofs.Naming.{summed_more, summed_end}
 use Rattle.real_zone.proofs.resource_map.all_references.Goals as goal
 

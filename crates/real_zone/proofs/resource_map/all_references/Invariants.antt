@@ -1,5 +1,4 @@
-use Rattle.std.proofs.Common.{◌≡◌, ◌+◌, ◌*◌, ◌-◌, ◌≤◌, sum_by}
-use Rattle.real_zone.specs.Resources.{spaced, type_count, type_list, reference_count, all_references}
+use Rattle.real_zone.proofs.Cited.{◌≡◌, ◌+◌, ◌*◌, ◌-◌, ◌≤◌, sum_by, spaced, type_count, type_list, reference_count, all_references}
 use Rattle.real_zone.proofs.resource_map.all_references.Given as goal
 
 -- the references so far, with those of the types that are left, are all

@@ -1,5 +1,4 @@
-use Rattle.std.proofs.Common.{arith, sym}
-use Rattle.real_zone.specs.Resources.{has_references}
+use Rattle.real_zone.proofs.Cited.{arith, sym, has_references}
 use Rattle.real_zone.proofs.Naming.{all_more, all_stop, all_end}
 use Rattle.real_zone.proofs.resource_map.has_all_references.Goals as goal
 

@@ -1,6 +1,4 @@
-use Rattle.std.proofs.Common.{◌≡◌, ◌+◌, ◌*◌, ◌-◌}
-use Rattle.std.specs.List.{list_all}
-use Rattle.real_zone.specs.Resources.{spaced, entries, type_count, type_list, has_references}
+use Rattle.real_zone.proofs.Cited.{◌≡◌, ◌+◌, ◌*◌, ◌-◌, list_all, spaced, entries, type_count, type_list, has_references}
 use Rattle.real_zone.proofs.resource_map.has_all_references.Given as goal
 
 -- whether the types that are left have their references is whether all do

@@ -1,7 +1,4 @@
-use Rattle.std.proofs.Common.{arith}
-use Rattle.std.specs.BTreeMap.{get}
-use Rattle.std.specs.Ordering.{nat_cmp}
-use Rattle.real_zone.specs.Resources.{named_by}
+use Rattle.real_zone.proofs.Cited.{arith, get, nat_cmp, named_by}
 use Rattle.real_zone.proofs.Naming.{spaced_next, spaced_end, all_left, found_more, found_end}
 use Rattle.real_zone.proofs.resources.enter_type.Goals as goal
 

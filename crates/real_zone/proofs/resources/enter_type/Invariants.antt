@@ -1,9 +1,5 @@
-use Rattle.std.proofs.Common.{◌≡◌, ℕ, ◌+◌, ◌*◌, ◌-◌}
-use Rattle.std.specs.BTreeMap.{get}
-use Rattle.std.specs.Option.{option_or}
-use Rattle.std.specs.Ordering.{nat_cmp}
-use Rattle.real_zone.specs.Lists.{first_found}
-use Rattle.real_zone.specs.Resources.{spaced, reference_count, first_reference, named_by, named_in_type}
+use Rattle.real_zone.proofs.Cited.{◌≡◌, ℕ, ◌+◌, ◌*◌, ◌-◌, get, option_or, nat_cmp, first_found, spaced, reference_count, first_reference}
+use Rattle.real_zone.proofs.Cited.{named_by, named_in_type}
 use Rattle.real_zone.proofs.resources.enter_type.Given as goal
 
 -- what was entered, before the references that are left, is what all references name

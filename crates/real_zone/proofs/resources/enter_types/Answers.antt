@@ -1,7 +1,4 @@
-use Rattle.std.proofs.Common.{arith, true}
-use Rattle.std.specs.BTreeMap.{get}
-use Rattle.std.specs.Ordering.{nat_cmp}
-use Rattle.real_zone.specs.Resources.{has_references, named_in_type}
+use Rattle.real_zone.proofs.Cited.{arith, true, get, nat_cmp, has_references, named_in_type}
 use Rattle.real_zone.proofs.Naming.{spaced_next, spaced_end, all_here, all_more, found_more, found_end}
 use Rattle.real_zone.proofs.resources.enter_types.Goals as goal
 

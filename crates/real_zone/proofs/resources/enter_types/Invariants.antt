@@ -1,10 +1,5 @@
-use Rattle.std.proofs.Common.{◌≡◌, ℕ, ◌+◌, ◌*◌, ◌-◌, true}
-use Rattle.std.specs.BTreeMap.{get}
-use Rattle.std.specs.List.{list_all}
-use Rattle.std.specs.Option.{option_or}
-use Rattle.std.specs.Ordering.{nat_cmp}
-use Rattle.real_zone.specs.Lists.{first_found}
-use Rattle.real_zone.specs.Resources.{spaced, entries, type_count, type_list, has_references, named_in_type}
+use Rattle.real_zone.proofs.Cited.{◌≡◌, ℕ, ◌+◌, ◌*◌, ◌-◌, true, get, list_all, option_or, nat_cmp, first_found, spaced, entries, type_count}
+use Rattle.real_zone.proofs.Cited.{type_list, has_references, named_in_type}
 use Rattle.real_zone.proofs.resources.enter_types.Given as goal
 
 -- what was entered, before the types that are left, is what all types name

@@ -1,7 +1,4 @@
-use Rattle.std.proofs.Common.{sym}
-use Rattle.std.specs.BTreeMap.{get}
-use Rattle.std.specs.Ordering.{nat_cmp}
-use Rattle.real_zone.specs.Resources.{named_in_block}
+use Rattle.real_zone.proofs.Cited.{sym, get, nat_cmp, named_in_block}
 use Rattle.real_zone.proofs.Naming.{found_more, found_end}
 use Rattle.real_zone.proofs.Passed.{passed_next, passed_stop, passed_end}
 use Rattle.real_zone.proofs.resources.resources_in.Goals as goal

@@ -1,10 +1,4 @@
-use Rattle.std.proofs.Common.{◌≡◌, ℕ, ◌-◌, ◌≤◌, length}
-use Rattle.std.specs.BTreeMap.{get}
-use Rattle.std.specs.Option.{option_or}
-use Rattle.std.specs.Ordering.{nat_cmp}
-use Rattle.real_zone.specs.Blocks.{passed_from}
-use Rattle.real_zone.specs.Lists.{first_found}
-use Rattle.real_zone.specs.Resources.{named_in_block, resource_of}
+use Rattle.real_zone.proofs.Cited.{◌≡◌, ℕ, ◌-◌, ◌≤◌, length, get, option_or, nat_cmp, passed_from, first_found, named_in_block, resource_of}
 use Rattle.real_zone.proofs.resources.resources_in.Given as goal
 
 -- what was entered, before the blocks that are left, is what all blocks name

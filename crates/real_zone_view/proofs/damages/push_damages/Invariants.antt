@@ -1,5 +1,4 @@
-use Rattle.std.proofs.Common.{◌≡◌, ◌++◌, drop}
-use Rattle.real_zone_view.specs.Damages.{damages_text}
+use Rattle.real_zone_view.proofs.Cited.{◌≡◌, ◌++◌, drop, damages_text}
 use Rattle.real_zone_view.proofs.damages.push_damages.Given as goal
 
 -- what is written, before the lines that are still to be written

@@ -1,5 +1,4 @@
-use Rattle.std.proofs.Common.{◌≡◌, ◌++◌, drop}
-use Rattle.real_zone_view.specs.Drawing.{escaped}
+use Rattle.real_zone_view.proofs.Cited.{◌≡◌, ◌++◌, drop, escaped}
 use Rattle.real_zone_view.proofs.drawing.push_escaped.Given as goal
 
 -- what is written, before the bytes that are still to be written

@@ -1,5 +1,4 @@
-use Rattle.std.proofs.Common.{refl}
-use Rattle.real_zone_view.specs.Drawing.{svg_style}
+use Rattle.real_zone_view.proofs.Cited.{refl, svg_style}
 use Rattle.real_zone_view.proofs.drawing.svg_style.Goals as goal
 
 pub returns : goal.returns

@@ -1,4 +1,4 @@
-use Rattle.std.proofs.Common.{◌≡◌, ◌++◌, replicate}
+use Rattle.real_zone_view.proofs.Cited.{◌≡◌, ◌++◌, replicate}
 use Rattle.real_zone_view.proofs.fields.push_blanks.Given as goal
 
 -- the blanks so far

@@ -1,6 +1,4 @@
-use Rattle.std.proofs.Common.{◌≡◌, ◌++◌, drop}
-use Rattle.std.specs.List.{flat_map}
-use Rattle.real_zone_view.specs.Finds.{find_text}
+use Rattle.real_zone_view.proofs.Cited.{◌≡◌, ◌++◌, drop, flat_map, find_text}
 use Rattle.real_zone_view.proofs.finds.push_each.Given as goal
 
 -- what is written, before the lines that are still to be written

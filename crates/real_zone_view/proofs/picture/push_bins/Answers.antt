@@ -1,8 +1,4 @@
-use Rattle.std.proofs.Common.{rules, ◌+◌, drop, slice_index_or}
-use Rattle.std.specs.BTreeMap.{get}
-use Rattle.std.specs.Ordering.{nat_cmp}
-use Rattle.std.proofs.lemmas.List.{drop_more}
-use Rattle.real_zone.specs.declared.block.Block.{Block}
+use Rattle.real_zone_view.proofs.Cited.{rules, ◌+◌, drop, slice_index_or, get, nat_cmp, drop_more, Block}
 use Rattle.real_zone.specs.declared.block.Kind.TheVariants as kind
 use Rattle.real_zone_view.proofs.Binned.{sized_more, bin_ends, bin_grows}
 use Rattle.real_zone_view.proofs.picture.push_bins.Goals as goal

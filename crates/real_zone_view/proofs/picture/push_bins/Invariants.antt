@@ -1,8 +1,4 @@
-use Rattle.std.proofs.Common.{◌≡◌, ◌++◌, ◌*◌, ◌≤◌, [], drop}
-use Rattle.std.specs.BTreeMap.{get}
-use Rattle.std.specs.Ordering.{nat_cmp}
-use Rattle.real_zone_view.specs.Picture.{bins_after}
-use Rattle.real_zone_view.specs.Totals.{sized}
+use Rattle.real_zone_view.proofs.Cited.{◌≡◌, ◌++◌, ◌*◌, ◌≤◌, [], drop, get, nat_cmp, bins_after, sized}
 use Rattle.real_zone_view.specs.declared.totals.Class.TheVariants as class
 use Rattle.real_zone_view.proofs.picture.push_bins.Given as goal
 

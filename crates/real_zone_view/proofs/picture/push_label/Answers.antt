@@ -1,4 +1,4 @@
-use Rattle.mac_words.proofs.Appending.{also}
+use Rattle.real_zone_view.proofs.Cited.{also}
 use Rattle.real_zone_view.proofs.picture.push_label.Goals as goal
 
 pub returns : goal.returns

@@ -1,6 +1,4 @@
-use Rattle.std.proofs.Common.{◌++◌, ◌∙◌, List, ℕ, ap}
-use Rattle.mac_words.proofs.Appending.{also}
-use Rattle.real_zone_view.specs.Picture.{picture_by}
+use Rattle.real_zone_view.proofs.Cited.{◌++◌, ◌∙◌, List, ℕ, ap, also, picture_by}
 use Rattle.real_zone_view.proofs.picture.push_picture_by.Goals as goal
 
 pub returns : goal.returns

@@ -1,5 +1,4 @@
-use Rattle.std.proofs.Common.{◌≡◌, ◌++◌}
-use Rattle.real_zone_view.specs.Picture.{rows_text}
+use Rattle.real_zone_view.proofs.Cited.{◌≡◌, ◌++◌, rows_text}
 use Rattle.real_zone_view.proofs.picture.push_rows.Given as goal
 
 -- the rows so far

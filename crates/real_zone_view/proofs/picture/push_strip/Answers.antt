@@ -1,5 +1,4 @@
-use Rattle.mac_words.proofs.Appending.{also}
-use Rattle.real_zone_view.specs.Picture.{strip}
+use Rattle.real_zone_view.proofs.Cited.{also, strip}
 use Rattle.real_zone_view.proofs.picture.push_strip.Goals as goal
 
 pub returns : goal.returns

@@ -1,7 +1,4 @@
-use Rattle.std.proofs.Common.{◌++◌, ◌∙◌, ap}
-use Rattle.mac_words.proofs.Appending.{also}
-use Rattle.real_zone_view.specs.Text.{title_text}
-use Rattle.real_zone_view.specs.declared.style.Style.{Style}
+use Rattle.real_zone_view.proofs.Cited.{◌++◌, ◌∙◌, ap, also, title_text, Style}
 use Rattle.real_zone_view.proofs.picture.push_titles.Goals as goal
 
 pub returns : goal.returns

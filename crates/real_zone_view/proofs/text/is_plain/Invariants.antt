@@ -1,6 +1,4 @@
-use Rattle.std.proofs.Common.{◌≡◌, drop}
-use Rattle.std.specs.List.{list_all}
-use Rattle.real_zone_view.specs.Text.{is_plain}
+use Rattle.real_zone_view.proofs.Cited.{◌≡◌, drop, list_all, is_plain}
 use Rattle.real_zone_view.proofs.text.is_plain.Given as goal
 
 -- all are plain where those that are left are

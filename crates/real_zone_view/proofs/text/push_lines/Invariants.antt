@@ -1,7 +1,4 @@
-use Rattle.std.proofs.Common.{◌≡◌, ◌++◌, drop}
-use Rattle.std.specs.BTreeMap.{get}
-use Rattle.std.specs.Ordering.{nat_cmp}
-use Rattle.real_zone_view.specs.Text.{lines_text}
+use Rattle.real_zone_view.proofs.Cited.{◌≡◌, ◌++◌, drop, get, nat_cmp, lines_text}
 use Rattle.real_zone_view.proofs.text.push_lines.Given as goal
 
 -- what is written, before the lines that are still to be written

@@ -1,5 +1,4 @@
-use Rattle.std.proofs.Common.{◌≡◌, ◌+◌, ◌*◌, ◌≤◌, drop}
-use Rattle.real_zone_view.specs.Totals.{sized}
+use Rattle.real_zone_view.proofs.Cited.{◌≡◌, ◌+◌, ◌*◌, ◌≤◌, drop, sized}
 use Rattle.real_zone_view.proofs.totals.bytes.Given as goal
 
 -- the sizes of those that were passed, and of those to come, are those of all

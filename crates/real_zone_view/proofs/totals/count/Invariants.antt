@@ -1,5 +1,4 @@
-use Rattle.std.proofs.Common.{◌≡◌, ◌+◌, ◌≤◌, drop}
-use Rattle.real_zone_view.specs.Totals.{counted}
+use Rattle.real_zone_view.proofs.Cited.{◌≡◌, ◌+◌, ◌≤◌, drop, counted}
 use Rattle.real_zone_view.proofs.totals.count.Given as goal
 
 -- those that were counted, and those to come, are all

@@ -1,6 +1,4 @@
-use Rattle.std.proofs.Common.{ap}
-use Rattle.res_calls.specs.Places.{view_new}
-use Rattle.res_calls.specs.View.{view_open}
+use Rattle.res_calls.proofs.Cited.{ap, view_new, view_open}
 use Rattle.res_calls.proofs.Joining.{file_added}
 use Rattle.res_calls.proofs.adding.add_to.Goals as goal
 

@@ -1,7 +1,4 @@
-use Rattle.std.proofs.Common.{◌≡◌, ◌==◌, ◌∙◌, sym, false, arith}
-use Rattle.std.proofs.lemmas.Bool.{ne_eqb}
-use Rattle.res_calls.specs.Given.{managers}
-use Rattle.res_calls.specs.Places.{chained, view_new}
+use Rattle.res_calls.proofs.Cited.{◌≡◌, ◌==◌, ◌∙◌, sym, false, arith, ne_eqb, managers, chained, view_new}
 use Rattle.res_calls.proofs.Joining.{added_found}
 use Rattle.res_calls.proofs.adding.add_with.Goals as goal
 

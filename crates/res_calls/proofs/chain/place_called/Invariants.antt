@@ -1,9 +1,4 @@
-use Rattle.std.proofs.Common.{◌≡◌, map, drop}
-use Rattle.std.specs.Prelude.{option_map, bytes_eq}
-use Rattle.res_map.specs.Split.{split, place}
-use Rattle.res_map.proofs.Steps.{place_from}
-use Rattle.res_calls.specs.Files.{File}
-use Rattle.res_calls.specs.View.{view_file}
+use Rattle.res_calls.proofs.Cited.{◌≡◌, map, drop, option_map, bytes_eq, split, place, place_from, File, view_file}
 use Rattle.res_calls.proofs.chain.place_called.Given as goal
 
 -- what is found in the files that are left is found in all

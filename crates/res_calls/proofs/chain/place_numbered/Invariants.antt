@@ -1,9 +1,5 @@
-use Rattle.std.proofs.Common.{◌≡◌, map, drop}
-use Rattle.std.specs.Prelude.{option_map, ◌==◌}
-use Rattle.res_map.specs.Split.{split, place}
-use Rattle.res_map.proofs.Steps.{place_from}
-use Rattle.res_calls.specs.Files.{OpenFile}
-use Rattle.res_calls.specs.View.{view_open}
+use Rattle.res_calls.proofs.Cited.{◌≡◌, map, drop, option_map, split, place, place_from, OpenFile, view_open}
+use Rattle.std.specs.Prelude.{◌==◌}
 use Rattle.res_calls.proofs.chain.place_numbered.Given as goal
 
 -- what is found in the files that are left is found in all

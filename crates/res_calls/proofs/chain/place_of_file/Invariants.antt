@@ -1,9 +1,4 @@
-use Rattle.std.proofs.Common.{◌≡◌, map, drop}
-use Rattle.std.specs.Prelude.{option_map}
-use Rattle.res_map.specs.Split.{split, place}
-use Rattle.res_map.proofs.Steps.{place_from}
-use Rattle.res_calls.specs.Files.{OpenFile, is_at}
-use Rattle.res_calls.specs.View.{view_open}
+use Rattle.res_calls.proofs.Cited.{◌≡◌, map, drop, option_map, split, place, place_from, OpenFile, is_at, view_open}
 use Rattle.res_calls.proofs.chain.place_of_file.Given as goal
 
 -- what is found in the files that are left is found in all

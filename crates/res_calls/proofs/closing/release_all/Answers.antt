@@ -1,4 +1,4 @@
-use Rattle.std.proofs.Common.{refl}
+use Rattle.res_calls.proofs.Cited.{refl}
 use Rattle.res_calls.proofs.LettingGo.{released_next}
 use Rattle.res_calls.proofs.closing.release_all.Goals as goal
 

@@ -1,5 +1,4 @@
-use Rattle.std.proofs.Common.{◌≡◌, drop}
-use Rattle.res_calls.specs.Rows.{all_released, handles_of}
+use Rattle.res_calls.proofs.Cited.{◌≡◌, drop, all_released, handles_of}
 use Rattle.res_calls.proofs.closing.release_all.Given as goal
 
 -- once the handles that are left are let go, all are

@@ -1,4 +1,4 @@
-use Rattle.std.proofs.Common.{rules}
+use Rattle.res_calls.proofs.Cited.{rules}
 use Rattle.res_calls.proofs.NewFiles.{one_more}
 use Rattle.res_calls.proofs.creating.add_file.Goals as goal
 

@@ -1,7 +1,4 @@
-use Rattle.std.proofs.Common.{◌∙◌, ap, map, List, replicate}
-use Rattle.fork_format.specs.View.{view_group}
-use Rattle.fork_format.specs.Content.{Content}
-use Rattle.fork_format.specs.Canonical.{canon}
+use Rattle.res_calls.proofs.Cited.{◌∙◌, ap, map, List, replicate, view_group, Content, canon}
 use Rattle.fork_format.specs.declared.content.Group.{Group}
 use Rattle.res_calls.proofs.creating.empty_fork.Goals as goal
 

@@ -1,4 +1,4 @@
-use Rattle.std.proofs.Common.{sym, ◌∙◌}
+use Rattle.res_calls.proofs.Cited.{sym, ◌∙◌}
 use Rattle.res_calls.proofs.NewFiles.{has_bytes, gets_fork}
 use Rattle.res_calls.proofs.creating.renew_file.Goals as goal
 

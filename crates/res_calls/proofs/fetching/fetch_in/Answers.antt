@@ -1,8 +1,4 @@
-use Rattle.std.proofs.Common.{◌∙◌, ap, map, Some, None}
-use Rattle.res_map.specs.Map.{Reference}
-use Rattle.res_map.specs.View.{view_lent}
-use Rattle.res_calls.specs.Places.{found_at, chained}
-use Rattle.res_calls.specs.View.{view_open}
+use Rattle.res_calls.proofs.Cited.{◌∙◌, ap, map, Some, None, Reference, view_lent, found_at, chained, view_open}
 use Rattle.res_calls.proofs.Fetches.{here_of, fetch_none, fetch_some}
 use Rattle.res_calls.proofs.FetchGone.{told_by}
 use Rattle.res_calls.proofs.fetching.fetch_in.Goals as goal

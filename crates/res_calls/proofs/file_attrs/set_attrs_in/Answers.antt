@@ -1,6 +1,4 @@
-use Rattle.std.proofs.Common.{◌≡◌, ◌==◌, ap, false, arith}
-use Rattle.std.proofs.lemmas.Bool.{ne_eqb}
-use Rattle.res_calls.specs.View.{view_open}
+use Rattle.res_calls.proofs.Cited.{◌≡◌, ◌==◌, ap, false, arith, ne_eqb, view_open}
 use Rattle.res_calls.proofs.FileAttrs.{attrs_set}
 use Rattle.res_calls.proofs.file_attrs.set_attrs_in.Goals as goal
 

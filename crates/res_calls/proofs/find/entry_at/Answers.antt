@@ -1,7 +1,5 @@
-use Rattle.std.proofs.Common.{◌∙◌, ◌<◌, ap, subst, length}
-use Rattle.std.specs.Prelude.{slice_get}
+use Rattle.res_calls.proofs.Cited.{◌∙◌, ◌<◌, ap, subst, length, slice_get, view_open}
 use Rattle.res_calls.specs.declared.files.OpenFile.{OpenFile}
-use Rattle.res_calls.specs.View.{view_open}
 use Rattle.res_calls.proofs.Standing.{inside_map, entry_here}
 use Rattle.res_calls.proofs.find.entry_at.Goals as goal
 

@@ -1,8 +1,4 @@
-use Rattle.std.proofs.Common.{◌≡◌, map, drop}
-use Rattle.std.specs.Prelude.{option_map}
-use Rattle.res_calls.specs.Files.{find}
-use Rattle.res_calls.specs.Places.{spot_of, is_searched, is_wanted}
-use Rattle.res_calls.specs.View.{view_open}
+use Rattle.res_calls.proofs.Cited.{◌≡◌, map, drop, option_map, find, spot_of, is_searched, is_wanted, view_open}
 use Rattle.res_calls.proofs.Finding.{spot_from}
 use Rattle.res_calls.proofs.find.find_spot.Given as goal
 

@@ -1,6 +1,4 @@
-use Rattle.std.proofs.Common.{ap}
-use Rattle.res_map.specs.Map.{with_attrs}
-use Rattle.res_calls.specs.View.{view_open}
+use Rattle.res_calls.proofs.Cited.{ap, with_attrs, view_open}
 use Rattle.res_calls.proofs.Standing.{inside_map, touched_as, reference_put}
 use Rattle.res_calls.proofs.find.mark.Goals as goal
 

@@ -1,7 +1,4 @@
-use Rattle.std.proofs.Common.{refl, w16}
-use Rattle.std.proofs.lemmas.Int.{to_z-of_z}
-use Rattle.res_map.specs.Map.{renamed}
-use Rattle.res_calls.specs.View.{view_open}
+use Rattle.res_calls.proofs.Cited.{refl, w16, to_z-of_z, renamed, view_open}
 use Rattle.res_calls.proofs.Standing.{inside_map, mapped, reference_put}
 use Rattle.res_calls.proofs.find.rename.Goals as goal
 

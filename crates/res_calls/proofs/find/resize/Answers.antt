@@ -1,6 +1,4 @@
-use Rattle.std.proofs.Common.{ap}
-use Rattle.res_map.specs.Map.{Reference, resized_datum, with_datum}
-use Rattle.res_calls.specs.View.{view_open}
+use Rattle.res_calls.proofs.Cited.{ap, Reference, resized_datum, with_datum, view_open}
 use Rattle.res_calls.proofs.Standing.{inside_map, touched_as, reference_put}
 use Rattle.res_calls.proofs.find.resize.Goals as goal
 

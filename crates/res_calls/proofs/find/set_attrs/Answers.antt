@@ -1,6 +1,4 @@
-use Rattle.std.proofs.Common.{refl}
-use Rattle.res_map.specs.Map.{with_attrs}
-use Rattle.res_calls.specs.View.{view_open}
+use Rattle.res_calls.proofs.Cited.{refl, with_attrs, view_open}
 use Rattle.res_calls.proofs.Standing.{inside_map, mapped, reference_put}
 use Rattle.res_calls.proofs.find.set_attrs.Goals as goal
 

@@ -1,6 +1,4 @@
-use Rattle.std.proofs.Common.{Some, refl}
-use Rattle.res_map.specs.Map.{stored_anew}
-use Rattle.res_calls.specs.View.{view_open}
+use Rattle.res_calls.proofs.Cited.{Some, refl, stored_anew, view_open}
 use Rattle.res_calls.proofs.Standing.{inside_map, mapped, reference_put}
 use Rattle.res_calls.proofs.find.store.Goals as goal
 

@@ -1,5 +1,4 @@
-use Rattle.std.proofs.Common.{ap}
-use Rattle.res_calls.specs.View.{view_open}
+use Rattle.res_calls.proofs.Cited.{ap, view_open}
 use Rattle.res_calls.proofs.Standing.{inside_map, touched_as, reference_removed}
 use Rattle.res_calls.proofs.find.take_out.Goals as goal
 

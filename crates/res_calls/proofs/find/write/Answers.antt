@@ -1,7 +1,5 @@
-use Rattle.std.proofs.Common.{◌≤◌, ap, length}
+use Rattle.res_calls.proofs.Cited.{◌≤◌, ap, length, Reference, with_datum, view_open}
 use Rattle.memory_windows.specs.Writes.{written}
-use Rattle.res_map.specs.Map.{Reference, with_datum}
-use Rattle.res_calls.specs.View.{view_open}
 use Rattle.res_calls.proofs.Standing.{inside_map, inside_some, touched_as, reference_put}
 use Rattle.res_calls.proofs.find.write.Goals as goal
 

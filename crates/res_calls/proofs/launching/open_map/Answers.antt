@@ -1,6 +1,5 @@
-use Rattle.std.proofs.Common.{Err, ap, refl, sym}
+use Rattle.res_calls.proofs.Cited.{Err, ap, refl, sym, map_read}
 use Rattle.fork_format.proofs.Codes.{refused}
-use Rattle.res_calls.specs.Rows.{map_read}
 use Rattle.res_calls.proofs.launching.open_map.Goals as goal
 
 pub returns-in-Some : goal.returns-in-Some

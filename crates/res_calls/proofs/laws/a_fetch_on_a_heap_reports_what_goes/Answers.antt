@@ -1,4 +1,4 @@
-use Rattle.res_calls.specs.Given.{managers}
+use Rattle.res_calls.proofs.Cited.{managers}
 use Rattle.res_calls.proofs.ToldGone.Calls.{fetched-goes, fetched-purgeable, fetched-once}
 use Rattle.res_calls.proofs.laws.a_fetch_on_a_heap_reports_what_goes.Goals as goal
 

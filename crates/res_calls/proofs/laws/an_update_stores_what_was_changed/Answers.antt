@@ -1,5 +1,4 @@
-use Rattle.std.proofs.Common.{ap}
-use Rattle.res_calls.specs.Asked.{Served}
+use Rattle.res_calls.proofs.Cited.{ap, Served}
 use Rattle.res_calls.proofs.Following.{handle-stored, system-stays}
 use Rattle.res_calls.proofs.Walks.Forks.{emptied_reference_keeps, unchanged_reference_stays, update_untouched}
 use Rattle.res_calls.proofs.laws.an_update_stores_what_was_changed.Goals as goal

@@ -1,6 +1,4 @@
-use Rattle.std.proofs.Common.{map, refl}
-use Rattle.res_calls.specs.Updating.{stored_in}
-use Rattle.res_calls.specs.View.{view_file, view_open}
+use Rattle.res_calls.proofs.Cited.{map, refl, stored_in, view_file, view_open}
 use Rattle.res_calls.proofs.LastOpened.{last_updated, last_refused}
 use Rattle.res_calls.proofs.PuttingBack.{kept_next}
 use Rattle.res_calls.proofs.WritingAnew.{same_resources}

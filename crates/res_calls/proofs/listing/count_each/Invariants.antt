@@ -1,7 +1,4 @@
-use Rattle.std.proofs.Common.{◌≡◌, ◌+◌, ◌<◌, ◌^◌, map, drop}
-use Rattle.byteorder.specs.Endian.{big_number}
-use Rattle.res_calls.specs.Rows.{count_each, told_count}
-use Rattle.res_calls.specs.View.{view_open}
+use Rattle.res_calls.proofs.Cited.{◌≡◌, ◌+◌, ◌<◌, ◌^◌, map, drop, big_number, count_each, told_count, view_open}
 use Rattle.res_calls.proofs.listing.count_each.Given as goal
 
 -- what was counted and what is left to count are what is counted in all

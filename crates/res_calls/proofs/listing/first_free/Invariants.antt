@@ -1,8 +1,4 @@
-use Rattle.std.proofs.Common.{◌≡◌, ◌+◌, ◌-◌, map}
-use Rattle.byteorder.specs.Endian.{big_number}
-use Rattle.res_calls.specs.Rows.{first_free}
-use Rattle.res_calls.specs.Places.{is_taken_in}
-use Rattle.res_calls.specs.View.{view_open}
+use Rattle.res_calls.proofs.Cited.{◌≡◌, ◌+◌, ◌-◌, map, big_number, first_free, is_taken_in, view_open}
 use Rattle.res_calls.proofs.listing.first_free.Given as goal
 
 -- what is free among the IDs that are left is free among all

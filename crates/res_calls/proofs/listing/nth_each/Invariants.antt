@@ -1,9 +1,4 @@
-use Rattle.std.proofs.Common.{◌≡◌, map, drop}
-use Rattle.std.specs.Prelude.{option_map}
-use Rattle.byteorder.specs.Endian.{big_number}
-use Rattle.res_calls.specs.Rows.{nth_each}
-use Rattle.res_calls.specs.Places.{spot_of}
-use Rattle.res_calls.specs.View.{view_open}
+use Rattle.res_calls.proofs.Cited.{◌≡◌, map, drop, option_map, big_number, nth_each, spot_of, view_open}
 use Rattle.res_calls.proofs.Finding.{spot_from}
 use Rattle.res_calls.proofs.listing.nth_each.Given as goal
 

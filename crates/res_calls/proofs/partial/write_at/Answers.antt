@@ -1,7 +1,4 @@
-use Rattle.std.proofs.Common.{◌≤◌, ◌∙◌, ap, sym, length, map, List}
-use Rattle.res_calls.specs.Files.{Found}
-use Rattle.res_calls.specs.Places.{found_at}
-use Rattle.res_calls.specs.View.{view_open}
+use Rattle.res_calls.proofs.Cited.{◌≤◌, ◌∙◌, ap, sym, length, map, List, Found, found_at, view_open}
 use Rattle.res_calls.specs.declared.files.OpenFile.{OpenFile}
 use Rattle.res_calls.proofs.Parts.{if_some, no_code, offset-within}
 use Rattle.res_calls.proofs.partial.write_at.Goals as goal

@@ -1,8 +1,4 @@
-use Rattle.std.proofs.Common.{◌+◌, rules, ◌∙◌, ◌≡◌, sym, List, map, ◌++◌, drop}
-use Rattle.heap_calls.specs.declared.filling.Filling.{Filling}
-use Rattle.heap_calls.specs.Inner.Filling.{wanted_as}
-use Rattle.res_map.specs.View.{view_lent}
-use Rattle.res_calls.specs.Preloading.{wanted_of}
+use Rattle.res_calls.proofs.Cited.{◌+◌, rules, ◌∙◌, ◌≡◌, sym, List, map, ◌++◌, drop, Filling, wanted_as, view_lent, wanted_of}
 use Rattle.res_calls.proofs.Preloads.{wanted_here, wanted_on}
 use Rattle.res_calls.proofs.preloading.gather.Goals.{then-is_read_first+in_ok-push, else-is_read_first}
 use Rattle.res_calls.proofs.preloading.gather.Goals as goal

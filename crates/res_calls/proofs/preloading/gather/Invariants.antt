@@ -1,6 +1,4 @@
-use Rattle.std.proofs.Common.{◌≡◌, ◌++◌, map, drop}
-use Rattle.heap_calls.specs.Inner.Filling.{wanted_as}
-use Rattle.res_calls.specs.Preloading.{wanted_of}
+use Rattle.res_calls.proofs.Cited.{◌≡◌, ◌++◌, map, drop, wanted_as, wanted_of}
 use Rattle.res_calls.proofs.preloading.gather.Given as goal
 
 -- what was gathered, and then what is wanted of the rest, is all that is wanted

@@ -1,7 +1,4 @@
-use Rattle.std.proofs.Common.{rules, arith, ◌≡◌, ◌+◌, ◌∙◌, sym, subst}
-use Rattle.res_map.specs.Map.{Map}
-use Rattle.std.proofs.Common.{ℕ}
-use Rattle.res_map.specs.View.{view_lent}
+use Rattle.res_calls.proofs.Cited.{rules, arith, ◌≡◌, ◌+◌, ◌∙◌, sym, subst, Map, ℕ, view_lent}
 use Rattle.res_calls.proofs.Preloads.{IsGiven, given_here, given_on, given_none}
 use Rattle.res_calls.proofs.preloading.give_all.Goals.{then-is_read_first, else-is_read_first}
 use Rattle.res_calls.proofs.preloading.give_all.Goals as goal

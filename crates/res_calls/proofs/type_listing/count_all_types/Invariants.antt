@@ -1,8 +1,4 @@
-use Rattle.std.proofs.Common.{◌≡◌, ◌+◌, ◌<◌, ◌^◌, length, map}
-use Rattle.res_map.specs.Map.{types}
-use Rattle.res_calls.specs.Owning.{references}
-use Rattle.res_calls.specs.Rows.{told_count}
-use Rattle.res_calls.specs.View.{view_open}
+use Rattle.res_calls.proofs.Cited.{◌≡◌, ◌+◌, ◌<◌, ◌^◌, length, map, types, references, told_count, view_open}
 use Rattle.res_calls.proofs.Typing.{left_from}
 use Rattle.res_calls.proofs.type_listing.count_all_types.Given as goal
 

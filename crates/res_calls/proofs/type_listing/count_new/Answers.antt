@@ -1,6 +1,4 @@
-use Rattle.std.proofs.Common.{map}
-use Rattle.res_map.specs.Map.{types}
-use Rattle.res_calls.specs.View.{view_open}
+use Rattle.res_calls.proofs.Cited.{map, types, view_open}
 use Rattle.res_calls.proofs.Typing.{count_on, count_few}
 use Rattle.res_calls.proofs.type_listing.count_new.Goals as goal
 

@@ -1,8 +1,4 @@
-use Rattle.std.proofs.Common.{◌≡◌, ◌+◌, ◌≤◌, length, map, drop}
-use Rattle.std.specs.Prelude.{filter}
-use Rattle.res_map.specs.Map.{types}
-use Rattle.res_calls.specs.Places.{is_new, new_types}
-use Rattle.res_calls.specs.View.{view_open}
+use Rattle.res_calls.proofs.Cited.{◌≡◌, ◌+◌, ◌≤◌, length, map, drop, filter, types, is_new, new_types, view_open}
 use Rattle.res_calls.proofs.type_listing.count_new.Given as goal
 
 -- what was counted and what is left to count are what is counted in all

@@ -1,7 +1,4 @@
-use Rattle.std.proofs.Common.{◌≡◌, map, drop}
-use Rattle.byteorder.specs.Endian.{big_number}
-use Rattle.res_calls.specs.Places.{has_type}
-use Rattle.res_calls.specs.View.{view_open}
+use Rattle.res_calls.proofs.Cited.{◌≡◌, map, drop, big_number, has_type, view_open}
 use Rattle.res_calls.proofs.type_listing.has_type.Given as goal
 
 -- one of the files that are left has the type just where one of all has it

@@ -1,8 +1,4 @@
-use Rattle.std.proofs.Common.{◌≡◌, map, drop}
-use Rattle.std.specs.Prelude.{filter}
-use Rattle.res_map.specs.Map.{nth, types}
-use Rattle.res_calls.specs.Places.{is_new, new_types}
-use Rattle.res_calls.specs.View.{view_open}
+use Rattle.res_calls.proofs.Cited.{◌≡◌, map, drop, filter, nth, types, is_new, new_types, view_open}
 use Rattle.res_calls.proofs.type_listing.nth_new.Given as goal
 
 -- what is found among the types that are left is found among all

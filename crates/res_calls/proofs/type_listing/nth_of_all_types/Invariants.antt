@@ -1,7 +1,4 @@
-use Rattle.std.proofs.Common.{◌≡◌, map}
-use Rattle.res_map.specs.Map.{nth, types}
-use Rattle.res_calls.specs.Owning.{references}
-use Rattle.res_calls.specs.View.{view_open}
+use Rattle.res_calls.proofs.Cited.{◌≡◌, map, nth, types, references, view_open}
 use Rattle.res_calls.proofs.Typing.{left_from}
 use Rattle.res_calls.proofs.type_listing.nth_of_all_types.Given as goal
 

@@ -1,4 +1,4 @@
-use Rattle.std.proofs.Common.{rules}
+use Rattle.res_calls.proofs.Cited.{rules}
 use Rattle.res_calls.proofs.PuttingBack.{put_here, put_past}
 use Rattle.res_calls.proofs.undoing.restore.Goals as goal
 

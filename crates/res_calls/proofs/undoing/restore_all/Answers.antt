@@ -1,6 +1,4 @@
-use Rattle.std.proofs.Common.{map}
-use Rattle.res_calls.specs.Undoing.{undone}
-use Rattle.res_calls.specs.View.{view_file}
+use Rattle.res_calls.proofs.Cited.{map, undone, view_file}
 use Rattle.res_calls.proofs.PuttingBack.{restored_next}
 use Rattle.res_calls.proofs.undoing.restore_all.Goals as goal
 

@@ -1,6 +1,4 @@
-use Rattle.std.proofs.Common.{◌≡◌, map, length}
-use Rattle.res_calls.specs.Undoing.{undone}
-use Rattle.res_calls.specs.View.{view_file}
+use Rattle.res_calls.proofs.Cited.{◌≡◌, map, length, undone, view_file}
 use Rattle.res_calls.proofs.undoing.restore_all.Given as goal
 
 -- the files where the forks that are left are put back are the files where all are

@@ -1,4 +1,4 @@
-use Rattle.res_map.specs.View.{view_lent}
+use Rattle.res_calls.proofs.Cited.{view_lent}
 use Rattle.res_calls.proofs.WritingAnew.{fresh_next}
 use Rattle.res_calls.proofs.updating.fresh_all.Goals as goal
 

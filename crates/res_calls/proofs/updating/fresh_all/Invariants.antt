@@ -1,6 +1,4 @@
-use Rattle.std.proofs.Common.{◌≡◌, ◌++◌, map, drop}
-use Rattle.res_map.specs.View.{view_all}
-use Rattle.res_calls.specs.Update.{fresh}
+use Rattle.res_calls.proofs.Cited.{◌≡◌, ◌++◌, map, drop, view_all, fresh}
 use Rattle.res_calls.proofs.updating.fresh_all.Given as goal
 
 -- what is fresh so far, and then what is fresh of the rest, is what is fresh of all

@@ -1,7 +1,4 @@
-use Rattle.std.proofs.Common.{ℕ, map, ◌∙◌, ap, rules}
-use Rattle.std.specs.Prelude.{slice_set}
-use Rattle.res_calls.specs.Undoing.{given_back}
-use Rattle.res_calls.specs.View.{view_file}
+use Rattle.res_calls.proofs.Cited.{ℕ, map, ◌∙◌, ap, rules, slice_set, given_back, view_file}
 use Rattle.res_calls.proofs.PuttingBack.{back_again}
 use Rattle.res_calls.proofs.WritingAnew.{fork_put, fork_past}
 use Rattle.res_calls.proofs.updating.put_fork.Goals as goal

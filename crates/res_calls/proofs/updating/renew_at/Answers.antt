@@ -1,5 +1,4 @@
-use Rattle.std.proofs.Common.{Option}
-use Rattle.res_calls.specs.declared.undoing.Replaced.{Replaced}
+use Rattle.res_calls.proofs.Cited.{Option, Replaced}
 use Rattle.res_calls.proofs.WritingAnew.{update_untouched, update_refused, update_done, reads_again, untouched_reads}
 use Rattle.res_calls.proofs.WritingAnew.{long_enough}
 use Rattle.res_calls.proofs.updating.renew_at.Goals as goal

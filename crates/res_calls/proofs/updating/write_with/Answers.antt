@@ -1,4 +1,4 @@
-use Rattle.fork_format.specs.View.{view}
+use Rattle.res_calls.proofs.Cited.{view}
 use Rattle.res_calls.proofs.WritingAnew.{is_written}
 use Rattle.res_calls.proofs.updating.write_with.Goals as goal
 

@@ -1,5 +1,4 @@
-use Rattle.std.proofs.Common.{rules}
-use Rattle.std.proofs.lemmas.Fn.{filter_same}
+use Rattle.res_map.proofs.Cited.{rules, filter_same}
 use Rattle.res_map.proofs.adding.forget.Goals as goal
 
 pub returns : goal.returns

@@ -1,9 +1,5 @@
-use Rattle.std.proofs.Common.{ap, arith, length, sym, subst, rules, map, refl, ℕ, ◌≤◌}
-use Rattle.std.proofs.lemmas.List.{length-map}
-use Rattle.std.proofs.lemmas.List.Edits.{length-insert}
-use Rattle.res_map.specs.Map.{is_resource}
-use Rattle.res_map.specs.Index.{IsIndex, held_weights, is_held, is_printed, row_weights}
-use Rattle.res_map.specs.View.{view_reference}
+use Rattle.res_map.proofs.Cited.{ap, arith, length, sym, subst, rules, map, refl, ℕ, ◌≤◌, length-map, length-insert, is_resource, IsIndex}
+use Rattle.res_map.proofs.Cited.{held_weights, is_held, is_printed, row_weights, view_reference}
 use Rattle.res_map.proofs.Rows.{index-same, key-test, row-placed, placed-there}
 use Rattle.res_map.proofs.Handles.{held-placed, placed-weight}
 use Rattle.res_map.proofs.Weights.{held-inserted}

@@ -1,4 +1,4 @@
-use Rattle.std.proofs.Common.{◌∙◌, ap, ◌++◌, ◌∷◌, [], rules}
+use Rattle.res_map.proofs.Cited.{◌∙◌, ap, ◌++◌, ◌∷◌, [], rules}
 use Rattle.res_map.proofs.Ends.{last_added, last_ordered, put_seen_last}
 use Rattle.res_map.proofs.adding.put_last.Goals as goal
 

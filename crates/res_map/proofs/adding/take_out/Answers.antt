@@ -1,4 +1,4 @@
-use Rattle.std.proofs.Common.{rules}
+use Rattle.res_map.proofs.Cited.{rules}
 use Rattle.res_map.proofs.Ends.{out_seen, out_gone, out_left}
 use Rattle.res_map.proofs.adding.take_out.Goals as goal
 

@@ -1,12 +1,6 @@
-use Rattle.std.specs.Prelude.{slice_get, vec_capacity}
-use Rattle.std.proofs.Common.{◌≡◌, ◌∙◌, ap, List, IfSome, sym, subst, rules, map, ◌<◌, ℕ, w32, SFits}
-use Rattle.std.proofs.lemmas.Int.{to_z-of_z}
-use Rattle.std.proofs.lemmas.List.{length-map}
-use Rattle.res_map.specs.Map.{Reference, is_resource}
-use Rattle.res_map.specs.Index.{first_place, held_row, is_printed, named_row}
-use Rattle.res_map.specs.View.{view_reference}
-use Rattle.res_map.specs.declared.index.Row.{Row}
-use Rattle.res_map.specs.declared.stored.StoredReference.{StoredReference}
+use Rattle.res_map.proofs.Cited.{slice_get, vec_capacity, ◌≡◌, ◌∙◌, ap, List, IfSome, sym, subst, rules, map, ◌<◌, ℕ, w32, SFits, to_z-of_z}
+use Rattle.res_map.proofs.Cited.{length-map, Reference, is_resource, first_place, held_row, is_printed, named_row, view_reference, Row}
+use Rattle.res_map.proofs.Cited.{StoredReference}
 use Rattle.res_map.proofs.Rows.{named-place, out-of-index, out-of-rows, read-there, row-named}
 use Rattle.res_map.proofs.Handles.{held-place, holding-out}
 use Rattle.res_map.proofs.adding.take_out_of_file.Goals as goal

@@ -1,5 +1,4 @@
-use Rattle.res_map.specs.Map.{with_attrs}
-use Rattle.res_map.specs.View.{view_reference}
+use Rattle.res_map.proofs.Cited.{with_attrs, view_reference}
 use Rattle.res_map.proofs.Splitting.{set-seen_at}
 use Rattle.res_map.proofs.changing.put_attrs.Goals as goal
 

@@ -1,8 +1,4 @@
-use Rattle.std.proofs.lemmas.Result.{on_ok_weaker, on_err_weaker}
-use Rattle.memory_windows.specs.Writes.{written}
-use Rattle.res_map.specs.Index.{is_printed}
-use Rattle.res_map.specs.Map.{Reference, is_resource, with_datum}
-use Rattle.res_map.specs.View.{view_reference}
+use Rattle.res_map.proofs.Cited.{on_ok_weaker, on_err_weaker, written, is_printed, Reference, is_resource, with_datum, view_reference}
 use Rattle.res_map.proofs.Splitting.{set-seen_at, same-seen_at}
 use Rattle.res_map.proofs.Order.{ordered-seen_at}
 use Rattle.res_map.proofs.Rows.{index-seen_at, id-alike, name-alike}

@@ -1,6 +1,4 @@
-use Rattle.std.proofs.Common.{Some}
-use Rattle.res_map.specs.Map.{stored_anew}
-use Rattle.res_map.specs.View.{view_reference}
+use Rattle.res_map.proofs.Cited.{Some, stored_anew, view_reference}
 use Rattle.res_map.proofs.Splitting.{set-seen_at}
 use Rattle.res_map.proofs.changing.put_datum.Goals as goal
 

@@ -1,5 +1,4 @@
-use Rattle.res_map.specs.Map.{with_handle}
-use Rattle.res_map.specs.View.{view_reference}
+use Rattle.res_map.proofs.Cited.{with_handle, view_reference}
 use Rattle.res_map.proofs.Splitting.{set-seen_at}
 use Rattle.res_map.proofs.changing.put_handle.Goals as goal
 

@@ -1,7 +1,4 @@
-use Rattle.std.proofs.Common.{◌∙◌, ap, w16, ℤ}
-use Rattle.std.proofs.lemmas.Int.{to_z-of_z}
-use Rattle.res_map.specs.Map.{renamed}
-use Rattle.res_map.specs.View.{view_reference}
+use Rattle.res_map.proofs.Cited.{◌∙◌, ap, w16, ℤ, to_z-of_z, renamed, view_reference}
 use Rattle.res_map.proofs.Splitting.{set-seen_at}
 use Rattle.res_map.proofs.changing.put_name.Goals as goal
 

@@ -1,10 +1,5 @@
-use Rattle.std.specs.Prelude.{slice_get}
-use Rattle.std.proofs.Common.{◌≡◌, ap, sym, subst, refl, rules, map, ◌<◌, ℕ, List, IfSome, to_z, of_z, w16}
-use Rattle.std.proofs.lemmas.List.{length-map}
-use Rattle.res_map.specs.Map.{is_resource}
-use Rattle.res_map.specs.Index.{is_printed, named_row}
-use Rattle.res_map.specs.View.{view_reference}
-use Rattle.res_map.specs.declared.stored.StoredReference.{StoredReference}
+use Rattle.res_map.proofs.Cited.{slice_get, ◌≡◌, ap, sym, subst, refl, rules, map, ◌<◌, ℕ, List, IfSome, to_z, of_z, w16, length-map}
+use Rattle.res_map.proofs.Cited.{is_resource, is_printed, named_row, view_reference, StoredReference}
 use Rattle.res_map.proofs.Rows.{index-same, renamed-in-names}
 use Rattle.res_map.proofs.changing.put_name_in_file.Goals as goal
 

@@ -1,13 +1,6 @@
-use Rattle.std.specs.Prelude.{slice_get}
-use Rattle.std.proofs.Common.{[], ◌≡◌, ◌∙◌, ap, List, IfSome, sym, subst, rules, refl, map, ◌<◌, ℕ, w16, w32, SFits, to_z, of_z}
-use Rattle.std.proofs.Math.Facts.{sfits_widen}
-use Rattle.std.proofs.lemmas.Int.{to_z-of_z}
-use Rattle.std.proofs.lemmas.List.{length-map}
-use Rattle.res_map.specs.Map.{Map, Reference, is_resource, renamed}
-use Rattle.res_map.specs.Index.{first_place}
-use Rattle.res_map.specs.View.{view_reference}
-use Rattle.res_map.specs.declared.index.Row.{Row}
-use Rattle.res_map.specs.declared.stored.StoredReference.{StoredReference}
+use Rattle.res_map.proofs.Cited.{slice_get, [], ◌≡◌, ◌∙◌, ap, List, IfSome, sym, subst, rules, refl, map, ◌<◌, ℕ, w16, w32, SFits, to_z}
+use Rattle.res_map.proofs.Cited.{of_z, sfits_widen, to_z-of_z, length-map, Map, Reference, is_resource, renamed, first_place}
+use Rattle.res_map.proofs.Cited.{view_reference, Row, StoredReference}
 use Rattle.res_map.proofs.Order.{ordered-changed}
 use Rattle.res_map.proofs.Rows.{renamed-in-index}
 use Rattle.res_map.proofs.Handles.{holding-set}

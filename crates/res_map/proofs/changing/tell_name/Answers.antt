@@ -1,5 +1,4 @@
-use Rattle.std.proofs.Common.{◌≡◌, ◌∙◌, sym, rules, map, Some}
-use Rattle.res_map.specs.View.{view_reference}
+use Rattle.res_map.proofs.Cited.{◌≡◌, ◌∙◌, sym, rules, map, Some, view_reference}
 use Rattle.res_map.proofs.Rows.{name-none, name-some, read-new}
 use Rattle.res_map.proofs.changing.tell_name.Goals as goal
 

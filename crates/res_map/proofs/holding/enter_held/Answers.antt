@@ -1,8 +1,5 @@
-use Rattle.std.proofs.Common.{◌≡◌, ◌∙◌, ◌+◌, sym, subst, ap, rules, ℕ, ◌≤◌, Option, Some, None, arith, length, ℤ}
-use Rattle.std.specs.Prelude.{option_map}
-use Rattle.std.specs.List.{insert}
-use Rattle.res_map.specs.Index.{IsIndex, IsRowOf, is_held, place_in, raised, row_weights, weight}
-use Rattle.res_map.specs.declared.index.Row.{Row}
+use Rattle.res_map.proofs.Cited.{◌≡◌, ◌∙◌, ◌+◌, sym, subst, ap, rules, ℕ, ◌≤◌, Option, Some, None, arith, length, ℤ, option_map, insert}
+use Rattle.res_map.proofs.Cited.{IsIndex, IsRowOf, is_held, place_in, raised, row_weights, weight, Row}
 use Rattle.res_map.proofs.Rows.{index-entered, index-passed, index-within}
 use Rattle.res_map.proofs.holding.enter_held.Goals as goal
 

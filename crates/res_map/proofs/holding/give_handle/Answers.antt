@@ -1,7 +1,4 @@
-use Rattle.std.specs.Prelude.{vec_capacity}
-use Rattle.std.proofs.Common.{◌<◌, ℕ, map, sym, subst, rules}
-use Rattle.std.proofs.lemmas.List.{length-map}
-use Rattle.res_map.specs.View.{view_reference}
+use Rattle.res_map.proofs.Cited.{vec_capacity, ◌<◌, ℕ, map, sym, subst, rules, length-map, view_reference}
 use Rattle.res_map.proofs.Handles.{holding-given, room-for}
 use Rattle.res_map.proofs.holding.give_handle.Goals as goal
 

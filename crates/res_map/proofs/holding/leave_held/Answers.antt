@@ -1,5 +1,4 @@
-use Rattle.std.proofs.Common.{◌≡◌, ◌∙◌, sym, rules, Some, None, map}
-use Rattle.res_map.specs.View.{view_reference}
+use Rattle.res_map.proofs.Cited.{◌≡◌, ◌∙◌, sym, rules, Some, None, map, view_reference}
 use Rattle.res_map.proofs.Handles.{holding-gone, holding-left}
 use Rattle.res_map.proofs.holding.leave_held.Goals as goal
 

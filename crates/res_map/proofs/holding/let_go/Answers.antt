@@ -1,8 +1,5 @@
-use Rattle.std.proofs.Common.{◌≡◌, ◌∙◌, sym, subst, ap, rules, Some, None, w32, SFits, map}
-use Rattle.std.specs.Prelude.{◌≢◌}
-use Rattle.std.proofs.lemmas.Int.{to_z-of_z}
-use Rattle.res_map.specs.Index.{IsRising, IsToldAs, first_place, is_held, place_in}
-use Rattle.res_map.specs.View.{view_reference}
+use Rattle.res_map.proofs.Cited.{◌≡◌, ◌∙◌, sym, subst, ap, rules, Some, None, w32, SFits, map, ◌≢◌, to_z-of_z, IsRising, IsToldAs}
+use Rattle.res_map.proofs.Cited.{first_place, is_held, place_in, view_reference}
 use Rattle.res_map.proofs.Weights.{each-left, first-left, none-left, row-there, some-left}
 use Rattle.res_map.proofs.holding.let_go.Goals as goal
 

@@ -1,7 +1,4 @@
-use Rattle.std.proofs.Common.{◌∙◌, ap, rules, w32, SFits}
-use Rattle.std.proofs.lemmas.Int.{to_z-of_z}
-use Rattle.res_map.specs.Index.{place_in}
-use Rattle.res_map.specs.declared.index.Row.{Row}
+use Rattle.res_map.proofs.Cited.{◌∙◌, ap, rules, w32, SFits, to_z-of_z, place_in, Row}
 use Rattle.res_map.proofs.Handles.{held-told}
 use Rattle.res_map.proofs.holding.place_held.Goals as goal
 

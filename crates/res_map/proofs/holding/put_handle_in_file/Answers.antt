@@ -1,8 +1,5 @@
-use Rattle.std.proofs.Common.{◌≡◌, ◌<◌, ℕ, IfSome, Option, Some, map, rules, sym, subst}
-use Rattle.std.specs.Prelude.{slice_get, slice_set}
-use Rattle.res_map.specs.Map.{Reference, with_handle}
-use Rattle.std.proofs.lemmas.List.{length-map}
-use Rattle.res_map.specs.View.{view_reference}
+use Rattle.res_map.proofs.Cited.{◌≡◌, ◌<◌, ℕ, IfSome, Option, Some, map, rules, sym, subst, slice_get, slice_set, Reference, with_handle}
+use Rattle.res_map.proofs.Cited.{length-map, view_reference}
 use Rattle.res_map.proofs.Handles.{set-again, taken-none}
 use Rattle.res_map.proofs.holding.put_handle_in_file.Goals as goal
 

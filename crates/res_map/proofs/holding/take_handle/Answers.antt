@@ -1,11 +1,5 @@
-use Rattle.std.specs.Prelude.{slice_get, vec_capacity}
-use Rattle.std.proofs.Common.{◌≡◌, ap, sym, subst, map, rules, ℕ, ◌<◌, List, IfSome, Option, Some, None}
-use Rattle.std.proofs.lemmas.List.{length-map}
-use Rattle.res_map.specs.Map.{Reference}
-use Rattle.res_map.specs.Index.{held_row}
-use Rattle.res_map.specs.View.{view_reference}
-use Rattle.res_map.specs.declared.index.Row.{Row}
-use Rattle.res_map.specs.declared.stored.StoredReference.{StoredReference}
+use Rattle.res_map.proofs.Cited.{slice_get, vec_capacity, ◌≡◌, ap, sym, subst, map, rules, ℕ, ◌<◌, List, IfSome, Option, Some, None}
+use Rattle.res_map.proofs.Cited.{length-map, Reference, held_row, view_reference, Row, StoredReference}
 use Rattle.res_map.proofs.Handles.{holding-let-go, holding-unheld}
 use Rattle.res_map.proofs.holding.take_handle.Goals as goal
 

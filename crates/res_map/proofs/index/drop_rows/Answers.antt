@@ -1,7 +1,4 @@
-use Rattle.std.proofs.Common.{sym, subst, rules, not}
-use Rattle.std.proofs.lemmas.Fn.{filter_same}
-use Rattle.std.proofs.lemmas.List.Kept.{IsNonDecreasingBy-filter}
-use Rattle.res_map.specs.Index.{IsRising, IsToldAs, is_row, rank_of}
+use Rattle.res_map.proofs.Cited.{sym, subst, rules, not, filter_same, IsNonDecreasingBy-filter, IsRising, IsToldAs, is_row, rank_of}
 use Rattle.std.specs.Prelude.{None}
 use Rattle.res_map.proofs.Rows.{place-dropped}
 use Rattle.res_map.proofs.index.drop_rows.Goals as goal

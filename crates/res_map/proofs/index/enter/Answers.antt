@@ -1,4 +1,4 @@
-use Rattle.std.proofs.Common.{sym, subst, ℕ, ◌≤◌}
+use Rattle.res_map.proofs.Cited.{sym, subst, ℕ, ◌≤◌}
 use Rattle.res_map.proofs.Rows.{index-entered, index-within}
 use Rattle.res_map.proofs.index.enter.Goals as goal
 

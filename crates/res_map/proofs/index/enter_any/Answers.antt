@@ -1,7 +1,4 @@
-use Rattle.std.proofs.Common.{sym, subst, rules, ℕ, ◌≤◌, Option, Some, None, ◌≡◌}
-use Rattle.std.specs.List.{insert}
-use Rattle.res_map.specs.Index.{IsIndex, IsRowOf}
-use Rattle.res_map.specs.declared.index.Row.{Row}
+use Rattle.res_map.proofs.Cited.{sym, subst, rules, ℕ, ◌≤◌, Option, Some, None, ◌≡◌, insert, IsIndex, IsRowOf, Row}
 use Rattle.res_map.proofs.Rows.{index-passed, index-within}
 use Rattle.res_map.proofs.index.enter_any.Goals as goal
 

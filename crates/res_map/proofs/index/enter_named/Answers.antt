@@ -1,7 +1,5 @@
-use Rattle.std.proofs.Common.{◌≡◌, sym, subst, rules, Option, Some, None, IfSome, w32, SFits, ℕ}
-use Rattle.std.proofs.lemmas.Int.{to_z-of_z}
-use Rattle.res_map.specs.Index.{IsRowOf, IsAt, is_printed}
-use Rattle.res_map.specs.declared.index.Row.{Row}
+use Rattle.res_map.proofs.Cited.{◌≡◌, sym, subst, rules, Option, Some, None, IfSome, w32, SFits, ℕ, to_z-of_z, IsRowOf, IsAt, is_printed}
+use Rattle.res_map.proofs.Cited.{Row}
 use Rattle.res_map.proofs.Rows.{index-found}
 use Rattle.res_map.proofs.index.enter_named.Goals as goal
 

@@ -1,6 +1,4 @@
-use Rattle.std.proofs.Common.{◌≡◌, ◌∙◌, sym, subst, ap, rules, w32}
-use Rattle.std.proofs.lemmas.Int.{to_z-of_z}
-use Rattle.res_map.specs.Index.{IsAt, first_place, is_printed}
+use Rattle.res_map.proofs.Cited.{◌≡◌, ◌∙◌, sym, subst, ap, rules, w32, to_z-of_z, IsAt, first_place, is_printed}
 use Rattle.res_map.proofs.Rows.{index-alike}
 use Rattle.res_map.proofs.index.enter_printed.Goals as goal
 

@@ -1,6 +1,4 @@
-use Rattle.std.proofs.Common.{◌≡◌, ◌∙◌, sym, subst, rules, w32}
-use Rattle.std.proofs.lemmas.Int.{to_z-of_z}
-use Rattle.res_map.specs.Index.{IsToldAs, IsAt}
+use Rattle.res_map.proofs.Cited.{◌≡◌, ◌∙◌, sym, subst, rules, w32, to_z-of_z, IsToldAs, IsAt}
 use Rattle.res_map.proofs.Rows.{index-renamed, index-alike, told-there}
 use Rattle.res_map.proofs.index.enter_renamed.Goals as goal
 

@@ -1,6 +1,4 @@
-use Rattle.std.proofs.Common.{sym, subst, rules, w32, SFits}
-use Rattle.std.proofs.lemmas.Int.{to_z-of_z}
-use Rattle.res_map.specs.Index.{IsRising, IsToldAs, IsAt, lowered}
+use Rattle.res_map.proofs.Cited.{sym, subst, rules, w32, SFits, to_z-of_z, IsRising, IsToldAs, IsAt, lowered}
 use Rattle.res_map.proofs.Rows.{index-left, rising-moved, moved-there}
 use Rattle.res_map.proofs.index.leave.Goals as goal
 

@@ -1,10 +1,5 @@
-use Rattle.std.proofs.Common.{◌≡◌, ◌∙◌, sym, subst, ap, rules, Option, Some, None, w32, SFits, map}
-use Rattle.std.specs.Prelude.{slice_get}
-use Rattle.std.specs.List.{remove}
-use Rattle.std.proofs.lemmas.Int.{to_z-of_z}
-use Rattle.res_map.specs.Index.{IsIndex, IsRowOf, first_place, is_printed}
-use Rattle.res_map.specs.View.{view_reference}
-use Rattle.res_map.specs.declared.index.Row.{Row}
+use Rattle.res_map.proofs.Cited.{◌≡◌, ◌∙◌, sym, subst, ap, rules, Option, Some, None, w32, SFits, map, slice_get, remove, to_z-of_z}
+use Rattle.res_map.proofs.Cited.{IsIndex, IsRowOf, first_place, is_printed, view_reference, Row}
 use Rattle.res_map.proofs.Rows.{index-gone}
 use Rattle.res_map.proofs.index.leave_named.Goals as goal
 

@@ -1,7 +1,4 @@
-use Rattle.std.proofs.Common.{rules}
-use Rattle.std.proofs.lemmas.List.Edits.{map_over_more}
-use Rattle.std.proofs.lemmas.List.{take_all, drop_all}
-use Rattle.res_map.specs.Index.{moved, lowered}
+use Rattle.res_map.proofs.Cited.{rules, map_over_more, take_all, drop_all, moved, lowered}
 use Rattle.res_map.proofs.index.lower.Goals as goal
 
 pub loop-i-preserved : goal.loop-i-preserved

@@ -1,5 +1,4 @@
-use Rattle.std.proofs.Common.{◌≡◌, ◌++◌, map, take, drop}
-use Rattle.res_map.specs.Index.{moved, lowered}
+use Rattle.res_map.proofs.Cited.{◌≡◌, ◌++◌, map, take, drop, moved, lowered}
 use Rattle.res_map.proofs.index.lower.Given as goal
 
 -- those that were lowered, with those to come

@@ -1,6 +1,4 @@
-use Rattle.std.proofs.Common.{◌≡◌, ℕ, ℤ, map, take}
-use Rattle.res_map.specs.Index.{place_in, first_place, is_printed}
-use Rattle.res_map.specs.View.{view_reference}
+use Rattle.res_map.proofs.Cited.{◌≡◌, ℕ, ℤ, map, take, place_in, first_place, is_printed, view_reference}
 use Rattle.res_map.proofs.index.named_rows_of.Given as goal
 
 -- the rows so far tell of the references so far

@@ -1,5 +1,4 @@
-use Rattle.std.proofs.Common.{◌∙◌, sym, subst, ap, arith}
-use Rattle.res_map.specs.Index.{IsRising, row_weights, place_in, raised_within}
+use Rattle.res_map.proofs.Cited.{◌∙◌, sym, subst, ap, arith, IsRising, row_weights, place_in, raised_within}
 use Rattle.res_map.proofs.Places.{raised-fits, raised-none}
 use Rattle.res_map.proofs.Rows.{rising-moved, place-moved}
 use Rattle.res_map.proofs.Weights.{weights-moved}

@@ -1,8 +1,5 @@
-use Rattle.std.proofs.Common.{◌∙◌, rules, sym, ap, subst, get_or, pos, w32}
-use Rattle.std.proofs.lemmas.Int.{to_z-of_z}
-use Rattle.std.proofs.lemmas.List.{get_or_default}
+use Rattle.res_map.proofs.Cited.{◌∙◌, rules, sym, ap, subst, get_or, pos, w32, to_z-of_z, get_or_default, rank, rank_of}
 use borrow.Author.Tests.{both_ways}
-use Rattle.res_map.specs.Index.{rank, rank_of}
 use Rattle.res_map.proofs.Rows.{Below, place-found, clear-below, told-none}
 use Rattle.res_map.proofs.index.place_told.Goals as goal
 use Rattle.res_map.proofs.index.place_told.Goals.{else-at-rows-via-then-at-rows+else-is_at, else-at-rows-via-else-at-rows}

@@ -1,7 +1,4 @@
-use Rattle.std.proofs.Common.{rules, nat_cmp, is_lt}
-use Rattle.std.proofs.lemmas.Cmp.{nat_cmp_total}
-use Rattle.std.proofs.lemmas.List.Sorted.{IsNonDecreasingBy-from_sort_by, ranks_by, answers_always}
-use Rattle.res_map.specs.Index.{rank_of}
+use Rattle.res_map.proofs.Cited.{rules, nat_cmp, is_lt, nat_cmp_total, IsNonDecreasingBy-from_sort_by, ranks_by, answers_always, rank_of}
 use Rattle.res_map.proofs.Rows.{place-sorted}
 use Rattle.res_map.proofs.index.put_in_order.Goals as goal
 

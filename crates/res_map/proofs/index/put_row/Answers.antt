@@ -1,5 +1,4 @@
-use Rattle.std.proofs.Common.{rules}
-use Rattle.std.specs.Prelude.{is_ok}
+use Rattle.res_map.proofs.Cited.{rules, is_ok}
 use Rattle.res_map.proofs.Rows.{put-rising, put-told}
 use Rattle.res_map.proofs.Weights.{put-weights}
 use Rattle.res_map.proofs.index.put_row.Goals as goal

@@ -1,6 +1,5 @@
-use Rattle.std.proofs.Common.{◌∙◌, ◌+◌, Option, Some, sym, subst, ap, rules, w32, SFits, ℕ}
-use Rattle.std.proofs.lemmas.Int.{to_z-of_z}
-use Rattle.res_map.specs.Index.{IsRising, IsToldAs, place_in, row_weights, sooner}
+use Rattle.res_map.proofs.Cited.{◌∙◌, ◌+◌, Option, Some, sym, subst, ap, rules, w32, SFits, ℕ, to_z-of_z, IsRising, IsToldAs, place_in}
+use Rattle.res_map.proofs.Cited.{row_weights, sooner}
 use Rattle.res_map.proofs.index.put_sooner.Goals as goal
 
 pub returns-clause-tells : goal.returns-clause-tells

@@ -1,5 +1,4 @@
-use Rattle.std.proofs.Common.{◌≡◌, ◌++◌, map, take, drop}
-use Rattle.res_map.specs.Index.{moved, raised_within}
+use Rattle.res_map.proofs.Cited.{◌≡◌, ◌++◌, map, take, drop, moved, raised_within}
 use Rattle.res_map.proofs.index.raise.Given as goal
 
 -- those that were raised, with those to come

@@ -1,6 +1,4 @@
-use Rattle.std.proofs.Common.{◌∙◌, rules, ap, length, map}
-use Rattle.std.proofs.lemmas.List.{length-map}
-use Rattle.res_map.specs.Index.{moved, raised_within}
+use Rattle.res_map.proofs.Cited.{◌∙◌, rules, ap, length, map, length-map, moved, raised_within}
 use Rattle.res_map.proofs.Rows.{written_back}
 use Rattle.res_map.proofs.index.raise_all.Goals as goal
 

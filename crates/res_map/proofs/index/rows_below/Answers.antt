@@ -1,7 +1,4 @@
-use Rattle.std.proofs.Common.{rules}
-use Rattle.std.specs.Prelude.{nat_lt}
-use Rattle.std.proofs.lemmas.List.Sorted.{IsPartitionPoint-from_clause, IsPartitionedBy-ltb}
-use Rattle.res_map.specs.Index.{rank, rank_of}
+use Rattle.res_map.proofs.Cited.{rules, nat_lt, IsPartitionPoint-from_clause, IsPartitionedBy-ltb, rank, rank_of}
 use Rattle.res_map.proofs.index.rows_below.Goals as goal
 
 pub returns-clause-point : goal.returns-clause-point

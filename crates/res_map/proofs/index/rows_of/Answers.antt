@@ -1,5 +1,4 @@
-use Rattle.std.proofs.Common.{◌∙◌, ap, rules}
-use Rattle.res_map.specs.Index.{place_in}
+use Rattle.res_map.proofs.Cited.{◌∙◌, ap, rules, place_in}
 use Rattle.res_map.proofs.Rows.{told-more}
 use Rattle.res_map.proofs.index.rows_of.Goals as goal
 

@@ -1,7 +1,4 @@
-use Rattle.std.proofs.Common.{◌≡◌, ℕ, ℤ, map, take}
-use Rattle.res_map.specs.Map.{is_resource}
-use Rattle.res_map.specs.Index.{place_in, first_place}
-use Rattle.res_map.specs.View.{view_reference}
+use Rattle.res_map.proofs.Cited.{◌≡◌, ℕ, ℤ, map, take, is_resource, place_in, first_place, view_reference}
 use Rattle.res_map.proofs.index.rows_of.Given as goal
 
 -- the rows so far tell of the references so far

@@ -1,8 +1,5 @@
-use Rattle.std.proofs.Common.{◌∙◌, sym, ap, rules, w32, SFits}
-use Rattle.std.proofs.lemmas.Int.{to_z-of_z}
-use Rattle.std.proofs.lemmas.List.{get_or_default}
+use Rattle.res_map.proofs.Cited.{◌∙◌, sym, ap, rules, w32, SFits, to_z-of_z, get_or_default, rank, rank_of}
 use borrow.Author.Tests.{both_ways}
-use Rattle.res_map.specs.Index.{rank, rank_of}
 use Rattle.res_map.proofs.Rows.{set-rising, set-told, never-there}
 use Rattle.res_map.proofs.Weights.{set-weights}
 use Rattle.res_map.proofs.index.set_row.Goals as goal

@@ -1,8 +1,6 @@
-use Rattle.std.proofs.Common.{◌∙◌, ◌+◌, subst, sym, ap, rules, w32, SFits}
-use Rattle.std.proofs.lemmas.Int.{to_z-of_z}
-use Rattle.std.proofs.lemmas.List.{get_or_default}
+use Rattle.res_map.proofs.Cited.{◌∙◌, ◌+◌, subst, sym, ap, rules, w32, SFits, to_z-of_z, get_or_default, IsRising, place_in, rank, rank_of}
+use Rattle.res_map.proofs.Cited.{row_weights}
 use borrow.Author.Tests.{both_ways}
-use Rattle.res_map.specs.Index.{IsRising, place_in, rank, rank_of, row_weights}
 use Rattle.res_map.proofs.Rows.{never-there}
 use Rattle.res_map.proofs.Weights.{others-taken, taken-rising, taken-weights}
 use Rattle.res_map.proofs.index.take_row.Goals as goal

@@ -1,6 +1,4 @@
-use Rattle.std.proofs.Common.{◌∙◌, sym, subst, ap, rules, w32, SFits}
-use Rattle.std.proofs.lemmas.Int.{to_z-of_z}
-use Rattle.res_map.specs.Index.{IsRising, place_in}
+use Rattle.res_map.proofs.Cited.{◌∙◌, sym, subst, ap, rules, w32, SFits, to_z-of_z, IsRising, place_in}
 use Rattle.res_map.proofs.Rows.{told-some}
 use Rattle.res_map.proofs.index.tell.Goals as goal
 

@@ -1,6 +1,4 @@
-use Rattle.std.proofs.Common.{◌≡◌, drop}
-use Rattle.std.specs.Str.{str_to_ascii_lowercase}
-use Rattle.res_map.specs.Print.{with_bytes}
+use Rattle.res_map.proofs.Cited.{◌≡◌, drop, str_to_ascii_lowercase, with_bytes}
 use Rattle.res_map.proofs.prints.number_of.Given as goal
 
 -- with the bytes that are left, the number is that of all

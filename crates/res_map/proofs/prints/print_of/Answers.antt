@@ -1,5 +1,4 @@
-use Rattle.std.proofs.Common.{rules}
-use Rattle.res_map.specs.Print.{print}
+use Rattle.res_map.proofs.Cited.{rules, print}
 use Rattle.res_map.proofs.prints.print_of.Goals as goal
 
 pub returns : goal.returns

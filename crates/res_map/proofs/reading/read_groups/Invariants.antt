@@ -1,7 +1,4 @@
-use Rattle.std.proofs.Common.{◌≡◌, ◌++◌, map, drop}
-use Rattle.fork_format.specs.View.{view_group}
-use Rattle.res_map.specs.Map.{of_groups}
-use Rattle.res_map.specs.View.{view_reference}
+use Rattle.res_map.proofs.Cited.{◌≡◌, ◌++◌, map, drop, view_group, of_groups, view_reference}
 use Rattle.res_map.proofs.reading.read_groups.Given as goal
 
 -- the references so far, with those to come, are all

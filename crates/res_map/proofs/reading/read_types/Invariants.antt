@@ -1,6 +1,4 @@
-use Rattle.std.proofs.Common.{◌≡◌, ◌++◌, map, drop}
-use Rattle.fork_format.specs.Content.{Group}
-use Rattle.fork_format.specs.View.{view_group}
+use Rattle.res_map.proofs.Cited.{◌≡◌, ◌++◌, map, drop, Group, view_group}
 use Rattle.res_map.proofs.reading.read_types.Given as goal
 
 -- the types so far, with those to come, are all

@@ -1,6 +1,4 @@
-use Rattle.std.proofs.Common.{◌≡◌, ◌+◌, ◌≤◌, map, drop, length}
-use Rattle.res_map.specs.Map.{of_type}
-use Rattle.res_map.specs.View.{view_reference}
+use Rattle.res_map.proofs.Cited.{◌≡◌, ◌+◌, ◌≤◌, map, drop, length, of_type, view_reference}
 use Rattle.res_map.proofs.search.count_of.Given as goal
 
 -- those that were counted, with those to come, are all

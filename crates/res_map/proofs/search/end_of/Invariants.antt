@@ -1,6 +1,4 @@
-use Rattle.std.proofs.Common.{◌≡◌, ◌≤◌, length, map, take}
-use Rattle.res_map.specs.Inner.{end_of}
-use Rattle.res_map.specs.View.{view_reference}
+use Rattle.res_map.proofs.Cited.{◌≡◌, ◌≤◌, length, map, take, end_of, view_reference}
 use Rattle.res_map.proofs.search.end_of.Given as goal
 
 -- no reference from there on has the type

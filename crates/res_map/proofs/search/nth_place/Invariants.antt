@@ -1,8 +1,4 @@
-use Rattle.std.proofs.Common.{◌≡◌, map, drop}
-use Rattle.std.specs.Prelude.{option_map}
-use Rattle.res_map.specs.Split.{place}
-use Rattle.res_map.specs.Map.{is_of, split_nth}
-use Rattle.res_map.specs.View.{view_reference}
+use Rattle.res_map.proofs.Cited.{◌≡◌, map, drop, option_map, place, is_of, split_nth, view_reference}
 use Rattle.res_map.proofs.Steps.{place_from}
 use Rattle.res_map.proofs.search.nth_place.Given as goal
 

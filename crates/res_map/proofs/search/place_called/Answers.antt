@@ -1,10 +1,6 @@
-use Rattle.std.proofs.Common.{◌≡◌, ◌∙◌, ap, rules, map, Some, None, ◌+◌, w32, SFits, sym}
-use Rattle.std.specs.Prelude.{option_map}
-use Rattle.std.proofs.lemmas.Int.{to_z-of_z}
+use Rattle.res_map.proofs.Cited.{◌≡◌, ◌∙◌, ap, rules, map, Some, None, ◌+◌, w32, SFits, sym, option_map, to_z-of_z, is_named, first_place}
+use Rattle.res_map.proofs.Cited.{view_reference}
 use Rattle.std.proofs.lemmas.List.{drop-map}
-use Rattle.res_map.specs.Map.{is_named}
-use Rattle.res_map.specs.Index.{first_place}
-use Rattle.res_map.specs.View.{view_reference}
 use Rattle.res_map.proofs.Called.{called-none, called-from, told-print}
 use Rattle.res_map.proofs.search.place_called.Goals as goal
 

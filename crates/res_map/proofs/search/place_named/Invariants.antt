@@ -1,7 +1,4 @@
-use Rattle.std.proofs.Common.{◌≡◌, map, drop}
-use Rattle.res_map.specs.Split.{split}
-use Rattle.res_map.specs.Map.{is_named}
-use Rattle.res_map.specs.View.{view_reference}
+use Rattle.res_map.proofs.Cited.{◌≡◌, map, drop, split, is_named, view_reference}
 use Rattle.res_map.proofs.Steps.{place_from}
 use Rattle.res_map.proofs.search.place_named.Given as goal
 

@@ -1,8 +1,4 @@
-use Rattle.std.proofs.Common.{◌≡◌, map, drop}
-use Rattle.std.specs.Prelude.{option_map}
-use Rattle.res_map.specs.Split.{split, place}
-use Rattle.res_map.specs.Index.{is_printed}
-use Rattle.res_map.specs.View.{view_reference}
+use Rattle.res_map.proofs.Cited.{◌≡◌, map, drop, option_map, split, place, is_printed, view_reference}
 use Rattle.res_map.proofs.Steps.{place_from}
 use Rattle.res_map.proofs.search.place_printed.Given as goal
 

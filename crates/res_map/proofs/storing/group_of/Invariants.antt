@@ -1,7 +1,4 @@
-use Rattle.std.proofs.Common.{◌≡◌, ◌++◌, map, drop}
-use Rattle.fork_format.specs.View.{view_ref}
-use Rattle.res_map.specs.Map.{Reference, all_anew}
-use Rattle.res_map.specs.View.{view_reference, view_all}
+use Rattle.res_map.proofs.Cited.{◌≡◌, ◌++◌, map, drop, view_ref, Reference, all_anew, view_reference, view_all}
 use Rattle.res_map.proofs.storing.group_of.Given as goal
 
 -- what is stored of the references so far, with what is stored of those to come, is all

@@ -1,5 +1,4 @@
-use Rattle.std.proofs.Common.{rules, arith}
-use Rattle.std.proofs.lemmas.List.{drop_more}
+use Rattle.res_map.proofs.Cited.{rules, arith, drop_more}
 use Rattle.res_map.proofs.Runs.{groups_on}
 use Rattle.res_map.proofs.storing.groups_of.Goals as goal
 

@@ -1,8 +1,4 @@
-use Rattle.std.proofs.Common.{◌≡◌, ◌++◌, length, map, drop}
-use Rattle.fork_format.specs.View.{view_group}
-use Rattle.res_map.specs.Map.{all_anew}
-use Rattle.res_map.specs.Runs.{leading_groups}
-use Rattle.res_map.specs.View.{view_reference, view_all}
+use Rattle.res_map.proofs.Cited.{◌≡◌, ◌++◌, length, map, drop, view_group, all_anew, leading_groups, view_reference, view_all}
 use Rattle.res_map.proofs.storing.groups_of.Given as goal
 
 -- the groups so far, with those to come, are all

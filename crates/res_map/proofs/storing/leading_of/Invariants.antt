@@ -1,6 +1,4 @@
-use Rattle.std.proofs.Common.{◌≡◌, ◌+◌, map, drop}
-use Rattle.res_map.specs.Runs.{leading_count}
-use Rattle.res_map.specs.View.{view_reference}
+use Rattle.res_map.proofs.Cited.{◌≡◌, ◌+◌, map, drop, leading_count, view_reference}
 use Rattle.res_map.proofs.storing.leading_of.Given as goal
 
 -- those that were counted, with those to come, are all

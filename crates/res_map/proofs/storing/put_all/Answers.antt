@@ -1,6 +1,4 @@
-use Rattle.std.proofs.Common.{◌∙◌, ap, rules, arith}
-use Rattle.res_map.specs.Map.{stored_anew}
-use Rattle.res_map.specs.View.{view_reference, view_bytes}
+use Rattle.res_map.proofs.Cited.{◌∙◌, ap, rules, arith, stored_anew, view_reference, view_bytes}
 use Rattle.res_map.proofs.Anew.{put_on}
 use Rattle.res_map.proofs.storing.put_all.Goals as goal
 

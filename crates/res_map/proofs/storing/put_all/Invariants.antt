@@ -1,6 +1,4 @@
-use Rattle.std.proofs.Common.{◌≡◌, ◌++◌, length, map, take, drop}
-use Rattle.res_map.specs.Map.{all_anew}
-use Rattle.res_map.specs.View.{view_reference, view_all}
+use Rattle.res_map.proofs.Cited.{◌≡◌, ◌++◌, length, map, take, drop, all_anew, view_reference, view_all}
 use Rattle.res_map.proofs.storing.put_all.Given as goal
 
 -- those that are stored, with those to come, are all

@@ -1,10 +1,5 @@
-use Rattle.std.proofs.Common.{◌∙◌, ℕ, sym, rules, tests}
-use Rattle.std.proofs.lemmas.Iterator.{YieldsList-from_slice}
-use Rattle.std.proofs.lemmas.Iterator.Search.{position_from_yields_List}
-use Rattle.std.specs.Prelude.{Vec}
-use Rattle.std.specs.declared.alloc.Global.{Global}
-use Rattle.rez_declarations.specs.Sound.{is_name}
-use Rattle.rez_types.proofs.Mapped.{position_map}
+use Rattle.rez_declarations.proofs.Cited.{◌∙◌, ℕ, sym, rules, tests, YieldsList-from_slice, position_from_yields_List, Vec, Global, is_name}
+use Rattle.rez_declarations.proofs.Cited.{position_map}
 use Rattle.rez_declarations.proofs.drafting.place_of.Goals as goal
 
 pub returns : goal.returns

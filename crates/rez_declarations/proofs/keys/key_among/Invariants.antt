@@ -1,6 +1,4 @@
-use Rattle.std.proofs.Common.{◌≡◌, ◌≤◌, ◌*◌, drop, map}
-use Rattle.rez_types.specs.View.{part_of}
-use Rattle.rez_declarations.specs.Sound.{key_among}
+use Rattle.rez_declarations.proofs.Cited.{◌≡◌, ◌≤◌, ◌*◌, drop, map, part_of, key_among}
 use Rattle.rez_declarations.proofs.keys.key_among.Given as goal
 
 -- the key among the parts to come is that among all

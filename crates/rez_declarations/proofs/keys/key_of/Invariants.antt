@@ -1,6 +1,4 @@
-use Rattle.std.proofs.Common.{◌≡◌, drop}
-use Rattle.rez_types.specs.View.{fields_of}
-use Rattle.rez_declarations.specs.Sound.{key_after}
+use Rattle.rez_declarations.proofs.Cited.{◌≡◌, drop, fields_of, key_after}
 use Rattle.rez_declarations.proofs.keys.key_of.Given as goal
 
 -- the key from here on is that of all fields

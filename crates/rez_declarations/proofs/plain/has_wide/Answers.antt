@@ -1,11 +1,6 @@
-use Rattle.std.proofs.Common.{◌∙◌, sym, rules, tests}
-use Rattle.std.proofs.lemmas.Iterator.{YieldsList-from_slice}
-use Rattle.std.proofs.lemmas.Iterator.Search.{any_from_yields_List}
+use Rattle.rez_declarations.proofs.Cited.{◌∙◌, sym, rules, tests, YieldsList-from_slice, any_from_yields_List, NamedNumber, number_of}
+use Rattle.rez_declarations.proofs.Cited.{is_wide, any_map}
 use Rattle.rez_types.specs.declared.declaration.NamedNumber.{NamedNumber as Held}
-use Rattle.rez_types.specs.Fields.{NamedNumber}
-use Rattle.rez_types.specs.View.{number_of}
-use Rattle.rez_declarations.specs.Sound.{is_wide}
-use Rattle.rez_types.proofs.Mapped.{any_map}
 use Rattle.rez_declarations.proofs.plain.has_wide.Goals as goal
 
 pub returns : goal.returns

@@ -1,6 +1,4 @@
-use Rattle.std.proofs.Common.{◌≡◌, ◌≤◌, ◌*◌, length, map}
-use Rattle.rez_types.specs.View.{part_of}
-use Rattle.rez_declarations.specs.Sound.{is_run}
+use Rattle.rez_declarations.proofs.Cited.{◌≡◌, ◌≤◌, ◌*◌, length, map, part_of, is_run}
 use Rattle.rez_declarations.proofs.plain.is_run.Given as goal
 
 abbrev pub invariant-loop-rest : goal.invariant-loop-rest

@@ -1,6 +1,4 @@
-use Rattle.std.proofs.Common.{◌≡◌, drop, map}
-use Rattle.rez_types.specs.View.{part_of}
-use Rattle.rez_declarations.specs.Sound.{parts_judged}
+use Rattle.rez_declarations.proofs.Cited.{◌≡◌, drop, map, part_of, parts_judged}
 use Rattle.rez_declarations.proofs.plain.judge_parts.Given as goal
 
 -- the parts to come are judged as all are

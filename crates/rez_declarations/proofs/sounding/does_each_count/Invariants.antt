@@ -1,6 +1,4 @@
-use Rattle.std.proofs.Common.{◌≡◌}
-use Rattle.rez_types.specs.View.{fields_of}
-use Rattle.rez_declarations.specs.Sound.{each_counts}
+use Rattle.rez_declarations.proofs.Cited.{◌≡◌, fields_of, each_counts}
 use Rattle.rez_declarations.proofs.sounding.does_each_count.Given as goal
 
 abbrev pub invariant-loop-left : goal.invariant-loop-left

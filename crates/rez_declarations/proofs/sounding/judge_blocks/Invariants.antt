@@ -1,6 +1,4 @@
-use Rattle.std.proofs.Common.{◌≡◌, [], drop}
-use Rattle.rez_types.specs.View.{blocks_of}
-use Rattle.rez_declarations.specs.Sound.{shapes_of}
+use Rattle.rez_declarations.proofs.Cited.{◌≡◌, [], drop, blocks_of, shapes_of}
 use Rattle.rez_declarations.proofs.sounding.judge_blocks.Given as goal
 
 -- the blocks to come are judged as all are

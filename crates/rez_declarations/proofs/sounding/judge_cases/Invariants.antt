@@ -1,6 +1,4 @@
-use Rattle.std.proofs.Common.{◌≡◌, drop, map}
-use Rattle.rez_types.specs.View.{blocks_of, place_of, case_of}
-use Rattle.rez_declarations.specs.Sound.{cases_judged}
+use Rattle.rez_declarations.proofs.Cited.{◌≡◌, drop, map, blocks_of, place_of, case_of, cases_judged}
 use Rattle.rez_declarations.proofs.sounding.judge_cases.Given as goal
 
 -- the cases to come are judged as all are

@@ -1,6 +1,4 @@
-use Rattle.std.proofs.Common.{◌≡◌, length}
-use Rattle.rez_types.specs.View.{blocks_of, fields_of}
-use Rattle.rez_declarations.specs.Sound.{no_fields, fields_judged}
+use Rattle.rez_declarations.proofs.Cited.{◌≡◌, length, blocks_of, fields_of, no_fields, fields_judged}
 use Rattle.rez_declarations.proofs.sounding.judge_fields.Given as goal
 
 -- the fields to come are judged as all are

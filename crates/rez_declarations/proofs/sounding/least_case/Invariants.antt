@@ -1,6 +1,4 @@
-use Rattle.std.proofs.Common.{◌≡◌, drop, map}
-use Rattle.rez_types.specs.View.{case_of}
-use Rattle.rez_declarations.specs.Sound.{least_case}
+use Rattle.rez_declarations.proofs.Cited.{◌≡◌, drop, map, case_of, least_case}
 use Rattle.rez_declarations.proofs.sounding.least_case.Given as goal
 
 -- the fewest bytes with the cases to come are those of all

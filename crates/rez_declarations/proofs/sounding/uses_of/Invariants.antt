@@ -1,6 +1,4 @@
-use Rattle.std.proofs.Common.{◌≡◌, ◌≤◌, ◌+◌, drop}
-use Rattle.rez_types.specs.View.{fields_of}
-use Rattle.rez_declarations.specs.Sound.{uses_of}
+use Rattle.rez_declarations.proofs.Cited.{◌≡◌, ◌≤◌, ◌+◌, drop, fields_of, uses_of}
 use Rattle.rez_declarations.proofs.sounding.uses_of.Given as goal
 
 -- those so far, with those to come, are all

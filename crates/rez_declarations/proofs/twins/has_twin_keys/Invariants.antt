@@ -1,6 +1,4 @@
-use Rattle.std.proofs.Common.{◌≡◌, length, map}
-use Rattle.rez_types.specs.View.{case_of}
-use Rattle.rez_declarations.specs.Sound.{has_twin_keys}
+use Rattle.rez_declarations.proofs.Cited.{◌≡◌, length, map, case_of, has_twin_keys}
 use Rattle.rez_declarations.proofs.twins.has_twin_keys.Given as goal
 
 abbrev pub invariant-loop-rest : goal.invariant-loop-rest

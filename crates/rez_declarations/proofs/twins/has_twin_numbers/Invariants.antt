@@ -1,6 +1,4 @@
-use Rattle.std.proofs.Common.{◌≡◌, length, map}
-use Rattle.rez_types.specs.View.{number_of}
-use Rattle.rez_declarations.specs.Sound.{has_twins, number_names}
+use Rattle.rez_declarations.proofs.Cited.{◌≡◌, length, map, number_of, has_twins, number_names}
 use Rattle.rez_declarations.proofs.twins.has_twin_numbers.Given as goal
 
 abbrev pub invariant-loop-rest : goal.invariant-loop-rest

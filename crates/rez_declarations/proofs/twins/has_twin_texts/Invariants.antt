@@ -1,6 +1,4 @@
-use Rattle.std.proofs.Common.{◌≡◌, length, map}
-use Rattle.rez_types.specs.View.{text_of}
-use Rattle.rez_declarations.specs.Sound.{has_twins, text_names}
+use Rattle.rez_declarations.proofs.Cited.{◌≡◌, length, map, text_of, has_twins, text_names}
 use Rattle.rez_declarations.proofs.twins.has_twin_texts.Given as goal
 
 abbrev pub invariant-loop-rest : goal.invariant-loop-rest

@@ -1,11 +1,6 @@
-use Rattle.std.proofs.Common.{◌∙◌, map, sym, rules, tests}
-use Rattle.std.proofs.lemmas.Iterator.{YieldsList-from_slice}
-use Rattle.std.proofs.lemmas.Iterator.Search.{any_from_yields_List}
+use Rattle.rez_declarations.proofs.Cited.{◌∙◌, map, sym, rules, tests, YieldsList-from_slice, any_from_yields_List, Case, case_of, is_name}
+use Rattle.rez_declarations.proofs.Cited.{any_map}
 use Rattle.rez_types.specs.declared.declaration.Case.{Case as Held}
-use Rattle.rez_types.specs.Fields.{Case}
-use Rattle.rez_types.specs.View.{case_of}
-use Rattle.rez_declarations.specs.Sound.{is_name}
-use Rattle.rez_types.proofs.Mapped.{any_map}
 use Rattle.rez_declarations.proofs.twins.is_among_cases.Goals as goal
 
 pub returns : goal.returns

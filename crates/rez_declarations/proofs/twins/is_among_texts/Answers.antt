@@ -1,11 +1,6 @@
-use Rattle.std.proofs.Common.{◌∙◌, map, sym, rules, tests}
-use Rattle.std.proofs.lemmas.Iterator.{YieldsList-from_slice}
-use Rattle.std.proofs.lemmas.Iterator.Search.{any_from_yields_List}
+use Rattle.rez_declarations.proofs.Cited.{◌∙◌, map, sym, rules, tests, YieldsList-from_slice, any_from_yields_List, NamedText, text_of}
+use Rattle.rez_declarations.proofs.Cited.{is_name, any_map}
 use Rattle.rez_types.specs.declared.declaration.NamedText.{NamedText as Held}
-use Rattle.rez_types.specs.Fields.{NamedText}
-use Rattle.rez_types.specs.View.{text_of}
-use Rattle.rez_declarations.specs.Sound.{is_name}
-use Rattle.rez_types.proofs.Mapped.{any_map}
 use Rattle.rez_declarations.proofs.twins.is_among_texts.Goals as goal
 
 pub returns : goal.returns

@@ -1,10 +1,5 @@
-use Rattle.std.proofs.Common.{◌∙◌, sym, rules, tests}
-use Rattle.std.proofs.lemmas.Iterator.{YieldsList-from_slice}
-use Rattle.std.proofs.lemmas.Iterator.Search.{any_from_yields_List}
+use Rattle.rez_declarations.proofs.Cited.{◌∙◌, sym, rules, tests, YieldsList-from_slice, any_from_yields_List, case_of, has_key, any_map}
 use Rattle.rez_types.specs.declared.declaration.Case.{Case as Held}
-use Rattle.rez_types.specs.View.{case_of}
-use Rattle.rez_types.specs.Decoding.{has_key}
-use Rattle.rez_types.proofs.Mapped.{any_map}
 use Rattle.rez_declarations.proofs.twins.is_key_among.Goals as goal
 
 pub returns : goal.returns

@@ -1,7 +1,5 @@
-use Rattle.std.proofs.Common.{◌≡◌, ◌++◌, drop}
-use Rattle.std.specs.List.{flat_map}
+use Rattle.rez_printing.proofs.Cited.{◌≡◌, ◌++◌, drop, flat_map, escaped}
 use Rattle.rez_printing.specs.declared.style.Letters.TheVariants as letter
-use Rattle.rez_printing.specs.Pieces.{escaped}
 use Rattle.rez_printing.proofs.pieces.push_all_escaped.Given as goal
 
 -- the bytes so far, with those to come, are all

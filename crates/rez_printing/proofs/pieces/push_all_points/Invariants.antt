@@ -1,6 +1,4 @@
-use Rattle.std.proofs.Common.{◌≡◌, ◌++◌, drop}
-use Rattle.std.specs.List.{flat_map}
-use Rattle.rez_printing.specs.Pieces.{points}
+use Rattle.rez_printing.proofs.Cited.{◌≡◌, ◌++◌, drop, flat_map, points}
 use Rattle.rez_printing.proofs.pieces.push_all_points.Given as goal
 
 -- the points so far, with those to come, are all

@@ -1,6 +1,4 @@
-use Rattle.std.proofs.Common.{◌≡◌, ◌++◌, drop}
-use Rattle.std.specs.List.{flat_map}
-use Rattle.rez_printing.specs.Pieces.{byte_hex}
+use Rattle.rez_printing.proofs.Cited.{◌≡◌, ◌++◌, drop, flat_map, byte_hex}
 use Rattle.rez_printing.proofs.pieces.push_digits.Given as goal
 
 -- the bytes so far, with those to come, are all

@@ -1,5 +1,4 @@
-use Rattle.std.proofs.Common.{◌≡◌, ◌++◌, drop}
-use Rattle.rez_printing.specs.Pieces.{hex_from}
+use Rattle.rez_printing.proofs.Cited.{◌≡◌, ◌++◌, drop, hex_from}
 use Rattle.rez_printing.proofs.pieces.push_hex_bytes.Given as goal
 
 -- the bytes so far, with those to come, are all

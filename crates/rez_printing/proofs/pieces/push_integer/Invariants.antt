@@ -1,6 +1,4 @@
-use Rattle.std.proofs.Common.{◌≡◌, drop, map}
-use Rattle.rez_types.specs.View.{number_of}
-use Rattle.rez_printing.specs.Pieces.{integer_text}
+use Rattle.rez_printing.proofs.Cited.{◌≡◌, drop, map, number_of, integer_text}
 use Rattle.rez_printing.proofs.pieces.push_integer.Given as goal
 
 -- no name so far stands for the number, and nothing is written

@@ -1,5 +1,4 @@
-use Rattle.std.proofs.Common.{◌≡◌, ◌++◌, length}
-use Rattle.rez_printing.specs.Pieces.{in_lines}
+use Rattle.rez_printing.proofs.Cited.{◌≡◌, ◌++◌, length, in_lines}
 use Rattle.rez_printing.proofs.pieces.push_lines.Given as goal
 
 -- the bytes so far, with those to come, are all

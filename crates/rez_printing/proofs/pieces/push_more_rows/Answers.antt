@@ -1,5 +1,4 @@
-use Rattle.std.proofs.Common.{◌≡◌, ◌<◌, ◌++◌, rules}
-use Rattle.rez_printing.specs.Pieces.{row_text}
+use Rattle.rez_printing.proofs.Cited.{◌≡◌, ◌<◌, ◌++◌, rules, row_text}
 use Rattle.rez_printing.proofs.Onward.{row_more}
 use Rattle.rez_printing.proofs.pieces.push_more_rows.Goals as goal
 

@@ -1,5 +1,4 @@
-use Rattle.std.proofs.Common.{◌≡◌, ◌-◌, ◌++◌}
-use Rattle.rez_printing.specs.Pieces.{more_rows}
+use Rattle.rez_printing.proofs.Cited.{◌≡◌, ◌-◌, ◌++◌, more_rows}
 use Rattle.rez_printing.proofs.pieces.push_more_rows.Given as goal
 
 -- the rows so far, with those to come, are all

@@ -1,6 +1,4 @@
-use Rattle.std.proofs.Common.{◌≡◌, drop, map}
-use Rattle.rez_types.specs.View.{text_of}
-use Rattle.rez_printing.specs.Pieces.{named_text}
+use Rattle.rez_printing.proofs.Cited.{◌≡◌, drop, map, text_of, named_text}
 use Rattle.rez_printing.proofs.pieces.push_text.Given as goal
 
 -- no name so far stands for the string, and nothing is written

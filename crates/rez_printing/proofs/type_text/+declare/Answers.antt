@@ -1,4 +1,4 @@
-use Rattle.std.proofs.Common.{◌≡◌, ◌<◌, ◌≤◌, length, get_or, append-nil, refl, rules, arith}
+use Rattle.rez_printing.proofs.Cited.{◌≡◌, ◌<◌, ◌≤◌, length, get_or, append-nil, refl, rules, arith}
 use Rattle.rez_printing.proofs.Onward.{block_there, block_absent}
 use Rattle.rez_printing.proofs.type_text.+declare.Goals as goal
 

@@ -1,6 +1,4 @@
-use Rattle.std.proofs.Common.{◌≡◌, ◌+◌, ◌*◌, ◌++◌, drop, map}
-use Rattle.rez_types.specs.View.{fields_of, blocks_of, case_of}
-use Rattle.rez_printing.specs.TypeText.{block_text, cases_text, fields_from}
+use Rattle.rez_printing.proofs.Cited.{◌≡◌, ◌+◌, ◌*◌, ◌++◌, drop, map, fields_of, blocks_of, case_of, block_text, cases_text, fields_from}
 use Rattle.rez_printing.proofs.type_text.+declare.Given as goal
 
 abbrev pub decreases-push_block : goal.decreases-push_block

@@ -1,6 +1,4 @@
-use Rattle.std.proofs.Common.{◌≡◌, drop}
-use Rattle.rez_types.specs.View.{fields_of}
-use Rattle.rez_printing.specs.TypeText.{array_counted}
+use Rattle.rez_printing.proofs.Cited.{◌≡◌, drop, fields_of, array_counted}
 use Rattle.rez_printing.proofs.type_text.push_counted_name.Given as goal
 
 -- no array so far is the one, and nothing is written

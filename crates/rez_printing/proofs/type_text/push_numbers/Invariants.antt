@@ -1,6 +1,4 @@
-use Rattle.std.proofs.Common.{◌≡◌, ◌++◌, drop, map}
-use Rattle.rez_types.specs.View.{number_of}
-use Rattle.rez_printing.specs.TypeText.{numbers_from}
+use Rattle.rez_printing.proofs.Cited.{◌≡◌, ◌++◌, drop, map, number_of, numbers_from}
 use Rattle.rez_printing.proofs.type_text.push_numbers.Given as goal
 
 -- the constants so far, with those to come, are all

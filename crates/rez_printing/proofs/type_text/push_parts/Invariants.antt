@@ -1,6 +1,4 @@
-use Rattle.std.proofs.Common.{◌≡◌, ◌++◌, drop, map}
-use Rattle.rez_types.specs.View.{fields_of, part_of}
-use Rattle.rez_printing.specs.TypeText.{parts_text, counts_past}
+use Rattle.rez_printing.proofs.Cited.{◌≡◌, ◌++◌, drop, map, fields_of, part_of, parts_text, counts_past}
 use Rattle.rez_printing.proofs.type_text.push_parts.Given as goal
 
 -- the parts so far, with those to come, are all

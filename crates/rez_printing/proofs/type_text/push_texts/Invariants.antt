@@ -1,6 +1,4 @@
-use Rattle.std.proofs.Common.{◌≡◌, ◌++◌, drop, map}
-use Rattle.rez_types.specs.View.{text_of}
-use Rattle.rez_printing.specs.TypeText.{texts_from}
+use Rattle.rez_printing.proofs.Cited.{◌≡◌, ◌++◌, drop, map, text_of, texts_from}
 use Rattle.rez_printing.proofs.type_text.push_texts.Given as goal
 
 -- the constants so far, with those to come, are all

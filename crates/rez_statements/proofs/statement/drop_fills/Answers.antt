@@ -1,8 +1,4 @@
-use Rattle.std.proofs.Common.{rules, map, ap, ◌∙◌}
-use Rattle.std.proofs.lemmas.Fn.{filter_same}
-use Rattle.rez_tokens.specs.declared.token.Token.{Token}
-use Rattle.rez_tokens.specs.View.{token_of}
-use Rattle.rez_statements.specs.Types.{is_said}
+use Rattle.rez_statements.proofs.Cited.{rules, map, ap, ◌∙◌, filter_same, Token, token_of, is_said}
 use Rattle.rez_statements.proofs.Fills.{map-filter}
 use Rattle.rez_statements.proofs.statement.drop_fills.Goals as goal
 

@@ -1,7 +1,4 @@
-use Rattle.std.proofs.Common.{◌≡◌, drop, map}
-use Rattle.fork_format.specs.View.{view_group, view_ref}
-use Rattle.rez_statements.specs.View.{types_of}
-use Rattle.rez_templates.specs.Templates.{with_all, with_bundle}
+use Rattle.rez_templates.proofs.Cited.{◌≡◌, drop, map, view_group, view_ref, types_of, with_all, with_bundle}
 use Rattle.rez_templates.proofs.declaring.declare_all_signatures.Given as goal
 
 -- the resources to come lead to what all lead to

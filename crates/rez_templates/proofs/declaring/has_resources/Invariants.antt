@@ -1,7 +1,4 @@
-use Rattle.std.proofs.Common.{◌≡◌, drop, map}
-use Rattle.std.specs.List.{list_any}
-use Rattle.fork_format.specs.Content.{is_of}
-use Rattle.fork_format.specs.View.{view_group}
+use Rattle.rez_templates.proofs.Cited.{◌≡◌, drop, map, list_any, is_of, view_group}
 use Rattle.rez_templates.proofs.declaring.has_resources.Given as goal
 
 -- some group to come is of the type, if some of all is

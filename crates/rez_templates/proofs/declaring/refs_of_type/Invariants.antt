@@ -1,6 +1,4 @@
-use Rattle.std.proofs.Common.{◌≡◌, drop, map}
-use Rattle.fork_format.specs.View.{view_group}
-use Rattle.rez_templates.specs.Templates.{refs_of_type}
+use Rattle.rez_templates.proofs.Cited.{◌≡◌, drop, map, view_group, refs_of_type}
 use Rattle.rez_templates.proofs.declaring.refs_of_type.Given as goal
 
 -- those of the groups to come are those of all

@@ -1,6 +1,4 @@
-use Rattle.std.proofs.Common.{◌≡◌, ◌++◌, drop}
-use Rattle.std.specs.List.{flat_map}
-use Rattle.rez_templates.specs.Items.{escaped}
+use Rattle.rez_templates.proofs.Cited.{◌≡◌, ◌++◌, drop, flat_map, escaped}
 use Rattle.rez_templates.proofs.draft.push_escaped.Given as goal
 
 -- the bytes so far, with those to come, are all

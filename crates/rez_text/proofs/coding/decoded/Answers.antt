@@ -1,6 +1,4 @@
-use Rattle.std.proofs.Common.{subst, ◌∙◌}
-use Rattle.rez_text.specs.Reading.{GivesAt}
-use Rattle.rez_text.specs.View.{bytes_in}
+use Rattle.rez_text.proofs.Cited.{subst, ◌∙◌, GivesAt, bytes_in}
 use Rattle.rez_text.proofs.Decoding.{decoded_utf8, decoded_other}
 use Rattle.rez_text.proofs.coding.decoded.Goals as goal
 

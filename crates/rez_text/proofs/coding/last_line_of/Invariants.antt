@@ -1,5 +1,4 @@
-use Rattle.std.proofs.Common.{◌≡◌, ◌+◌, ◌≤◌, drop}
-use Rattle.rez_text.specs.Coding.{last_line}
+use Rattle.rez_text.proofs.Cited.{◌≡◌, ◌+◌, ◌≤◌, drop, last_line}
 use Rattle.rez_text.proofs.coding.last_line_of.Given as goal
 
 -- the line of the last byte that is still to come is that of the whole text's

@@ -1,5 +1,4 @@
-use Rattle.std.proofs.Common.{◌≡◌, ◌+◌, ◌≤◌, drop}
-use Rattle.rez_text.specs.Coding.{line_with}
+use Rattle.rez_text.proofs.Cited.{◌≡◌, ◌+◌, ◌≤◌, drop, line_with}
 use Rattle.rez_text.proofs.coding.line_with_character.Given as goal
 
 -- the line of the character among those that are still to come is its line in the whole text

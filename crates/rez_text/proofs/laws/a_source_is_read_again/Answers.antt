@@ -1,5 +1,4 @@
-use Rattle.fork_format.proofs.Clear.{spelled_clear}
-use Rattle.fork_format.proofs.Spelled.{spelled_types, spelled_references}
+use Rattle.rez_text.proofs.Cited.{spelled_clear, spelled_types, spelled_references}
 use Rattle.rez_text.proofs.Again.{source_again, same_again}
 use Rattle.rez_text.proofs.laws.a_source_is_read_again.Goals as goal
 

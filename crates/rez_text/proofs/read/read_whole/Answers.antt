@@ -1,11 +1,6 @@
-use Rattle.std.proofs.Common.{◌≡◌, ℕ, ◌+◌, Ok, Err, List, [], ◌∷◌, get_or, drop, ap, ◌∙◌, sym, arith}
-use Rattle.std.proofs.lemmas.List.{at_drop_more, at_drop_all}
-use Rattle.rez_text.specs.declared.fault.StepFault.{StepFault}
+use Rattle.rez_text.proofs.Cited.{◌≡◌, ℕ, ◌+◌, Ok, Err, List, [], ◌∷◌, get_or, drop, ap, ◌∙◌, sym, arith, at_drop_more, at_drop_all}
+use Rattle.rez_text.proofs.Cited.{StepFault, Lines, State, state_of, LeadsTo, step, finish, at_line, lines_at, read_from, fault_at, FailsAt}
 use Rattle.rez_text.specs.declared.fault.StepFault.TheVariants as step_faults
-use Rattle.rez_text.specs.declared.line.Lines.{Lines}
-use Rattle.rez_text.specs.State.{State, state_of, LeadsTo}
-use Rattle.rez_text.specs.Lexing.{step}
-use Rattle.rez_text.specs.Reading.{finish, at_line, lines_at, read_from, fault_at, FailsAt}
 use Rattle.rez_text.proofs.read.read_whole.Goals as goal
 
 -- after a step, what is still to be read gives what it gave before

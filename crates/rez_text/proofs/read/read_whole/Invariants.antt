@@ -1,6 +1,4 @@
-use Rattle.std.proofs.Common.{◌≡◌, ◌+◌, ◌≤◌, drop}
-use Rattle.rez_text.specs.State.{state_of}
-use Rattle.rez_text.specs.Reading.{first_line, read_from}
+use Rattle.rez_text.proofs.Cited.{◌≡◌, ◌+◌, ◌≤◌, drop, state_of, first_line, read_from}
 use Rattle.rez_text.proofs.read.read_whole.Given as goal
 
 -- what is still to be read gives, from here on, what the whole text gives

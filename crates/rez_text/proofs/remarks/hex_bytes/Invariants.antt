@@ -1,5 +1,4 @@
-use Rattle.std.proofs.Common.{◌≡◌, [], None, drop}
-use Rattle.rez_text.specs.Remarks.{hex_from}
+use Rattle.rez_text.proofs.Cited.{◌≡◌, [], None, drop, hex_from}
 use Rattle.rez_text.proofs.remarks.hex_bytes.Given as goal
 
 -- the digits that are still to be read give, after the bytes so far, what the whole text gives

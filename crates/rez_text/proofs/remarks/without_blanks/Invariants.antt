@@ -1,5 +1,4 @@
-use Rattle.std.proofs.Common.{◌≡◌, length}
-use Rattle.rez_text.specs.Remarks.{after_blanks}
+use Rattle.rez_text.proofs.Cited.{◌≡◌, length, after_blanks}
 use Rattle.rez_text.proofs.remarks.without_blanks.Given as goal
 
 abbrev pub invariant-loop-rest : goal.invariant-loop-rest

@@ -1,4 +1,4 @@
-use Rattle.std.proofs.Common.{◌≡◌, drop}
+use Rattle.rez_text.proofs.Cited.{◌≡◌, drop}
 use Rattle.rez_text.specs.Scopes as spec
 use Rattle.rez_text.proofs.scope.ends_last.Given as goal
 

@@ -1,7 +1,4 @@
-use Rattle.std.proofs.Common.{◌≡◌, ◌++◌, drop, map}
-use Rattle.fork_format.specs.Canonical.{clear_ref}
-use Rattle.fork_format.specs.View.{view_ref}
-use Rattle.rez_text.specs.View.{ref_said}
+use Rattle.rez_text.proofs.Cited.{◌≡◌, ◌++◌, drop, map, clear_ref, view_ref, ref_said}
 use Rattle.rez_text.proofs.source.lend_group.Given as goal
 
 -- the resources that are lent, with those to come, are all

@@ -1,6 +1,4 @@
-use Rattle.std.proofs.Common.{◌≡◌, ◌++◌, drop}
-use Rattle.std.specs.List.{flat_map}
-use Rattle.rez_text.specs.Printing.{escaped}
+use Rattle.rez_text.proofs.Cited.{◌≡◌, ◌++◌, drop, flat_map, escaped}
 use Rattle.rez_text.proofs.write.push_all_escaped.Given as goal
 
 -- the bytes so far, with those to come, are all

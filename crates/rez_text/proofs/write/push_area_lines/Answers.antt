@@ -1,5 +1,4 @@
-use Rattle.std.proofs.Common.{refl}
-use Rattle.rez_text.specs.Printing.{area_line, area_lines}
+use Rattle.rez_text.proofs.Cited.{refl, area_line, area_lines}
 use Rattle.rez_text.proofs.Appending.{one_line}
 use Rattle.rez_text.proofs.write.push_area_lines.Goals as goal
 

@@ -1,5 +1,4 @@
-use Rattle.std.proofs.Common.{◌≡◌, ◌++◌, length}
-use Rattle.rez_text.specs.Printing.{area_lines, line_count}
+use Rattle.rez_text.proofs.Cited.{◌≡◌, ◌++◌, length, area_lines, line_count}
 use Rattle.rez_text.proofs.write.push_area_lines.Given as goal
 
 -- the lines so far, with those to come, are all

@@ -1,4 +1,4 @@
-use Rattle.std.proofs.Common.{◌≡◌, ◌++◌, ◌-◌, replicate}
+use Rattle.rez_text.proofs.Cited.{◌≡◌, ◌++◌, ◌-◌, replicate}
 use Rattle.rez_text.proofs.write.push_blanks.Given as goal
 
 -- the blanks so far, with those to come, are all

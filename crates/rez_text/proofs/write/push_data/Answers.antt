@@ -1,5 +1,4 @@
-use Rattle.std.proofs.Common.{refl}
-use Rattle.rez_text.specs.Printing.{data_line, data_lines}
+use Rattle.rez_text.proofs.Cited.{refl, data_line, data_lines}
 use Rattle.rez_text.proofs.Appending.{one_line}
 use Rattle.rez_text.proofs.write.push_data.Goals as goal
 

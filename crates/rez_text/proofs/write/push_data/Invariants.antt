@@ -1,5 +1,4 @@
-use Rattle.std.proofs.Common.{◌≡◌, ◌++◌, length}
-use Rattle.rez_text.specs.Printing.{data_lines, line_count}
+use Rattle.rez_text.proofs.Cited.{◌≡◌, ◌++◌, length, data_lines, line_count}
 use Rattle.rez_text.proofs.write.push_data.Given as goal
 
 -- the lines so far, with those to come, are all

@@ -1,7 +1,4 @@
-use Rattle.std.proofs.Common.{◌≡◌, ◌++◌, drop, map}
-use Rattle.std.specs.List.{flat_map}
-use Rattle.fork_format.specs.View.{view_ref}
-use Rattle.rez_text.specs.Printing.{statement}
+use Rattle.rez_text.proofs.Cited.{◌≡◌, ◌++◌, drop, map, flat_map, view_ref, statement}
 use Rattle.rez_text.proofs.write.push_group.Given as goal
 
 -- the statements so far, with those to come, are all

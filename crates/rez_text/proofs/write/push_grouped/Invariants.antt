@@ -1,5 +1,4 @@
-use Rattle.std.proofs.Common.{◌≡◌, ◌++◌, drop}
-use Rattle.rez_text.specs.Printing.{grouped}
+use Rattle.rez_text.proofs.Cited.{◌≡◌, ◌++◌, drop, grouped}
 use Rattle.rez_text.proofs.write.push_grouped.Given as goal
 
 -- the bytes so far, with those to come, are all

@@ -1,7 +1,4 @@
-use Rattle.std.proofs.Common.{ℤ, ◌++◌, ap, ◌∙◌}
-use Rattle.std.specs.Fmt.{signed_decimal}
-use Rattle.std.specs.Int.{w16}
-use Rattle.std.proofs.lemmas.Int.{to_z-of_z}
+use Rattle.rez_text.proofs.Cited.{ℤ, ◌++◌, ap, ◌∙◌, signed_decimal, w16, to_z-of_z}
 use Rattle.rez_text.proofs.Appending.{four}
 use Rattle.rez_text.proofs.write.push_type_and_id.Goals as goal
 

@@ -1,6 +1,4 @@
-use Rattle.std.proofs.Common.{◌≡◌, ◌-◌, length}
-use Rattle.rez_typed.specs.Forms.{chosen_below}
-use Rattle.rez_typed.specs.View.{forms_in}
+use Rattle.rez_typed.proofs.Cited.{◌≡◌, ◌-◌, length, chosen_below, forms_in}
 use Rattle.rez_typed.proofs.body.chosen_by.Given as goal
 
 -- no form from here on has a text

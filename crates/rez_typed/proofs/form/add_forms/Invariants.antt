@@ -1,9 +1,4 @@
-use Rattle.std.proofs.Common.{◌≡◌, ◌++◌, drop, map}
-use Rattle.std.specs.List.{flat_map}
-use Rattle.byteorder.specs.Endian.{big_number}
-use Rattle.rez_statements.specs.View.{declared_of}
-use Rattle.rez_typed.specs.Forms.{forms_with}
-use Rattle.rez_typed.specs.View.{forms_in}
+use Rattle.rez_typed.proofs.Cited.{◌≡◌, ◌++◌, drop, map, flat_map, big_number, declared_of, forms_with, forms_in}
 use Rattle.rez_typed.proofs.form.add_forms.Given as goal
 
 -- the forms so far, with those to come, are all

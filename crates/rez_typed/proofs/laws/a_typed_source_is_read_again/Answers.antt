@@ -1,5 +1,4 @@
-use Rattle.fork_format.proofs.Clear.{spelled_clear}
-use Rattle.fork_format.proofs.Spelled.{spelled_types, spelled_references}
+use Rattle.rez_typed.proofs.Cited.{spelled_clear, spelled_types, spelled_references}
 use Rattle.rez_typed.proofs.TypedAgain.{typed_again, typed_same_again}
 use Rattle.rez_typed.proofs.laws.a_typed_source_is_read_again.Goals as goal
 

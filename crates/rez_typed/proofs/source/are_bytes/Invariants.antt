@@ -1,6 +1,4 @@
-use Rattle.std.proofs.Common.{◌≡◌, drop}
-use Rattle.std.specs.List.{list_all}
-use Rattle.rez_typed.specs.Source.{is_byte}
+use Rattle.rez_typed.proofs.Cited.{◌≡◌, drop, list_all, is_byte}
 use Rattle.rez_typed.proofs.source.are_bytes.Given as goal
 
 -- those to come are bytes if all are

@@ -1,8 +1,4 @@
-use Rattle.std.proofs.Common.{◌≡◌, ◌++◌, drop, map}
-use Rattle.std.specs.List.{flat_map}
-use Rattle.fork_format.specs.View.{view_group}
-use Rattle.rez_statements.specs.View.{types_of}
-use Rattle.rez_typed.specs.Source.{typed_group}
+use Rattle.rez_typed.proofs.Cited.{◌≡◌, ◌++◌, drop, map, flat_map, view_group, types_of, typed_group}
 use Rattle.rez_typed.proofs.source.push_groups.Given as goal
 
 -- the statements so far, with those to come, are all

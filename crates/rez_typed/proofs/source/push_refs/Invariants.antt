@@ -1,7 +1,4 @@
-use Rattle.std.proofs.Common.{◌≡◌, ◌++◌, None, drop, map}
-use Rattle.fork_format.specs.View.{view_ref}
-use Rattle.rez_typed.specs.Source.{typed_refs}
-use Rattle.rez_typed.specs.View.{forms_in}
+use Rattle.rez_typed.proofs.Cited.{◌≡◌, ◌++◌, None, drop, map, view_ref, typed_refs, forms_in}
 use Rattle.rez_typed.proofs.source.push_refs.Given as goal
 
 -- the statements so far, with those to come, are all

@@ -1,9 +1,5 @@
-use Rattle.std.proofs.Common.{◌∙◌, sym, rules, tests}
-use Rattle.std.proofs.lemmas.Iterator.{YieldsList-from_slice}
-use Rattle.std.proofs.lemmas.Iterator.Search.{position_from_yields_List}
+use Rattle.rez_types.proofs.Cited.{◌∙◌, sym, rules, tests, YieldsList-from_slice, position_from_yields_List, case_of, has_key}
 use Rattle.rez_types.specs.declared.declaration.Case.{Case as Held}
-use Rattle.rez_types.specs.View.{case_of}
-use Rattle.rez_types.specs.Decoding.{has_key}
 use Rattle.rez_types.proofs.Mapped.{position_map}
 use Rattle.rez_types.proofs.decoding.place_with.Goals as goal
 

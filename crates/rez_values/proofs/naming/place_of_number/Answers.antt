@@ -1,10 +1,6 @@
-use Rattle.std.proofs.Common.{◌∙◌, sym, rules, tests}
-use Rattle.std.proofs.lemmas.Iterator.{YieldsList-from_slice}
-use Rattle.std.proofs.lemmas.Iterator.Search.{position_from_yields_List}
+use Rattle.rez_values.proofs.Cited.{◌∙◌, sym, rules, tests, YieldsList-from_slice, position_from_yields_List, number_of, position_map}
+use Rattle.rez_values.proofs.Cited.{is_number_named}
 use Rattle.rez_types.specs.declared.declaration.NamedNumber.{NamedNumber as Held}
-use Rattle.rez_types.specs.View.{number_of}
-use Rattle.rez_types.proofs.Mapped.{position_map}
-use Rattle.rez_values.specs.Stating.{is_number_named}
 use Rattle.rez_values.proofs.naming.place_of_number.Goals as goal
 
 pub returns : goal.returns

@@ -1,6 +1,4 @@
-use Rattle.std.proofs.Common.{◌≡◌, length}
-use Rattle.rez_values.specs.View.{tokens_of}
-use Rattle.rez_values.specs.Taking.{bare}
+use Rattle.rez_values.proofs.Cited.{◌≡◌, length, tokens_of, bare}
 use Rattle.rez_values.proofs.taker.bare.Given as goal
 
 abbrev pub decreases-loop-rest : goal.decreases-loop-rest

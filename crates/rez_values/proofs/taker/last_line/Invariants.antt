@@ -1,6 +1,4 @@
-use Rattle.std.proofs.Common.{◌≡◌, drop}
-use Rattle.rez_values.specs.View.{tokens_of}
-use Rattle.rez_values.specs.Taken.{last_line}
+use Rattle.rez_values.proofs.Cited.{◌≡◌, drop, tokens_of, last_line}
 use Rattle.rez_values.proofs.taker.last_line.Given as goal
 
 -- the last line of the tokens to come is that of all

@@ -1,4 +1,4 @@
-use Rattle.std.proofs.Common.{◌∙◌, ◌≡◌, ◌++◌, ◌∷◌, []}
+use Rattle.script_text.proofs.Cited.{◌∙◌, ◌≡◌, ◌++◌, ◌∷◌, []}
 use Rattle.script_text.proofs.Digits.{byte_read, all_behind}
 use Rattle.script_text.proofs.argument.hex_in.Goals as goal
 

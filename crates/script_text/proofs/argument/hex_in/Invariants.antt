@@ -1,5 +1,4 @@
-use Rattle.std.proofs.Common.{◌≡◌, length}
-use Rattle.script_text.specs.Argument.{hex_bytes}
+use Rattle.script_text.proofs.Cited.{◌≡◌, length, hex_bytes}
 use Rattle.script_text.proofs.Digits.{with_front}
 use Rattle.script_text.proofs.argument.hex_in.Given as goal
 

@@ -1,4 +1,4 @@
-use Rattle.std.proofs.Common.{sym, ◌∙◌}
+use Rattle.script_text.proofs.Cited.{sym, ◌∙◌}
 use Rattle.script_text.proofs.Digits.{over}
 use Rattle.script_text.proofs.argument.number_up_to.Goals as goal
 

@@ -1,5 +1,4 @@
-use Rattle.std.proofs.Common.{◌≡◌, ◌≤◌, length}
-use Rattle.script_text.specs.Argument.{number_within}
+use Rattle.script_text.proofs.Cited.{◌≡◌, ◌≤◌, length, number_within}
 use Rattle.script_text.proofs.argument.number_up_to.Given as goal
 
 -- the digits that are still to be read, behind the number so far, give what all of them give

@@ -1,5 +1,4 @@
-use Rattle.std.proofs.Common.{sym, subst}
-use Rattle.script_text.specs.JobFacts.{AreApps}
+use Rattle.script_text.proofs.Cited.{sym, subst, AreApps}
 use Rattle.script_text.proofs.JobInputs.{apps_in_order}
 use Rattle.script_text.proofs.job.read_job.Goals as goal
 

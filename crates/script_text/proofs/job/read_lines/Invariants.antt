@@ -1,6 +1,4 @@
-use Rattle.std.proofs.Common.{◌≡◌, ◌+◌, ◌≤◌, length}
-use Rattle.std.specs.Str.Lines.{lines}
-use Rattle.script_text.specs.Job.{with_lines, nothing}
+use Rattle.script_text.proofs.Cited.{◌≡◌, ◌+◌, ◌≤◌, length, lines, with_lines, nothing}
 use Rattle.script_text.proofs.job.read_lines.Given as goal
 
 -- the lines that are still to be read, from those so far on, give what the whole text gives

@@ -1,5 +1,4 @@
-use Rattle.std.proofs.Common.{◌≡◌, ◌+◌, take, rules}
-use Rattle.std.specs.Str.Lines.{strip_carriage_return}
+use Rattle.script_text.proofs.Cited.{◌≡◌, ◌+◌, take, rules, strip_carriage_return}
 use Rattle.script_text.proofs.Cutting.{cut_line, last_line, at_end}
 use Rattle.script_text.proofs.Digits.{all_behind}
 use Rattle.script_text.proofs.lines.next_line.Goals as goal

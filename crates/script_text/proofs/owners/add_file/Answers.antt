@@ -1,4 +1,4 @@
-use Rattle.std.proofs.Common.{arith}
+use Rattle.script_text.proofs.Cited.{arith}
 use Rattle.script_text.proofs.JobKnown.{file_there, file_past}
 use Rattle.script_text.proofs.owners.add_file.Goals as goal
 

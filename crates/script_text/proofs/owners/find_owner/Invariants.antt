@@ -1,7 +1,4 @@
-use Rattle.std.proofs.Common.{◌≡◌, drop}
-use Rattle.std.specs.Prelude.{bytes_eq}
-use Rattle.std.specs.List.{position_from}
-use Rattle.script_text.specs.Known.{known_names}
+use Rattle.script_text.proofs.Cited.{◌≡◌, drop, bytes_eq, position_from, known_names}
 use Rattle.script_text.proofs.owners.find_owner.Given as goal
 
 -- as many applications were looked at as there were, and the first of this name that is still to come has its number

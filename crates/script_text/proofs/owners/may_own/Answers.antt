@@ -1,5 +1,4 @@
-use Rattle.std.proofs.Common.{sym, ◌∙◌}
-use Rattle.std.proofs.lemmas.Bool.{ltb-true}
+use Rattle.script_text.proofs.Cited.{sym, ◌∙◌, ltb-true}
 use Rattle.script_text.proofs.JobKnown.{may_have_there, may_have_past}
 use Rattle.script_text.proofs.owners.may_own.Goals as goal
 

@@ -1,5 +1,4 @@
-use Rattle.std.proofs.Common.{◌≡◌, drop, map}
-use Rattle.script_text.specs.Script.{first_missing, statement}
+use Rattle.script_text.proofs.Cited.{◌≡◌, drop, map, first_missing, statement}
 use Rattle.script_text.proofs.script_lines.first_missing_for.Given as goal
 
 -- the lines that are still to be looked at give what all of them give

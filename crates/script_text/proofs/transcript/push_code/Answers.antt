@@ -1,4 +1,4 @@
-use Rattle.std.proofs.Common.{◌≡◌, pos, rules, sym, ap, ◌∙◌, to_z, to_z-of_z, w16, FitsSigned}
+use Rattle.script_text.proofs.Cited.{◌≡◌, pos, rules, sym, ap, ◌∙◌, to_z, to_z-of_z, w16, FitsSigned}
 use Rattle.script_text.proofs.Shown.{zero_told}
 use Rattle.script_text.proofs.transcript.push_code.Goals as goal
 

@@ -1,5 +1,4 @@
-use Rattle.std.proofs.Common.{◌≡◌, ◌≤◌, ◌++◌, length, take, vec_len, vec_capacity}
-use Rattle.script_text.specs.Transcript.{hex}
+use Rattle.script_text.proofs.Cited.{◌≡◌, ◌≤◌, ◌++◌, length, take, vec_len, vec_capacity, hex}
 use Rattle.script_text.proofs.transcript.push_hex.Given as goal
 
 -- what is written, before the bytes that are still to be written, behind the text as it was

@@ -1,5 +1,4 @@
-use Rattle.std.proofs.Common.{◌≡◌, ◌≤◌, ◌++◌, drop, map, take, vec_len, vec_capacity}
-use Rattle.script_text.specs.Transcript.{Number, shown_all}
+use Rattle.script_text.proofs.Cited.{◌≡◌, ◌≤◌, ◌++◌, drop, map, take, vec_len, vec_capacity, Number, shown_all}
 use Rattle.script_text.proofs.transcript.push_numbers.Given as goal
 
 -- what is written, before the numbers that are still to be written, behind the text as it was

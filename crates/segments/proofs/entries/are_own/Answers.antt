@@ -1,8 +1,4 @@
-use Rattle.std.proofs.Common.{◌+◌, ◌-◌, arith, sym, ◌∙◌}
-use Rattle.std.specs.Int.{w16}
-use Rattle.std.proofs.lemmas.Int.{to_z-of_z}
-use Rattle.segments.specs.Table.{is_of}
-use Rattle.segments.specs.View.{view_entry, view_entries}
+use Rattle.segments.proofs.Cited.{◌+◌, ◌-◌, arith, sym, ◌∙◌, w16, to_z-of_z, is_of, view_entry, view_entries}
 use Rattle.segments.proofs.Marking.{seen, own_next, own_ends}
 use Rattle.segments.proofs.entries.are_own.Goals as goal
 

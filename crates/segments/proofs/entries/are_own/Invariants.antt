@@ -1,5 +1,4 @@
-use Rattle.std.proofs.Common.{◌≡◌, ◌+◌, ◌-◌}
-use Rattle.segments.specs.View.{view_entries, are_own}
+use Rattle.segments.proofs.Cited.{◌≡◌, ◌+◌, ◌-◌, view_entries, are_own}
 use Rattle.segments.proofs.entries.are_own.Given as goal
 
 -- it goes by the entries to come

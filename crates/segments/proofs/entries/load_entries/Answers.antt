@@ -1,6 +1,4 @@
-use Rattle.std.proofs.Common.{◌+◌, ◌-◌, arith, ap, sym, ◌∙◌}
-use Rattle.segments.specs.Table.{loaded_from}
-use Rattle.segments.specs.View.{view_entries}
+use Rattle.segments.proofs.Cited.{◌+◌, ◌-◌, arith, ap, sym, ◌∙◌, loaded_from, view_entries}
 use Rattle.segments.proofs.Marking.{loaded_next, loaded_ends}
 use Rattle.segments.proofs.entries.load_entries.Goals as goal
 

@@ -1,6 +1,4 @@
-use Rattle.std.proofs.Common.{◌≡◌, ◌+◌, ◌-◌}
-use Rattle.segments.specs.Table.{loaded_from}
-use Rattle.segments.specs.View.{view_entries}
+use Rattle.segments.proofs.Cited.{◌≡◌, ◌+◌, ◌-◌, loaded_from, view_entries}
 use Rattle.segments.proofs.entries.load_entries.Given as goal
 
 -- with those to come loaded it is the table with all of them loaded

@@ -1,4 +1,4 @@
-use Rattle.std.proofs.Common.{arith}
+use Rattle.segments.proofs.Cited.{arith}
 use Rattle.segments.proofs.Marking.{load_put, load_past}
 use Rattle.segments.proofs.entries.load_entry.Goals as goal
 

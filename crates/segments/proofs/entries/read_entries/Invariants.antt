@@ -1,7 +1,4 @@
-use Rattle.std.proofs.Common.{◌≡◌, ◌+◌, ◌*◌, ◌-◌, ◌++◌, map}
-use Rattle.fork_format.specs.Fork.{offsets}
-use Rattle.segments.specs.Table.{entry_at, entries_of}
-use Rattle.segments.specs.View.{view_entries}
+use Rattle.segments.proofs.Cited.{◌≡◌, ◌+◌, ◌*◌, ◌-◌, ◌++◌, map, offsets, entry_at, entries_of, view_entries}
 use Rattle.segments.proofs.entries.read_entries.Given as goal
 
 -- the entries so far, with those to come, are all

@@ -1,4 +1,4 @@
-use Rattle.std.proofs.Common.{◌+◌, arith, ◌∙◌, rules}
+use Rattle.segments.proofs.Cited.{◌+◌, arith, ◌∙◌, rules}
 use Rattle.segments.proofs.Marking.{changed_next}
 use Rattle.segments.proofs.entries.unload_entries.Goals as goal
 

@@ -1,6 +1,4 @@
-use Rattle.std.proofs.Common.{◌≡◌, ◌++◌, length, map, take, drop}
-use Rattle.segments.specs.Table.{unloaded_of}
-use Rattle.segments.specs.View.{view_entries}
+use Rattle.segments.proofs.Cited.{◌≡◌, ◌++◌, length, map, take, drop, unloaded_of, view_entries}
 use Rattle.segments.proofs.entries.unload_entries.Given as goal
 
 -- the entries so far, with those to come unloaded, are all

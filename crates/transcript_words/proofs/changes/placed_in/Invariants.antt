@@ -1,7 +1,4 @@
-use Rattle.std.proofs.Common.{◌≡◌, ◌++◌, drop, map}
-use Rattle.zone_drawing.specs.View.{view_line}
-use Rattle.transcript_words.specs.Changes.{placed}
-use Rattle.transcript_words.specs.View.{view_placed}
+use Rattle.transcript_words.proofs.Cited.{◌≡◌, ◌++◌, drop, map, view_line, placed, view_placed}
 use Rattle.transcript_words.proofs.changes.placed_in.Given as goal
 
 -- the blocks so far, before those of the lines that are left

@@ -1,8 +1,4 @@
-use Rattle.std.proofs.Common.{◌≡◌, ℕ, map, drop}
-use Rattle.std.specs.BTreeMap.{get}
-use Rattle.std.specs.Ordering.{nat_cmp}
-use Rattle.transcript_words.specs.Changes.{place_of}
-use Rattle.transcript_words.specs.View.{view_placed}
+use Rattle.transcript_words.proofs.Cited.{◌≡◌, ℕ, map, drop, get, nat_cmp, place_of, view_placed}
 use Rattle.transcript_words.proofs.changes.places_of.Given as goal
 
 -- the blocks from this one upward were noted

@@ -1,9 +1,4 @@
-use Rattle.std.proofs.Common.{◌≡◌, ◌++◌, map, drop}
-use Rattle.std.specs.BTreeMap.{get}
-use Rattle.std.specs.List.{flat_map}
-use Rattle.std.specs.Ordering.{nat_cmp}
-use Rattle.transcript_words.specs.Changes.{change_by}
-use Rattle.transcript_words.specs.View.{view_placed}
+use Rattle.transcript_words.proofs.Cited.{◌≡◌, ◌++◌, map, drop, get, flat_map, nat_cmp, change_by, view_placed}
 use Rattle.transcript_words.proofs.changes.push_changes.Given as goal
 
 -- what is written, before the changes of the blocks that are left

@@ -1,5 +1,4 @@
-use Rattle.std.proofs.Common.{◌≡◌, ◌++◌, map, length}
-use Rattle.transcript_words.specs.Source.{source}
+use Rattle.transcript_words.proofs.Cited.{◌≡◌, ◌++◌, map, length, source}
 use Rattle.transcript_words.proofs.source.source_of.Given as goal
 
 -- the lines so far, before those of the text that is left

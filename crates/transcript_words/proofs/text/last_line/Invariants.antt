@@ -1,6 +1,4 @@
-use Rattle.std.proofs.Common.{◌≡◌, [], length}
-use Rattle.std.specs.Str.Lines.{lines}
-use Rattle.transcript_words.specs.Words.{last_line}
+use Rattle.transcript_words.proofs.Cited.{◌≡◌, [], length, lines, last_line}
 use Rattle.transcript_words.proofs.text.last_line.Given as goal
 
 -- the last line is the last of those of the text that is left, or this one

@@ -1,7 +1,4 @@
-use Rattle.std.proofs.Common.{◌≡◌, ◌++◌, [], length}
-use Rattle.std.specs.Str.Lines.{lines}
-use Rattle.transcript_words.specs.View.{view_lines}
-use Rattle.transcript_words.specs.Words.{lines_words}
+use Rattle.transcript_words.proofs.Cited.{◌≡◌, ◌++◌, [], length, lines, view_lines, lines_words}
 use Rattle.transcript_words.proofs.text.write_step.Given as goal
 
 -- what is written, before the lines of the text that is left

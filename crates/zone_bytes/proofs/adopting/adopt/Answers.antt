@@ -1,6 +1,4 @@
-use Rattle.std.proofs.Common.{◌∙◌, ap, arith}
-use Rattle.block_headers.specs.Words.{word}
-use Rattle.memory_windows.specs.Writes.{written}
+use Rattle.zone_bytes.proofs.Cited.{◌∙◌, ap, arith, word, written}
 use Rattle.zone_bytes.proofs.Tiles.Tags.{tag-small}
 use Rattle.zone_bytes.proofs.Places.Stepped.{may-read}
 use Rattle.zone_bytes.proofs.Places.HeaderTells.{size-at}

@@ -1,4 +1,4 @@
-use Rattle.std.proofs.Common.{arith}
+use Rattle.zone_bytes.proofs.Cited.{arith}
 use Rattle.zone_bytes.proofs.Blocks.InPlace.{bounds, even, freed}
 use Rattle.zone_bytes.proofs.carving.make_free.Goals as goal
 

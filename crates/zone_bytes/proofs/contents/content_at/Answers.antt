@@ -1,7 +1,4 @@
-use Rattle.std.proofs.Common.{◌+◌, sym, ap, ◌∙◌, arith, rules}
-use Rattle.block_headers.specs.Headers.{tag_number}
-use Rattle.block_store.specs.Block.{content_of}
-use Rattle.memory_windows.specs.Writes.{piece}
+use Rattle.zone_bytes.proofs.Cited.{◌+◌, sym, ap, ◌∙◌, arith, rules, tag_number, content_of, piece}
 use Rattle.zone_bytes.proofs.Tiles.Tags.{tag-small}
 use Rattle.zone_bytes.proofs.Places.Stepped.{Stepped, may-read, stepped}
 use Rattle.zone_bytes.proofs.Places.HeaderTells.{holds, holds-none, same-here}

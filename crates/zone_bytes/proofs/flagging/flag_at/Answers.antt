@@ -1,4 +1,4 @@
-use Rattle.std.proofs.Common.{arith}
+use Rattle.zone_bytes.proofs.Cited.{arith}
 use Rattle.zone_bytes.proofs.Places.Stepped.{may-read, next-header}
 use Rattle.zone_bytes.proofs.flagging.flag_at.Goals as goal
 

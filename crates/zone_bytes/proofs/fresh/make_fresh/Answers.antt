@@ -1,4 +1,4 @@
-use Rattle.std.proofs.Common.{rules}
+use Rattle.zone_bytes.proofs.Cited.{rules}
 use Rattle.zone_bytes.proofs.FreshZones.FreshZone.{fresh-lays}
 use Rattle.zone_bytes.proofs.fresh.make_fresh.Goals as goal
 

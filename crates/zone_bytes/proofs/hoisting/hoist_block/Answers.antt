@@ -1,5 +1,4 @@
-use Rattle.std.proofs.Common.{◌≡◌, length, ap, arith, rules}
-use Rattle.memory_windows.specs.Writes.{written}
+use Rattle.zone_bytes.proofs.Cited.{◌≡◌, length, ap, arith, rules, written}
 use Rattle.zone_bytes.proofs.Tiles.Heads.{next-may}
 use Rattle.zone_bytes.proofs.Runs.Hoists.{wide, next, size-read, turned-bytes, is-moved, is-hoisted}
 use Rattle.zone_bytes.proofs.hoisting.hoist_block.Given.{Over}

@@ -1,4 +1,4 @@
-use Rattle.zone_bytes.specs.Hoisting.{hoisted_run}
+use Rattle.zone_bytes.proofs.Cited.{hoisted_run}
 use Rattle.zone_bytes.proofs.hoisting.hoist_block.Given as goal
 
 abbrev pub ghost-lead_run : goal.ghost-lead_run

@@ -1,4 +1,4 @@
-use Rattle.std.proofs.Common.{◌-◌}
+use Rattle.zone_bytes.proofs.Cited.{◌-◌}
 use Rattle.zone_bytes.proofs.Joined.Below.{Below}
 use Rattle.zone_bytes.proofs.joining.last_free_below.Given as goal
 

@@ -1,6 +1,4 @@
-use Rattle.std.proofs.Common.{sym, subst, arith}
-use Rattle.block_store.specs.Slot.{Used, set_slot, is_resource}
-use Rattle.zone_bytes.specs.Table.{Lays}
+use Rattle.zone_bytes.proofs.Cited.{sym, subst, arith, Used, set_slot, is_resource, Lays}
 use Rattle.zone_bytes.proofs.SlotTable.Handles.{HasBlock, may-look, its_flag, here-of, gone-of, leads-read}
 use Rattle.zone_bytes.proofs.SlotTable.Handles.{empty-number, lays-emptied, lays-marked}
 use Rattle.zone_bytes.proofs.looking.mark_slot.Goals as goal

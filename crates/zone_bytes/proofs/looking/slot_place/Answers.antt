@@ -1,5 +1,4 @@
-use Rattle.std.proofs.Common.{◌∙◌, ap}
-use Rattle.zone_bytes.specs.Looking.{place_of_word}
+use Rattle.zone_bytes.proofs.Cited.{◌∙◌, ap, place_of_word}
 use Rattle.zone_bytes.proofs.SlotTable.Handles.{may-look, leads-is}
 use Rattle.zone_bytes.proofs.looking.slot_place.Goals as goal
 

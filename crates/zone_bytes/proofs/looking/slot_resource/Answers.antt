@@ -1,4 +1,4 @@
-use Rattle.std.proofs.Common.{arith}
+use Rattle.zone_bytes.proofs.Cited.{arith}
 use Rattle.zone_bytes.proofs.SlotTable.Handles.{may-look, here-of, resource-here, resource-gone, leads-read}
 use Rattle.zone_bytes.proofs.looking.slot_resource.Goals as goal
 

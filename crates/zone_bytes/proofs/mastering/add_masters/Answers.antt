@@ -1,5 +1,4 @@
-use Rattle.std.proofs.Common.{arith, subst}
-use Rattle.zone_bytes.specs.Mastering.{HasMasters}
+use Rattle.zone_bytes.proofs.Cited.{arith, subst, HasMasters}
 use Rattle.zone_bytes.proofs.Placed.Carved.{Roomy, roomy}
 use Rattle.zone_bytes.proofs.Placed.MastersCarved.{masters-lays}
 use Rattle.zone_bytes.proofs.SlotTable.Slotted.{first-small}

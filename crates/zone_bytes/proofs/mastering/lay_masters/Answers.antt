@@ -1,5 +1,4 @@
-use Rattle.std.proofs.Common.{◌+◌, subst, arith}
-use Rattle.zone_bytes.specs.Splicing.{SameOutside}
+use Rattle.zone_bytes.proofs.Cited.{◌+◌, subst, arith, SameOutside}
 use Rattle.zone_bytes.proofs.Placed.MastersCarved.{has-masters}
 use Rattle.zone_bytes.proofs.mastering.lay_masters.Goals as goal
 use Rattle.zone_bytes.proofs.mastering.lay_masters.Goals.{Start}

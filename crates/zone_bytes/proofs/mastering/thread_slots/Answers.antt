@@ -1,4 +1,4 @@
-use Rattle.std.proofs.Common.{arith}
+use Rattle.zone_bytes.proofs.Cited.{arith}
 use Rattle.zone_bytes.proofs.Placed.MastersCarved.{threading-start, threading-step, threaded}
 use Rattle.zone_bytes.proofs.mastering.thread_slots.Goals as goal
 

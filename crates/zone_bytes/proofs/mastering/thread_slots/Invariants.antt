@@ -1,5 +1,4 @@
-use Rattle.std.proofs.Common.{◌≡◌}
-use Rattle.zone_bytes.specs.Mastering.{Threading}
+use Rattle.zone_bytes.proofs.Cited.{◌≡◌, Threading}
 use Rattle.zone_bytes.proofs.mastering.thread_slots.Given as goal
 
 abbrev pub invariant-loop-slot : goal.invariant-loop-slot

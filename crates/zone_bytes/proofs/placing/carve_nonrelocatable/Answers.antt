@@ -1,6 +1,4 @@
-use Rattle.std.proofs.Common.{◌+◌, ap, arith, refl}
-use Rattle.mac_words.specs.Size.{padded}
-use Rattle.block_store.specs.Block.{size}
+use Rattle.zone_bytes.proofs.Cited.{◌+◌, ap, arith, refl, padded, size}
 use Rattle.zone_bytes.proofs.Placed.Carved.{Roomy, roomy, may-carve, nonrelocatable-lays}
 use Rattle.zone_bytes.proofs.placing.carve_nonrelocatable.Goals as goal
 use Rattle.zone_bytes.proofs.placing.carve_nonrelocatable.Goals.{Start}

@@ -1,4 +1,4 @@
-use Rattle.std.proofs.Common.{rules}
+use Rattle.zone_bytes.proofs.Cited.{rules}
 use Rattle.zone_bytes.proofs.Tiles.Tags.{tag-small}
 use Rattle.zone_bytes.proofs.Places.Stepped.{may-read}
 use Rattle.zone_bytes.proofs.Places.HeaderTells.{size-at}

@@ -1,8 +1,6 @@
-use Rattle.std.proofs.Common.{◌+◌, ◌<◌, refl, arith, true, false, ◌≡◌, ◌∙◌}
+use Rattle.zone_bytes.proofs.Cited.{◌+◌, ◌<◌, refl, arith, true, false, ◌≡◌, ◌∙◌, the_type, Pointing}
 use denote.Enum.Bare.{sameb}
-use Rattle.block_headers.specs.contracts.header.Tag.{the_type}
 use Rattle.block_headers.specs.declared.header.Tag.TheVariants.{Relocatable}
-use Rattle.zone_bytes.specs.Pointing.{Pointing}
 use Rattle.zone_bytes.proofs.Runs.Packed.{NextMover, passing-next, next-mover, next-free}
 use Rattle.zone_bytes.proofs.Runs.Pointers.{start-pointing, pointing-bounds, some-left, past-free, past-slot, pointed}
 use Rattle.zone_bytes.proofs.Tiles.Tags.{tag-true, tag-false, tag-small}

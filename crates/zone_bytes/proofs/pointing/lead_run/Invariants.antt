@@ -1,6 +1,4 @@
-use Rattle.std.proofs.Common.{◌-◌}
-use Rattle.zone_bytes.specs.Beside.{KeepsPlace}
-use Rattle.zone_bytes.specs.Pointing.{Pointing}
+use Rattle.zone_bytes.proofs.Cited.{◌-◌, KeepsPlace, Pointing}
 use Rattle.zone_bytes.proofs.pointing.lead_run.Given as goal
 
 abbrev pub invariant-loop-from : goal.invariant-loop-from

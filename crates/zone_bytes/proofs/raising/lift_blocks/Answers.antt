@@ -1,4 +1,4 @@
-use Rattle.std.proofs.Common.{arith}
+use Rattle.zone_bytes.proofs.Cited.{arith}
 use Rattle.zone_bytes.proofs.Runs.Raises.{wide, evens, raised-none, raised-rest}
 use Rattle.zone_bytes.proofs.raising.lift_blocks.Goals as goal
 

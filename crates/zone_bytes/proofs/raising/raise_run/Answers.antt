@@ -1,6 +1,4 @@
-use Rattle.std.proofs.Common.{◌+◌, ◌<◌, [], arith, rules}
-use Rattle.block_store.specs.Run.{movers}
-use Rattle.zone_bytes.specs.Settling.{gone_to}
+use Rattle.zone_bytes.proofs.Cited.{◌+◌, ◌<◌, [], arith, rules, movers, gone_to}
 use Rattle.zone_bytes.proofs.Runs.Raises.{gap-fits, none-lifted, none-edges, raise-part, upper-run, both-lifted}
 use Rattle.zone_bytes.proofs.Runs.Raises.{both-stop, both-edges}
 use Rattle.zone_bytes.proofs.raising.raise_run.Given.{Over}

@@ -1,4 +1,4 @@
-use Rattle.zone_bytes.specs.Settling.{cut, gone_to, rest_from}
+use Rattle.zone_bytes.proofs.Cited.{cut, gone_to, rest_from}
 use Rattle.zone_bytes.proofs.Runs.Raises.{upper}
 use Rattle.zone_bytes.proofs.raising.raise_run.Given as goal
 

@@ -1,4 +1,4 @@
-use Rattle.std.proofs.Common.{arith}
+use Rattle.zone_bytes.proofs.Cited.{arith}
 use Rattle.zone_bytes.proofs.Runs.Packed.{run-bounds, run-moved}
 use Rattle.zone_bytes.proofs.raising.settle_above.Goals as goal
 

@@ -1,4 +1,4 @@
-use Rattle.std.proofs.Common.{arith}
+use Rattle.zone_bytes.proofs.Cited.{arith}
 use Rattle.zone_bytes.proofs.Places.Stepped.{stepped-read, may-read, steps}
 use Rattle.zone_bytes.proofs.raw_walk.step_at.Goals as goal
 

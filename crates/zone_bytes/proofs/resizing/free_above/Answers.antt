@@ -1,7 +1,4 @@
-use Rattle.std.proofs.Common.{◌∙◌, sym, ap, arith}
-use Rattle.block_headers.specs.Headers.{tag_number}
-use Rattle.block_store.specs.Block.{free_of}
-use Rattle.zone_bytes.specs.Laying.{free_first}
+use Rattle.zone_bytes.proofs.Cited.{◌∙◌, sym, ap, arith, tag_number, free_of, free_first}
 use Rattle.zone_bytes.proofs.Places.Stepped.{Stepped, may-read, stepped, left-none}
 use Rattle.zone_bytes.proofs.Joined.Above.{free-is, free-other}
 use Rattle.zone_bytes.proofs.Tiles.Tags.{tag-small, free-true, free-false}

@@ -1,13 +1,10 @@
-use Rattle.std.proofs.Common.{◌≡◌, ◌%◌, ◌==◌, ◌∙◌, false, ap, sym, arith, Some}
+use Rattle.zone_bytes.proofs.Cited.{◌≡◌, ◌%◌, ◌==◌, ◌∙◌, false, ap, sym, arith, Some, Spot, spot_at, kind, zone_in}
 use Rattle.zone_bytes.proofs.Placed.Sizes.{Sizing, sizing, room-at, cut-lays, free-sized, grown-lays, header-is}
 use Rattle.zone_bytes.proofs.Placed.Sizes.{kept-cut, kept-grown, kept-replaced, may-size, sized-replaced}
 use Rattle.zone_bytes.proofs.Placed.Standing.{Standing}
 use Rattle.zone_bytes.proofs.resizing.resize_block.Goals as goal
 use Rattle.zone_bytes.proofs.resizing.resize_block.Goals.{Then-not-has_content, After-free_above}
-use Rattle.block_store.specs.Room.{Spot, spot_at}
-use Rattle.zone_bytes.specs.Layout.{kind}
 use Rattle.zone_bytes.proofs.Places.Stepped.{may-read}
-use Rattle.zone_bytes.specs.Decode.{zone_in}
 
 -- a block that holds nothing
 none : (c : Then-not-has_content) → (s : Spot) × (spot_at c.args.place (zone_in c.args.part.now.bytes) ≡ Some s)

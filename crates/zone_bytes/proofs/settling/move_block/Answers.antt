@@ -1,7 +1,4 @@
-use Rattle.std.proofs.Common.{◌≡◌, ◌+◌, refl, sym, ap, ◌∙◌, arith}
-use Rattle.memory_windows.specs.Writes.{written, piece}
-use Rattle.block_headers.specs.Words.{word}
-use Rattle.memory_windows.proofs.Pieces.{written-same}
+use Rattle.zone_bytes.proofs.Cited.{◌≡◌, ◌+◌, refl, sym, ap, ◌∙◌, arith, written, piece, word, written-same}
 use Rattle.zone_bytes.proofs.settling.move_block.Goals as goal
 use Rattle.zone_bytes.proofs.settling.move_block.Goals.{Else-to-from}
 

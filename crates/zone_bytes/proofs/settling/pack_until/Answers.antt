@@ -1,13 +1,7 @@
-use Rattle.std.proofs.Common.{◌≡◌, true, false, ◌+◌, ◌-◌, ◌<◌, ◌≤◌, ◌⊎◌, inl, inr, List, [], ◌∷◌, ◌++◌, refl, ◌∙◌}
-use Rattle.std.proofs.Common.{subst, arith, append_assoc, rules}
-use Rattle.std.proofs.lemmas.List.{append-nil}
+use Rattle.zone_bytes.proofs.Cited.{◌≡◌, true, false, ◌+◌, ◌-◌, ◌<◌, ◌≤◌, ◌⊎◌, inl, inr, List, [], ◌∷◌, ◌++◌, refl, ◌∙◌, subst, arith}
+use Rattle.zone_bytes.proofs.Cited.{append_assoc, rules, append-nil, the_type, Block, Free, sizes, movers, Noted, Passing, gone_to}
 use denote.Enum.Bare.{sameb}
-use Rattle.block_headers.specs.contracts.header.Tag.{the_type}
 use Rattle.block_headers.specs.declared.header.Tag.TheVariants.{Relocatable}
-use Rattle.block_store.specs.Block.{Block, Free, sizes}
-use Rattle.block_store.specs.Run.{movers}
-use Rattle.zone_bytes.specs.Edges.{Noted}
-use Rattle.zone_bytes.specs.Settling.{Passing, gone_to}
 use Rattle.zone_bytes.proofs.Runs.Packed.{Bounds, NextMover, passing-next, run-moved, bounds, next-mover, next-free}
 use Rattle.zone_bytes.proofs.Runs.Packed.{within, beyond}
 use Rattle.zone_bytes.proofs.Runs.Settled.{past-free, past-mover, moves-bound, begun, movers-more, movers-free}

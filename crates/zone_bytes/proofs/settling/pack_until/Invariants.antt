@@ -1,9 +1,4 @@
-use Rattle.std.proofs.Common.{◌-◌, ◌+◌, List}
-use Rattle.block_store.specs.Block.{Block, sizes}
-use Rattle.block_store.specs.Run.{movers}
-use Rattle.zone_bytes.specs.Beside.{KeepsPlace}
-use Rattle.zone_bytes.specs.Edges.{Noted}
-use Rattle.zone_bytes.specs.Settling.{Packing}
+use Rattle.zone_bytes.proofs.Cited.{◌-◌, ◌+◌, List, Block, sizes, movers, KeepsPlace, Noted, Packing}
 use Rattle.zone_bytes.proofs.settling.pack_until.Given as goal
 
 abbrev pub invariant-loop-from : goal.invariant-loop-from

@@ -1,6 +1,4 @@
-use Rattle.std.proofs.Common.{◌≡◌, [], arith, rules}
-use Rattle.zone_bytes.specs.Settling.{UntilAt, rest_from}
-use Rattle.zone_bytes.specs.declared.settling.TheConstants.{NEVER_ENOUGH}
+use Rattle.zone_bytes.proofs.Cited.{◌≡◌, [], arith, rules, UntilAt, rest_from, NEVER_ENOUGH}
 use Rattle.zone_bytes.proofs.Runs.Settled.{all-gone, settled-led, whole}
 use Rattle.zone_bytes.proofs.settling.settle_run.Goals.{After-pack_until}
 use Rattle.zone_bytes.proofs.settling.settle_run.Given.{Over}

@@ -1,6 +1,4 @@
-use Rattle.std.proofs.Common.{ap, inr, arith}
-use Rattle.block_headers.specs.Slots.{slot_number}
-use Rattle.block_headers.proofs.Slots.{unused_number, unused_only}
+use Rattle.zone_bytes.proofs.Cited.{ap, inr, arith, slot_number, unused_number, unused_only}
 use Rattle.zone_bytes.proofs.SlotTable.Slotted.{first-in, taken, first-reads}
 use Rattle.zone_bytes.proofs.slots.take_slot.Goals as goal
 

@@ -1,5 +1,4 @@
-use Rattle.std.proofs.Common.{◌≡◌, ◌++◌, ◌+◌, [], drop, length}
-use Rattle.zone_drawing.specs.Bytes.{bytes_text, rows, rows_text}
+use Rattle.zone_drawing.proofs.Cited.{◌≡◌, ◌++◌, ◌+◌, [], drop, length, bytes_text, rows, rows_text}
 use Rattle.zone_drawing.proofs.bytes.push_bytes.Given as goal
 
 -- what is written, before the row that is begun and the bytes that are still to come; and where that row begins

@@ -1,5 +1,4 @@
-use Rattle.std.proofs.Common.{◌≡◌, ◌++◌, map, drop}
-use Rattle.zone_drawing.specs.Bytes.{byte_character}
+use Rattle.zone_drawing.proofs.Cited.{◌≡◌, ◌++◌, map, drop, byte_character}
 use Rattle.zone_drawing.proofs.bytes.push_characters.Given as goal
 
 -- what is written, before the bytes that are still to be written

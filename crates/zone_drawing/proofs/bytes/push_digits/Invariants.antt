@@ -1,6 +1,4 @@
-use Rattle.std.proofs.Common.{◌≡◌, ◌++◌, drop}
-use Rattle.std.specs.List.{flat_map}
-use Rattle.zone_drawing.specs.Bytes.{byte_digits}
+use Rattle.zone_drawing.proofs.Cited.{◌≡◌, ◌++◌, drop, flat_map, byte_digits}
 use Rattle.zone_drawing.proofs.bytes.push_digits.Given as goal
 
 -- what is written, before the bytes that are still to be written

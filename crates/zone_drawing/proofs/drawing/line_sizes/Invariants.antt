@@ -1,6 +1,4 @@
-use Rattle.std.proofs.Common.{◌≡◌, ◌+◌, ◌*◌, ◌≤◌, map, drop}
-use Rattle.zone_drawing.specs.Drawing.{line_sizes}
-use Rattle.zone_drawing.specs.View.{view_line}
+use Rattle.zone_drawing.proofs.Cited.{◌≡◌, ◌+◌, ◌*◌, ◌≤◌, map, drop, line_sizes, view_line}
 use Rattle.zone_drawing.proofs.drawing.line_sizes.Given as goal
 
 -- those that were summed, and those to come, are all

@@ -1,5 +1,4 @@
-use Rattle.std.proofs.Common.{◌≡◌, ◌++◌, drop}
-use Rattle.zone_drawing.specs.Drawing.{escaped}
+use Rattle.zone_drawing.proofs.Cited.{◌≡◌, ◌++◌, drop, escaped}
 use Rattle.zone_drawing.proofs.drawing.push_escaped.Given as goal
 
 -- what is written, before the bytes that are still to be written

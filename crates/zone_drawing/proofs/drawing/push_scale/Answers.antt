@@ -1,4 +1,4 @@
-use Rattle.zone_drawing.specs.Drawing.{scale}
+use Rattle.zone_drawing.proofs.Cited.{scale}
 use Rattle.zone_drawing.proofs.Appending.{also}
 use Rattle.zone_drawing.proofs.drawing.push_scale.Goals as goal
 

@@ -1,6 +1,4 @@
-use Rattle.std.proofs.Common.{◌≡◌, map, drop}
-use Rattle.zone_drawing.specs.Quiet.{same_lines}
-use Rattle.zone_drawing.specs.View.{view_kept}
+use Rattle.zone_drawing.proofs.Cited.{◌≡◌, map, drop, same_lines, view_kept}
 use Rattle.zone_drawing.proofs.gather.same_lines.Given as goal
 
 -- whether the blocks that are left are the same says whether all are

@@ -1,5 +1,4 @@
-use Rattle.std.proofs.Common.{◌≡◌, ◌++◌, map}
-use Rattle.zone_drawing.specs.View.{view_moment}
+use Rattle.zone_drawing.proofs.Cited.{◌≡◌, ◌++◌, map, view_moment}
 use Rattle.zone_drawing.proofs.inside.add_with.Given as goal
 
 -- the moments so far, with the strips that are still to come

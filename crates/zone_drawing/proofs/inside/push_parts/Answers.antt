@@ -1,8 +1,5 @@
-use Rattle.std.proofs.Common.{◌≡◌, ◌++◌, ◌∙◌, ℕ, List, ap, append_assoc, codes, map}
-use Rattle.zone_drawing.specs.Inside.{cleared_lines, part_between, part_moment, parts, purged_lines}
-use Rattle.zone_drawing.specs.Line.{Line}
-use Rattle.zone_drawing.specs.Steps.{Moment}
-use Rattle.zone_drawing.specs.View.{view_kept}
+use Rattle.zone_drawing.proofs.Cited.{◌≡◌, ◌++◌, ◌∙◌, ℕ, List, ap, append_assoc, codes, map, cleared_lines, part_between, part_moment}
+use Rattle.zone_drawing.proofs.Cited.{parts, purged_lines, Line, Moment, view_kept}
 use Rattle.zone_drawing.proofs.inside.push_parts.Goals as goal
 
 -- both strips, one after the other

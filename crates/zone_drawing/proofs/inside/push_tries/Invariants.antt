@@ -1,6 +1,4 @@
-use Rattle.std.proofs.Common.{◌≡◌, ◌++◌, map}
-use Rattle.zone_drawing.specs.Inside.{lines_after, tries_strips}
-use Rattle.zone_drawing.specs.View.{view_kept, view_moment}
+use Rattle.zone_drawing.proofs.Cited.{◌≡◌, ◌++◌, map, lines_after, tries_strips, view_kept, view_moment}
 use Rattle.zone_drawing.proofs.inside.push_tries.Given as goal
 
 -- the strips so far, with those that are still to come; and the zone after all

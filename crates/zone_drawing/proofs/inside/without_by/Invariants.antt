@@ -1,8 +1,4 @@
-use Rattle.std.proofs.Common.{◌≡◌, [], drop, map}
-use Rattle.std.specs.BTreeMap.{get}
-use Rattle.std.specs.Ordering.{nat_cmp}
-use Rattle.zone_drawing.specs.Inside.{without}
-use Rattle.zone_drawing.specs.View.{view_line}
+use Rattle.zone_drawing.proofs.Cited.{◌≡◌, [], drop, map, get, nat_cmp, without, view_line}
 use Rattle.zone_drawing.proofs.inside.without_by.Given as goal
 
 -- the blocks so far, with those that are still to come

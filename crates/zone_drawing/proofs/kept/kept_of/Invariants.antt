@@ -1,5 +1,4 @@
-use Rattle.std.proofs.Common.{◌≡◌, ◌++◌, map, drop}
-use Rattle.zone_drawing.specs.View.{view_line, view_kept}
+use Rattle.zone_drawing.proofs.Cited.{◌≡◌, ◌++◌, map, drop, view_line, view_kept}
 use Rattle.zone_drawing.proofs.kept.kept_of.Given as goal
 
 -- the lines so far, before those that are still to come

@@ -1,5 +1,4 @@
-use Rattle.std.proofs.Common.{◌≡◌, ◌≤◌, ℕ, ◌+◌, ◌*◌, ◌/◌, Bool, true, false, min, nat_le, cond, refl, arith}
-use Rattle.zone_drawing.specs.Svg.{row_count}
+use Rattle.zone_drawing.proofs.Cited.{◌≡◌, ◌≤◌, ℕ, ◌+◌, ◌*◌, ◌/◌, Bool, true, false, min, nat_le, cond, refl, arith, row_count}
 use Rattle.zone_drawing.proofs.laws.pictures_are_low.Goals as goal
 
 pub returns : goal.returns

@@ -1,6 +1,4 @@
-use Rattle.std.proofs.Common.{◌≡◌, ◌+◌, ◌++◌, map, drop}
-use Rattle.zone_drawing.specs.Line.{lines, seen_sizes}
-use Rattle.zone_drawing.specs.View.{view_line, known_by}
+use Rattle.zone_drawing.proofs.Cited.{◌≡◌, ◌+◌, ◌++◌, map, drop, lines, seen_sizes, view_line, known_by}
 use Rattle.zone_drawing.proofs.lines.lines_of.Given as goal
 
 -- the lines so far, and those of the blocks that are left, are all

@@ -1,5 +1,4 @@
-use Rattle.std.proofs.Common.{refl}
-use Rattle.zone_drawing.specs.Steps.{arrow_style}
+use Rattle.zone_drawing.proofs.Cited.{refl, arrow_style}
 use Rattle.zone_drawing.proofs.steps.arrow_style.Goals as goal
 
 pub returns : goal.returns

@@ -1,6 +1,4 @@
-use Rattle.std.proofs.Common.{◌≡◌, ◌+◌, ◌*◌, ◌≤◌, map, drop}
-use Rattle.zone_drawing.specs.Steps.{block_count}
-use Rattle.zone_drawing.specs.View.{view_moment}
+use Rattle.zone_drawing.proofs.Cited.{◌≡◌, ◌+◌, ◌*◌, ◌≤◌, map, drop, block_count, view_moment}
 use Rattle.zone_drawing.proofs.steps.block_count.Given as goal
 
 -- those that were counted, and those to come, are all

@@ -1,8 +1,4 @@
-use Rattle.std.proofs.Common.{◌≡◌, ℕ, map, drop}
-use Rattle.std.specs.BTreeMap.{get}
-use Rattle.std.specs.Ordering.{nat_cmp}
-use Rattle.zone_drawing.specs.Steps.{extent_of}
-use Rattle.zone_drawing.specs.View.{view_line}
+use Rattle.zone_drawing.proofs.Cited.{◌≡◌, ℕ, map, drop, get, nat_cmp, extent_of, view_line}
 use Rattle.zone_drawing.proofs.steps.extents_of.Given as goal
 
 -- the blocks from this one upward were noted

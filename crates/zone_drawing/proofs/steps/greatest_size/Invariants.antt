@@ -1,6 +1,4 @@
-use Rattle.std.proofs.Common.{◌≡◌, ◌<◌, ◌^◌, map, drop, max}
-use Rattle.zone_drawing.specs.Steps.{greatest_size}
-use Rattle.zone_drawing.specs.View.{view_moment}
+use Rattle.zone_drawing.proofs.Cited.{◌≡◌, ◌<◌, ◌^◌, map, drop, max, greatest_size, view_moment}
 use Rattle.zone_drawing.proofs.steps.greatest_size.Given as goal
 
 -- the greatest of those so far and of those to come is the greatest of all

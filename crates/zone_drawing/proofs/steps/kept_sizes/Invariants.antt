@@ -1,6 +1,4 @@
-use Rattle.std.proofs.Common.{◌≡◌, ◌+◌, ◌*◌, ◌≤◌, map, drop}
-use Rattle.zone_drawing.specs.Drawing.{line_sizes}
-use Rattle.zone_drawing.specs.View.{view_kept}
+use Rattle.zone_drawing.proofs.Cited.{◌≡◌, ◌+◌, ◌*◌, ◌≤◌, map, drop, line_sizes, view_kept}
 use Rattle.zone_drawing.proofs.steps.kept_sizes.Given as goal
 
 -- those that were summed, and those to come, are all

@@ -1,6 +1,4 @@
-use Rattle.std.proofs.Common.{◌++◌, ◌∙◌, ℕ, ap, codes}
-use Rattle.zone_drawing.specs.Drawing.{attribute}
-use Rattle.zone_drawing.specs.Steps.{arrow}
+use Rattle.zone_drawing.proofs.Cited.{◌++◌, ◌∙◌, ℕ, ap, codes, attribute, arrow}
 use Rattle.zone_drawing.proofs.Appending.{also}
 use Rattle.zone_drawing.proofs.steps.push_arrow.Goals as goal
 

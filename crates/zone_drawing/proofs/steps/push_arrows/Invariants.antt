@@ -1,8 +1,4 @@
-use Rattle.std.proofs.Common.{◌≡◌, ◌++◌, map, drop}
-use Rattle.std.specs.BTreeMap.{get}
-use Rattle.std.specs.Ordering.{nat_cmp}
-use Rattle.zone_drawing.specs.Steps.{arrows}
-use Rattle.zone_drawing.specs.View.{view_line}
+use Rattle.zone_drawing.proofs.Cited.{◌≡◌, ◌++◌, map, drop, get, nat_cmp, arrows, view_line}
 use Rattle.zone_drawing.proofs.steps.push_arrows.Given as goal
 
 -- what is written, before the arrows that are still to be written

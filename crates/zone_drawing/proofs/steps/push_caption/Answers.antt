@@ -1,6 +1,4 @@
-use Rattle.std.proofs.Common.{◌++◌, ◌∙◌, List, ℕ, ap}
-use Rattle.zone_drawing.specs.Drawing.{escaped}
-use Rattle.zone_drawing.specs.Steps.{moment_caption}
+use Rattle.zone_drawing.proofs.Cited.{◌++◌, ◌∙◌, List, ℕ, ap, escaped, moment_caption}
 use Rattle.zone_drawing.proofs.Appending.{also}
 use Rattle.zone_drawing.proofs.steps.push_caption.Goals as goal
 

@@ -1,4 +1,4 @@
-use Rattle.zone_drawing.specs.Steps.{moment_by}
+use Rattle.zone_drawing.proofs.Cited.{moment_by}
 use Rattle.zone_drawing.proofs.Appending.{also}
 use Rattle.zone_drawing.proofs.steps.push_moment_by.Goals as goal
 

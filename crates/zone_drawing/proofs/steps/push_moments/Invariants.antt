@@ -1,7 +1,4 @@
-use Rattle.std.proofs.Common.{◌≡◌, ◌++◌, None, map, drop}
-use Rattle.std.specs.Option.{option_map}
-use Rattle.zone_drawing.specs.Steps.{moment_strips}
-use Rattle.zone_drawing.specs.View.{view_moment}
+use Rattle.zone_drawing.proofs.Cited.{◌≡◌, ◌++◌, None, map, drop, option_map, moment_strips, view_moment}
 use Rattle.zone_drawing.proofs.steps.push_moments.Given as goal
 
 -- what is written, before the strips that are still to be written

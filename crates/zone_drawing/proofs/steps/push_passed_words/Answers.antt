@@ -1,4 +1,4 @@
-use Rattle.zone_drawing.specs.Steps.{passed_words}
+use Rattle.zone_drawing.proofs.Cited.{passed_words}
 use Rattle.zone_drawing.proofs.Appending.{also}
 use Rattle.zone_drawing.proofs.steps.push_passed_words.Goals as goal
 

@@ -1,4 +1,4 @@
-use Rattle.zone_drawing.specs.Steps.{steps_title}
+use Rattle.zone_drawing.proofs.Cited.{steps_title}
 use Rattle.zone_drawing.proofs.Appending.{also}
 use Rattle.zone_drawing.proofs.steps.push_title.Goals as goal
 

@@ -1,7 +1,4 @@
-use Rattle.std.proofs.Common.{◌++◌, ◌∙◌, ℕ, ap, length, map, sym}
-use Rattle.std.proofs.lemmas.List.{length-map}
-use Rattle.zone_drawing.specs.Steps.{block_count, least_of, steps_window}
-use Rattle.zone_drawing.specs.View.{view_moment}
+use Rattle.zone_drawing.proofs.Cited.{◌++◌, ◌∙◌, ℕ, ap, length, map, sym, length-map, block_count, least_of, steps_window, view_moment}
 use Rattle.zone_drawing.proofs.steps.write_by.Goals as goal
 
 pub returns : goal.returns

@@ -1,8 +1,5 @@
-use Rattle.std.proofs.Common.{◌≡◌, ◌++◌, ◌∙◌, ℕ, List, ap, length, map, sym, take}
-use Rattle.std.proofs.lemmas.List.{length-map, take-map}
-use Rattle.zone_drawing.specs.Steps.{block_count, greatest_size, room, steps_by}
-use Rattle.zone_drawing.specs.Svg.{window_of}
-use Rattle.zone_drawing.specs.View.{view_moment}
+use Rattle.zone_drawing.proofs.Cited.{◌≡◌, ◌++◌, ◌∙◌, ℕ, List, ap, length, map, sym, take, length-map, take-map, block_count, greatest_size}
+use Rattle.zone_drawing.proofs.Cited.{room, steps_by, window_of, view_moment}
 use Rattle.zone_drawing.specs.declared.line.Moment.{Moment}
 use Rattle.zone_drawing.proofs.steps.write_steps_svg.Goals as goal
 

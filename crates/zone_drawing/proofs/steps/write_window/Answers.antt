@@ -1,4 +1,4 @@
-use Rattle.zone_drawing.specs.Steps.{steps_window}
+use Rattle.zone_drawing.proofs.Cited.{steps_window}
 use Rattle.zone_drawing.proofs.Appending.{also}
 use Rattle.zone_drawing.proofs.steps.write_window.Goals as goal
 

@@ -1,8 +1,5 @@
-use Rattle.std.proofs.Common.{rules, arith, ℕ, ◌+◌, ◌∙◌, [], ◌∷◌, ◌++◌, ap, drop, map, sym}
-use Rattle.std.proofs.lemmas.List.{map_push}
-use Rattle.mac_words.proofs.Plain.{rest-next}
-use Rattle.zone_drawing.specs.Drawing.{line_sizes}
-use Rattle.zone_drawing.specs.View.{view_line}
+use Rattle.zone_drawing.proofs.Cited.{rules, arith, ℕ, ◌+◌, ◌∙◌, [], ◌∷◌, ◌++◌, ap, drop, map, sym, map_push, rest-next, line_sizes}
+use Rattle.zone_drawing.proofs.Cited.{view_line}
 use Rattle.zone_drawing.proofs.Binned.{sizes_more, bin_ends, bin_grows}
 use Rattle.zone_drawing.proofs.strip.push_bins.Goals as goal
 use Rattle.zone_drawing.proofs.strip.push_bins.Goals.{then-is_full+in_ok-push_bin, else-is_full}

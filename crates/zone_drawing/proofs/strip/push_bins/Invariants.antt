@@ -1,7 +1,4 @@
-use Rattle.std.proofs.Common.{◌≡◌, ◌++◌, ◌*◌, ◌≤◌, [], map, drop}
-use Rattle.zone_drawing.specs.Drawing.{line_sizes}
-use Rattle.zone_drawing.specs.Strip.{bins_text}
-use Rattle.zone_drawing.specs.View.{view_line}
+use Rattle.zone_drawing.proofs.Cited.{◌≡◌, ◌++◌, ◌*◌, ◌≤◌, [], map, drop, line_sizes, bins_text, view_line}
 use Rattle.zone_drawing.proofs.strip.push_bins.Given as goal
 
 -- what is written, before the bins that are still to be written; and the bytes of the bin that is begun

@@ -1,7 +1,4 @@
-use Rattle.std.proofs.Common.{◌++◌, ◌∙◌, Bool, List, ℕ, ap, map}
-use Rattle.zone_drawing.specs.Strip.{all_parts, bin_box, box_class, box_opened}
-use Rattle.zone_drawing.specs.View.{view_line}
-use Rattle.zone_drawing.specs.declared.strip.Extent.{Extent}
+use Rattle.zone_drawing.proofs.Cited.{◌++◌, ◌∙◌, Bool, List, ℕ, ap, map, all_parts, bin_box, box_class, box_opened, view_line, Extent}
 use Rattle.zone_drawing.proofs.Appending.{also}
 use Rattle.zone_drawing.proofs.strip.push_box.Goals as goal
 

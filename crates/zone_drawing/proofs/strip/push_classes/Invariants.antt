@@ -1,7 +1,4 @@
-use Rattle.std.proofs.Common.{◌≡◌, ◌++◌, map, drop}
-use Rattle.std.specs.List.{flat_map}
-use Rattle.zone_drawing.specs.Strip.{class_title}
-use Rattle.zone_drawing.specs.View.{view_line}
+use Rattle.zone_drawing.proofs.Cited.{◌≡◌, ◌++◌, map, drop, flat_map, class_title, view_line}
 use Rattle.zone_drawing.proofs.strip.push_classes.Given as goal
 
 -- what is written, before the classes that are still to be written

@@ -1,4 +1,4 @@
-use Rattle.zone_drawing.specs.Strip.{name_at}
+use Rattle.zone_drawing.proofs.Cited.{name_at}
 use Rattle.zone_drawing.proofs.Appending.{also}
 use Rattle.zone_drawing.proofs.strip.push_name_at.Goals as goal
 

@@ -1,6 +1,5 @@
-use Rattle.std.proofs.Common.{◌≡◌, ◌++◌, ◌*◌, ◌≤◌, map, drop}
+use Rattle.zone_drawing.proofs.Cited.{◌≡◌, ◌++◌, ◌*◌, ◌≤◌, map, drop, view_line}
 use Rattle.zone_drawing.specs.Strip.{parts}
-use Rattle.zone_drawing.specs.View.{view_line}
 use Rattle.zone_drawing.proofs.strip.push_parts.Given as goal
 
 -- what is written, before the parts that are still to be written; and the bytes of the parts so far

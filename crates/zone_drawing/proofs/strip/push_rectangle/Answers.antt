@@ -1,4 +1,4 @@
-use Rattle.zone_drawing.specs.Strip.{rectangle}
+use Rattle.zone_drawing.proofs.Cited.{rectangle}
 use Rattle.zone_drawing.proofs.Appending.{also}
 use Rattle.zone_drawing.proofs.strip.push_rectangle.Goals as goal
 

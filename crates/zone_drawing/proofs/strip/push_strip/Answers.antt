@@ -1,4 +1,4 @@
-use Rattle.zone_drawing.specs.Strip.{strip}
+use Rattle.zone_drawing.proofs.Cited.{strip}
 use Rattle.zone_drawing.proofs.Appending.{also}
 use Rattle.zone_drawing.proofs.strip.push_strip.Goals as goal
 

@@ -1,5 +1,4 @@
-use Rattle.std.proofs.Common.{◌++◌, ◌∙◌, ◌/◌, ℕ, ap, decimal}
-use Rattle.zone_drawing.specs.Strip.{strip_opened}
+use Rattle.zone_drawing.proofs.Cited.{◌++◌, ◌∙◌, ◌/◌, ℕ, ap, decimal, strip_opened}
 use Rattle.zone_drawing.proofs.Appending.{also}
 use Rattle.zone_drawing.proofs.strip.push_strip_opened.Goals as goal
 

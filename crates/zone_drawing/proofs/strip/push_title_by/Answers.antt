@@ -1,4 +1,4 @@
-use Rattle.zone_drawing.specs.Strip.{title_by}
+use Rattle.zone_drawing.proofs.Cited.{title_by}
 use Rattle.zone_drawing.proofs.Appending.{also}
 use Rattle.zone_drawing.proofs.strip.push_title_by.Goals as goal
 

@@ -1,4 +1,4 @@
-use Rattle.std.proofs.Common.{◌≡◌, ◌++◌, replicate}
+use Rattle.zone_drawing.proofs.Cited.{◌≡◌, ◌++◌, replicate}
 use Rattle.zone_drawing.proofs.style.push_blanks.Given as goal
 
 -- the blanks so far

@@ -1,4 +1,4 @@
-use Rattle.zone_drawing.specs.Svg.{cell}
+use Rattle.zone_drawing.proofs.Cited.{cell}
 use Rattle.zone_drawing.proofs.Appending.{also}
 use Rattle.zone_drawing.proofs.svg.push_cell.Goals as goal
 

@@ -1,6 +1,4 @@
-use Rattle.std.proofs.Common.{◌≡◌, ◌++◌, map, drop}
-use Rattle.zone_drawing.specs.Svg.{cells}
-use Rattle.zone_drawing.specs.View.{view_line}
+use Rattle.zone_drawing.proofs.Cited.{◌≡◌, ◌++◌, map, drop, cells, view_line}
 use Rattle.zone_drawing.proofs.svg.push_cells.Given as goal
 
 -- what is written, before the cells that are still to be written

@@ -1,4 +1,4 @@
-use Rattle.zone_drawing.specs.Svg.{overview}
+use Rattle.zone_drawing.proofs.Cited.{overview}
 use Rattle.zone_drawing.proofs.Appending.{also}
 use Rattle.zone_drawing.proofs.svg.push_overview.Goals as goal
 

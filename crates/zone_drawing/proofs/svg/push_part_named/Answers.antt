@@ -1,4 +1,4 @@
-use Rattle.zone_drawing.specs.Svg.{part_named}
+use Rattle.zone_drawing.proofs.Cited.{part_named}
 use Rattle.zone_drawing.proofs.Appending.{also}
 use Rattle.zone_drawing.proofs.svg.push_part_named.Goals as goal
 

@@ -1,4 +1,4 @@
-use Rattle.zone_drawing.specs.Svg.{row}
+use Rattle.zone_drawing.proofs.Cited.{row}
 use Rattle.zone_drawing.proofs.Appending.{also}
 use Rattle.zone_drawing.proofs.svg.push_row.Goals as goal
 

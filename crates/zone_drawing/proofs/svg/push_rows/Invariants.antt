@@ -1,6 +1,5 @@
-use Rattle.std.proofs.Common.{◌≡◌, ◌++◌, map}
+use Rattle.zone_drawing.proofs.Cited.{◌≡◌, ◌++◌, map, view_line}
 use Rattle.zone_drawing.specs.Svg.{rows_text}
-use Rattle.zone_drawing.specs.View.{view_line}
 use Rattle.zone_drawing.proofs.svg.push_rows.Given as goal
 
 -- the rows so far

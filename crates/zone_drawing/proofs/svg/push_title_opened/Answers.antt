@@ -1,4 +1,4 @@
-use Rattle.zone_drawing.specs.Svg.{title_opened}
+use Rattle.zone_drawing.proofs.Cited.{title_opened}
 use Rattle.zone_drawing.proofs.Appending.{also}
 use Rattle.zone_drawing.proofs.svg.push_title_opened.Goals as goal
 

@@ -1,6 +1,4 @@
-use Rattle.std.proofs.Common.{◌≡◌, ◌++◌, map, drop}
-use Rattle.zone_drawing.specs.Svg.{shown_in}
-use Rattle.zone_drawing.specs.View.{view_line}
+use Rattle.zone_drawing.proofs.Cited.{◌≡◌, ◌++◌, map, drop, shown_in, view_line}
 use Rattle.zone_drawing.proofs.svg.shown_in.Given as goal
 
 -- the blocks so far, before those that are still to come

@@ -1,7 +1,4 @@
-use Rattle.std.proofs.Common.{◌++◌, ◌∙◌, ℕ, ap, map, sym}
-use Rattle.std.proofs.lemmas.List.{length-map}
-use Rattle.zone_drawing.specs.Svg.{window_svg}
-use Rattle.zone_drawing.specs.View.{view_line}
+use Rattle.zone_drawing.proofs.Cited.{◌++◌, ◌∙◌, ℕ, ap, map, sym, length-map, window_svg, view_line}
 use Rattle.zone_drawing.proofs.svg.write_part.Goals as goal
 
 pub returns : goal.returns

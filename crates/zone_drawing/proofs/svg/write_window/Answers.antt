@@ -1,7 +1,4 @@
-use Rattle.std.proofs.Common.{◌++◌, ◌∙◌, List, ℕ, ap, map}
-use Rattle.zone_drawing.specs.Drawing.{svg_opened}
-use Rattle.zone_drawing.specs.Svg.{overview, window_svg}
-use Rattle.zone_drawing.specs.View.{view_line}
+use Rattle.zone_drawing.proofs.Cited.{◌++◌, ◌∙◌, List, ℕ, ap, map, svg_opened, overview, window_svg, view_line}
 use Rattle.zone_drawing.proofs.Appending.{also}
 use Rattle.zone_drawing.proofs.svg.write_window.Goals as goal
 

@@ -1,6 +1,4 @@
-use Rattle.std.proofs.Common.{◌≡◌, drop}
-use Rattle.std.specs.List.{list_all}
-use Rattle.zone_drawing.specs.Text.{is_plain}
+use Rattle.zone_drawing.proofs.Cited.{◌≡◌, drop, list_all, is_plain}
 use Rattle.zone_drawing.proofs.text.are_plain.Given as goal
 
 -- all are plain where those that are left are

@@ -1,5 +1,4 @@
-use Rattle.std.proofs.Common.{refl}
-use Rattle.zone_drawing.specs.Text.{head_before}
+use Rattle.zone_drawing.proofs.Cited.{refl, head_before}
 use Rattle.zone_drawing.proofs.text.head_before.Goals as goal
 
 pub returns : goal.returns

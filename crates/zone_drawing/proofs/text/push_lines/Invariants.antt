@@ -1,7 +1,4 @@
-use Rattle.std.proofs.Common.{◌≡◌, ◌++◌, map, drop}
-use Rattle.zone_drawing.specs.Choice.{chosen}
-use Rattle.zone_drawing.specs.Text.{lines_text}
-use Rattle.zone_drawing.specs.View.{view_line}
+use Rattle.zone_drawing.proofs.Cited.{◌≡◌, ◌++◌, map, drop, chosen, lines_text, view_line}
 use Rattle.zone_drawing.proofs.text.push_lines.Given as goal
 
 -- what is written, before the lines that are still to be written

@@ -1,6 +1,4 @@
-use Rattle.std.proofs.Common.{◌≡◌, map, drop, max}
-use Rattle.zone_drawing.specs.Text.{longest}
-use Rattle.zone_drawing.specs.View.{view_line}
+use Rattle.zone_drawing.proofs.Cited.{◌≡◌, map, drop, max, longest, view_line}
 use Rattle.zone_drawing.proofs.text.widest.Given as goal
 
 -- the longest of those so far and of those to come is the longest of all

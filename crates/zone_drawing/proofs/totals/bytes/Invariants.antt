@@ -1,6 +1,4 @@
-use Rattle.std.proofs.Common.{◌≡◌, ◌+◌, ◌*◌, ◌≤◌, map, drop}
-use Rattle.zone_drawing.specs.Totals.{sized}
-use Rattle.zone_drawing.specs.View.{view_line}
+use Rattle.zone_drawing.proofs.Cited.{◌≡◌, ◌+◌, ◌*◌, ◌≤◌, map, drop, sized, view_line}
 use Rattle.zone_drawing.proofs.totals.bytes.Given as goal
 
 -- those that were summed, and those to come, are all

@@ -1,6 +1,4 @@
-use Rattle.std.proofs.Common.{◌≡◌, ◌+◌, ◌≤◌, map, drop}
-use Rattle.zone_drawing.specs.Totals.{counted}
-use Rattle.zone_drawing.specs.View.{view_line}
+use Rattle.zone_drawing.proofs.Cited.{◌≡◌, ◌+◌, ◌≤◌, map, drop, counted, view_line}
 use Rattle.zone_drawing.proofs.totals.count.Given as goal
 
 -- those that were counted, and those to come, are all

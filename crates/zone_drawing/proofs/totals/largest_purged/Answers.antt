@@ -1,6 +1,4 @@
-use Rattle.std.proofs.Common.{sym, ◌∙◌, ap}
-use Rattle.std.proofs.lemmas.List.{drop_all}
-use Rattle.zone_drawing.specs.Inner.{pass}
+use Rattle.zone_drawing.proofs.Cited.{sym, ◌∙◌, ap, drop_all, pass}
 use Rattle.zone_drawing.proofs.Passing.{pass-all}
 use Rattle.zone_drawing.proofs.totals.largest_purged.Goals as goal
 

@@ -1,7 +1,4 @@
-use Rattle.std.proofs.Common.{◌≡◌, ◌+◌, ◌≤◌, drop}
-use Rattle.block_store.specs.declared.measures.TheConstants.{GREATEST_ZONE}
-use Rattle.zone_drawing.specs.Inner.{pass}
-use Rattle.zone_drawing.specs.Line.{seen_sizes}
+use Rattle.zone_drawing.proofs.Cited.{◌≡◌, ◌+◌, ◌≤◌, drop, GREATEST_ZONE, pass, seen_sizes}
 use Rattle.zone_drawing.proofs.totals.largest_purged.Given as goal
 
 -- what the pass over the blocks that are left gives is what the whole pass gives

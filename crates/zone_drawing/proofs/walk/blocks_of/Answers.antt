@@ -1,5 +1,4 @@
-use Rattle.std.proofs.Common.{◌+◌, sym, ◌∙◌, ap, subst, arith}
-use Rattle.zone_drawing.specs.Line.{seen_sizes}
+use Rattle.zone_drawing.proofs.Cited.{◌+◌, sym, ◌∙◌, ap, subst, arith, seen_sizes}
 use Rattle.zone_drawing.proofs.Walking.{Walked, walked-edge, walk-begun, walk-steps, walk-ends, walk-over, seen-sizes}
 use Rattle.zone_drawing.proofs.walk.blocks_of.Goals as goal
 

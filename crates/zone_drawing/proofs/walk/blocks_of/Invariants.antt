@@ -1,5 +1,4 @@
-use Rattle.std.proofs.Common.{◌-◌}
-use Rattle.block_store.specs.Block.{sizes}
+use Rattle.zone_drawing.proofs.Cited.{◌-◌, sizes}
 use Rattle.zone_drawing.proofs.Walking.{Walked}
 use Rattle.zone_drawing.proofs.walk.blocks_of.Given as goal
 

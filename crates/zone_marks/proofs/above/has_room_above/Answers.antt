@@ -1,7 +1,4 @@
-use Rattle.std.proofs.Common.{◌≤◌, arith}
-use Rattle.block_store.specs.Block.{is_relocatable, sizes}
-use Rattle.zone_bytes.proofs.Places.LedTo.{led-slot, led-place}
-use Rattle.zone_bytes.proofs.Places.Options.{if-spot}
+use Rattle.zone_marks.proofs.Cited.{◌≤◌, arith, is_relocatable, sizes, led-slot, led-place, if-spot}
 use Rattle.zone_marks.proofs.Marks.Sought.{sought}
 use Rattle.zone_marks.proofs.above.has_room_above.Goals as goal
 

@@ -1,4 +1,4 @@
-use Rattle.std.proofs.Common.{arith}
+use Rattle.zone_marks.proofs.Cited.{arith}
 use Rattle.zone_marks.proofs.Marks.Passing.{begins-here, begins-right}
 use Rattle.zone_marks.proofs.Searches.Passed.{passed-known}
 use Rattle.zone_marks.proofs.beginning.after_passed.Goals as goal

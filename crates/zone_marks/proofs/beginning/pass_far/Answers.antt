@@ -1,5 +1,4 @@
-use Rattle.std.proofs.Common.{arith}
-use Rattle.zone_summary.specs.declared.stretch.Counting.TheVariants.{Runs}
+use Rattle.zone_marks.proofs.Cited.{arith, Runs}
 use Rattle.zone_marks.proofs.Searches.Pieces.{next-stretch}
 use Rattle.zone_marks.proofs.beginning.pass_far.Goals as goal
 

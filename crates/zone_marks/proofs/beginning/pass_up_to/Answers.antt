@@ -1,5 +1,4 @@
-use Rattle.std.proofs.Common.{ap, arith}
-use Rattle.zone_summary.specs.Stretches.{is_ended}
+use Rattle.zone_marks.proofs.Cited.{ap, arith, is_ended}
 use Rattle.zone_marks.proofs.Searches.Passed.{passed-ended, passed-fits, passed-open}
 use Rattle.zone_marks.proofs.beginning.pass_up_to.Goals as goal
 

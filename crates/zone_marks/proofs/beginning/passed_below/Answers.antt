@@ -1,4 +1,4 @@
-use Rattle.std.proofs.Common.{arith}
+use Rattle.zone_marks.proofs.Cited.{arith}
 use Rattle.zone_marks.proofs.Searches.Passed.{come-none}
 use Rattle.zone_marks.proofs.beginning.passed_below.Goals as goal
 

@@ -1,5 +1,4 @@
-use Rattle.std.proofs.Common.{◌-◌, ◌≤◌}
-use Rattle.zone_marks.specs.Searching.{HasCome}
+use Rattle.zone_marks.proofs.Cited.{◌-◌, ◌≤◌, HasCome}
 use Rattle.zone_marks.proofs.beginning.passed_below.Given as goal
 
 abbrev pub invariant-loop-passed : goal.invariant-loop-passed

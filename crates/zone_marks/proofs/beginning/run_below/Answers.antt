@@ -1,5 +1,4 @@
-use Rattle.std.proofs.Common.{◌-◌, arith, length}
-use Rattle.zone_marks.specs.Marks.{no_mark}
+use Rattle.zone_marks.proofs.Cited.{◌-◌, arith, length, no_mark}
 use Rattle.zone_marks.proofs.Marks.Lowering.{mark-first, mark-order}
 use Rattle.zone_marks.proofs.Searches.Passed.{known-bottom}
 use Rattle.zone_marks.proofs.beginning.run_below.Goals as goal

@@ -1,5 +1,4 @@
-use Rattle.std.proofs.Common.{arith}
-use Rattle.std.proofs.lemmas.List.{append_cancel_right}
+use Rattle.zone_marks.proofs.Cited.{arith, append_cancel_right}
 use Rattle.zone_marks.proofs.Marks.Lowering.{begins-way}
 use Rattle.zone_marks.proofs.Marks.Passing.{begins-within}
 use Rattle.zone_marks.proofs.Searches.Going.{edge-further, start-further}

@@ -1,9 +1,4 @@
-use Rattle.std.proofs.Common.{◌≡◌, ◌-◌, List}
-use Rattle.block_store.specs.Block.{Block}
-use Rattle.zone_bytes.specs.Changes.{Begins}
-use Rattle.zone_bytes.specs.Stepping.{left_in}
-use Rattle.zone_marks.specs.Searching.{IsPiece}
-use Rattle.zone_summary.specs.Searches.{begun_in}
+use Rattle.zone_marks.proofs.Cited.{◌≡◌, ◌-◌, List, Block, Begins, left_in, IsPiece, begun_in}
 use Rattle.zone_marks.proofs.beginning.run_start.Given as goal
 
 abbrev pub invariant-loop-place : goal.invariant-loop-place

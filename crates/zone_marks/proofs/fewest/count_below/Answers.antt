@@ -1,6 +1,4 @@
-use Rattle.std.proofs.Common.{◌∙◌, ◌-◌, ap, arith}
-use Rattle.block_store.specs.Sparing.{opened, spared}
-use Rattle.zone_summary.specs.Fewest.{count_within}
+use Rattle.zone_marks.proofs.Cited.{◌∙◌, ◌-◌, ap, arith, opened, spared, count_within}
 use Rattle.zone_marks.proofs.Bounds.Fewest.{count-below}
 use Rattle.zone_marks.proofs.fewest.count_below.Goals as goal
 

@@ -1,7 +1,4 @@
-use Rattle.std.proofs.Common.{◌≡◌, ◌+◌, ◌≤◌, length}
-use Rattle.block_store.specs.Block.{sizes}
-use Rattle.block_store.specs.Sparing.{opened, spared}
-use Rattle.zone_summary.specs.Fewest.{count_within}
+use Rattle.zone_marks.proofs.Cited.{◌≡◌, ◌+◌, ◌≤◌, length, sizes, opened, spared, count_within}
 use Rattle.zone_marks.proofs.fewest.count_in.Given as goal
 
 -- those so far, and those of what is still to come

@@ -1,9 +1,5 @@
-use Rattle.std.proofs.Common.{◌∙◌, ◌-◌, ◌+◌, ap, arith, sym}
-use Rattle.block_store.specs.Sparing.{spared}
-use Rattle.block_store.proofs.Walks.Telling.{told, told-size, told-sizes}
-use Rattle.zone_summary.specs.Fewest.{run_purges_for}
-use Rattle.zone_summary.proofs.Fewest.{goes-size}
-use Rattle.zone_summary.proofs.BlockRuns.{run-goes}
+use Rattle.zone_marks.proofs.Cited.{◌∙◌, ◌-◌, ◌+◌, ap, arith, sym, spared, told-size, told-sizes, run_purges_for, goes-size, run-goes}
+use Rattle.block_store.proofs.Walks.Telling.{told}
 use Rattle.zone_marks.proofs.fewest.count_in_run.Goals as goal
 
 pub loop-left-preserved-then-may_purge_now : goal.loop-left-preserved-then-may_purge_now

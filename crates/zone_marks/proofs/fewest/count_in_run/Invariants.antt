@@ -1,7 +1,4 @@
-use Rattle.std.proofs.Common.{◌≡◌, ◌+◌, ◌≤◌, length}
-use Rattle.block_store.specs.Block.{sizes}
-use Rattle.block_store.specs.Sparing.{spared}
-use Rattle.zone_summary.specs.Fewest.{run_purges_for}
+use Rattle.zone_marks.proofs.Cited.{◌≡◌, ◌+◌, ◌≤◌, length, sizes, spared, run_purges_for}
 use Rattle.zone_marks.proofs.fewest.count_in_run.Given as goal
 
 -- those so far, and those of what is still to come

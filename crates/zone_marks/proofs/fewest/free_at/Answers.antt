@@ -1,4 +1,4 @@
-use Rattle.std.proofs.Common.{arith}
+use Rattle.zone_marks.proofs.Cited.{arith}
 use Rattle.zone_marks.proofs.fewest.free_at.Goals as goal
 
 pub returns-then-frees_one : goal.returns-then-frees_one

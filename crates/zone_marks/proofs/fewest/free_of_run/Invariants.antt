@@ -1,7 +1,4 @@
-use Rattle.std.proofs.Common.{◌≡◌, ◌+◌, ◌≤◌, length}
-use Rattle.block_store.specs.Block.{sizes}
-use Rattle.block_store.specs.Sparing.{opened}
-use Rattle.zone_summary.specs.Stretches.{prefix, stretch_of}
+use Rattle.zone_marks.proofs.Cited.{◌≡◌, ◌+◌, ◌≤◌, length, sizes, opened, prefix, stretch_of}
 use Rattle.zone_marks.proofs.fewest.free_of_run.Given as goal
 
 -- the free bytes so far, and those of the rest of the run

@@ -1,6 +1,4 @@
-use Rattle.block_store.specs.declared.measures.TheConstants.{GREATEST_ZONE}
-use Rattle.zone_bytes.specs.Decode.{zone_in}
-use Rattle.zone_summary.proofs.Fewest.{purged-most}
+use Rattle.zone_marks.proofs.Cited.{GREATEST_ZONE, zone_in, purged-most}
 use Rattle.zone_marks.proofs.Bounds.Fewest.{most-fits}
 use Rattle.zone_marks.proofs.Marks.Passing.{begins-here}
 use Rattle.zone_marks.proofs.Searches.RunStarting.{found-lowest, reached-lowest}

@@ -1,8 +1,4 @@
-use Rattle.std.proofs.Common.{◌≡◌, ◌+◌, ◌≤◌, ◌<◌, ◌^◌, length}
-use Rattle.block_store.specs.Block.{sizes}
-use Rattle.block_store.specs.Inner.RunScan.{scan_from}
-use Rattle.block_store.specs.Sparing.{opened, spared}
-use Rattle.zone_bytes.specs.Stepping.{left_in}
+use Rattle.zone_marks.proofs.Cited.{◌≡◌, ◌+◌, ◌≤◌, ◌<◌, ◌^◌, length, sizes, scan_from, opened, spared, left_in}
 use Rattle.zone_marks.proofs.finding_runs.search_on.Given as goal
 
 -- the search through what is still to come gives the place

@@ -1,5 +1,4 @@
-use Rattle.std.proofs.Common.{arith}
-use Rattle.zone_marks.specs.Marks.{no_mark}
+use Rattle.zone_marks.proofs.Cited.{arith, no_mark}
 use Rattle.zone_marks.proofs.Bounds.Space.{left-largest, no-more-room}
 use Rattle.zone_marks.proofs.Marks.Lowering.{begins-way, mark-begins, mark-first}
 use Rattle.zone_marks.proofs.Marks.Rooms.{bound-room, none-further, none-group, none-next}

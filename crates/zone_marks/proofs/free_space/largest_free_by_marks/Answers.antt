@@ -1,7 +1,6 @@
-use Rattle.std.proofs.Common.{arith}
+use Rattle.zone_marks.proofs.Cited.{arith, left-zone, on-way}
 use Rattle.zone_marks.proofs.Bounds.Space.{zone-largest}
 use Rattle.zone_marks.proofs.Marks.Rooms.{bound-room, none-past}
-use Rattle.zone_bytes.proofs.Places.AtPlace.{left-zone, on-way}
 use Rattle.zone_marks.proofs.free_space.largest_free_by_marks.Goals as goal
 
 pub measure_up_to-largest-requires : goal.measure_up_to-largest-requires

@@ -1,6 +1,4 @@
-use Rattle.std.proofs.Common.{◌≡◌, ◌+◌, arith, rules}
-use Rattle.block_store.specs.Block.{size}
-use Rattle.zone_bytes.specs.Joining.{Freeing, MayRelease}
+use Rattle.zone_marks.proofs.Cited.{◌≡◌, ◌+◌, arith, rules, size, Freeing, MayRelease}
 use Rattle.zone_marks.proofs.Joined.Released.{leads-up, stop-way, stop-more, freed-replaced, here-read, lower, may-free}
 use Rattle.zone_marks.proofs.Joined.Released.{may-free-two, released-one, released-two}
 use Rattle.zone_marks.proofs.freeing.free_block.Goals.{After-free_up-end, then-more-gt0, else-more-gt0}

@@ -1,10 +1,6 @@
-use Rattle.std.proofs.Common.{sym, ap, ◌∙◌, subst, arith, rules}
-use Rattle.block_store.specs.Block.{free_sum}
-use Rattle.zone_marks.specs.Marked.{AreOf}
+use Rattle.zone_marks.proofs.Cited.{sym, ap, ◌∙◌, subst, arith, rules, free_sum, AreOf, Lays, handle-fits, leads, emptied-is, leading}
+use Rattle.zone_marks.proofs.Cited.{may-release, leading-is, leading-free, leading-replaced}
 use Rattle.zone_marks.proofs.Marks.Keeping.{same-replaced}
-use Rattle.zone_bytes.specs.Table.{Lays}
-use Rattle.zone_bytes.proofs.Joined.ByName.{handle-fits, leads, emptied-is, leading, may-release, leading-is}
-use Rattle.zone_bytes.proofs.Joined.ByName.{leading-free, leading-replaced}
 use Rattle.zone_marks.proofs.freeing.free_slot.Goals as goal
 
 pub read_word-word-requires : goal.read_word-word-requires

@@ -1,12 +1,5 @@
-use Rattle.std.proofs.Common.{◌≡◌, ◌+◌, sym, ap, ◌∙◌, arith}
-use Rattle.block_headers.specs.Headers.{tag_number}
-use Rattle.block_store.specs.Block.{size}
-use Rattle.zone_bytes.specs.Joining.{Freeing, MayFree}
-use Rattle.zone_bytes.specs.Layout.{kind}
-use Rattle.zone_bytes.specs.Table.{empty_word}
-use Rattle.zone_bytes.proofs.Tiles.Tags.{tag-true, tag-small}
-use Rattle.zone_bytes.proofs.Joined.Freed.{here-read, may-make, other-lays, slot-fits, slot-lays, led}
-use Rattle.zone_bytes.proofs.SlotTable.Handles.{empty-number}
+use Rattle.zone_marks.proofs.Cited.{◌≡◌, ◌+◌, sym, ap, ◌∙◌, arith, tag_number, size, Freeing, MayFree, kind, empty_word, tag-true}
+use Rattle.zone_marks.proofs.Cited.{tag-small, here-read, may-make, other-lays, slot-fits, slot-lays, led, empty-number}
 use Rattle.zone_marks.proofs.freeing.free_up.Goals.{After-read_header-header}
 use Rattle.zone_marks.proofs.freeing.free_up.Goals as goal
 

@@ -1,5 +1,4 @@
-use Rattle.std.proofs.Common.{ap, ◌∙◌}
-use Rattle.block_store.specs.Sparing.{most_purges}
+use Rattle.zone_marks.proofs.Cited.{ap, ◌∙◌, most_purges}
 use Rattle.zone_marks.proofs.Bounds.Going.{count-from}
 use Rattle.zone_marks.proofs.going.count_purgeable.Goals as goal
 

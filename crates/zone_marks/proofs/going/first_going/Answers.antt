@@ -1,4 +1,4 @@
-use Rattle.std.proofs.Common.{sym, ◌∙◌, rules}
+use Rattle.zone_marks.proofs.Cited.{sym, ◌∙◌, rules}
 use Rattle.zone_marks.proofs.Bounds.Going.{all-stay, passed-stays}
 use Rattle.zone_marks.proofs.going.first_going.Goals as goal
 

@@ -1,5 +1,4 @@
-use Rattle.std.proofs.Common.{◌-◌, ◌≡◌, false}
-use Rattle.block_store.specs.Block.{is_purgeable}
+use Rattle.zone_marks.proofs.Cited.{◌-◌, ◌≡◌, false, is_purgeable}
 use Rattle.zone_marks.proofs.Marks.Passing.{Passed}
 use Rattle.zone_marks.proofs.going.first_going.Given as goal
 

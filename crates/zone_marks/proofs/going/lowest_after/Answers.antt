@@ -1,11 +1,6 @@
-use Rattle.std.proofs.Common.{List, arith, rules}
-use Rattle.block_store.specs.Block.{Block}
-use Rattle.zone_bytes.specs.Decode.{zone_in}
-use Rattle.zone_bytes.specs.Changes.{AtEach, Replaced}
-use Rattle.zone_marks.specs.Purgeable.{Stays}
+use Rattle.zone_marks.proofs.Cited.{List, arith, rules, Block, zone_in, AtEach, Replaced, Stays, left-above, way-above}
 use Rattle.zone_marks.proofs.Bounds.Going.{stays-lower, stays-replaced, stays-under, stays-whole}
 use Rattle.zone_marks.proofs.Marks.Passing.{at-left}
-use Rattle.zone_bytes.proofs.Places.AtPlace.{left-above, way-above}
 use Rattle.zone_marks.proofs.going.lowest_after.Goals.{After-first_going-found}
 use Rattle.zone_marks.proofs.going.lowest_after.Goals as goal
 

@@ -1,4 +1,4 @@
-use Rattle.std.proofs.Common.{arith}
+use Rattle.zone_marks.proofs.Cited.{arith}
 use Rattle.zone_marks.proofs.Bounds.Going.{next-fits, next-none, next-some}
 use Rattle.zone_marks.proofs.going.next_purgeable.Goals as goal
 

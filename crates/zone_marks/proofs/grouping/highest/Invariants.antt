@@ -1,5 +1,4 @@
-use Rattle.std.proofs.Common.{◌≤◌, ◌<◌, ℕ, get_or}
-use Rattle.zone_marks.specs.Marks.{no_mark}
+use Rattle.zone_marks.proofs.Cited.{◌≤◌, ◌<◌, ℕ, get_or, no_mark}
 use Rattle.zone_marks.proofs.grouping.highest.Given as goal
 
 abbrev pub invariant-loop-mark : goal.invariant-loop-mark

@@ -1,6 +1,4 @@
-use Rattle.std.proofs.Common.{ap, sym, ◌∙◌, arith}
-use Rattle.zone_marks.specs.Marks.{known_load}
-use Rattle.zone_summary.proofs.Sums.{ends-load}
+use Rattle.zone_marks.proofs.Cited.{ap, sym, ◌∙◌, arith, known_load, ends-load}
 use Rattle.zone_marks.proofs.Marks.Tallies.{loads-fit, tally_of-more, tally_of-unknown}
 use Rattle.zone_marks.proofs.grouping.joined.Goals as goal
 

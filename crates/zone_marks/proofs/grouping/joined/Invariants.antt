@@ -1,5 +1,4 @@
-use Rattle.std.proofs.Common.{◌≡◌, take}
-use Rattle.zone_marks.specs.Marks.{tally_of}
+use Rattle.zone_marks.proofs.Cited.{◌≡◌, take, tally_of}
 use Rattle.zone_marks.specs.declared.landmark.Tally.TheVariants as tally
 use Rattle.zone_marks.proofs.grouping.joined.Given as goal
 

@@ -1,4 +1,4 @@
-use Rattle.std.proofs.Common.{rules}
+use Rattle.zone_marks.proofs.Cited.{rules}
 use Rattle.zone_marks.proofs.Marks.Groups.{group-raised}
 use Rattle.zone_marks.proofs.grouping.raise_group.Goals as goal
 

@@ -1,5 +1,4 @@
-use Rattle.std.proofs.Common.{◌≡◌, length}
-use Rattle.zone_marks.specs.Marks.{AreGroups}
+use Rattle.zone_marks.proofs.Cited.{◌≡◌, length, AreGroups}
 use Rattle.zone_marks.proofs.grouping.renew_groups.Given as goal
 
 abbrev pub invariant-loop-group : goal.invariant-loop-group

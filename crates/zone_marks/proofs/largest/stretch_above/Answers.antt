@@ -1,12 +1,6 @@
-use Rattle.std.proofs.Common.{drop, ◌≡◌, ◌∙◌, ap, arith, sym}
-use Rattle.std.proofs.lemmas.List.{drop_all}
+use Rattle.zone_marks.proofs.Cited.{drop, ◌≡◌, ◌∙◌, ap, arith, sym, drop_all, join, prefix, stretch_by, counted-none, join-unit_right}
+use Rattle.zone_marks.proofs.Cited.{ends-load, IsStretch, place_at, left_in, left-none}
 use Rattle.zone_marks.specs.declared.landmark.Tally.TheVariants as tally
-use Rattle.zone_summary.specs.Stretches.{join, prefix, stretch_by}
-use Rattle.zone_summary.proofs.Monoid.{counted-none, join-unit_right}
-use Rattle.zone_summary.proofs.Sums.{ends-load}
-use Rattle.zone_marks.specs.Searching.{IsStretch, place_at}
-use Rattle.zone_bytes.specs.Stepping.{left_in}
-use Rattle.zone_bytes.proofs.Places.Stepped.{left-none}
 use Rattle.zone_marks.proofs.Bounds.Fewest.{known-fits, known-past}
 use Rattle.zone_marks.proofs.Marks.Lowering.{begins-way, marks-parted}
 use Rattle.zone_marks.proofs.Searches.Pieces.{edge-within, stretch-before, stretch-more}

@@ -1,5 +1,4 @@
-use Rattle.std.proofs.Common.{◌-◌, length}
-use Rattle.zone_marks.specs.Searching.{IsStretch, place_at}
+use Rattle.zone_marks.proofs.Cited.{◌-◌, length, IsStretch, place_at}
 use Rattle.zone_marks.specs.declared.landmark.Tally.TheVariants as tally
 use Rattle.zone_marks.proofs.largest.stretch_above.Given as goal
 

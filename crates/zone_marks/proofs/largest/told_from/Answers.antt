@@ -1,4 +1,4 @@
-use Rattle.std.proofs.Common.{arith}
+use Rattle.zone_marks.proofs.Cited.{arith}
 use Rattle.zone_marks.proofs.Searches.Pieces.{group-stretch, next-stretch}
 use Rattle.zone_marks.proofs.largest.told_from.Goals as goal
 

@@ -1,8 +1,7 @@
-use Rattle.std.proofs.Common.{arith, rules}
+use Rattle.zone_marks.proofs.Cited.{arith, rules, Runs, Spaces}
 use Rattle.zone_marks.proofs.Bounds.Fewest.{stretch-from}
 use Rattle.zone_marks.proofs.Marks.Lowering.{begins-way}
 use Rattle.zone_marks.specs.declared.landmark.Tally.TheVariants as tally
-use Rattle.zone_summary.specs.declared.stretch.Counting.TheVariants.{Runs, Spaces}
 use Rattle.zone_marks.proofs.largest.walked_between.Goals as goal
 
 pub measure_up_to-requires : goal.measure_up_to-requires

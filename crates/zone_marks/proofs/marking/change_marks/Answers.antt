@@ -1,4 +1,4 @@
-use Rattle.std.proofs.Common.{inl, inr, arith}
+use Rattle.zone_marks.proofs.Cited.{inl, inr, arith}
 use Rattle.zone_marks.proofs.Marks.Lowering.{changing-start, changing-step, changing-done, last-mark}
 use Rattle.zone_marks.proofs.marking.change_marks.Goals as goal
 

@@ -1,5 +1,4 @@
-use Rattle.zone_bytes.specs.Decode.{zone_in}
-use Rattle.zone_marks.specs.Marks.{AreGroups}
+use Rattle.zone_marks.proofs.Cited.{zone_in, AreGroups}
 use Rattle.zone_marks.proofs.Marks.Lowering.{Changing}
 use Rattle.zone_marks.proofs.marking.change_marks.Given as goal
 

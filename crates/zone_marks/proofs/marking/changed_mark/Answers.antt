@@ -1,4 +1,4 @@
-use Rattle.std.proofs.Common.{inl, inr, arith}
+use Rattle.zone_marks.proofs.Cited.{inl, inr, arith}
 use Rattle.zone_marks.proofs.Marks.Lowering.{begins-lowered, lowered-order, mark-apart, mark-lowered, told-unknown}
 use Rattle.zone_marks.proofs.marking.changed_mark.Goals as goal
 

@@ -1,7 +1,4 @@
-use Rattle.std.proofs.Common.{◌≡◌, ◌+◌, ◌*◌, subst, arith, rules}
-use Rattle.zone_bytes.specs.Decode.{zone_in}
-use Rattle.zone_marks.specs.Marks.{NoneBelow}
-use Rattle.zone_marks.specs.declared.landmark.TheConstants.{GROUP}
+use Rattle.zone_marks.proofs.Cited.{◌≡◌, ◌+◌, ◌*◌, subst, arith, rules, zone_in, NoneBelow, GROUP}
 use Rattle.zone_marks.proofs.Marks.Passing.{begins-here}
 use Rattle.zone_marks.proofs.Marks.Rooms.{nothing-below, none-found, none-past, none-group}
 use Rattle.zone_marks.proofs.marking.find_by_marks.Goals as goal

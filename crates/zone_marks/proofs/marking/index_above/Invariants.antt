@@ -1,5 +1,4 @@
-use Rattle.std.proofs.Common.{◌≤◌, ◌<◌, ◌-◌, length, drop, get_or}
-use Rattle.zone_marks.specs.Marks.{next_of, no_mark, above_all}
+use Rattle.zone_marks.proofs.Cited.{◌≤◌, ◌<◌, ◌-◌, length, drop, get_or, next_of, no_mark, above_all}
 use Rattle.zone_marks.proofs.marking.index_above.Given as goal
 
 abbrev pub invariant-loop-low : goal.invariant-loop-low

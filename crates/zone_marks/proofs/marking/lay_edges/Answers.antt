@@ -1,6 +1,4 @@
-use Rattle.std.proofs.Common.{◌+◌, ◌<◌, inl, inr, length, length-set, subst, sym, arith}
-use Rattle.zone_bytes.specs.Decode.{zone_in}
-use Rattle.zone_bytes.specs.Changes.{Begins}
+use Rattle.zone_marks.proofs.Cited.{◌+◌, ◌<◌, inl, inr, length, length-set, subst, sym, arith, zone_in, Begins}
 use Rattle.zone_marks.proofs.Marks.Edges.{edge-begins, edge-bare, either-is, laid-next}
 use Rattle.zone_marks.proofs.marking.lay_edges.Goals as goal
 

@@ -1,4 +1,4 @@
-use Rattle.std.proofs.Common.{length-set, refl, ◌∙◌, arith}
+use Rattle.zone_marks.proofs.Cited.{length-set, refl, ◌∙◌, arith}
 use Rattle.zone_marks.proofs.Marks.Lowering.{begins-way, begins-further, mark-measured, marks-whole, mark-first}
 use Rattle.zone_marks.proofs.Marks.Edges.{laid-next}
 use Rattle.zone_marks.proofs.marking.lay_marks.Goals as goal

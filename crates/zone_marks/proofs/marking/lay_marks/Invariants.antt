@@ -1,7 +1,4 @@
-use Rattle.std.proofs.Common.{◌≡◌, length}
-use Rattle.zone_bytes.specs.Decode.{zone_in}
-use Rattle.zone_marks.specs.LaidMarks.{AreLaid}
-use Rattle.zone_marks.specs.Marks.{AreGroups}
+use Rattle.zone_marks.proofs.Cited.{◌≡◌, length, zone_in, AreLaid, AreGroups}
 use Rattle.zone_marks.proofs.marking.lay_marks.Given as goal
 
 abbrev pub invariant-loop-index : goal.invariant-loop-index

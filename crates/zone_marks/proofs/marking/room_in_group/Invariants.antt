@@ -1,5 +1,4 @@
-use Rattle.zone_bytes.specs.Decode.{zone_in}
-use Rattle.zone_marks.specs.Marks.{NoneBelow}
+use Rattle.zone_marks.proofs.Cited.{zone_in, NoneBelow}
 use Rattle.zone_marks.proofs.marking.room_in_group.Given as goal
 
 abbrev pub invariant-loop-index : goal.invariant-loop-index

@@ -1,4 +1,4 @@
-use Rattle.std.proofs.Common.{rules}
+use Rattle.zone_marks.proofs.Cited.{rules}
 use Rattle.zone_marks.proofs.Marks.Lowering.{begins-way}
 use Rattle.zone_marks.proofs.Marks.Rooms.{none-whole, none-further, lowest-found, if-none, if-three}
 use Rattle.zone_marks.proofs.marking.room_in_stretch.Goals as goal

@@ -1,10 +1,4 @@
-use Rattle.std.proofs.Common.{◌≤◌, ◌<◌, ◌∙◌, ap, sym, arith, rules}
-use Rattle.block_store.specs.Block.{free_of}
-use Rattle.block_store.specs.Compact.{largest_free}
-use Rattle.block_store.proofs.Zone.Listing.{free_of-le}
-use Rattle.zone_summary.specs.Stretches.{prefix}
-use Rattle.zone_summary.specs.declared.stretch.Counting.TheVariants.{Runs}
-use Rattle.zone_summary.proofs.Monoid.{join-unit_right}
+use Rattle.zone_marks.proofs.Cited.{◌≤◌, ◌<◌, ◌∙◌, ap, sym, arith, rules, free_of, largest_free, free_of-le, prefix, Runs, join-unit_right}
 use Rattle.zone_marks.proofs.Marks.Counting.{measured-below, measured-edge, prefix-counted, walked-few, walked-start}
 use Rattle.zone_marks.proofs.Marks.Counting.{walked-step}
 use Rattle.zone_marks.proofs.Marks.Passing.{begins-here, begins-right}

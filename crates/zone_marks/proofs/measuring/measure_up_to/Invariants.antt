@@ -1,8 +1,4 @@
-use Rattle.std.proofs.Common.{max, ◌-◌, ◌≤◌, ◌<◌}
-use Rattle.block_store.specs.Block.{free_of}
-use Rattle.block_store.specs.Compact.{largest_free}
-use Rattle.zone_bytes.specs.Stepping.{left_in}
-use Rattle.zone_summary.specs.declared.stretch.Counting.TheVariants.{Runs}
+use Rattle.zone_marks.proofs.Cited.{max, ◌-◌, ◌≤◌, ◌<◌, free_of, largest_free, left_in, Runs}
 use Rattle.zone_marks.proofs.Marks.Counting.{Walked}
 use Rattle.zone_marks.proofs.measuring.measure_up_to.Given as goal
 

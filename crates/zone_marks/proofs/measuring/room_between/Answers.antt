@@ -1,5 +1,4 @@
-use Rattle.std.proofs.Common.{◌≡◌, false, inl, arith, rules}
-use Rattle.block_store.specs.Block.{is_room}
+use Rattle.zone_marks.proofs.Cited.{◌≡◌, false, inl, arith, rules, is_room}
 use Rattle.zone_marks.proofs.Marks.Passing.{passed-on, passed-all, begins-here, begins-right}
 use Rattle.zone_marks.proofs.measuring.room_between.Goals as goal
 use Rattle.zone_marks.proofs.measuring.room_between.Goals.{else-span-gt0-via-then-span-gt0+else-bytes-span}

@@ -1,5 +1,4 @@
-use Rattle.std.proofs.Common.{◌-◌, ◌≡◌, false}
-use Rattle.block_store.specs.Block.{is_room}
+use Rattle.zone_marks.proofs.Cited.{◌-◌, ◌≡◌, false, is_room}
 use Rattle.zone_marks.proofs.Marks.Passing.{Passed}
 use Rattle.zone_marks.proofs.measuring.room_between.Given as goal
 

@@ -1,6 +1,4 @@
-use Rattle.std.proofs.Common.{◌<◌, ◌∙◌, sym, arith}
-use Rattle.zone_summary.specs.declared.stretch.Counting.TheVariants.{Spaces}
-use Rattle.zone_summary.proofs.Monoid.{join-unit_right}
+use Rattle.zone_marks.proofs.Cited.{◌<◌, ◌∙◌, sym, arith, Spaces, join-unit_right}
 use Rattle.zone_marks.proofs.Marks.Counting.{prefix-counted, walked-below, walked-few, walked-start, walked-step}
 use Rattle.zone_marks.proofs.measuring.spaces_up_to.Goals as goal
 

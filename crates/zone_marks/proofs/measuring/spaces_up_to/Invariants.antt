@@ -1,5 +1,4 @@
-use Rattle.std.proofs.Common.{◌-◌, ◌<◌}
-use Rattle.zone_summary.specs.declared.stretch.Counting.TheVariants.{Spaces}
+use Rattle.zone_marks.proofs.Cited.{◌-◌, ◌<◌, Spaces}
 use Rattle.zone_marks.proofs.Marks.Counting.{Walked}
 use Rattle.zone_marks.proofs.measuring.spaces_up_to.Given as goal
 

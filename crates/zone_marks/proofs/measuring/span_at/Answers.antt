@@ -1,5 +1,4 @@
-use Rattle.std.proofs.Common.{◌-◌, ◌%◌, arith}
-use Rattle.zone_bytes.proofs.Places.Stepped.{next-header, stepped}
+use Rattle.zone_marks.proofs.Cited.{◌-◌, ◌%◌, arith, next-header, stepped}
 use Rattle.zone_marks.proofs.Marks.Spanned.{span-made}
 use Rattle.zone_marks.proofs.measuring.span_at.Goals as goal
 

@@ -1,5 +1,4 @@
-use Rattle.std.proofs.Common.{ap, arith}
-use Rattle.block_store.specs.Block.{sizes}
+use Rattle.zone_marks.proofs.Cited.{ap, arith, sizes}
 use Rattle.zone_marks.proofs.Marks.Lowering.{begins-way}
 use Rattle.zone_marks.proofs.Searches.Pieces.{left-long}
 use Rattle.zone_marks.proofs.measuring.walk_at.Goals as goal

@@ -1,6 +1,4 @@
-use Rattle.std.proofs.Common.{◌≡◌, ◌+◌, ◌≤◌, length}
-use Rattle.block_store.specs.Block.{sizes}
-use Rattle.zone_bytes.specs.PurgeableBytes.{purgeable_sum}
+use Rattle.zone_marks.proofs.Cited.{◌≡◌, ◌+◌, ◌≤◌, length, sizes, purgeable_sum}
 use Rattle.zone_marks.proofs.purgeable.purgeable_bytes_in.Given as goal
 
 -- those so far, and those of what is still to come

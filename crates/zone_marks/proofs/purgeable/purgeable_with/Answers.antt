@@ -1,7 +1,4 @@
-use Rattle.std.proofs.Common.{arith, rules}
-use Rattle.zone_bytes.specs.Decode.{zone_in}
-use Rattle.zone_bytes.proofs.Bounds.Given.{given-became, given-small}
-use Rattle.zone_bytes.proofs.Places.Became.{became-inside, became-left, became-way}
+use Rattle.zone_marks.proofs.Cited.{arith, rules, zone_in, given-became, given-small, became-inside, became-left, became-way}
 use Rattle.zone_marks.proofs.purgeable.purgeable_with.Goals as goal
 
 pub overflow_sub-result : goal.overflow_sub-result

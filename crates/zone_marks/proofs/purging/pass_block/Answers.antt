@@ -1,9 +1,4 @@
-use Rattle.std.proofs.Common.{◌≡◌, ◌+◌, ◌-◌, sym, ◌∙◌, arith}
-use Rattle.block_store.specs.Inner.Purging.{left_past}
-use Rattle.block_store.specs.Inner.Stretch.{opened_block}
-use Rattle.block_store.specs.Sparing.{spared}
-use Rattle.block_store.proofs.Zone.Listing.{free_of-le}
-use Rattle.zone_marks.specs.Purging.{Purge, Purging}
+use Rattle.zone_marks.proofs.Cited.{◌≡◌, ◌+◌, ◌-◌, sym, ◌∙◌, arith, left_past, opened_block, spared, free_of-le, Purge, Purging}
 use Rattle.zone_marks.proofs.Joined.Passing.{pass-way, next, freed-fits, freeing, may-free, freed-next, kept-next}
 use Rattle.zone_marks.proofs.purging.pass_block.Goals.{After-free_of_seen, After-left_after}
 use Rattle.zone_marks.proofs.purging.pass_block.Goals as goal

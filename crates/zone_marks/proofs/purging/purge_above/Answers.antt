@@ -1,6 +1,4 @@
-use Rattle.std.proofs.Common.{◌-◌, arith}
-use Rattle.zone_bytes.specs.Joining.{Freeing}
-use Rattle.zone_marks.specs.Purging.{Purging, MayPurge, purge_above}
+use Rattle.zone_marks.proofs.Cited.{◌-◌, arith, Freeing, Purging, MayPurge, purge_above}
 use Rattle.zone_marks.proofs.Joined.PurgeStarts.{place-read, place-way, above-start}
 use Rattle.zone_marks.proofs.purging.purge_above.Goals.{After-without_freed}
 use Rattle.zone_marks.proofs.purging.purge_above.Goals as goal

@@ -1,4 +1,4 @@
-use Rattle.std.proofs.Common.{arith, rules}
+use Rattle.zone_marks.proofs.Cited.{arith, rules}
 use Rattle.zone_marks.proofs.Joined.Passing.{purged, stopped}
 use Rattle.zone_marks.proofs.purging.purge_from.Goals as goal
 

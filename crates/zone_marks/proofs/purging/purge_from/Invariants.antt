@@ -1,6 +1,4 @@
-use Rattle.std.proofs.Common.{◌-◌}
-use Rattle.zone_bytes.specs.Beside.{KeepsPlace}
-use Rattle.zone_marks.specs.Purging.{Purge, Purging}
+use Rattle.zone_marks.proofs.Cited.{◌-◌, KeepsPlace, Purge, Purging}
 use Rattle.zone_marks.proofs.purging.purge_from.Given as goal
 
 abbrev pub invariant-loop-pass : goal.invariant-loop-pass

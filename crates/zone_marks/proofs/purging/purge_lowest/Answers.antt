@@ -1,9 +1,6 @@
-use Rattle.std.proofs.Common.{arith, refl, subst}
-use Rattle.zone_bytes.specs.Decode.{zone_in}
-use Rattle.zone_marks.specs.Purging.{purge_zone}
+use Rattle.zone_marks.proofs.Cited.{arith, refl, subst, zone_in, purge_zone, Begins}
 use Rattle.zone_marks.proofs.Joined.PurgeStarts.{all-start, going-is, may-go, lowest-start}
 use Rattle.zone_marks.proofs.Joined.Released.{leads-up, here-read}
-use Rattle.zone_bytes.specs.Changes.{Begins}
 use Rattle.zone_marks.proofs.purging.purge_lowest.Goals as goal
 
 pub purge_from-requires : goal.purge_from-requires

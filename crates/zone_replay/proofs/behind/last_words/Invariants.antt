@@ -1,5 +1,4 @@
-use Rattle.std.proofs.Common.{◌≡◌, drop, []}
-use Rattle.zone_replay.specs.Behind.{last_words}
+use Rattle.zone_replay.proofs.Cited.{◌≡◌, drop, [], last_words}
 use Rattle.zone_replay.proofs.behind.last_words.Given as goal
 
 -- the words so far, and what is still to be read

@@ -1,8 +1,4 @@
-use Rattle.std.proofs.Common.{◌∙◌, ◌++◌, ap, take}
-use Rattle.block_store.specs.Block.{sizes}
-use Rattle.script_text.specs.declared.script.Line.{Line}
-use Rattle.script_text.specs.Transcript.{launch_line}
-use Rattle.applications.proofs.Quits.{launched-lies}
+use Rattle.zone_replay.proofs.Cited.{◌∙◌, ◌++◌, ap, take, sizes, Line, launch_line, launched-lies}
 use Rattle.zone_replay.proofs.Forms.{shown-alone}
 use Rattle.zone_replay.proofs.behind.show_behind.Goals as goal
 

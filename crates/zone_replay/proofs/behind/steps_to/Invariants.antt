@@ -1,5 +1,4 @@
-use Rattle.std.proofs.Common.{◌≡◌, ◌+◌, ◌≤◌, drop}
-use Rattle.zone_replay.specs.Behind.{steps_to}
+use Rattle.zone_replay.proofs.Cited.{◌≡◌, ◌+◌, ◌≤◌, drop, steps_to}
 use Rattle.zone_replay.proofs.behind.steps_to.Given as goal
 
 -- the steps so far, and those among the lines that are still to come, are all

@@ -1,7 +1,4 @@
-use Rattle.std.proofs.Common.{◌≡◌, ◌++◌, map}
-use Rattle.zone_drawing.specs.View.{view_moment}
-use Rattle.transcript_words.specs.View.{view_lines}
-use Rattle.zone_replay.specs.Inside.{in_words, view_try}
+use Rattle.zone_replay.proofs.Cited.{◌≡◌, ◌++◌, map, view_moment, view_lines, in_words, view_try}
 use Rattle.zone_replay.proofs.inside.all_in_words.Given as goal
 
 -- the moments so far, with those that are still to come

@@ -1,6 +1,4 @@
-use Rattle.std.proofs.Common.{◌∙◌, ◌++◌, None}
-use Rattle.script_text.specs.Transcript.{values_of}
-use Rattle.zone_replay.specs.Inside.{try_line}
+use Rattle.zone_replay.proofs.Cited.{◌∙◌, ◌++◌, None, values_of, try_line}
 use Rattle.zone_replay.proofs.Glancing.{glanced, no-values}
 use Rattle.zone_replay.proofs.inside.glance_line.Goals as goal
 

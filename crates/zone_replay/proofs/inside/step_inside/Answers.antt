@@ -1,13 +1,5 @@
-use Rattle.std.proofs.Common.{◌≡◌, ◌∙◌, ◌++◌, List, [], ap, map}
-use Rattle.applications.specs.Application.{lines_told}
-use Rattle.applications.specs.Inside.{glances}
-use Rattle.applications.specs.Step.{Course, step}
-use Rattle.zone_drawing.specs.Inside.{added_with, inside}
-use Rattle.zone_drawing.specs.View.{view_moment}
-use Rattle.transcript_words.specs.View.{view_lines}
-use Rattle.transcript_words.specs.Words.{call_words}
-use Rattle.zone_replay.specs.Inside.{in_words, view_try}
-use Rattle.zone_replay.specs.Moments.{moment}
+use Rattle.zone_replay.proofs.Cited.{◌≡◌, ◌∙◌, ◌++◌, List, [], ap, map, lines_told, glances, Course, step, added_with, inside, view_moment}
+use Rattle.zone_replay.proofs.Cited.{view_lines, call_words, in_words, view_try, moment}
 use Rattle.zone_replay.proofs.Glancing.{seen_words}
 use Rattle.zone_replay.proofs.inside.step_inside.Goals as goal
 

@@ -1,7 +1,4 @@
-use Rattle.std.proofs.Common.{◌∙◌, ◌+◌, arith, drop, map, sym}
-use Rattle.mac_words.proofs.Plain.{rest-next}
-use Rattle.zone_drawing.specs.View.{view_moment}
-use Rattle.transcript_words.specs.View.{view_lines}
+use Rattle.zone_replay.proofs.Cited.{◌∙◌, ◌+◌, arith, drop, map, sym, rest-next, view_moment, view_lines}
 use Rattle.zone_replay.proofs.Glancing.{inside-ends, inside-goes-on}
 use Rattle.zone_replay.proofs.inside.take_inside.Goals as goal
 

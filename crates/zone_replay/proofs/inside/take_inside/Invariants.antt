@@ -1,7 +1,4 @@
-use Rattle.std.proofs.Common.{◌≡◌, drop, map}
-use Rattle.zone_drawing.specs.View.{view_moment}
-use Rattle.transcript_words.specs.View.{view_lines}
-use Rattle.zone_replay.specs.Inside.{gathered_inside}
+use Rattle.zone_replay.proofs.Cited.{◌≡◌, drop, map, view_moment, view_lines, gathered_inside}
 use Rattle.zone_replay.proofs.inside.take_inside.Given as goal
 
 -- the moments so far, with those that are still to come; and the partition lies where it lay

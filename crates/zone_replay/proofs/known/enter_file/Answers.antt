@@ -1,6 +1,4 @@
-use Rattle.std.specs.BTreeMap.{get}
-use Rattle.std.specs.Ordering.{nat_cmp}
-use Rattle.res_map.specs.View.{view_lent}
+use Rattle.zone_replay.proofs.Cited.{get, nat_cmp, view_lent}
 use Rattle.zone_replay.proofs.Entering.{one-more-owned}
 use Rattle.zone_replay.proofs.known.enter_file.Goals as goal
 

@@ -1,9 +1,4 @@
-use Rattle.std.proofs.Common.{◌≡◌, ℕ, None, drop}
-use Rattle.std.specs.BTreeMap.{get}
-use Rattle.std.specs.Option.{option_or}
-use Rattle.std.specs.Ordering.{nat_cmp}
-use Rattle.heap_calls.specs.Inner.Numbered.{no_number}
-use Rattle.zone_replay.specs.Known.{owner_in}
+use Rattle.zone_replay.proofs.Cited.{◌≡◌, ℕ, None, drop, get, option_or, nat_cmp, no_number, owner_in}
 use Rattle.zone_replay.proofs.known.enter_file.Given as goal
 
 -- what was entered, before what is still to come

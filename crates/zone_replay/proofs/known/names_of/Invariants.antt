@@ -1,9 +1,4 @@
-use Rattle.std.proofs.Common.{◌≡◌, ℕ, None, map, drop}
-use Rattle.std.specs.BTreeMap.{get}
-use Rattle.std.specs.Ordering.{nat_cmp}
-use Rattle.heap_calls.specs.Inner.Numbered.{no_number}
-use Rattle.applications.specs.Names.{lent_binding}
-use Rattle.zone_replay.specs.Known.{first_of, name_of, named_by}
+use Rattle.zone_replay.proofs.Cited.{◌≡◌, ℕ, None, map, drop, get, nat_cmp, no_number, lent_binding, first_of, name_of, named_by}
 use Rattle.zone_replay.proofs.known.names_of.Given as goal
 
 -- the first of what was entered and of what is still to come

@@ -1,10 +1,4 @@
-use Rattle.std.proofs.Common.{◌≡◌, ℕ, None, map, drop}
-use Rattle.std.specs.BTreeMap.{get}
-use Rattle.std.specs.Option.{option_or}
-use Rattle.std.specs.Ordering.{nat_cmp}
-use Rattle.heap_calls.specs.Inner.Numbered.{no_number}
-use Rattle.res_calls.specs.View.{view_open}
-use Rattle.zone_replay.specs.Known.{owner_of}
+use Rattle.zone_replay.proofs.Cited.{◌≡◌, ℕ, None, map, drop, get, option_or, nat_cmp, no_number, view_open, owner_of}
 use Rattle.zone_replay.proofs.known.owners_of.Given as goal
 
 -- what was entered, before what is still to come

@@ -1,9 +1,4 @@
-use Rattle.std.proofs.Common.{◌∙◌, ◌++◌, ap, take}
-use Rattle.block_store.specs.Block.{sizes}
-use Rattle.script_text.specs.declared.script.Line.{Line}
-use Rattle.script_text.specs.Transcript.{launch_line}
-use Rattle.applications.proofs.Quits.{launched-lies}
-use Rattle.transcript_words.specs.View.{view_lines}
+use Rattle.zone_replay.proofs.Cited.{◌∙◌, ◌++◌, ap, take, sizes, Line, launch_line, launched-lies, view_lines}
 use Rattle.zone_replay.proofs.Following.{moments-alone}
 use Rattle.zone_replay.proofs.moments.show_moments.Goals as goal
 

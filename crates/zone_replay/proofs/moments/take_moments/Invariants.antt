@@ -1,8 +1,4 @@
-use Rattle.std.proofs.Common.{◌≡◌, drop, map}
-use Rattle.zone_drawing.specs.Quiet.{gathered}
-use Rattle.zone_drawing.specs.View.{view_moment}
-use Rattle.transcript_words.specs.View.{view_lines}
-use Rattle.zone_replay.specs.Moments.{moments_of}
+use Rattle.zone_replay.proofs.Cited.{◌≡◌, drop, map, gathered, view_moment, view_lines, moments_of}
 use Rattle.zone_replay.proofs.moments.take_moments.Given as goal
 
 -- the moments so far, with those that are still to come; and the partition lies where it lay

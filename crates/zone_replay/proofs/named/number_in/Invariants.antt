@@ -1,5 +1,4 @@
-use Rattle.std.proofs.Common.{◌≡◌, map, drop}
-use Rattle.applications.specs.Names.{bound_to, lent_binding}
+use Rattle.zone_replay.proofs.Cited.{◌≡◌, map, drop, bound_to, lent_binding}
 use Rattle.zone_replay.proofs.named.number_in.Given as goal
 
 -- the name is bound among all where it is bound among those that are still to come

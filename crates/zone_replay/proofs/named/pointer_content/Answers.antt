@@ -1,5 +1,4 @@
-use Rattle.std.proofs.Common.{Some}
-use Rattle.heap_calls.specs.Busy.{pointer_barred}
+use Rattle.zone_replay.proofs.Cited.{Some, pointer_barred}
 use Rattle.zone_replay.proofs.Pointed.{shown-unless}
 use Rattle.zone_replay.proofs.named.pointer_content.Goals as goal
 

@@ -1,7 +1,4 @@
-use Rattle.std.specs.BTreeMap.{get}
-use Rattle.std.specs.Ordering.{nat_cmp}
-use Rattle.heap_calls.specs.Inner.Numbered.{leads_to}
-use Rattle.zone_replay.specs.Known.{tag_by}
+use Rattle.zone_replay.proofs.Cited.{get, nat_cmp, leads_to, tag_by}
 use Rattle.zone_replay.proofs.Entering.{all-entered, unknown}
 use Rattle.zone_replay.proofs.places.handles_of.Goals as goal
 

@@ -1,8 +1,4 @@
-use Rattle.std.proofs.Common.{◌≡◌, ℕ, drop}
-use Rattle.std.specs.BTreeMap.{get}
-use Rattle.std.specs.Ordering.{nat_cmp}
-use Rattle.heap_calls.specs.Inner.Numbered.{number_from, leads_to, handle_number}
-use Rattle.zone_replay.specs.Known.{tag_by}
+use Rattle.zone_replay.proofs.Cited.{◌≡◌, ℕ, drop, get, nat_cmp, number_from, leads_to, handle_number, tag_by}
 use Rattle.zone_replay.proofs.Entering.{known_or}
 use Rattle.zone_replay.proofs.places.handles_of.Given as goal
 

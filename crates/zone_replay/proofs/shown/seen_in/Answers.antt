@@ -1,11 +1,4 @@
-use Rattle.std.proofs.Common.{◌∙◌, sym, ap}
-use Rattle.heap_calls.specs.Inner.Numbered.{handle_number, pointer_number}
-use Rattle.heap_calls.specs.State.{State}
-use Rattle.zone_drawing.specs.Line.{lines}
-use Rattle.zone_drawing.specs.Totals.{largest_of}
-use Rattle.zone_drawing.specs.View.{known_by}
-use Rattle.zone_replay.specs.Known.{tag_by}
-use Rattle.zone_replay.specs.Shown.{block_lines}
+use Rattle.zone_replay.proofs.Cited.{◌∙◌, sym, ap, handle_number, pointer_number, State, lines, largest_of, known_by, tag_by, block_lines}
 use Rattle.zone_replay.proofs.Numbered.{lines-numbered, largest-numbered}
 use Rattle.zone_replay.proofs.shown.seen_in.Goals as goal
 

@@ -1,4 +1,4 @@
-use Rattle.zone_replay.specs.Shown.{content_in}
+use Rattle.zone_replay.proofs.Cited.{content_in}
 use Rattle.zone_replay.proofs.Forms.{columns-shown, tabs-shown}
 use Rattle.zone_replay.proofs.shown.write_in.Goals as goal
 

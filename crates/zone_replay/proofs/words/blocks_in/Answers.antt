@@ -1,9 +1,4 @@
-use Rattle.std.proofs.Common.{◌≡◌, ◌∙◌, ap, map}
-use Rattle.zone_drawing.specs.View.{view_line}
-use Rattle.applications.specs.Names.{lent_binding}
-use Rattle.transcript_words.specs.Changes.{placed}
-use Rattle.zone_replay.specs.Known.{given, name_of, owner_of, tag, tag_by}
-use Rattle.zone_replay.specs.Shown.{zone_lines}
+use Rattle.zone_replay.proofs.Cited.{◌≡◌, ◌∙◌, ap, map, view_line, lent_binding, placed, given, name_of, owner_of, tag, tag_by, zone_lines}
 use Rattle.zone_replay.proofs.words.blocks_in.Goals as goal
 
 pub returns : goal.returns

@@ -1,8 +1,6 @@
-use Rattle.std.proofs.Common.{◌∙◌, ◌++◌, ◌+◌, Bool, List, [], ◌∷◌, ap, arith, drop, map, sym, append_assoc, append-nil}
-use Rattle.std.proofs.lemmas.List.{drop_all, drop_more}
+use Rattle.zone_replay.proofs.Cited.{◌∙◌, ◌++◌, ◌+◌, Bool, List, [], ◌∷◌, ap, arith, drop, map, sym, append_assoc, append-nil, drop_all}
+use Rattle.zone_replay.proofs.Cited.{drop_more, Anchor, stands_for_handle}
 use Rattle.heap_calls.specs.Inner.Numbered.{name_of}
-use Rattle.heap_calls.specs.declared.anchor.Anchor.{Anchor}
-use Rattle.zone_replay.specs.Words.{stands_for_handle}
 use Rattle.zone_replay.proofs.words.handles_in.Goals as goal
 
 pub loop-anchor-preserved : goal.loop-anchor-preserved

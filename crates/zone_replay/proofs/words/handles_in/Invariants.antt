@@ -1,7 +1,5 @@
-use Rattle.std.proofs.Common.{◌≡◌, ◌++◌, ℕ, drop, map}
-use Rattle.block_store.specs.Slot.{Slot}
+use Rattle.zone_replay.proofs.Cited.{◌≡◌, ◌++◌, ℕ, drop, map, Slot, stands_for_handle}
 use Rattle.heap_calls.specs.Inner.Numbered.{name_of}
-use Rattle.zone_replay.specs.Words.{stands_for_handle}
 use Rattle.zone_replay.proofs.words.handles_in.Given as goal
 
 -- the numbers so far, before those that are left

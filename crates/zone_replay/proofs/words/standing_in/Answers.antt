@@ -1,6 +1,4 @@
-use Rattle.std.proofs.Common.{◌∙◌, ap, map, sym}
-use Rattle.heap_calls.specs.State.{State}
-use Rattle.zone_replay.specs.Words.{stands_for_handle}
+use Rattle.zone_replay.proofs.Cited.{◌∙◌, ap, map, sym, State, stands_for_handle}
 use Rattle.zone_replay.proofs.words.standing_in.Goals as goal
 
 pub returns : goal.returns

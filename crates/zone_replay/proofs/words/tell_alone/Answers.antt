@@ -1,10 +1,4 @@
-use Rattle.std.proofs.Common.{◌∙◌, ◌++◌, ◌||◌, List, ap, length, take}
-use Rattle.std.specs.Prelude.{nat_lt}
-use Rattle.block_store.specs.Block.{sizes}
-use Rattle.script_text.specs.declared.script.Line.{Line}
-use Rattle.applications.proofs.Quits.{launched-lies}
-use Rattle.transcript_words.specs.View.{view_lines}
-use Rattle.transcript_words.specs.Words.{launch_words}
+use Rattle.zone_replay.proofs.Cited.{◌∙◌, ◌++◌, ◌||◌, List, ap, length, take, nat_lt, sizes, Line, launched-lies, view_lines, launch_words}
 use Rattle.zone_replay.proofs.InWords.{words-alone}
 use Rattle.zone_replay.proofs.words.tell_alone.Goals as goal
 

@@ -1,8 +1,4 @@
-use Rattle.std.proofs.Common.{◌∙◌, ap, take}
-use Rattle.block_store.specs.Block.{sizes}
-use Rattle.script_text.specs.declared.script.Line.{Line}
-use Rattle.applications.proofs.Quits.{launched-lies}
-use Rattle.transcript_words.specs.View.{view_lines}
+use Rattle.zone_replay.proofs.Cited.{◌∙◌, ap, take, sizes, Line, launched-lies, view_lines}
 use Rattle.zone_replay.proofs.InWords.{words-between}
 use Rattle.zone_replay.proofs.words.tell_between.Goals as goal
 

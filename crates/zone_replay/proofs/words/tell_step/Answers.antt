@@ -1,10 +1,4 @@
-use Rattle.std.proofs.Common.{◌∙◌, ◌++◌, ap}
-use Rattle.applications.specs.Application.{lines_told}
-use Rattle.applications.specs.Step.{Course, step}
-use Rattle.transcript_words.specs.Changes.{changes}
-use Rattle.transcript_words.specs.View.{view_lines}
-use Rattle.transcript_words.specs.Words.{step_words}
-use Rattle.zone_replay.specs.Words.{standing}
+use Rattle.zone_replay.proofs.Cited.{◌∙◌, ◌++◌, ap, lines_told, Course, step, changes, view_lines, step_words, standing}
 use Rattle.zone_replay.proofs.words.tell_step.Goals as goal
 
 pub returns-clause-told : goal.returns-clause-told

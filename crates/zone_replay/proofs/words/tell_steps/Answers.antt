@@ -1,7 +1,4 @@
-use Rattle.std.proofs.Common.{◌∙◌, ◌+◌, arith, drop, sym}
-use Rattle.mac_words.proofs.Plain.{rest-next}
-use Rattle.applications.specs.Step.{course_of}
-use Rattle.transcript_words.specs.View.{view_lines}
+use Rattle.zone_replay.proofs.Cited.{◌∙◌, ◌+◌, arith, drop, sym, rest-next, course_of, view_lines}
 use Rattle.zone_replay.proofs.InWords.{told_ends, told_goes_on}
 use Rattle.zone_replay.proofs.words.tell_steps.Goals as goal
 

@@ -1,8 +1,4 @@
-use Rattle.std.proofs.Common.{◌≡◌, ◌++◌, drop}
-use Rattle.applications.specs.Replies.{exit_of}
-use Rattle.applications.specs.Step.{course_of}
-use Rattle.transcript_words.specs.View.{view_lines}
-use Rattle.zone_replay.specs.Words.{steps_told}
+use Rattle.zone_replay.proofs.Cited.{◌≡◌, ◌++◌, drop, exit_of, course_of, view_lines, steps_told}
 use Rattle.zone_replay.proofs.words.tell_steps.Given as goal
 
 -- what is told so far, before what is told of the steps that are left; and the steps that are left end as all do

@@ -1,8 +1,4 @@
-use Rattle.std.proofs.Common.{◌≡◌, ◌++◌, drop}
-use Rattle.std.specs.List.{flat_map}
-use Rattle.zone_scripts.specs.Copied.{parts_of}
-use Rattle.zone_scripts.specs.Lines.{ending}
-use Rattle.zone_scripts.specs.Text.{lines_text}
+use Rattle.zone_scripts.proofs.Cited.{◌≡◌, ◌++◌, drop, flat_map, parts_of, ending, lines_text}
 use Rattle.zone_scripts.proofs.blocks.push_all_ending.Given as goal
 
 -- what is written, before the calls that are still to be written

@@ -1,6 +1,4 @@
-use Rattle.std.proofs.Common.{◌≡◌, ◌++◌, replicate}
-use Rattle.zone_scripts.specs.Lines.{MoreMasters}
-use Rattle.zone_scripts.specs.Text.{lines_text}
+use Rattle.zone_scripts.proofs.Cited.{◌≡◌, ◌++◌, replicate, MoreMasters, lines_text}
 use Rattle.zone_scripts.proofs.blocks.push_masters.Given as goal
 
 -- what was written

@@ -1,5 +1,4 @@
-use Rattle.std.proofs.Common.{refl}
-use Rattle.zone_scripts.specs.Text.{notes_text}
+use Rattle.zone_scripts.proofs.Cited.{refl, notes_text}
 use Rattle.zone_scripts.proofs.script.notes.Goals as goal
 
 pub returns : goal.returns

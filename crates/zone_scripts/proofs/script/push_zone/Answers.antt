@@ -1,6 +1,4 @@
-use Rattle.std.proofs.Common.{◌++◌, ◌∙◌, ap}
-use Rattle.mac_words.proofs.Appending.{also}
-use Rattle.zone_scripts.specs.Text.{zone_phrase}
+use Rattle.zone_scripts.proofs.Cited.{◌++◌, ◌∙◌, ap, also, zone_phrase}
 use Rattle.zone_scripts.proofs.script.push_zone.Goals as goal
 
 pub returns : goal.returns

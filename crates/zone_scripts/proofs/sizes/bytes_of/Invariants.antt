@@ -1,6 +1,4 @@
-use Rattle.std.proofs.Common.{◌≡◌, ◌+◌, ◌*◌, ◌≤◌, drop}
-use Rattle.zone_scripts.specs.Copied.{parts_of}
-use Rattle.zone_scripts.specs.Parts.{bytes_of}
+use Rattle.zone_scripts.proofs.Cited.{◌≡◌, ◌+◌, ◌*◌, ◌≤◌, drop, parts_of, bytes_of}
 use Rattle.zone_scripts.proofs.sizes.bytes_of.Given as goal
 
 -- the sizes of those that were passed, and of those to come, are those of all

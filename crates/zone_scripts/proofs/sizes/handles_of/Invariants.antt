@@ -1,6 +1,4 @@
-use Rattle.std.proofs.Common.{◌≡◌, ◌+◌, ◌≤◌, drop}
-use Rattle.zone_scripts.specs.Copied.{parts_of}
-use Rattle.zone_scripts.specs.Parts.{handles}
+use Rattle.zone_scripts.proofs.Cited.{◌≡◌, ◌+◌, ◌≤◌, drop, parts_of, handles}
 use Rattle.zone_scripts.proofs.sizes.handles_of.Given as goal
 
 -- those that were counted, and those to come, are all

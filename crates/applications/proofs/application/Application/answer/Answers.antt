@@ -1,10 +1,5 @@
-use Rattle.std.proofs.Common.{◌≡◌, [], map, sym, ap, subst, ◌∙◌}
-use Rattle.std.specs.Prelude.{OnOk}
-use Rattle.res_calls.specs.Files.{Resources}
-use Rattle.res_calls.specs.Purging.{view_purged}
-use Rattle.res_calls.proofs.Storing.{gone-files}
-use Rattle.heap_calls.specs.Table.{served, gone_in}
-use Rattle.applications.specs.Trying.{Running, asked, storing}
+use Rattle.applications.proofs.Cited.{◌≡◌, [], map, sym, ap, subst, ◌∙◌, OnOk, Resources, view_purged, gone-files, served, gone_in, Running}
+use Rattle.applications.proofs.Cited.{asked, storing}
 use Rattle.applications.proofs.Hearing.{stores-tried, on_ok-ap}
 use Rattle.applications.proofs.application.Application.answer.Goals as goal
 

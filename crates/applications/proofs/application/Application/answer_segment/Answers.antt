@@ -1,11 +1,6 @@
-use Rattle.std.proofs.Common.{refl, ap, rules, ℤ, to_z, of_z}
-use Rattle.std.specs.Prelude.{FitsSigned}
-use Rattle.std.specs.Int.{w16}
-use Rattle.std.proofs.lemmas.Int.{to_z-of_z}
-use Rattle.mac_words.specs.Told.{Done}
-use Rattle.segments.specs.Calls.{load_seg, unload_seg}
-use Rattle.segments.specs.Given.{program}
-use Rattle.segments.specs.Asked.{telling, tell_loaded, tell_called, tell_shown}
+use Rattle.applications.proofs.Cited.{refl, ap, rules, ℤ, to_z, of_z, FitsSigned, w16, to_z-of_z, Done, load_seg, unload_seg, program}
+use Rattle.applications.proofs.Cited.{tell_loaded, tell_called, tell_shown}
+use Rattle.segments.specs.Asked.{telling}
 use Rattle.applications.proofs.JumpCalls.{load-settled, call-settled, unload-settled, show-settled, jumped, jumped_at_once}
 use Rattle.applications.proofs.application.Application.answer_segment.Goals as goal
 

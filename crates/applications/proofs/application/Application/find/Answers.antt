@@ -1,12 +1,7 @@
-use Rattle.std.proofs.Common.{◌≡◌, [], map, sym, ap, subst, ◌∙◌}
-use Rattle.std.specs.Prelude.{OnOk}
-use Rattle.res_calls.specs.Files.{Resources}
-use Rattle.res_calls.specs.Purging.{view_purged}
-use Rattle.res_calls.proofs.Storing.{gone-files}
+use Rattle.applications.proofs.Cited.{◌≡◌, [], map, sym, ap, subst, ◌∙◌, OnOk, Resources, view_purged, gone-files, gone_for, Running}
+use Rattle.applications.proofs.Cited.{storing, resource_asked, resource_tried, managers_of}
 use Rattle.res_calls.specs.Asked as finds
-use Rattle.res_calls.specs.Gone.{gone_for}
 use Rattle.applications.proofs.FoundCalls.{are_tried}
-use Rattle.applications.specs.Trying.{Running, storing, resource_asked, resource_tried, managers_of}
 use Rattle.applications.proofs.Hearing.{stores-tried, on_err-ap}
 use Rattle.applications.proofs.application.Application.find.Goals as goal
 

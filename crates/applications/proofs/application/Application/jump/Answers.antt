@@ -1,11 +1,7 @@
-use Rattle.std.proofs.Common.{◌≡◌, [], map, sym, ap, subst, ◌∙◌}
-use Rattle.std.specs.Prelude.{OnOk}
-use Rattle.res_calls.specs.Files.{Resources}
-use Rattle.res_calls.specs.Purging.{view_purged}
-use Rattle.res_calls.proofs.Storing.{gone-files}
+use Rattle.applications.proofs.Cited.{◌≡◌, [], map, sym, ap, subst, ◌∙◌, OnOk, Resources, view_purged, gone-files, Running, storing}
+use Rattle.applications.proofs.Cited.{segment_tried, program_of}
 use Rattle.segments.specs.Asked.{served}
 use Rattle.segments.specs.Gone.{gone_for}
-use Rattle.applications.specs.Trying.{Running, storing, segment_tried, program_of}
 use Rattle.applications.proofs.Hearing.{stores-tried, on_err-ap}
 use Rattle.applications.proofs.application.Application.jump.Goals as goal
 

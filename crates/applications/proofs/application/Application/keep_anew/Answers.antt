@@ -1,4 +1,4 @@
-use Rattle.std.proofs.Common.{rules}
+use Rattle.applications.proofs.Cited.{rules}
 use Rattle.applications.proofs.application.Application.keep_anew.Goals as goal
 
 pub returns-in-Resource : goal.returns-in-Resource

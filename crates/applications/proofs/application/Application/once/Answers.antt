@@ -1,8 +1,5 @@
-use Rattle.std.proofs.Common.{◌≡◌, false, subst}
-use Rattle.mac_words.specs.declared.call.Call.{Call}
+use Rattle.applications.proofs.Cited.{◌≡◌, false, subst, Call, deed_of, writes_files}
 use Rattle.mac_words.specs.declared.call.Call.TheVariants as call
-use Rattle.applications.specs.Step.{deed_of}
-use Rattle.applications.specs.Laws.{writes_files}
 use Rattle.applications.proofs.Filing.{either_keeps, try_keeps}
 use Rattle.applications.proofs.application.Application.once.Goals as goal
 

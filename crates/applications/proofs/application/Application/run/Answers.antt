@@ -1,10 +1,5 @@
-use Rattle.std.proofs.Common.{◌∙◌, ◌+◌, ap, refl, drop, length, arith, sym, append-nil, ℕ}
-use Rattle.std.specs.Io.KnownBytes.{append_known}
-use Rattle.mac_words.proofs.Plain.{rest-next, on_err}
-use Rattle.applications.specs.Trying.{Running}
-use Rattle.applications.specs.Step.{course_of}
-use Rattle.applications.specs.Reports.{reports}
-use Rattle.applications.specs.Stopping.{steps_taken}
+use Rattle.applications.proofs.Cited.{◌∙◌, ◌+◌, ap, refl, drop, length, arith, sym, append-nil, ℕ, append_known, rest-next, on_err, Running}
+use Rattle.applications.proofs.Cited.{course_of, reports, steps_taken}
 use Rattle.applications.proofs.Rounds.{run_ends, run_goes_on}
 use Rattle.applications.proofs.Elsewhere.{run-left}
 use Rattle.applications.proofs.Stopping.{heard-nothing, heard-more, from-nothing, count-over, count-more, count-left, first-more}

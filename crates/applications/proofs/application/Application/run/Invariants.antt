@@ -1,10 +1,5 @@
-use Rattle.std.proofs.Common.{◌≡◌, ◌++◌, ◌+◌, take, drop, false, length}
-use Rattle.std.specs.Io.KnownBytes.{append_known}
-use Rattle.applications.specs.Application.{lines_told}
-use Rattle.applications.specs.Step.{course_of}
-use Rattle.applications.specs.Replies.{Came, exit_of}
-use Rattle.applications.specs.Reports.{reports}
-use Rattle.applications.specs.Stopping.{steps_taken}
+use Rattle.applications.proofs.Cited.{◌≡◌, ◌++◌, ◌+◌, take, drop, false, length, append_known, lines_told, course_of, Came, exit_of}
+use Rattle.applications.proofs.Cited.{reports, steps_taken}
 use Rattle.applications.proofs.application.Application.run.Given as goal
 
 -- the text so far, with the lines of the steps that are left, is the text with the lines of all; and the end is theirs;

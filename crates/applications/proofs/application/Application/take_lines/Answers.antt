@@ -1,10 +1,5 @@
-use Rattle.std.proofs.Common.{◌∙◌, ◌+◌, ◌++◌, ap, drop, subst, List, [], ℕ, arith}
-use Rattle.std.proofs.lemmas.List.{drop_all}
-use Rattle.script_text.specs.declared.script.Line.{Line}
-use Rattle.applications.specs.Inside.{glances_grown}
-use Rattle.applications.specs.Trying.{Running, Tried, once}
-use Rattle.applications.specs.Application.{bytes_told}
-use Rattle.mac_words.proofs.Plain.{rest-next}
+use Rattle.applications.proofs.Cited.{◌∙◌, ◌+◌, ◌++◌, ap, drop, subst, List, [], ℕ, arith, drop_all, Line, glances_grown, Running, Tried}
+use Rattle.applications.proofs.Cited.{once, bytes_told, rest-next}
 use Rattle.applications.proofs.Filing.{allowed_keeps, line_allowed, extended, extends_same, extends_on}
 use Rattle.applications.proofs.Rounds.{one_more}
 use Rattle.applications.proofs.Saying.{grown-said, shown-again}

@@ -1,8 +1,4 @@
-use Rattle.std.proofs.Common.{◌≡◌, ◌++◌, List, drop}
-use Rattle.applications.specs.Application.{lines_told}
-use Rattle.applications.specs.Step.{grown}
-use Rattle.applications.specs.Inside.{Glance, glances_grown}
-use Rattle.applications.specs.Replies.{Extends}
+use Rattle.applications.proofs.Cited.{◌≡◌, ◌++◌, List, drop, lines_told, grown, Glance, glances_grown, Extends}
 use Rattle.applications.proofs.Seeing.{Sees}
 use Rattle.applications.proofs.application.Application.take_lines.Given as goal
 

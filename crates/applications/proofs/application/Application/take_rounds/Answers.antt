@@ -1,17 +1,9 @@
-use Rattle.std.proofs.Common.{◌≡◌, ◌∙◌, ◌+◌, ◌-◌, ◌++◌, ap, subst, arith, suc, ℕ}
-use Rattle.mac_words.proofs.Plain.{on_err}
-use Rattle.block_store.specs.Block.{sizes}
-use Rattle.applications.specs.Trying.{Running}
-use Rattle.applications.specs.Step.{step, step_in, round}
-use Rattle.applications.specs.Application.{lines_told}
-use Rattle.applications.specs.Replies.{Came, CameRound, exit_of}
-use Rattle.applications.specs.declared.stepping.Next.{Next}
+use Rattle.applications.proofs.Cited.{◌≡◌, ◌∙◌, ◌+◌, ◌-◌, ◌++◌, ap, subst, arith, suc, ℕ, on_err, sizes, Running, step, step_in, round}
+use Rattle.applications.proofs.Cited.{lines_told, Came, CameRound, exit_of, Next, glances_in, goes_on}
 use Rattle.applications.proofs.Rounds.{step_ends, step_goes_on}
 use Rattle.applications.proofs.Seeing.{Sees, again-seen, all-seen, ended-seen}
-use Rattle.applications.specs.Inside.{glances_in}
 use Rattle.applications.proofs.application.Application.take_rounds.Given.{Over}
 use Rattle.applications.proofs.application.Application.take_rounds.Goals.{In-Ended}
-use Rattle.applications.specs.Replies.{goes_on}
 use Rattle.applications.proofs.Filing.{extends_on, some_ends}
 use Rattle.applications.proofs.Elsewhere.{rounds-left}
 use Rattle.applications.proofs.application.Application.take_rounds.Goals as goal

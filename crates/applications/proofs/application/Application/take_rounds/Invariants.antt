@@ -1,8 +1,4 @@
-use Rattle.std.proofs.Common.{◌≡◌, ◌++◌, ◌-◌, List}
-use Rattle.applications.specs.Application.{lines_told}
-use Rattle.applications.specs.Inside.{Glance, glances_in}
-use Rattle.applications.specs.Step.{step_in}
-use Rattle.applications.specs.Replies.{exit_of, Extends}
+use Rattle.applications.proofs.Cited.{◌≡◌, ◌++◌, ◌-◌, List, lines_told, Glance, glances_in, step_in, exit_of, Extends}
 use Rattle.applications.proofs.Seeing.{Sees}
 use Rattle.applications.proofs.application.Application.take_rounds.Given as goal
 

@@ -1,17 +1,7 @@
-use Rattle.std.proofs.Common.{◌≡◌, ◌∙◌, ◌++◌, ap, sym, refl, false, Option, None, List, [], ℕ}
-use Rattle.std.specs.Prelude.{nat_lt}
-use Rattle.mac_words.specs.declared.code.OsErr.{OsErr}
-use Rattle.mac_words.proofs.Plain.{on_err}
-use Rattle.heap_calls.specs.Staying.{ease}
-use Rattle.applications.specs.Trying.{Running, Tried, once}
-use Rattle.applications.specs.Step.{names_given, kept_anew}
-use Rattle.applications.specs.Application.{bytes_told}
-use Rattle.applications.specs.Replies.{exit_as}
+use Rattle.applications.proofs.Cited.{◌≡◌, ◌∙◌, ◌++◌, ap, sym, refl, false, Option, None, List, [], ℕ, nat_lt, OsErr, on_err, ease, Running}
+use Rattle.applications.proofs.Cited.{Tried, once, names_given, kept_anew, bytes_told, exit_as, Resources, deed_of, writes_files}
 use Rattle.applications.proofs.Arms.{by_both}
 use Rattle.applications.proofs.Rounds.{ended_round, stood_round}
-use Rattle.res_calls.specs.Files.{Resources}
-use Rattle.applications.specs.Step.{deed_of}
-use Rattle.applications.specs.Laws.{writes_files}
 use Rattle.applications.proofs.Filing.{full_keeps, anew-keeps, unless_written, writes_no_number, writes_no_values}
 use Rattle.applications.proofs.Filing.{extended}
 use Rattle.applications.proofs.Saying.{own-said, shown-again, wants-shows-none}

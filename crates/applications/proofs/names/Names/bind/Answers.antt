@@ -1,6 +1,5 @@
-use Rattle.std.proofs.Common.{◌∙◌, ap, refl, map}
+use Rattle.applications.proofs.Cited.{◌∙◌, ap, refl, map, bind, binding}
 use Rattle.applications.proofs.Binding.{insert-bound}
-use Rattle.applications.specs.Names.{bind, binding}
 use Rattle.applications.proofs.names.Names.bind.Goals as goal
 
 pub returns-clause-bound : goal.returns-clause-bound

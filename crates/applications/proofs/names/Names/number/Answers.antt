@@ -1,6 +1,5 @@
-use Rattle.std.proofs.Common.{◌∙◌, ap, refl}
+use Rattle.applications.proofs.Cited.{◌∙◌, ap, refl, bound_to}
 use Rattle.applications.proofs.Binding.{lookup-bound}
-use Rattle.applications.specs.Names.{bound_to}
 use Rattle.applications.proofs.names.Names.number.Goals as goal
 
 pub returns : goal.returns

@@ -1,4 +1,4 @@
-use Rattle.std.proofs.Common.{◌<◌, arith, rules, length}
+use Rattle.bin_hex.proofs.Cited.{◌<◌, arith, rules, length}
 use Rattle.bin_hex.proofs.Holding.{further}
 use Rattle.bin_hex.proofs.runs.Runs.holds.Goals as goal
 

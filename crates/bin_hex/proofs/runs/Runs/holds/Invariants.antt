@@ -1,6 +1,4 @@
-use Rattle.std.proofs.Common.{◌≡◌, ◌+◌, length, drop}
-use Rattle.bin_hex.specs.Reader.{rest_of}
-use Rattle.bin_hex.specs.Runs.{expanded}
+use Rattle.bin_hex.proofs.Cited.{◌≡◌, ◌+◌, length, drop, rest_of, expanded}
 use Rattle.bin_hex.proofs.runs.Runs.holds.Given as goal
 
 -- the bytes that were found, with those that the rest of the text stands for, are all

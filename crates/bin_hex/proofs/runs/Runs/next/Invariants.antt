@@ -1,5 +1,4 @@
-use Rattle.std.proofs.Common.{◌≡◌, ◌-◌, length}
-use Rattle.bin_hex.specs.Reader.{rest_of}
+use Rattle.bin_hex.proofs.Cited.{◌≡◌, ◌-◌, length, rest_of}
 use Rattle.bin_hex.proofs.runs.Runs.next.Given as goal
 
 -- the bytes that are still to be given stay

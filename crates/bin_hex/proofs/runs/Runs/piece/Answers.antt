@@ -1,5 +1,4 @@
-use Rattle.std.proofs.Common.{sym, ◌∙◌}
-use Rattle.bin_hex.specs.Reader.{rest_of}
+use Rattle.bin_hex.proofs.Cited.{sym, ◌∙◌, rest_of}
 use Rattle.bin_hex.proofs.Pieces.{one_more}
 use Rattle.bin_hex.proofs.runs.Runs.piece.Goals as goal
 

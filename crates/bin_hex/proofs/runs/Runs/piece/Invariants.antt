@@ -1,5 +1,4 @@
-use Rattle.std.proofs.Common.{◌≡◌, ◌≤◌, length, take, drop}
-use Rattle.bin_hex.specs.Reader.{rest_of}
+use Rattle.bin_hex.proofs.Cited.{◌≡◌, ◌≤◌, length, take, drop, rest_of}
 use Rattle.bin_hex.proofs.runs.Runs.piece.Given as goal
 
 -- the bytes so far are the first of those that were there, and the others are still to be given

@@ -1,4 +1,4 @@
-use Rattle.fork_tasks.proofs.Prints.{nothing}
+use Rattle.commands.proofs.Cited.{nothing}
 use Rattle.commands.proofs.files.HostFilesHost.print.Goals as goal
 
 -- what is known of the bytes is nothing, before and after

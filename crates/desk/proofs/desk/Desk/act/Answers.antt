@@ -1,17 +1,9 @@
-use Rattle.std.proofs.Common.{rules, ◌≡◌, ℕ, List, Option, option_map, IfSome, slice_get, Some, refl, subst, sym, ◌∙◌, ap}
-use Rattle.std.proofs.lemmas.Result.{on_ok_weaker}
-use Rattle.std.proofs.Common.{◌+◌, ◌≤◌, length}
-use Rattle.std.specs.Prelude.{vec_len}
-use Rattle.std.specs.Vec.{vec_capacity}
-use Rattle.script_text.specs.declared.desk_log.TheConstants.{APP_ROOM}
-use Rattle.desk.specs.Seated.{Placed}
-use Rattle.desk.specs.Desk.{State, acted_at, left_by}
+use Rattle.desk.proofs.Cited.{rules, ◌≡◌, ℕ, List, Option, option_map, IfSome, slice_get, Some, refl, subst, sym, ◌∙◌, ap, on_ok_weaker}
+use Rattle.desk.proofs.Cited.{◌+◌, ◌≤◌, length, vec_len, vec_capacity, APP_ROOM, Placed, State, acted_at, left_by, IsFree, DeskSeen, seen}
+use Rattle.desk.proofs.Cited.{lots, left_of, IsOutsideAll}
 use Rattle.desk.proofs.Halting.{halts_begun, halts_at, no_error, room_named, acted_on, acted_out}
-use Rattle.desk.specs.Free.{IsFree}
-use Rattle.desk.specs.View.{DeskSeen, seen, lots, left_of}
 use Rattle.desk.proofs.Holding.{acted_in, left-ended, windows-ended, windows-stay}
 use Rattle.desk.proofs.Free.{out-of, out-closed}
-use Rattle.memory_windows.specs.Outside.{IsOutsideAll}
 use Rattle.desk.proofs.Leaving.{housed_same, housed_acted, ended_made}
 use Rattle.desk.proofs.desk.Desk.act.Goals as goal
 

@@ -1,7 +1,4 @@
-use Rattle.std.proofs.Common.{ap, sym, subst}
-use Rattle.desk.specs.Desk.{State}
-use Rattle.desk.specs.Free.{IsFree}
-use Rattle.desk.specs.Halting.{halted}
+use Rattle.desk.proofs.Cited.{ap, sym, subst, State, IsFree, halted}
 use Rattle.desk.proofs.desk.Desk.begin_if.Goals as goal
 
 pub returns-in-Ok-clause-outside : goal.returns-in-Ok-clause-outside

@@ -1,20 +1,9 @@
-use Rattle.std.proofs.Common.{rules, List, ◌++◌, ◌≡◌, ◌∙◌, ap, sym, subst, refl, length, map, Option, IfSome}
-use Rattle.std.proofs.lemmas.Bool.{eqb-true}
-use Rattle.std.specs.List.{Contains}
-use Rattle.memory_windows.specs.declared.Window.{Window}
-use Rattle.desk.specs.declared.outcome.AppOutcome.{AppOutcome}
-use Rattle.desk.specs.Desk.{told}
-use Rattle.desk.specs.Held.{MadeOf, closed}
-use Rattle.desk.specs.View.{DeskSeen, seen, lots, place_seen, lot_of, told_seen}
+use Rattle.desk.proofs.Cited.{rules, List, ◌++◌, ◌≡◌, ◌∙◌, ap, sym, subst, refl, length, map, Option, IfSome, eqb-true, Contains, Window}
+use Rattle.desk.proofs.Cited.{AppOutcome, told, MadeOf, closed, DeskSeen, seen, lots, place_seen, lot_of, told_seen, Misses, IsOutside}
+use Rattle.desk.proofs.Cited.{window_of, granted-order, AllLie, IsFree}
 use Rattle.desk.proofs.Leaving.{split_first, no_length, told_next, told_end, first_out, first_made, housed_next, none_out}
-use Rattle.memory_windows.specs.Windows.{Misses}
-use Rattle.memory_windows.specs.Outside.{IsOutside}
-use Rattle.desk.specs.Phase.{window_of}
-use Rattle.partitions.specs.Granted.{granted-order}
-use Rattle.desk.specs.Lying.{AllLie}
 use Rattle.desk.proofs.Free.{out-next}
 use Rattle.desk.proofs.Lying.{lies_of, left_begins, left_next, left_end}
-use Rattle.desk.specs.Free.{IsFree}
 use Rattle.desk.proofs.desk.Desk.finish.Goals as goal
 
 pub release-requires-clause-made : goal.release-requires-clause-made

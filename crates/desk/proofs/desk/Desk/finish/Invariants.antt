@@ -1,10 +1,5 @@
-use Rattle.std.proofs.Common.{◌≡◌, ℕ, ◌+◌, ◌≤◌, ◌++◌, map, vec_len, vec_capacity}
-use Rattle.memory_windows.specs.declared.Window.{Window}
-use Rattle.memory_windows.specs.Outside.{IsOutsideAll}
-use Rattle.block_store.specs.Rest.{Site}
-use Rattle.desk.specs.Desk.{told}
-use Rattle.desk.specs.Held.{AreHoused}
-use Rattle.desk.specs.View.{seen, lots, told_seen}
+use Rattle.desk.proofs.Cited.{◌≡◌, ℕ, ◌+◌, ◌≤◌, ◌++◌, map, Window, IsOutsideAll, Site, told, AreHoused, seen, lots, told_seen}
+use Rattle.std.proofs.Common.{vec_len, vec_capacity}
 use Rattle.desk.proofs.Lying.{LeftSo}
 use Rattle.desk.proofs.desk.Desk.finish.Given as goal
 

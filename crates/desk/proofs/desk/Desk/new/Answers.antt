@@ -1,5 +1,4 @@
-use Rattle.std.proofs.Common.{rules}
-use Rattle.fork_format.specs.View.{view}
+use Rattle.desk.proofs.Cited.{rules, view}
 use Rattle.desk.proofs.Leaving.{housed_given}
 use Rattle.desk.proofs.desk.Desk.new.Goals as goal
 

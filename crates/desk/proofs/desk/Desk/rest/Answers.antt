@@ -1,8 +1,6 @@
-use Rattle.std.proofs.Common.{rules, ◌≡◌, ◌+◌, ◌-◌, ◌<◌, ◌∙◌, ap, subst, inl, sym, suc, true}
-use Rattle.mac_words.proofs.Plain.{on_err}
-use Rattle.desk.specs.Desk.{State, rounds, any_runs}
+use Rattle.desk.proofs.Cited.{rules, ◌≡◌, ◌+◌, ◌-◌, ◌<◌, ◌∙◌, ap, subst, inl, sym, suc, true, on_err, State, rounds, any_runs, Halt}
+use Rattle.desk.proofs.Cited.{WithinRounds, halted}
 use Rattle.desk.proofs.Free.{next-out}
-use Rattle.desk.specs.Halting.{Halt, WithinRounds, halted}
 use Rattle.desk.proofs.Halting.{rounds_next}
 use Rattle.desk.proofs.Rounds.{round_next}
 use Rattle.desk.proofs.desk.Desk.rest.Goals as goal

@@ -1,9 +1,4 @@
-use Rattle.std.proofs.Common.{◌≡◌, ℕ, ◌-◌, suc}
-use Rattle.memory_windows.specs.declared.Window.{Window}
-use Rattle.block_store.specs.Rest.{Site}
-use Rattle.desk.specs.Free.{IsFree}
-use Rattle.desk.specs.Halting.{Halt, WithinRounds, halted}
-use Rattle.desk.specs.Desk.{longest, rounds, rested}
+use Rattle.desk.proofs.Cited.{◌≡◌, ℕ, ◌-◌, suc, Window, Site, IsFree, Halt, WithinRounds, halted, longest, rounds, rested}
 use Rattle.desk.proofs.desk.Desk.rest.Given as goal
 
 -- the rounds that are left make up the rest

@@ -1,8 +1,5 @@
-use Rattle.std.proofs.Common.{rules, ◌≡◌, subst, ◌+◌, ◌-◌, ◌<◌, ◌∙◌, ap, sym}
-use Rattle.mac_words.proofs.Plain.{on_err}
-use Rattle.desk.specs.Desk.{State, each_turned}
+use Rattle.desk.proofs.Cited.{rules, ◌≡◌, subst, ◌+◌, ◌-◌, ◌<◌, ◌∙◌, ap, sym, on_err, State, each_turned, Halt, WithinTurns, halted}
 use Rattle.desk.proofs.Free.{next-out}
-use Rattle.desk.specs.Halting.{Halt, WithinTurns, halted}
 use Rattle.desk.proofs.Halting.{turns_next, turns_halt}
 use Rattle.desk.proofs.Rounds.{turned_next}
 use Rattle.desk.proofs.desk.Desk.round.Goals as goal

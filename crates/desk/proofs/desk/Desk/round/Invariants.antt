@@ -1,9 +1,4 @@
-use Rattle.std.proofs.Common.{◌≡◌, ℕ, ◌-◌}
-use Rattle.memory_windows.specs.declared.Window.{Window}
-use Rattle.block_store.specs.Rest.{Site}
-use Rattle.desk.specs.Free.{IsFree}
-use Rattle.desk.specs.Halting.{Halt, WithinTurns, WithinRound, halted}
-use Rattle.desk.specs.Desk.{each_turned, round}
+use Rattle.desk.proofs.Cited.{◌≡◌, ℕ, ◌-◌, Window, Site, IsFree, Halt, WithinTurns, WithinRound, halted, each_turned, round}
 use Rattle.desk.proofs.desk.Desk.round.Given as goal
 
 -- the turns that are left make up the round

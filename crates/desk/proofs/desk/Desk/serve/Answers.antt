@@ -1,7 +1,4 @@
-use Rattle.std.proofs.Common.{subst}
-use Rattle.script_text.specs.declared.job.Event.{Event}
-use Rattle.desk.specs.Desk.{after_event}
-use Rattle.desk.specs.Free.{IsFree}
+use Rattle.desk.proofs.Cited.{subst, Event, after_event, IsFree}
 use Rattle.desk.proofs.desk.Desk.serve.Goals as goal
 
 pub returns-in-Launch-clause-outside : goal.returns-in-Launch-clause-outside

@@ -1,18 +1,7 @@
-use Rattle.std.proofs.Common.{arith}
-use Rattle.std.proofs.Common.{rules, None, ◌≡◌, ◌∙◌, ◌++◌, List, ℕ, Option, Some, Err, IfSome, option_map, slice_get}
-use Rattle.std.proofs.Common.{true, slice_set, refl, sym, ap, subst}
-use Rattle.std.proofs.lemmas.List.{length-map}
-use Rattle.std.proofs.lemmas.Result.{on_ok_weaker, on_err_weaker, IfOk-weaker}
-use Rattle.mac_words.specs.declared.code.TheConstants.OsErr.{MEM_FULL}
-use Rattle.mac_words.proofs.Plain.{on_err}
-use Rattle.script_text.specs.DeskLog.{launch_of, refusal_of}
-use Rattle.desk.specs.Phase.{Live, Running, begun, waits}
-use Rattle.desk.specs.Live.{live_seen}
-use Rattle.desk.specs.Desk.{Place, State, ready, launched_at, launch_reply, reply_at}
-use Rattle.desk.specs.Free.{IsFree}
-use Rattle.desk.specs.Ready.{sizes_seen}
-use Rattle.desk.specs.Seated.{Placed}
-use Rattle.desk.specs.View.{DeskSeen, place_seen, seen, lots}
+use Rattle.desk.proofs.Cited.{arith, rules, None, ◌≡◌, ◌∙◌, ◌++◌, List, ℕ, Option, Some, Err, IfSome, option_map, slice_get, true}
+use Rattle.desk.proofs.Cited.{slice_set, refl, sym, ap, subst, length-map, on_ok_weaker, on_err_weaker, IfOk-weaker, MEM_FULL, on_err}
+use Rattle.desk.proofs.Cited.{launch_of, refusal_of, Live, Running, begun, waits, live_seen, Place, State, ready, launched_at, launch_reply}
+use Rattle.desk.proofs.Cited.{reply_at, IsFree, sizes_seen, Placed, DeskSeen, place_seen, seen, lots}
 use Rattle.desk.proofs.Holding.{few_out, not-opened, is-opened}
 use Rattle.desk.proofs.Halting.{failed_so, stays_so, no_error}
 use Rattle.desk.proofs.Leaving.{housed_kept, housed_started}

@@ -1,5 +1,4 @@
-use Rattle.std.proofs.Common.{◌++◌, ◌∙◌, ℕ, List, ap}
-use Rattle.script_text.specs.Transcript.{launch_line}
+use Rattle.desk.proofs.Cited.{◌++◌, ◌∙◌, ℕ, List, ap, launch_line}
 use Rattle.desk.proofs.Coming.{launched_there, lies_there}
 use Rattle.desk.proofs.live.Live.begin.Goals as goal
 

@@ -1,5 +1,4 @@
-use Rattle.std.proofs.Common.{◌∙◌, ◌++◌, ap, List, ℕ}
-use Rattle.script_text.specs.Transcript.{end_line}
+use Rattle.desk.proofs.Cited.{◌∙◌, ◌++◌, ap, List, ℕ, end_line}
 use Rattle.desk.proofs.Coming.{has_ended_so}
 use Rattle.desk.proofs.live.Live.end.Goals as goal
 

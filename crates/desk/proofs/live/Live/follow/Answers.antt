@@ -1,4 +1,4 @@
-use Rattle.std.proofs.Common.{◌∙◌, false}
+use Rattle.desk.proofs.Cited.{◌∙◌, false}
 use Rattle.desk.proofs.Coming.{call_goes_on, call_ends}
 use Rattle.desk.proofs.live.Live.follow.Goals as goal
 

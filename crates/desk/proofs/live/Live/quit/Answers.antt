@@ -1,4 +1,4 @@
-use Rattle.std.proofs.Common.{true}
+use Rattle.desk.proofs.Cited.{true}
 use Rattle.desk.proofs.live.Live.quit.Goals as goal
 
 pub returns-clause-came : goal.returns-clause-came

@@ -1,9 +1,4 @@
-use Rattle.std.proofs.Common.{◌∙◌, ◌+◌, false, List, length, ap, sym}
-use Rattle.script_text.specs.declared.script.Line.{Line}
-use Rattle.applications.specs.Trying.{nowhere}
-use Rattle.applications.specs.Alone.{quits}
-use Rattle.applications.specs.Elsewhere.{moved}
-use Rattle.desk.specs.Phase.{Live, ends}
+use Rattle.desk.proofs.Cited.{◌∙◌, ◌+◌, false, List, length, ap, sym, Line, nowhere, quits, moved, Live, ends}
 use Rattle.desk.proofs.live.Live.run_out.Goals as goal
 
 pub returns-clause-came : goal.returns-clause-came

@@ -1,9 +1,4 @@
-use Rattle.std.proofs.Common.{◌≡◌, drop, false}
-use Rattle.std.proofs.lemmas.Result.{on_err_weaker}
-use Rattle.mac_words.proofs.Plain.{on_err}
-use Rattle.desk.specs.Live.{live_seen}
-use Rattle.desk.specs.Outcome.{Launched}
-use Rattle.desk.specs.Phase.{leaves}
+use Rattle.desk.proofs.Cited.{◌≡◌, drop, false, on_err_weaker, on_err, live_seen, Launched, leaves}
 use Rattle.desk.proofs.Halting.{turn-begun}
 use Rattle.desk.proofs.live.Live.turn.Goals as goal
 

@@ -1,8 +1,4 @@
-use Rattle.std.proofs.Common.{◌≡◌, drop, false}
-use Rattle.desk.specs.Live.{live_seen}
-use Rattle.desk.specs.Halting.{WithinTurn}
-use Rattle.desk.specs.Outcome.{Launched}
-use Rattle.desk.specs.Phase.{leaves, turned, turn_through}
+use Rattle.desk.proofs.Cited.{◌≡◌, drop, false, live_seen, WithinTurn, Launched, leaves, turned, turn_through}
 use Rattle.desk.proofs.live.Live.turn.Given as goal
 
 -- the turn goes on where it stands, through the lines that are left

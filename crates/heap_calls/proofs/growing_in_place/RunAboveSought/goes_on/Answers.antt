@@ -1,4 +1,4 @@
-use Rattle.std.proofs.Common.{arith}
+use Rattle.heap_calls.proofs.Cited.{arith}
 use Rattle.heap_calls.proofs.Sizes.GrowingInPlace.{most-above}
 use Rattle.heap_calls.proofs.growing_in_place.RunAboveSought.goes_on.Goals as goal
 

@@ -1,11 +1,6 @@
-use Rattle.std.proofs.Common.{◌≡◌, ◌∙◌, refl, List, ap}
-use Rattle.std.proofs.lemmas.Result.{err_from_is_err_and}
-use Rattle.block_store.specs.declared.sparing.Sparing.TheVariants.{Nothing}
-use Rattle.heap_calls.specs.declared.anchor.Anchor.{Anchor}
-use Rattle.heap_calls.specs.Rows.{more_masters, doing_silently, purges_made}
-use Rattle.heap_calls.specs.Gone.{Hears}
-use Rattle.heap_calls.specs.Inner.Given.{KeepsMoves}
-use Rattle.heap_calls.specs.Inner.Telling.{base_gone}
+use Rattle.heap_calls.proofs.Cited.{◌≡◌, ◌∙◌, refl, List, ap, err_from_is_err_and, Nothing, Anchor, doing_silently, purges_made, Hears}
+use Rattle.heap_calls.proofs.Cited.{KeepsMoves, base_gone}
+use Rattle.heap_calls.specs.Rows.{more_masters}
 use Rattle.heap_calls.proofs.Hearing.{stops-halted, hears-as}
 use Rattle.heap_calls.proofs.NewBlocks.NewHandles.{agrees-more, kept-still}
 use Rattle.heap_calls.proofs.Numbering.Changing.{heap-same}

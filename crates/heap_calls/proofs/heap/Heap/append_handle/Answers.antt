@@ -1,20 +1,7 @@
-use Rattle.std.proofs.Common.{◌≡◌, Ok, Err, List, ℕ, ap, refl, ◌+◌, rules, ◌∙◌}
-use Rattle.std.proofs.lemmas.Result.{err_from_is_err_and}
-use Rattle.block_store.specs.Block.{is_relocatable}
-use Rattle.block_store.specs.Rest.{counted}
-use Rattle.block_store.specs.Room.{spot}
-use Rattle.block_store.specs.Sparing.{spared}
-use Rattle.block_store.specs.declared.sparing.Sparing.TheVariants.{Two}
-use Rattle.heap_calls.specs.declared.anchor.Anchor.{Anchor}
-use Rattle.heap_calls.specs.Gone.{Hears}
-use Rattle.heap_calls.specs.Moves.{size_moves}
-use Rattle.heap_calls.specs.Rows.{hand_and_hand, doing_silently, purges_made, refused}
-use Rattle.heap_calls.specs.Searches.{size_searches}
-use Rattle.heap_calls.specs.Inner.Appending.{bytes_of, length_of}
-use Rattle.heap_calls.specs.Inner.Given.{KeepsNames}
-use Rattle.heap_calls.specs.Inner.Numbered.{state_of}
-use Rattle.heap_calls.specs.Inner.Reaching.{Reaches}
-use Rattle.heap_calls.specs.Inner.Telling.{fitted_gone}
+use Rattle.heap_calls.proofs.Cited.{◌≡◌, Ok, Err, List, ℕ, ap, refl, ◌+◌, rules, ◌∙◌, err_from_is_err_and, is_relocatable, counted, spot}
+use Rattle.heap_calls.proofs.Cited.{spared, Two, Anchor, Hears, size_moves, hand_and_hand, doing_silently, purges_made, size_searches}
+use Rattle.heap_calls.proofs.Cited.{bytes_of, length_of, KeepsNames, state_of, Reaches, fitted_gone}
+use Rattle.heap_calls.specs.Rows.{refused}
 use Rattle.heap_calls.proofs.Hearing.{stops-halted, hears-none, hears-as}
 use Rattle.heap_calls.proofs.Numbering.Changing.{agrees-kept, heap-same}
 use Rattle.heap_calls.proofs.Numbering.Memories.{memory_as, reply-as}

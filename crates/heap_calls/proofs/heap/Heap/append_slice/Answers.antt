@@ -1,15 +1,7 @@
-use Rattle.std.proofs.Common.{◌≡◌, Ok, Err, List, ap, refl, ◌+◌, length, rules, ◌∙◌}
-use Rattle.std.proofs.lemmas.Result.{err_from_is_err_and}
-use Rattle.block_store.specs.Block.{is_relocatable}
-use Rattle.block_store.specs.declared.sparing.Sparing.TheVariants.{One}
-use Rattle.heap_calls.specs.declared.anchor.Anchor.{Anchor}
-use Rattle.heap_calls.specs.Gone.{Hears}
-use Rattle.heap_calls.specs.Rows.{pointer_and_hand, doing_silently, purges_made, refused}
-use Rattle.heap_calls.specs.Inner.Appending.{length_of}
-use Rattle.heap_calls.specs.Inner.Given.{KeepsNames}
-use Rattle.heap_calls.specs.Inner.Numbered.{state_of}
-use Rattle.heap_calls.specs.Inner.Reaching.{Reaches}
-use Rattle.heap_calls.specs.Inner.Telling.{fitted_gone}
+use Rattle.heap_calls.proofs.Cited.{◌≡◌, Ok, Err, List, ap, refl, ◌+◌, length, rules, ◌∙◌, err_from_is_err_and, is_relocatable, One, Anchor}
+use Rattle.heap_calls.proofs.Cited.{Hears, pointer_and_hand, doing_silently, purges_made, length_of, KeepsNames, state_of, Reaches}
+use Rattle.heap_calls.proofs.Cited.{fitted_gone}
+use Rattle.heap_calls.specs.Rows.{refused}
 use Rattle.heap_calls.proofs.Hearing.{stops-halted, hears-none, hears-as}
 use Rattle.heap_calls.proofs.Numbering.Changing.{agrees-kept, heap-same}
 use Rattle.heap_calls.proofs.Numbering.Memories.{memory_as, reply-as}

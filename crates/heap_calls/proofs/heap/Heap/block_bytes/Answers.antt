@@ -1,6 +1,4 @@
-use Rattle.std.proofs.Common.{◌≡◌, sym, ◌∙◌, ap, arith, length, Ok, Err}
-use Rattle.std.proofs.lemmas.Result.{err_from_is_err_and}
-use Rattle.block_store.specs.Block.{content_of}
+use Rattle.heap_calls.proofs.Cited.{◌≡◌, sym, ◌∙◌, ap, arith, length, Ok, Err, err_from_is_err_and, content_of}
 use Rattle.heap_calls.proofs.Numbering.Answering.{refused_for, on_found, found_in, at_place, content_of-rename}
 use Rattle.heap_calls.proofs.Numbering.Memories.{memory_as}
 use Rattle.heap_calls.proofs.heap.Heap.block_bytes.Goals as goal

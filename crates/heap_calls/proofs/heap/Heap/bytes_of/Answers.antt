@@ -1,5 +1,4 @@
-use Rattle.std.proofs.Common.{◌≡◌, length, ap, arith}
-use Rattle.block_store.specs.Block.{content_of}
+use Rattle.heap_calls.proofs.Cited.{◌≡◌, length, ap, arith, content_of}
 use Rattle.heap_calls.proofs.Numbering.Answering.{at_place}
 use Rattle.heap_calls.proofs.Numbering.Pointing.{IsHeld, pointer-held, bytes-told}
 use Rattle.heap_calls.proofs.Numbering.Memories.{memory_as}

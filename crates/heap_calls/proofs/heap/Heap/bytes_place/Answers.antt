@@ -1,10 +1,7 @@
-use Rattle.std.proofs.Common.{◌+◌, ◌∙◌, ap, Ok, Err}
-use Rattle.std.proofs.lemmas.Result.{err_from_is_err_and}
-use Rattle.heap_calls.specs.Pointers.{block_named}
+use Rattle.heap_calls.proofs.Cited.{◌+◌, ◌∙◌, ap, Ok, Err, err_from_is_err_and, block_named, sizes}
 use Rattle.heap_calls.proofs.Numbering.Answering.{sizes-rename}
 use Rattle.heap_calls.proofs.Numbering.Pointing.{found_by}
 use Rattle.heap_calls.proofs.Numbering.Answering.{refused_by, on_held}
-use Rattle.block_store.specs.Block.{sizes}
 use Rattle.heap_calls.proofs.Numbering.Memories.{memory_as}
 use Rattle.heap_calls.proofs.heap.Heap.bytes_place.Goals as goal
 

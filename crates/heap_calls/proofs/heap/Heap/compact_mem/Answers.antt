@@ -1,13 +1,6 @@
-use Rattle.std.proofs.Common.{◌≡◌, ◌+◌, sym, ◌∙◌, ap, Ok, arith}
-use Rattle.mac_words.specs.declared.code.TheConstants.OsErr.{NO_ERR}
-use Rattle.block_store.specs.Run.{runs}
-use Rattle.block_store.specs.Compact.{compacted, lowered_in_runs, runs_settled}
-use Rattle.heap_calls.specs.State.{Memory}
-use Rattle.heap_calls.specs.Answer.{compact_mem, noting}
-use Rattle.heap_calls.specs.Moves.{compact_mem_moves}
-use Rattle.block_store.specs.Compact.{stretches}
-use Rattle.heap_calls.specs.Searches.{compact_mem_searches}
-use Rattle.heap_calls.specs.Inner.Numbered.{memory_of, handle_number, pointer_number}
+use Rattle.heap_calls.proofs.Cited.{◌≡◌, ◌+◌, sym, ◌∙◌, ap, Ok, arith, NO_ERR, runs, compacted, lowered_in_runs, runs_settled, Memory}
+use Rattle.heap_calls.proofs.Cited.{compact_mem, noting, compact_mem_moves, stretches, compact_mem_searches, memory_of, handle_number}
+use Rattle.heap_calls.proofs.Cited.{pointer_number}
 use Rattle.heap_calls.proofs.Numbering.Changing.{agrees-kept, unmoved, unmoved-is}
 use Rattle.heap_calls.proofs.Room.MoveCounts.{moving-done}
 use Rattle.heap_calls.proofs.Numbering.MoveNames.{settled_falls-rename}

@@ -1,10 +1,4 @@
-use Rattle.std.proofs.Common.{◌≢◌, ℕ, List, Result, Err, sym, subst}
-use Rattle.mac_words.specs.declared.code.OsErr.{OsErr}
-use Rattle.block_store.specs.Block.{no_flags}
-use Rattle.heap_calls.specs.declared.refusal.Refusal.TheVariants.{HostMemory}
-use Rattle.heap_calls.specs.State.{Memory}
-use Rattle.heap_calls.specs.Gone.{Gone, Hears}
-use Rattle.heap_calls.specs.Inner.Given.{IsAnswer}
+use Rattle.heap_calls.proofs.Cited.{◌≢◌, ℕ, List, Result, Err, sym, subst, OsErr, no_flags, HostMemory, Memory, Gone, Hears, IsAnswer}
 use Rattle.heap_calls.proofs.Same.NewBlocks.{filled-same}
 use Rattle.heap_calls.proofs.Same.Silent.{filled-silent}
 use Rattle.heap_calls.proofs.heap.Heap.copy_bytes.Goals as goal

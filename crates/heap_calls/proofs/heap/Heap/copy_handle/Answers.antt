@@ -1,20 +1,9 @@
-use Rattle.std.proofs.Common.{◌≡◌, List, length, refl, sym, ◌∙◌, ap, arith, inl, inr, Some, Err, slice_get, subst}
-use Rattle.std.proofs.lemmas.List.{length-map}
-use Rattle.std.proofs.lemmas.Result.{err_from_is_err_and}
-use Rattle.mac_words.specs.declared.code.TheConstants.OsErr.{NIL_HANDLE}
-use Rattle.block_store.specs.Block.{rename, content_of}
-use Rattle.block_store.specs.declared.sparing.Sparing.TheVariants.{One}
-use Rattle.heap_calls.specs.declared.anchor.Anchor.{Anchor}
+use Rattle.heap_calls.proofs.Cited.{◌≡◌, List, length, refl, sym, ◌∙◌, ap, arith, inl, inr, Some, Err, slice_get, subst, length-map}
+use Rattle.heap_calls.proofs.Cited.{err_from_is_err_and, NIL_HANDLE, rename, content_of, One, Anchor, Memory, look_up, copying_zone, Gone}
+use Rattle.heap_calls.proofs.Cited.{Tells, copy_slot_gone, Hears, hand_to_hand, doing_silently, purges_made, KeepsNames, slot_of, entered}
+use Rattle.heap_calls.proofs.Cited.{name_of, state_of, memory_of, handle_number, pointer_number, Agrees, zone_slot_gone, new_gone}
 use Rattle.heap_calls.specs.declared.anchor.Anchor.TheVariants.{Handle}
-use Rattle.heap_calls.specs.State.{Memory}
-use Rattle.heap_calls.specs.Answer.{look_up}
-use Rattle.heap_calls.specs.Copying.{copying_zone}
-use Rattle.heap_calls.specs.Gone.{Gone, Tells, copy_slot_gone, Hears}
-use Rattle.heap_calls.specs.Rows.{hand_to_hand, doing_silently, purges_made, refused}
-use Rattle.heap_calls.specs.Inner.Given.{KeepsNames, slot_of}
-use Rattle.heap_calls.specs.Inner.Naming.{entered}
-use Rattle.heap_calls.specs.Inner.Numbered.{name_of, state_of, memory_of, handle_number, pointer_number, Agrees}
-use Rattle.heap_calls.specs.Inner.Telling.{zone_slot_gone, new_gone}
+use Rattle.heap_calls.specs.Rows.{refused}
 use Rattle.heap_calls.proofs.Hearing.{hears-as, hears-none, stops-at-once, stops-on-the-way}
 use Rattle.heap_calls.proofs.Made.{made-agrees}
 use Rattle.heap_calls.proofs.NewBlocks.CopiedHandles.{Copied, copy-nil, copy-none, slot-in, source-few, copied-slotted, copied-answer}

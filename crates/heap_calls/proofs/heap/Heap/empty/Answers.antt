@@ -1,8 +1,5 @@
-use Rattle.std.proofs.Common.{Ok}
-use Rattle.std.proofs.lemmas.Result.{err_from_is_err_and}
+use Rattle.heap_calls.proofs.Cited.{Ok, err_from_is_err_and, tidy, is_relocatable, freed}
 use Rattle.heap_calls.proofs.Numbering.Loosening.{loose_in, not_emptied, empty_handle-done}
-use Rattle.block_store.specs.Block.{tidy, is_relocatable}
-use Rattle.block_store.specs.Grow.{freed}
 use Rattle.heap_calls.proofs.Numbering.Changing.{agrees-same}
 use Rattle.heap_calls.proofs.Room.Staying.{nonrelocatable-released, nonrelocatable-same, nonrelocatable-then}
 use Rattle.heap_calls.proofs.Numbering.Reserved.{fits-same}

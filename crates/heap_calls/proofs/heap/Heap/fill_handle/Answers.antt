@@ -1,13 +1,5 @@
-use Rattle.std.proofs.Common.{◌≡◌, inl, inr, refl, ◌∙◌, arith}
-use Rattle.std.proofs.lemmas.List.{length-map}
-use Rattle.std.proofs.lemmas.Result.{err_from_is_err_and}
-use Rattle.heap_calls.specs.State.{Plain}
-use Rattle.heap_calls.specs.Answer.{nothing}
-use Rattle.heap_calls.specs.Gone.{Hears, made_gone}
-use Rattle.heap_calls.specs.Inside.{new_inside}
-use Rattle.heap_calls.specs.Inner.Given.{KeepsNames}
-use Rattle.heap_calls.specs.Inner.Naming.{entered}
-use Rattle.heap_calls.specs.Inner.Numbered.{name_of, memory_of, Agrees}
+use Rattle.heap_calls.proofs.Cited.{◌≡◌, inl, inr, refl, ◌∙◌, arith, length-map, err_from_is_err_and, Plain, nothing, Hears, made_gone}
+use Rattle.heap_calls.proofs.Cited.{new_inside, KeepsNames, entered, name_of, memory_of, Agrees}
 use Rattle.heap_calls.proofs.Hearing.{stops-at-once, stops-on-the-way}
 use Rattle.heap_calls.proofs.Filled.Unmade.{made-told, heap-unmade}
 use Rattle.heap_calls.proofs.Made.{made-agrees, filled-slotted, filled-answer}

@@ -1,7 +1,4 @@
-use Rattle.std.proofs.Common.{◌∙◌, ap}
-use Rattle.std.specs.Prelude.{is_ok}
-use Rattle.heap_calls.specs.State.{Memory}
-use Rattle.heap_calls.specs.Answer.{look_up}
+use Rattle.heap_calls.proofs.Cited.{◌∙◌, ap, is_ok, Memory, look_up}
 use Rattle.heap_calls.proofs.Numbering.Answering.{found_in}
 use Rattle.heap_calls.proofs.Gates.Barring.{found-held}
 use Rattle.heap_calls.proofs.Numbering.Memories.{memory_as}

@@ -1,8 +1,4 @@
-use Rattle.std.proofs.Common.{◌∙◌, ap}
-use Rattle.std.specs.Prelude.{is_ok}
-use Rattle.heap_calls.specs.State.{Memory}
-use Rattle.heap_calls.specs.Pointers.{block_named}
-use Rattle.heap_calls.specs.Inner.Numbered.{state_of}
+use Rattle.heap_calls.proofs.Cited.{◌∙◌, ap, is_ok, Memory, block_named, state_of}
 use Rattle.heap_calls.proofs.Numbering.Pointing.{found_by}
 use Rattle.heap_calls.proofs.Gates.Barring.{found-named}
 use Rattle.heap_calls.proofs.Numbering.Memories.{memory_as}

@@ -1,14 +1,6 @@
-use Rattle.std.proofs.Common.{◌≡◌, arith, Err, List, ap, refl, ◌∙◌, rules}
-use Rattle.std.proofs.lemmas.Result.{err_from_is_err_and}
-use Rattle.block_store.specs.Block.{is_nonrelocatable}
-use Rattle.block_store.specs.declared.sparing.Sparing.TheVariants.{Nothing}
-use Rattle.heap_calls.specs.declared.anchor.Anchor.{Anchor}
-use Rattle.heap_calls.specs.Answer.{nothing}
-use Rattle.heap_calls.specs.Gone.{Hears}
-use Rattle.heap_calls.specs.Rows.{set_pointer_size, doing_silently, purges_made, refused}
-use Rattle.heap_calls.specs.Inner.Given.{KeepsMoves}
-use Rattle.heap_calls.specs.Inner.Numbered.{state_of}
-use Rattle.heap_calls.specs.Inner.Telling.{fitted_gone}
+use Rattle.heap_calls.proofs.Cited.{◌≡◌, arith, Err, List, ap, refl, ◌∙◌, rules, err_from_is_err_and, is_nonrelocatable, Nothing, Anchor}
+use Rattle.heap_calls.proofs.Cited.{nothing, Hears, set_pointer_size, doing_silently, purges_made, KeepsMoves, state_of, fitted_gone}
+use Rattle.heap_calls.specs.Rows.{refused}
 use Rattle.heap_calls.proofs.Hearing.{stops-halted, hears-none, hears-as}
 use Rattle.heap_calls.proofs.Numbering.Changing.{agrees-placed, slots_kept, heap-same}
 use Rattle.heap_calls.proofs.Numbering.Memories.{memory_as, reply-as}

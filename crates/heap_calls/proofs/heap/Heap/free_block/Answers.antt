@@ -1,10 +1,5 @@
-use Rattle.std.proofs.Common.{◌≡◌, true, sym, ◌∙◌, ap, subst, arith, Option, List, Ok, slice_set}
-use Rattle.std.proofs.lemmas.Option.{slice_get_within}
-use Rattle.std.specs.Option.{IsSomeAnd}
-use Rattle.block_store.specs.Block.{Block, is_nonrelocatable}
-use Rattle.block_store.specs.Room.{Spot}
-use Rattle.heap_calls.specs.Inner.Numbered.{state_of, Agrees}
-use Rattle.heap_calls.specs.Pointers.{dispose_pointer}
+use Rattle.heap_calls.proofs.Cited.{◌≡◌, true, sym, ◌∙◌, ap, subst, arith, Option, List, Ok, slice_set, slice_get_within, IsSomeAnd, Block}
+use Rattle.heap_calls.proofs.Cited.{is_nonrelocatable, Spot, state_of, Agrees, dispose_pointer}
 use Rattle.heap_calls.specs.declared.anchor.Anchor.TheVariants.{Disposed}
 use Rattle.heap_calls.proofs.Numbering.Changing.{kept, silent-done}
 use Rattle.heap_calls.proofs.Numbering.Pointing.{IsHeld, pointer-held, agrees-left, dispose_pointer-done}

@@ -1,8 +1,4 @@
-use Rattle.std.proofs.Common.{◌≡◌, ◌∙◌, ℕ, sym, ap, subst, Ok}
-use Rattle.mac_words.specs.declared.code.TheConstants.OsErr.{NO_ERR}
-use Rattle.heap_calls.specs.State.{Memory}
-use Rattle.heap_calls.specs.Answer.{free_mem, noting}
-use Rattle.heap_calls.specs.Inner.Numbered.{memory_of}
+use Rattle.heap_calls.proofs.Cited.{◌≡◌, ◌∙◌, ℕ, sym, ap, subst, Ok, NO_ERR, Memory, free_mem, noting, memory_of}
 use Rattle.heap_calls.proofs.Numbering.Changing.{free_sum-rename}
 use Rattle.heap_calls.proofs.Numbering.Memories.{memory_as}
 use Rattle.heap_calls.proofs.heap.Heap.free_mem.Goals as goal

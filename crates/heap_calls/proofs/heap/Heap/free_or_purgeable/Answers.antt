@@ -1,8 +1,4 @@
-use Rattle.std.proofs.Common.{◌∙◌, sym, ap}
-use Rattle.block_store.specs.Block.{free_sum}
-use Rattle.heap_calls.specs.State.{Memory}
-use Rattle.heap_calls.specs.Purging.{purged_all}
-use Rattle.heap_calls.specs.Inner.Numbered.{handle_number, pointer_number}
+use Rattle.heap_calls.proofs.Cited.{◌∙◌, sym, ap, free_sum, Memory, purged_all, handle_number, pointer_number}
 use Rattle.heap_calls.proofs.Numbering.Changing.{free_sum-rename}
 use Rattle.heap_calls.proofs.Numbering.PurgeTrials.{purged_all-rename}
 use Rattle.heap_calls.proofs.Numbering.Memories.{memory_as}

@@ -1,8 +1,4 @@
-use Rattle.std.proofs.Common.{Some, sym, ◌∙◌, ap, arith}
-use Rattle.block_store.specs.Block.{is_relocatable}
-use Rattle.block_store.specs.Run.{has}
-use Rattle.heap_calls.specs.State.{Memory}
-use Rattle.heap_calls.specs.Inner.Given.{slot_of}
+use Rattle.heap_calls.proofs.Cited.{Some, sym, ◌∙◌, ap, arith, is_relocatable, has, Memory, slot_of}
 use Rattle.heap_calls.proofs.Numbering.Roles.{entry-of, block-there, block-none}
 use Rattle.heap_calls.proofs.Numbering.Memories.{memory_as}
 use Rattle.heap_calls.proofs.heap.Heap.has_block.Goals as goal

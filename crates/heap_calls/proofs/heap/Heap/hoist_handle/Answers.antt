@@ -1,7 +1,5 @@
-use Rattle.std.proofs.Common.{◌≡◌, refl, true, false, Ok, Some, None, sym, ◌∙◌, ap, arith, slice_get}
-use Rattle.block_store.specs.Block.{is_relocatable, is_mover, tidy}
-use Rattle.block_store.specs.Run.{has, high, with_run}
-use Rattle.heap_calls.specs.Inner.Given.{seen_mover}
+use Rattle.heap_calls.proofs.Cited.{◌≡◌, refl, true, false, Ok, Some, None, sym, ◌∙◌, ap, arith, slice_get, is_relocatable, is_mover, tidy}
+use Rattle.heap_calls.proofs.Cited.{has, high, with_run, seen_mover}
 use Rattle.heap_calls.specs.declared.anchor.Anchor.TheVariants.{Handle}
 use Rattle.heap_calls.proofs.Numbering.Changing.{agrees-placed, none_placed, once_placed}
 use Rattle.heap_calls.proofs.Room.Searching.{at_run}

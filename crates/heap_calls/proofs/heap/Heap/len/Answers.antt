@@ -1,7 +1,4 @@
-use Rattle.std.proofs.Common.{◌∙◌, sym, ap}
-use Rattle.block_store.specs.Block.{sizes}
-use Rattle.heap_calls.specs.State.{Memory}
-use Rattle.heap_calls.specs.Inner.Numbered.{handle_number, pointer_number}
+use Rattle.heap_calls.proofs.Cited.{◌∙◌, sym, ap, sizes, Memory, handle_number, pointer_number}
 use Rattle.heap_calls.proofs.Numbering.Answering.{sizes-rename}
 use Rattle.heap_calls.proofs.Numbering.Memories.{memory_as}
 use Rattle.heap_calls.proofs.heap.Heap.len.Goals as goal

@@ -1,14 +1,5 @@
-use Rattle.std.proofs.Common.{◌≡◌, List, refl, ◌∙◌, ap, arith}
-use Rattle.std.proofs.lemmas.List.{length-map}
-use Rattle.std.proofs.lemmas.Result.{err_from_is_err_and}
-use Rattle.block_store.specs.declared.sparing.Sparing.TheVariants.{Nothing}
-use Rattle.heap_calls.specs.declared.anchor.Anchor.{Anchor}
-use Rattle.heap_calls.specs.Rows.{new_empty_handle, doing_silently, purges_made}
-use Rattle.heap_calls.specs.Gone.{Hears}
-use Rattle.heap_calls.specs.Inner.Given.{KeepsMoves}
-use Rattle.heap_calls.specs.Inner.Naming.{entered}
-use Rattle.heap_calls.specs.Inner.Numbered.{name_of, memory_of, Agrees}
-use Rattle.heap_calls.specs.Inner.Telling.{zone_slot_gone}
+use Rattle.heap_calls.proofs.Cited.{◌≡◌, List, refl, ◌∙◌, ap, arith, length-map, err_from_is_err_and, Nothing, Anchor, new_empty_handle}
+use Rattle.heap_calls.proofs.Cited.{doing_silently, purges_made, Hears, KeepsMoves, entered, name_of, memory_of, Agrees, zone_slot_gone}
 use Rattle.heap_calls.proofs.Hearing.{hears-as, stops-at-once, stops-halted}
 use Rattle.heap_calls.proofs.Made.{made-agrees, taken-slotted, empty-answer, empty-gone}
 use Rattle.heap_calls.proofs.NewBlocks.NewHandles.{agrees-more, kept-still}

@@ -1,14 +1,5 @@
-use Rattle.std.proofs.Common.{◌≡◌, List, inl, inr, refl, ◌∙◌, ap, arith}
-use Rattle.std.proofs.lemmas.List.{length-map}
-use Rattle.std.proofs.lemmas.Result.{err_from_is_err_and}
-use Rattle.block_store.specs.declared.sparing.Sparing.TheVariants.{Nothing}
-use Rattle.heap_calls.specs.declared.anchor.Anchor.{Anchor}
-use Rattle.heap_calls.specs.Rows.{new_handle, doing_silently, purges_made}
-use Rattle.heap_calls.specs.Gone.{Hears}
-use Rattle.heap_calls.specs.Inner.Given.{KeepsNames}
-use Rattle.heap_calls.specs.Inner.Naming.{entered}
-use Rattle.heap_calls.specs.Inner.Numbered.{name_of, memory_of, Agrees}
-use Rattle.heap_calls.specs.Inner.Telling.{new_gone}
+use Rattle.heap_calls.proofs.Cited.{◌≡◌, List, inl, inr, refl, ◌∙◌, ap, arith, length-map, err_from_is_err_and, Nothing, Anchor, new_handle}
+use Rattle.heap_calls.proofs.Cited.{doing_silently, purges_made, Hears, KeepsNames, entered, name_of, memory_of, Agrees, new_gone}
 use Rattle.heap_calls.proofs.Hearing.{hears-as, stops-at-once, stops-on-the-way}
 use Rattle.heap_calls.proofs.Filled.Unmade.{heap-unmade}
 use Rattle.heap_calls.proofs.Made.{made-agrees, new-slotted, new_handle-answer, new_handle-gone}

@@ -1,12 +1,6 @@
-use Rattle.std.proofs.Common.{◌≡◌, ◌++◌, ◌∷◌, [], length, List, refl, ◌∙◌, ap, arith, rules, is_some}
-use Rattle.std.proofs.lemmas.List.{length-map}
-use Rattle.block_store.specs.Rest.{counted}
-use Rattle.heap_calls.specs.declared.anchor.Anchor.{Anchor}
+use Rattle.heap_calls.proofs.Cited.{◌≡◌, ◌++◌, ◌∷◌, [], length, List, refl, ◌∙◌, ap, arith, rules, is_some, length-map, counted, Anchor}
+use Rattle.heap_calls.proofs.Cited.{new_pointer, doing_silently, purges_made, reply_of, KeepsMoves, name_of, memory_of, pointer_gone}
 use Rattle.heap_calls.specs.declared.anchor.Anchor.TheVariants.{Pointer}
-use Rattle.heap_calls.specs.Rows.{new_pointer, doing_silently, purges_made, reply_of}
-use Rattle.heap_calls.specs.Inner.Given.{KeepsMoves}
-use Rattle.heap_calls.specs.Inner.Numbered.{name_of, memory_of}
-use Rattle.heap_calls.specs.Inner.Telling.{pointer_gone}
 use Rattle.heap_calls.proofs.Hearing.{hears-as, stops-at-once, stops-halted}
 use Rattle.heap_calls.proofs.NewBlocks.NewPointers.{agrees-more, pointed, pointer-answer, pointer-gone}
 use Rattle.heap_calls.proofs.Numbering.Changing.{agrees-placed, slots_kept, heap-same}

@@ -1,13 +1,6 @@
-use Rattle.std.proofs.Common.{◌≡◌, ◌-◌, ◌+◌, ◌<◌, ◌∙◌, None, ℕ, sym, ap, subst, Ok}
-use Rattle.mac_words.specs.declared.code.TheConstants.OsErr.{NO_ERR}
-use Rattle.heap_calls.specs.State.{Memory}
-use Rattle.heap_calls.specs.Answer.{max_block, noting}
-use Rattle.heap_calls.specs.Inner.Numbered.{memory_of}
-use Rattle.std.specs.Option.{IfSome, IsSome}
-use Rattle.mac_words.specs.Size.{phys}
-use Rattle.block_store.specs.Room.{place}
+use Rattle.heap_calls.proofs.Cited.{◌≡◌, ◌-◌, ◌+◌, ◌<◌, ◌∙◌, None, ℕ, sym, ap, subst, Ok, NO_ERR, Memory, max_block, noting, memory_of}
+use Rattle.heap_calls.proofs.Cited.{IfSome, IsSome, phys, place, most-placed, no_more-placed}
 use Rattle.heap_calls.proofs.Numbering.Largest.{largest_run-rename}
-use Rattle.block_store.proofs.Regroup.MostRoom.{most-placed, no_more-placed}
 use Rattle.heap_calls.proofs.Numbering.Memories.{memory_as}
 use Rattle.heap_calls.proofs.heap.Heap.max_block.Goals as goal
 

@@ -1,30 +1,18 @@
-use Rattle.block_store.proofs.Plain.Trials.{least_or_last-none}
-use Rattle.std.proofs.Common.{◌≡◌, ◌∙◌, refl, sym, ap, None, Ok, length, arith, List, false, inr, rules}
-use Rattle.mac_words.specs.declared.code.TheConstants.OsErr.{NO_ERR}
-use Rattle.block_store.specs.Run.{runs}
-use Rattle.block_store.specs.Rest.{counted}
-use Rattle.heap_calls.specs.State.{Memory}
-use Rattle.heap_calls.specs.Moves.{all_moves, max_mem_moves}
-use Rattle.heap_calls.specs.Inner.Numbered.{handle_number, pointer_number}
+use Rattle.heap_calls.proofs.Cited.{least_or_last-none, ◌≡◌, ◌∙◌, refl, sym, ap, None, Ok, length, arith, List, false, inr, rules, NO_ERR}
+use Rattle.heap_calls.proofs.Cited.{runs, counted, Memory, all_moves, max_mem_moves, handle_number, pointer_number, compacted}
+use Rattle.heap_calls.proofs.Cited.{lowered_in_runs, runs_settled, purged, KeepsSlots, Anchor, KeepsNames, gone_from, purgeable}
 use Rattle.heap_calls.proofs.Numbering.PurgeTrials.{purged_all-is, max_mem-done, purgeable-rename}
-use Rattle.block_store.specs.Compact.{compacted, lowered_in_runs, runs_settled}
-use Rattle.block_store.specs.Sparing.{purged}
 use Rattle.block_store.specs.declared.sparing.Sparing.TheVariants as sparing
 use Rattle.heap_calls.proofs.Numbering.Changing.{agrees-kept, unmoved, heap-same}
 use Rattle.heap_calls.proofs.Room.MoveCounts.{moving-done}
 use Rattle.heap_calls.proofs.Numbering.MoveNames.{purged_moves-rename}
 use Rattle.heap_calls.proofs.Room.Staying.{nonrelocatable-purged, nonrelocatable-settled, nonrelocatable-same, nonrelocatable-then}
-use Rattle.block_store.specs.Rest.{KeepsSlots}
 use Rattle.heap_calls.proofs.Numbering.Changing.{unmoved-is}
 use Rattle.heap_calls.proofs.Numbering.Memories.{memory_as, placings_as}
 use Rattle.heap_calls.proofs.heap.Heap.max_mem.Given.{Over}
 use Rattle.heap_calls.proofs.heap.Heap.max_mem.Goals.{After-compact}
 use Rattle.heap_calls.proofs.Hearing.{stops-halted, hears-as}
-use Rattle.heap_calls.specs.declared.anchor.Anchor.{Anchor}
-use Rattle.heap_calls.specs.Inner.Given.{KeepsNames}
-use Rattle.heap_calls.specs.Inner.Telling.{gone_from}
 use Rattle.heap_calls.proofs.GoneBlocks.{told-all}
-use Rattle.heap_calls.specs.Purging.{purgeable}
 use Rattle.heap_calls.proofs.heap.Heap.max_mem.Goals as goal
 
 -- the slots stay

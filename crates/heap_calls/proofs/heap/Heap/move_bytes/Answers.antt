@@ -1,12 +1,5 @@
-use Rattle.std.proofs.Common.{◌≡◌, ◌+◌, ◌++◌, ◌∷◌, length, take, drop, Ok, Err, nat_le, ◌&&◌}
-use Rattle.std.proofs.lemmas.Result.{err_from_is_err_and}
-use Rattle.std.specs.Option.{IfSome}
-use Rattle.block_store.specs.Block.{content_of, with_content}
-use Rattle.block_store.specs.Room.{spot_at}
-use Rattle.memory_windows.specs.Writes.{written}
-use Rattle.heap_calls.specs.Pointers.{block_named}
-use Rattle.heap_calls.specs.Inner.Numbered.{state_of}
-use Rattle.heap_calls.specs.Inner.Pointing.{FindsHeld}
+use Rattle.heap_calls.proofs.Cited.{◌≡◌, ◌+◌, ◌++◌, ◌∷◌, length, take, drop, Ok, Err, nat_le, ◌&&◌, err_from_is_err_and, IfSome, content_of}
+use Rattle.heap_calls.proofs.Cited.{with_content, spot_at, written, block_named, state_of, FindsHeld}
 use Rattle.heap_calls.proofs.BlockMoves.{first-refused, second-refused, move-outside, move-done, both-within, one-past}
 use Rattle.heap_calls.proofs.Numbering.Answering.{at_place}
 use Rattle.heap_calls.proofs.Numbering.Changing.{agrees-same, nonrelocatable-at}

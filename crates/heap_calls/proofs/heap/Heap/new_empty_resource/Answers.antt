@@ -1,7 +1,4 @@
-use Rattle.std.proofs.Common.{◌∙◌, ℕ, Result, subst, sym}
-use Rattle.mac_words.specs.declared.code.OsErr.{OsErr}
-use Rattle.heap_calls.specs.State.{Memory}
-use Rattle.heap_calls.specs.Inner.Given.{IsAnswer}
+use Rattle.heap_calls.proofs.Cited.{◌∙◌, ℕ, Result, subst, sym, OsErr, Memory, IsAnswer}
 use Rattle.heap_calls.proofs.Filled.Owned.{owned-emptied}
 use Rattle.heap_calls.proofs.Hearing.{hears-as}
 use Rattle.heap_calls.proofs.Same.Silent.{new_empty_handle-silent}

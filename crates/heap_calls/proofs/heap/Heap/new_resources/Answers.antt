@@ -1,16 +1,5 @@
-use Rattle.std.proofs.Common.{ℕ, List, inl, inr, ◌≡◌, ◌∙◌, ap, map, subst}
-use Rattle.std.proofs.lemmas.Result.{on_ok_weaker, on_err_weaker}
-use Rattle.mac_words.proofs.Plain.{on_err}
-use Rattle.block_store.specs.Block.{Block}
-use Rattle.block_store.specs.Rest.{Rest}
-use Rattle.heap_calls.specs.declared.anchor.Anchor.{Anchor}
-use Rattle.heap_calls.specs.declared.log.Log.{Log}
-use Rattle.heap_calls.specs.State.{Memory}
-use Rattle.heap_calls.specs.Gone.{all_gone}
-use Rattle.heap_calls.specs.Inside.{new_all}
-use Rattle.heap_calls.specs.Preloaded.{MadeSome}
-use Rattle.heap_calls.specs.Inner.Filling.{wanted_as}
-use Rattle.heap_calls.specs.Inner.Numbered.{memory_of}
+use Rattle.heap_calls.proofs.Cited.{ℕ, List, inl, inr, ◌≡◌, ◌∙◌, ap, map, subst, on_ok_weaker, on_err_weaker, on_err, Block, Rest, Anchor}
+use Rattle.heap_calls.proofs.Cited.{Log, Memory, all_gone, new_all, MadeSome, wanted_as, memory_of}
 use Rattle.heap_calls.proofs.Hearing.{hears-if-on-ok}
 use Rattle.heap_calls.proofs.Filled.Several.{stops-first}
 use Rattle.heap_calls.proofs.Numbering.Memories.{memory_as}

@@ -1,6 +1,4 @@
-use Rattle.std.proofs.Common.{sym, ◌∙◌, ap}
-use Rattle.heap_calls.specs.Inside.{inside}
-use Rattle.heap_calls.specs.Inner.Filling.{owned_by}
+use Rattle.heap_calls.proofs.Cited.{sym, ◌∙◌, ap, inside, owned_by}
 use Rattle.heap_calls.proofs.Filled.Owned.{own-done}
 use Rattle.heap_calls.proofs.heap.Heap.own.Goals as goal
 

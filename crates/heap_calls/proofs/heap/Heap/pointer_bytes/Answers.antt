@@ -1,4 +1,4 @@
-use Rattle.std.proofs.Common.{arith, List, ℕ}
+use Rattle.heap_calls.proofs.Cited.{arith, List, ℕ}
 use Rattle.heap_calls.proofs.Numbering.Pointing.{IsHeld, pointer-held, bytes-told}
 use Rattle.heap_calls.proofs.Numbering.Memories.{memory_as}
 use Rattle.heap_calls.proofs.heap.Heap.pointer_bytes.Given.{Over}

@@ -1,25 +1,13 @@
-use Rattle.std.proofs.Common.{◌≡◌, ◌+◌, ℕ, sym, ◌∙◌, ap, refl, Option, arith, List, false, inr, rules}
-use Rattle.block_store.specs.Compact.{has_room}
-use Rattle.block_store.specs.Room.{purge}
-use Rattle.heap_calls.specs.Answer.{nothing, silent, searching}
-use Rattle.heap_calls.specs.Purging.{blocks_purged, purge_mem}
-use Rattle.heap_calls.specs.Inner.Numbered.{memory_of}
+use Rattle.heap_calls.proofs.Cited.{◌≡◌, ◌+◌, ℕ, sym, ◌∙◌, ap, refl, Option, arith, List, false, inr, rules, has_room, purge, nothing}
+use Rattle.heap_calls.proofs.Cited.{silent, searching, blocks_purged, purge_mem, memory_of, purged, counted, sized_reply}
+use Rattle.heap_calls.proofs.Cited.{err_from_is_err_and, purge_mem_searches, Anchor, Hears, purge_mem_gone, KeepsNames, gone_from}
 use Rattle.heap_calls.proofs.Numbering.PurgeTrials.{searching-done, blocks_purged-few, purge_mem-done}
 use Rattle.heap_calls.proofs.Numbering.PurgeTrials.{purge_mem_searches-is}
-use Rattle.block_store.specs.Sparing.{purged}
 use Rattle.block_store.specs.declared.sparing.Sparing.TheVariants as sparing
 use Rattle.heap_calls.proofs.Numbering.Changing.{agrees-same, heap-same}
 use Rattle.heap_calls.proofs.Room.Staying.{nonrelocatable-purged, nonrelocatable-same, nonrelocatable-then}
-use Rattle.block_store.specs.Rest.{counted}
 use Rattle.heap_calls.proofs.Numbering.Memories.{memory_as, reply-as}
-use Rattle.heap_calls.specs.Inner.Reaching.{sized_reply}
 use Rattle.heap_calls.proofs.Hearing.{stops-halted, hears-as}
-use Rattle.std.proofs.lemmas.Result.{err_from_is_err_and}
-use Rattle.heap_calls.specs.Searches.{purge_mem_searches}
-use Rattle.heap_calls.specs.declared.anchor.Anchor.{Anchor}
-use Rattle.heap_calls.specs.Gone.{Hears, purge_mem_gone}
-use Rattle.heap_calls.specs.Inner.Given.{KeepsNames}
-use Rattle.heap_calls.specs.Inner.Telling.{gone_from}
 use Rattle.heap_calls.proofs.GoneBlocks.{told-all}
 use Rattle.heap_calls.proofs.heap.Heap.purge_for.Given.{Over}
 use Rattle.heap_calls.proofs.heap.Heap.purge_for.Goals.{After-account}

@@ -1,9 +1,4 @@
-use Rattle.std.proofs.Common.{refl, ◌∙◌, ap}
-use Rattle.block_store.specs.Room.{purge}
-use Rattle.block_store.specs.Compact.{largest_free}
-use Rattle.block_store.specs.declared.measures.TheConstants.{GREATEST_ZONE}
-use Rattle.heap_calls.specs.Answer.{nothing}
-use Rattle.heap_calls.specs.Purging.{purged_all}
+use Rattle.heap_calls.proofs.Cited.{refl, ◌∙◌, ap, purge, largest_free, GREATEST_ZONE, nothing, purged_all}
 use Rattle.heap_calls.proofs.Numbering.PurgeTrials.{all-gone, purged_all-is, purge_space-done}
 use Rattle.heap_calls.proofs.Numbering.Memories.{memory_as}
 use Rattle.heap_calls.proofs.heap.Heap.purge_space.Goals as goal

@@ -1,11 +1,6 @@
-use Rattle.std.proofs.Common.{◌≡◌, refl, ◌∙◌, ap, List, Ok, Err, rules}
-use Rattle.std.proofs.lemmas.Result.{err_from_is_err_and}
-use Rattle.heap_calls.specs.declared.anchor.Anchor.{Anchor}
-use Rattle.heap_calls.specs.Rows.{reallocate_handle, doing_silently, purges_made, refused}
-use Rattle.heap_calls.specs.Inner.Given.{KeepsNames}
-use Rattle.heap_calls.specs.Inner.Loose.{FindsLoose}
-use Rattle.heap_calls.specs.Inner.Numbered.{state_of}
-use Rattle.heap_calls.specs.Inner.Telling.{renewed_gone}
+use Rattle.heap_calls.proofs.Cited.{◌≡◌, refl, ◌∙◌, ap, List, Ok, Err, rules, err_from_is_err_and, Anchor, reallocate_handle}
+use Rattle.heap_calls.proofs.Cited.{doing_silently, purges_made, KeepsNames, FindsLoose, state_of, renewed_gone}
+use Rattle.heap_calls.specs.Rows.{refused}
 use Rattle.heap_calls.proofs.Hearing.{hears-as, hears-none, stops-halted}
 use Rattle.heap_calls.proofs.NewBlocks.Renewing.{not-loose, reallocate-answer, reallocate-gone}
 use Rattle.heap_calls.proofs.Numbering.Changing.{agrees-kept, heap-same}

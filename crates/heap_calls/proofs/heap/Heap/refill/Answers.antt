@@ -1,17 +1,10 @@
-use Rattle.std.proofs.Common.{◌≡◌, ◌<◌, Some, List, length, sym, ◌∙◌, ap, refl, slice_get, is_some, arith, rules}
-use Rattle.std.proofs.lemmas.Result.{err_from_is_err_and}
-use Rattle.block_store.specs.Rest.{counted}
-use Rattle.heap_calls.specs.declared.anchor.Anchor.{Anchor}
+use Rattle.heap_calls.proofs.Cited.{◌≡◌, ◌<◌, Some, List, length, sym, ◌∙◌, ap, refl, slice_get, is_some, arith, rules, err_from_is_err_and}
+use Rattle.heap_calls.proofs.Cited.{counted, Anchor, refill_gone, renewed_gone, Log, silent, refill, refill_inside, memory_of, no_number}
+use Rattle.heap_calls.proofs.Cited.{sized_reply, KeepsNames}
 use Rattle.heap_calls.specs.declared.anchor.Anchor.TheVariants.{Handle}
-use Rattle.heap_calls.specs.Gone.{refill_gone}
-use Rattle.heap_calls.specs.Inner.Telling.{renewed_gone}
 use Rattle.heap_calls.proofs.Hearing.{hears-as, hears-none, stops-halted}
 use Rattle.heap_calls.proofs.GonePlaces.{refill_gone-is, refill_gone-none}
 use Rattle.heap_calls.proofs.Numbering.Reserved.{fits-same}
-use Rattle.heap_calls.specs.declared.log.Log.{Log}
-use Rattle.heap_calls.specs.Answer.{silent}
-use Rattle.heap_calls.specs.Inside.{refill, refill_inside}
-use Rattle.heap_calls.specs.Inner.Numbered.{memory_of, no_number}
 use Rattle.heap_calls.proofs.Filled.Refilled.{slot-emptied, refill_searches-is, refill_moves-is, refill-told, refill-refused}
 use Rattle.heap_calls.proofs.Numbering.Changing.{agrees-kept, unmoved, heap-same}
 use Rattle.heap_calls.proofs.Numbering.Loosening.{handle_at-by}
@@ -20,10 +13,8 @@ use Rattle.heap_calls.proofs.Numbering.PurgeTrials.{searching-done}
 use Rattle.heap_calls.proofs.Numbering.Roles.{entry-of}
 use Rattle.heap_calls.proofs.Room.MoveCounts.{moving-done}
 use Rattle.heap_calls.proofs.Numbering.Memories.{memory_as, reply-as}
-use Rattle.heap_calls.specs.Inner.Reaching.{sized_reply}
 use Rattle.heap_calls.proofs.heap.Heap.refill.Given.{Over}
 use Rattle.heap_calls.proofs.heap.Heap.refill.Goals.{In_ok-found, After-account}
-use Rattle.heap_calls.specs.Inner.Given.{KeepsNames}
 use Rattle.heap_calls.proofs.heap.Heap.refill.Goals as goal
 
 -- the handle's entry

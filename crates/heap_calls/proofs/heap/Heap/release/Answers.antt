@@ -1,13 +1,6 @@
-use Rattle.std.proofs.Common.{ℕ, ◌≡◌, ◌+◌, slice_set, cond, ◌==◌, sym, ◌∙◌, ap, arith, List, subst}
-use Rattle.std.proofs.lemmas.Option.{slice_get_within}
-use Rattle.block_store.specs.Block.{Block, is_relocatable, tidy}
-use Rattle.block_store.specs.Run.{has}
-use Rattle.block_store.specs.Grow.{freed}
-use Rattle.block_store.specs.Slot.{Unused, set_slot, AreSlots}
-use Rattle.block_store.specs.Rest.{Rest}
-use Rattle.block_store.proofs.Zone.Tidy.{has-released}
-use Rattle.heap_calls.specs.Inside.{released}
-use Rattle.heap_calls.specs.Inner.Numbered.{state_of, Agrees}
+use Rattle.heap_calls.proofs.Cited.{ℕ, ◌≡◌, ◌+◌, slice_set, cond, ◌==◌, sym, ◌∙◌, ap, arith, List, subst, slice_get_within, Block}
+use Rattle.heap_calls.proofs.Cited.{is_relocatable, tidy, has, freed, Unused, set_slot, AreSlots, Rest, has-released, released, state_of}
+use Rattle.heap_calls.proofs.Cited.{Agrees}
 use Rattle.heap_calls.specs.declared.anchor.Anchor.TheVariants.{Disposed}
 use Rattle.heap_calls.proofs.Numbering.Changing.{agrees-left, without-done}
 use Rattle.heap_calls.proofs.Numbering.Roles.{entry-of, released-is, inside-done}

@@ -1,6 +1,4 @@
-use Rattle.std.proofs.Common.{◌≡◌, ◌∙◌}
-use Rattle.std.proofs.lemmas.Result.{err_from_is_err_and}
-use Rattle.heap_calls.specs.Rows.{pointer_to_x_hand, doing_silently}
+use Rattle.heap_calls.proofs.Cited.{◌≡◌, ◌∙◌, err_from_is_err_and, pointer_to_x_hand, doing_silently}
 use Rattle.heap_calls.proofs.Exchanging.{replace-written}
 use Rattle.heap_calls.proofs.Numbering.Memories.{reply-as}
 use Rattle.heap_calls.proofs.heap.Heap.replace_bytes.Given.{Over}

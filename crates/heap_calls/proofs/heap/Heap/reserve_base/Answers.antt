@@ -1,12 +1,5 @@
-use Rattle.std.proofs.Common.{◌≡◌, sym, ◌∙◌, List, ap, refl, rules}
-use Rattle.std.proofs.lemmas.Result.{err_from_is_err_and}
-use Rattle.mac_words.specs.declared.code.TheConstants.OsErr.{MEM_FULL}
-use Rattle.block_store.specs.declared.sparing.Sparing.TheVariants.{Nothing}
-use Rattle.heap_calls.specs.declared.anchor.Anchor.{Anchor}
-use Rattle.heap_calls.specs.Rows.{reserve_mem, doing_silently, purges_made}
-use Rattle.heap_calls.specs.Gone.{Hears}
-use Rattle.heap_calls.specs.Inner.Given.{KeepsMoves}
-use Rattle.heap_calls.specs.Inner.Telling.{base_gone}
+use Rattle.heap_calls.proofs.Cited.{◌≡◌, sym, ◌∙◌, List, ap, refl, rules, err_from_is_err_and, MEM_FULL, Nothing, Anchor, reserve_mem}
+use Rattle.heap_calls.proofs.Cited.{doing_silently, purges_made, Hears, KeepsMoves, base_gone}
 use Rattle.heap_calls.proofs.Hearing.{stops-halted, hears-as, hears-none}
 use Rattle.heap_calls.proofs.Numbering.Changing.{agrees-placed, heap-same}
 use Rattle.heap_calls.proofs.Numbering.Memories.{memory_as, reply-as}

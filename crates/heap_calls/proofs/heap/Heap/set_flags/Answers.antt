@@ -1,11 +1,5 @@
-use Rattle.std.proofs.Common.{◌≡◌, ◌∷◌, ◌++◌, Ok, Err, Some, None, sym, ◌∙◌, ap}
-use Rattle.std.specs.Prelude.{unwrap_or}
-use Rattle.std.proofs.lemmas.Result.{err_from_is_err_and}
-use Rattle.block_store.specs.declared.flags.Flags.{Flags}
-use Rattle.block_store.specs.Seen.{seen, with_flags}
-use Rattle.heap_calls.specs.Answer.{flagged}
-use Rattle.heap_calls.specs.Inner.Given.{seen_flags}
-use Rattle.heap_calls.specs.Inner.Loose.{flags_with}
+use Rattle.heap_calls.proofs.Cited.{◌≡◌, ◌∷◌, ◌++◌, Ok, Err, Some, None, sym, ◌∙◌, ap, unwrap_or, err_from_is_err_and, Flags, seen}
+use Rattle.heap_calls.proofs.Cited.{with_flags, flagged, seen_flags, flags_with}
 use Rattle.heap_calls.proofs.Numbering.Answering.{refused_for, found_in, at_place}
 use Rattle.heap_calls.proofs.Numbering.Changing.{spot_at-is, nonrelocatable-at, agrees-same}
 use Rattle.heap_calls.proofs.Room.Staying.{nonrelocatable-spot, alike-flags, nonrelocatable-same, nonrelocatable-then}

@@ -1,5 +1,4 @@
-use Rattle.std.proofs.Common.{slice_set, refl, sym, ◌∙◌}
-use Rattle.heap_calls.specs.Inside.{cast, guarded_as}
+use Rattle.heap_calls.proofs.Cited.{slice_set, refl, sym, ◌∙◌, cast, guarded_as}
 use Rattle.heap_calls.specs.declared.anchor.Anchor.TheVariants.{Handle}
 use Rattle.heap_calls.proofs.Numbering.Roles.{entry-of, agrees-cast, cast-done, guarded-role, slots-same, inside-done}
 use Rattle.heap_calls.proofs.Numbering.Memories.{memory_as}

@@ -1,8 +1,5 @@
-use Rattle.std.proofs.Common.{List, false, subst, slice_set, refl, sym, ◌∙◌, ap}
-use Rattle.block_store.specs.Block.{Block}
-use Rattle.block_store.specs.Slot.{Used}
-use Rattle.heap_calls.specs.Inside.{cast, owned_as}
-use Rattle.heap_calls.specs.Inner.Numbered.{state_of, role_of, Agrees}
+use Rattle.heap_calls.proofs.Cited.{List, false, subst, slice_set, refl, sym, ◌∙◌, ap, Block, Used, cast, owned_as, state_of, role_of}
+use Rattle.heap_calls.proofs.Cited.{Agrees}
 use Rattle.heap_calls.specs.declared.anchor.Anchor.TheVariants.{Handle}
 use Rattle.heap_calls.proofs.Numbering.Roles.{entry-of, agrees-cast, cast-done, owned-role, inside-done}
 use Rattle.heap_calls.proofs.Numbering.Memories.{memory_as}

@@ -1,6 +1,4 @@
-use Rattle.std.proofs.Common.{◌≡◌, length, sym, ◌∙◌, ap, arith, Ok, Err}
-use Rattle.std.proofs.lemmas.Result.{err_from_is_err_and}
-use Rattle.block_store.specs.Block.{content_of}
+use Rattle.heap_calls.proofs.Cited.{◌≡◌, length, sym, ◌∙◌, ap, arith, Ok, Err, err_from_is_err_and, content_of}
 use Rattle.heap_calls.proofs.Numbering.Answering.{refused_for, on_found, found_in, at_place, content_of-rename}
 use Rattle.heap_calls.proofs.Numbering.Memories.{memory_as}
 use Rattle.heap_calls.proofs.heap.Heap.size_of.Goals as goal

@@ -1,13 +1,5 @@
-use Rattle.std.proofs.Common.{◌≡◌, ◌+◌, ℕ, Ok, Err, sym, ◌∙◌, ap, arith}
-use Rattle.std.proofs.lemmas.Result.{err_from_is_err_and}
-use Rattle.block_store.specs.Block.{rename_block}
-use Rattle.block_store.specs.Room.{rename_spot}
-use Rattle.heap_calls.specs.State.{Memory}
-use Rattle.heap_calls.specs.Inner.Given.{seen_flags}
-use Rattle.heap_calls.specs.Purging.{bit, block_bits}
-use Rattle.heap_calls.specs.Answer.{handle_at}
-use Rattle.heap_calls.specs.Inner.Loose.{bits_of}
-use Rattle.heap_calls.specs.Inner.Numbered.{state_of, handle_number, pointer_number}
+use Rattle.heap_calls.proofs.Cited.{◌≡◌, ◌+◌, ℕ, Ok, Err, sym, ◌∙◌, ap, arith, err_from_is_err_and, rename_block, rename_spot, Memory}
+use Rattle.heap_calls.proofs.Cited.{seen_flags, bit, block_bits, handle_at, bits_of, state_of, handle_number, pointer_number}
 use Rattle.heap_calls.proofs.Numbering.Answering.{refused_for, found_in, on_found, held}
 use Rattle.heap_calls.proofs.Numbering.Hoisting.{seen-at}
 use Rattle.heap_calls.proofs.Numbering.Loosening.{bits_answer, role_bit, h_get_state-bits, block_bits-rename}

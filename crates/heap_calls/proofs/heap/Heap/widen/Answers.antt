@@ -1,7 +1,4 @@
-use Rattle.std.proofs.Common.{◌≡◌, ◌∙◌, arith}
-use Rattle.std.proofs.lemmas.Result.{err_from_is_err_and}
-use Rattle.heap_calls.specs.Inner.Munging.{exchanged}
-use Rattle.heap_calls.specs.Rows.{doing_silently}
+use Rattle.heap_calls.proofs.Cited.{◌≡◌, ◌∙◌, arith, err_from_is_err_and, exchanged, doing_silently}
 use Rattle.heap_calls.proofs.Munged.{widened-fits, widened-is}
 use Rattle.heap_calls.proofs.Numbering.Memories.{reply-as}
 use Rattle.heap_calls.proofs.heap.Heap.widen.Given.{Over}

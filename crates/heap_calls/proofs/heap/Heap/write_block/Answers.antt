@@ -1,8 +1,5 @@
-use Rattle.std.proofs.Common.{◌≡◌, ◌<◌, ◌+◌, ◌++◌, ◌∷◌, length, ◌∙◌, ap, arith, Ok, Err}
-use Rattle.std.proofs.lemmas.Result.{err_from_is_err_and}
-use Rattle.block_store.specs.Block.{content_of, with_content}
-use Rattle.memory_windows.specs.Writes.{written}
-use Rattle.heap_calls.specs.Answer.{written_at, look_up}
+use Rattle.heap_calls.proofs.Cited.{◌≡◌, ◌<◌, ◌+◌, ◌++◌, ◌∷◌, length, ◌∙◌, ap, arith, Ok, Err, err_from_is_err_and, content_of}
+use Rattle.heap_calls.proofs.Cited.{with_content, written, written_at, look_up}
 use Rattle.heap_calls.proofs.Numbering.Answering.{refused_for, found_in, at_place}
 use Rattle.heap_calls.proofs.Numbering.Changing.{written-done, written-outside, agrees-same, nonrelocatable-at}
 use Rattle.heap_calls.proofs.Room.Staying.{nonrelocatable-spot, alike-content, nonrelocatable-same, nonrelocatable-then}

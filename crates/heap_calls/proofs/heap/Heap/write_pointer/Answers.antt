@@ -1,9 +1,5 @@
-use Rattle.std.proofs.Common.{◌≡◌, ◌<◌, ◌+◌, ◌≤◌, ◌++◌, ◌∷◌, length, sym, ap, subst, arith, Option}
-use Rattle.std.specs.Option.{IsSomeAnd}
-use Rattle.block_store.specs.Block.{content_of, with_content}
-use Rattle.memory_windows.specs.Writes.{written}
-use Rattle.block_store.specs.Room.{Spot}
-use Rattle.heap_calls.specs.Pointers.{pointed_at}
+use Rattle.heap_calls.proofs.Cited.{◌≡◌, ◌<◌, ◌+◌, ◌≤◌, ◌++◌, ◌∷◌, length, sym, ap, subst, arith, Option, IsSomeAnd, content_of}
+use Rattle.heap_calls.proofs.Cited.{with_content, written, Spot, pointed_at}
 use Rattle.heap_calls.proofs.Numbering.Answering.{at_place}
 use Rattle.heap_calls.proofs.Numbering.Changing.{written-done, written-outside, agrees-same, nonrelocatable-at}
 use Rattle.heap_calls.proofs.Room.Staying.{nonrelocatable-spot, alike-content, nonrelocatable-same, nonrelocatable-then}

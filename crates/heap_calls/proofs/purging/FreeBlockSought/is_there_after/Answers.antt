@@ -1,9 +1,4 @@
-use Rattle.std.proofs.Common.{◌<◌, ◌∙◌, ℕ, Option, nat_le, sym, ap, subst}
-use Rattle.std.specs.Option.{IfSome}
-use Rattle.block_store.specs.Compact.{has_room}
-use Rattle.block_store.specs.Sparing.{purged}
-use Rattle.block_store.specs.declared.sparing.Sparing.TheVariants.{Nothing}
-use Rattle.block_store.proofs.Regroup.MostRoom.{room-largest}
+use Rattle.heap_calls.proofs.Cited.{◌<◌, ◌∙◌, ℕ, Option, nat_le, sym, ap, subst, IfSome, has_room, purged, Nothing, room-largest}
 use Rattle.heap_calls.proofs.purging.FreeBlockSought.is_there_after.Goals as goal
 
 pub returns-in-Some : goal.returns-in-Some

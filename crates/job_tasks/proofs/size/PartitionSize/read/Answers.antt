@@ -1,6 +1,4 @@
-use Rattle.std.proofs.Common.{◌≡◌, ℕ, sym, ◌∙◌, true}
-use Rattle.std.specs.List.{list_all}
-use Rattle.std.specs.Char.{is_ascii_digit}
+use Rattle.job_tasks.proofs.Cited.{◌≡◌, ℕ, sym, ◌∙◌, true, list_all, is_ascii_digit}
 use Rattle.job_tasks.proofs.Numerals.{size_read, size_unread}
 use Rattle.job_tasks.proofs.size.PartitionSize.read.Goals as goal
 

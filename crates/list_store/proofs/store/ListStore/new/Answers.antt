@@ -1,14 +1,8 @@
-use Rattle.std.proofs.Common.{◌≡◌, ◌≤◌, ◌-◌, ◌*◌, ◌%◌, refl, ◌∙◌, ◌++◌, ◌∷◌, [], sym, ap, subst, arith, length}
-use Rattle.std.proofs.lemmas.List.{length-replicate}
-use Rattle.block_store.specs.Block.{Masters, Free, sizes, tidy, count, is_masters, is_relocatable}
-use Rattle.block_store.specs.Run.{has}
-use Rattle.block_store.specs.Slot.{is_used}
-use Rattle.block_store.specs.Compact.{Aligned, Placed}
+use Rattle.list_store.proofs.Cited.{◌≡◌, ◌≤◌, ◌-◌, ◌*◌, ◌%◌, refl, ◌∙◌, ◌++◌, ◌∷◌, [], sym, ap, subst, arith, length, length-replicate}
+use Rattle.list_store.proofs.Cited.{Masters, Free, sizes, tidy, count, is_masters, is_relocatable, has, is_used, Aligned, Placed, blocks_of}
+use Rattle.list_store.proofs.Cited.{slots_of, free-some, free-apart}
 use Rattle.list_store.specs.declared.entries.StoredBlock.TheVariants as entry
 use Rattle.list_store.specs.declared.slots.SlotEntry.TheVariants as slot_entry
-use Rattle.list_store.specs.Lists.{blocks_of, slots_of}
-use Rattle.block_store.proofs.Zone.Spots.{free-some}
-use Rattle.block_store.proofs.Zone.Apart.{free-apart}
 use Rattle.list_store.proofs.SlotLists.{fresh-unused}
 use Rattle.list_store.proofs.store.ListStore.new.Goals as goal
 

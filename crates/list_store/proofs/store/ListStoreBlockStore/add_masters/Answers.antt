@@ -1,6 +1,4 @@
-use Rattle.std.proofs.Common.{ap}
-use Rattle.std.proofs.lemmas.Result.{on_err_weaker}
-use Rattle.list_store.specs.Lists.{blocks_of}
+use Rattle.list_store.proofs.Cited.{ap, on_err_weaker, blocks_of}
 use Rattle.list_store.proofs.Nonrelocatable.Blocks.{lawful-masters, slots-more}
 use Rattle.list_store.proofs.store.ListStoreBlockStore.add_masters.Goals as goal
 

@@ -1,6 +1,4 @@
-use Rattle.std.proofs.Common.{◌≡◌, ◌∙◌, sym, ap, []}
-use Rattle.block_store.specs.Block.{content_of}
-use Rattle.list_store.specs.Lists.{block_of}
+use Rattle.list_store.proofs.Cited.{◌≡◌, ◌∙◌, sym, ap, [], content_of, block_of}
 use Rattle.list_store.proofs.Zone.Spots.{at_entry, content-other}
 use Rattle.list_store.proofs.store.ListStoreBlockStore.bytes.Goals as goal
 

@@ -1,6 +1,4 @@
-use Rattle.std.proofs.Common.{length}
-use Rattle.list_store.specs.Lists.{blocks_of, slots_of}
-use Rattle.block_store.proofs.Nonrelocatable.Blocks.{lawful-copied}
+use Rattle.list_store.proofs.Cited.{length, blocks_of, slots_of, lawful-copied}
 use Rattle.list_store.proofs.store.ListStoreBlockStore.copy.Goals as goal
 
 pub invariant_of-self : goal.invariant_of-self

@@ -1,7 +1,4 @@
-use Rattle.std.proofs.Common.{◌∙◌, ap, subst}
-use Rattle.block_store.specs.Block.{is_room}
-use Rattle.block_store.specs.Find.{FindsLowest}
-use Rattle.list_store.specs.Lists.{blocks_of}
+use Rattle.list_store.proofs.Cited.{◌∙◌, ap, subst, is_room, FindsLowest, blocks_of}
 use Rattle.list_store.proofs.store.ListStoreBlockStore.find_free.Goals as goal
 
 pub returns : goal.returns

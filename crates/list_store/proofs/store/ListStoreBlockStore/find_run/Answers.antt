@@ -1,8 +1,4 @@
-use Rattle.std.proofs.Common.{◌∙◌, ap, subst}
-use Rattle.block_store.specs.Block.{tidy}
-use Rattle.block_store.specs.Run.{has_free}
-use Rattle.block_store.specs.Find.{FindsLowestRun}
-use Rattle.list_store.specs.Lists.{blocks_of}
+use Rattle.list_store.proofs.Cited.{◌∙◌, ap, subst, tidy, has_free, FindsLowestRun, blocks_of}
 use Rattle.list_store.proofs.store.ListStoreBlockStore.find_run.Goals as goal
 
 pub returns : goal.returns

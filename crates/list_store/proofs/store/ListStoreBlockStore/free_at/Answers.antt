@@ -1,6 +1,4 @@
-use Rattle.std.proofs.Common.{length}
-use Rattle.list_store.specs.Lists.{blocks_of, slots_of}
-use Rattle.block_store.proofs.Nonrelocatable.Blocks.{lawful-nonrelocatable_freed}
+use Rattle.list_store.proofs.Cited.{length, blocks_of, slots_of, lawful-nonrelocatable_freed}
 use Rattle.list_store.proofs.store.ListStoreBlockStore.free_at.Goals as goal
 
 pub invariant_of-self : goal.invariant_of-self

@@ -1,10 +1,6 @@
-use Rattle.std.proofs.Common.{◌∙◌, slice_set, refl}
-use Rattle.std.proofs.lemmas.List.{length-set}
+use Rattle.list_store.proofs.Cited.{◌∙◌, slice_set, refl, length-set, Unused, blocks_of, slots_of, none-set}
 use Rattle.list_store.specs.declared.slots.SlotEntry.TheVariants as slot_entry
-use Rattle.block_store.specs.Slot.{Unused}
-use Rattle.list_store.specs.Lists.{blocks_of, slots_of}
 use Rattle.list_store.proofs.SlotLists.{slots_of-set, within-used, unused-set}
-use Rattle.block_store.proofs.Zone.Leading.{none-set}
 use Rattle.list_store.proofs.store.ListStoreBlockStore.give_slot.Goals as goal
 
 pub invariant_of-self : goal.invariant_of-self

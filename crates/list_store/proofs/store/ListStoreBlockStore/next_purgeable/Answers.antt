@@ -1,9 +1,4 @@
-use Rattle.std.proofs.Common.{◌∙◌, ap, subst}
-use Rattle.block_store.specs.Block.{tidy}
-use Rattle.block_store.specs.Room.{may_be_purged}
-use Rattle.block_store.specs.Find.{FindsLowest}
-use Rattle.block_store.specs.Sparing.{opened, spared}
-use Rattle.list_store.specs.Lists.{blocks_of}
+use Rattle.list_store.proofs.Cited.{◌∙◌, ap, subst, tidy, may_be_purged, FindsLowest, opened, spared, blocks_of}
 use Rattle.list_store.proofs.store.ListStoreBlockStore.next_purgeable.Goals as goal
 
 pub returns : goal.returns

@@ -1,7 +1,4 @@
-use Rattle.std.proofs.Common.{length}
-use Rattle.list_store.specs.Lists.{blocks_of, slots_of}
-use Rattle.block_store.specs.Sparing.{spared}
-use Rattle.block_store.proofs.Purged.Purges.{lawful-purged_above}
+use Rattle.list_store.proofs.Cited.{length, blocks_of, slots_of, spared, lawful-purged_above}
 use Rattle.list_store.proofs.store.ListStoreBlockStore.purge_after.Goals as goal
 
 pub invariant_of-self : goal.invariant_of-self

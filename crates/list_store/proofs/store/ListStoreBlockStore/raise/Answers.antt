@@ -1,8 +1,4 @@
-use Rattle.std.proofs.Common.{length, ap, rules}
-use Rattle.std.proofs.lemmas.Result.{on_err_weaker}
-use Rattle.list_store.specs.Lists.{blocks_of, slots_of}
-use Rattle.block_store.proofs.Content.Filling.{Lawful}
-use Rattle.block_store.proofs.Regroup.Repacked.{lawful-raised}
+use Rattle.list_store.proofs.Cited.{length, ap, rules, on_err_weaker, blocks_of, slots_of, Lawful, lawful-raised}
 use Rattle.list_store.proofs.store.ListStoreBlockStore.raise.Goals as goal
 use Rattle.list_store.proofs.store.ListStoreBlockStore.raise.Goals.{After-raise_run}
 

@@ -1,15 +1,6 @@
-use Rattle.std.proofs.Common.{◌≤◌, ◌*◌, ◌∙◌, subst, sym, ap, refl, arith}
-use Rattle.block_store.specs.Block.{is_relocatable, is_masters, sizes, tidy, size, count}
-use Rattle.block_store.specs.Run.{has}
-use Rattle.block_store.specs.Grow.{freed}
-use Rattle.list_store.specs.Lists.{blocks_of}
-use Rattle.block_store.specs.Compact.{Aligned, Placed}
-use Rattle.block_store.proofs.Zone.Aligned.{aligned-tidy, aligned-freed}
-use Rattle.block_store.proofs.Nonrelocatable.Placing.{placed-tidy, placed-freed}
-use Rattle.block_store.proofs.Zone.Apart.{tidy-tidy}
-use Rattle.block_store.proofs.Zone.Tidy.{total-tidy}
-use Rattle.block_store.proofs.Zone.Listing.{size-freed}
-use Rattle.block_store.proofs.Zone.Leading.{released-none, released-once, masters-released}
+use Rattle.list_store.proofs.Cited.{◌≤◌, ◌*◌, ◌∙◌, subst, sym, ap, refl, arith, is_relocatable, is_masters, sizes, tidy, size, count, has}
+use Rattle.list_store.proofs.Cited.{freed, blocks_of, Aligned, Placed, aligned-tidy, aligned-freed, placed-tidy, placed-freed, tidy-tidy}
+use Rattle.list_store.proofs.Cited.{total-tidy, size-freed, released-none, released-once, masters-released}
 use Rattle.list_store.proofs.store.ListStoreBlockStore.release.Goals as goal
 
 pub tidy_entries-requires : goal.tidy_entries-requires

@@ -1,7 +1,4 @@
-use Rattle.std.proofs.Common.{length, ap}
-use Rattle.std.proofs.lemmas.Result.{on_err_weaker}
-use Rattle.list_store.specs.Lists.{blocks_of, slots_of}
-use Rattle.block_store.proofs.Content.Filling.{lawful-resized}
+use Rattle.list_store.proofs.Cited.{length, ap, on_err_weaker, blocks_of, slots_of, lawful-resized}
 use Rattle.list_store.proofs.store.ListStoreBlockStore.resize.Goals as goal
 
 pub invariant_of-self : goal.invariant_of-self

@@ -1,5 +1,4 @@
-use Rattle.std.proofs.Common.{◌∙◌, sym, refl}
-use Rattle.std.proofs.lemmas.List.{length-set}
+use Rattle.list_store.proofs.Cited.{◌∙◌, sym, refl, length-set}
 use Rattle.list_store.specs.declared.slots.SlotEntry.TheVariants as slot_entry
 use Rattle.list_store.proofs.SlotLists.{slots_of-set, within-used, used-flagged, unused-flagged}
 use Rattle.list_store.proofs.store.ListStoreBlockStore.set_resource.Goals as goal

@@ -1,7 +1,4 @@
-use Rattle.std.proofs.Common.{length}
-use Rattle.list_store.specs.Lists.{blocks_of, slots_of}
-use Rattle.block_store.proofs.Regroup.Repacked.{lawful-settled, none-rises}
-use Rattle.block_store.proofs.Regroup.Lowered.{settle-counted}
+use Rattle.list_store.proofs.Cited.{length, blocks_of, slots_of, lawful-settled, none-rises, settle-counted}
 use Rattle.list_store.proofs.store.ListStoreBlockStore.settle.Goals as goal
 
 pub invariant_of-self : goal.invariant_of-self

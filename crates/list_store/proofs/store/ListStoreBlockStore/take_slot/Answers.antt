@@ -1,11 +1,7 @@
-use Rattle.std.proofs.Common.{◌≡◌, ◌<◌, ◌∙◌, ap, subst, arith, length, List, refl, false, slice_set}
-use Rattle.std.proofs.lemmas.List.{length-set}
-use Rattle.list_store.specs.declared.slots.SlotEntry.{SlotEntry}
+use Rattle.list_store.proofs.Cited.{◌≡◌, ◌<◌, ◌∙◌, ap, subst, arith, length, List, refl, false, slice_set, length-set, SlotEntry, Unused}
+use Rattle.list_store.proofs.Cited.{Used, is_used, blocks_of, slots_of, none-set, masters-few}
 use Rattle.list_store.specs.declared.slots.SlotEntry.TheVariants as slot_entry
-use Rattle.block_store.specs.Slot.{Unused, Used, is_used}
-use Rattle.list_store.specs.Lists.{blocks_of, slots_of}
 use Rattle.list_store.proofs.SlotLists.{slots_of-set, unused-taken}
-use Rattle.block_store.proofs.Zone.Leading.{none-set, masters-few}
 use Rattle.list_store.proofs.store.ListStoreBlockStore.take_slot.Goals.{In_ok-i}
 use Rattle.list_store.proofs.store.ListStoreBlockStore.take_slot.Goals as goal
 

@@ -1,8 +1,4 @@
-use Rattle.std.proofs.Common.{◌+◌, Some, sym, ap, ◌∙◌, refl, subst, drop, arith}
-use Rattle.block_store.specs.Block.{size}
-use Rattle.list_store.specs.Lists.{blocks_of, block_of}
-use Rattle.block_store.specs.Seen.{seen}
-use Rattle.block_store.specs.Walk.{Tells}
+use Rattle.list_store.proofs.Cited.{◌+◌, Some, sym, ap, ◌∙◌, refl, subst, drop, arith, size, blocks_of, block_of, seen, Tells}
 use Rattle.list_store.proofs.Zone.Listing.{drop-blocks, entry_fits}
 use Rattle.list_store.proofs.walk.ListWalkWalk.next_block.Goals as goal
 

@@ -1,6 +1,7 @@
 -- `into_box` makes the box again, where something is kept.
-use Rattle.std.proofs.Common.{◌≡◌, List, [], ◌∷◌, ◌++◌, refl, sym, ap, subst, ◌∙◌}
-use Rattle.std.specs.Prelude.{Some, IsSome}
+use Rattle.macmem_c.proofs.Cited.{◌≡◌, List, [], ◌∷◌, ◌++◌, refl, sym, ap, subst, ◌∙◌, IsSome, Goes-blank, after, Good, proved_at, leaves}
+use Rattle.macmem_c.proofs.Cited.{ghosts, dict, box_out, box_in, met, all_gone}
+use Rattle.std.specs.Prelude.{Some}
 use mir.Val.{Val}
 use base.Logic.{SProp, emp, id⊢}
 use base.Fml.{ftrue, flft}
@@ -27,17 +28,9 @@ use denote.Triple.Spec.{triple_of}
 use denote.Triple.Call.{calls_at_last}
 use denote.Triple.Table.{framed}
 use denote.Triple.Walked.{walk_of}
-use Rattle.core.proofs.alloc.Calls.{Goes-blank}
-use Rattle.core.proofs.alloc.Shapes.{after}
-use Rattle.core.proofs.cell.Inside.{Good}
-use Rattle.std.proofs.raw_atomic.Walks.{proved_at, leaves}
-use Rattle.std.specs.contracts.impls.GlobalAllocator.TheImpl.{ghosts, dict}
 use Rattle.std.proofs.impls.GlobalAllocator.TheImpl.Met as allocates
 use Rattle.std_alloc.proofs.BoxSteps.Form as box
-use Rattle.std_alloc.proofs.BoxSteps.Steps.{box_out, box_in}
 use Rattle.std_alloc.specs.contracts.boxed.Box.from_raw as g
-use Rattle.std_alloc.proofs.boxed.Box.from_raw.Met.{met}
-use Rattle.raw_region.proofs.Leaving.{all_gone}
 use Rattle.macmem_c.proofs.Pointing.{pointing, pointing-good, pointer-good, parts_out}
 use Rattle.macmem_c.proofs.Keeps.{HeapRow, HeapLaws, KeptRow, ZoneArg, HeapArg, ZoneArgLaws, HeapArgLaws}
 use Rattle.macmem_c.proofs.Keeps.{no_drop, ZoneBox, some_kept}

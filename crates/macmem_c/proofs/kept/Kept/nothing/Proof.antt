@@ -1,6 +1,5 @@
 -- `nothing` puts a null pointer beside the allocator. It owns nothing.
-use Rattle.std.proofs.Common.{◌≡◌, List, [], ◌∷◌, ◌++◌, refl}
-use Rattle.std.specs.Prelude.{None}
+use Rattle.macmem_c.proofs.Cited.{◌≡◌, List, [], ◌∷◌, ◌++◌, refl, None, one, proved_at, leaves, ghosts, all_gone}
 use mir.Val.{Val}
 use base.Logic.{SProp, emp}
 use prog.Wp.{WpFn}
@@ -18,10 +17,6 @@ use denote.Steps.{nothing}
 use denote.Param.{layout}
 use denote.Triple.Entry.{alive}
 use denote.Triple.Walked.{walk_of, Goes-dropped}
-use Rattle.core.proofs.cell.Inside.{one}
-use Rattle.std.proofs.raw_atomic.Walks.{proved_at, leaves}
-use Rattle.std.specs.contracts.impls.GlobalAllocator.TheImpl.{ghosts}
-use Rattle.raw_region.proofs.Leaving.{all_gone}
 use Rattle.macmem_c.proofs.Pointing.{pointing, pointing-good, parts_in}
 use Rattle.macmem_c.proofs.Keeps.{HeapRow, HeapLaws}
 use Rattle.macmem_c.specs.contracts.kept.Kept as kept

@@ -1,5 +1,5 @@
 -- `of_loose` keeps the pointer and the allocator of a box that was taken apart.
-use Rattle.std.proofs.Common.{◌≡◌, List, [], ◌∷◌, ◌++◌, refl}
+use Rattle.macmem_c.proofs.Cited.{◌≡◌, List, [], ◌∷◌, ◌++◌, refl, Goes-blank, proved_at, leaves, ghosts, all_gone}
 use Rattle.std.specs.Prelude.{Some}
 use mir.Val.{Val}
 use base.Logic.{SProp, emp}
@@ -16,10 +16,6 @@ use denote.Signature.{types_at, plain}
 use denote.Steps.{nothing}
 use denote.Triple.Entry.{alive}
 use denote.Triple.Walked.{walk_of}
-use Rattle.core.proofs.alloc.Calls.{Goes-blank}
-use Rattle.std.proofs.raw_atomic.Walks.{proved_at, leaves}
-use Rattle.std.specs.contracts.impls.GlobalAllocator.TheImpl.{ghosts}
-use Rattle.raw_region.proofs.Leaving.{all_gone}
 use Rattle.macmem_c.proofs.Pointing.{pointing, pointing-good, pointer-good, parts_out, parts_in}
 use Rattle.macmem_c.proofs.Keeps.{ZoneRow, HeapRow, HeapLaws}
 use Rattle.macmem_c.specs.contracts.loose.Loose as loose

@@ -1,6 +1,4 @@
-use Rattle.std.proofs.Common.{◌≡◌, ◌∙◌, [], ap, length, refl}
-use Rattle.block_store.specs.Rest.{Site}
-use Rattle.desk.proofs.WholeRegion.{whole_home, whole_there}
+use Rattle.macmem_c.proofs.Cited.{◌≡◌, ◌∙◌, [], ap, length, refl, Site, whole_home, whole_there}
 use Rattle.macmem_c.proofs.zone.Zone.drop.Goals as goal
 
 -- the window of the zone's part is out

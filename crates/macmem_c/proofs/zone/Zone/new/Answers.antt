@@ -1,8 +1,4 @@
-use Rattle.std.proofs.Common.{◌≡◌, ◌∙◌, ℕ, ap, length, arith}
-use Rattle.raw_zone.specs.Parted.{zone_of, rest_of}
-use Rattle.block_store.specs.Block.{sizes}
-use Rattle.heap_calls.specs.State.{fresh_memory}
-use Rattle.applications.proofs.Elsewhere.{sizes-fresh}
+use Rattle.macmem_c.proofs.Cited.{◌≡◌, ◌∙◌, ℕ, ap, length, arith, zone_of, rest_of, sizes, fresh_memory, sizes-fresh}
 use Rattle.macmem_c.proofs.zone.Zone.new.Goals as goal
 
 -- the zone is fresh, and has all bytes of the region

@@ -1,4 +1,4 @@
-use Rattle.std.proofs.Common.{arith}
+use Rattle.partitions.proofs.Cited.{arith}
 use Rattle.partitions.proofs.Order.{order_given_back, zones_given_back}
 use Rattle.partitions.proofs.grants.Grants.give_back.Goals as goal
 

@@ -1,5 +1,4 @@
-use Rattle.std.proofs.Common.{subst, arith}
-use Rattle.memory_windows.specs.Windows.{IsApart}
+use Rattle.partitions.proofs.Cited.{subst, arith, IsApart}
 use Rattle.partitions.proofs.Order.{order_granted, zones_granted}
 use Rattle.partitions.proofs.grants.Grants.grant.Goals as goal
 

@@ -1,8 +1,7 @@
 -- The bytes of a run are parted in two. Assumes `Logic`.
-use Rattle.std.proofs.Common.{◌≡◌, ◌+◌, ◌≤◌, List, [], ◌∷◌, ◌++◌, length, take, drop as after, refl}
+use Rattle.raw_region.proofs.Cited.{◌≡◌, ◌+◌, ◌≤◌, List, [], ◌∷◌, ◌++◌, length, take, refl, proved_at, Goes-blank, run_owns, OwnBytes}
+use Rattle.std.proofs.Common.{drop as after}
 use denote.RawPtr.{◌+ₚ◌}
-use Rattle.std.proofs.raw_atomic.Walks.{proved_at}
-use Rattle.std.proofs.alloc.Calls.{Goes-blank}
 use contract.Monad.{fact}
 use denote.Exit.{yes}
 use denote.Builtin.{usize}
@@ -20,8 +19,6 @@ use types.Kit.{flt_l}
 use types.Kit.{regoal, rewrite, use1}
 use types.Part.{agg}
 use types.Run.{enter, returns, no_more, and_then}
-use Rattle.raw_region.specs.Ownership.{run_owns}
-use Rattle.raw_region.specs.declared.raw.OwnBytes.{OwnBytes}
 use Rattle.raw_region.specs.contracts.raw.OwnBytes as R
 use Rattle.raw_region.specs.contracts.raw.OwnBytes.cut as f
 use Rattle.raw_region.proofs.raw.OwnBytes.cut.Statement.{statement}

@@ -1,6 +1,5 @@
 -- No bytes are made of nothing. Assumes `Logic`.
-use Rattle.std.proofs.Common.{[], ◌∷◌, refl}
-use Rattle.std.proofs.raw_atomic.Walks.{proved_at}
+use Rattle.raw_region.proofs.Cited.{[], ◌∷◌, refl, proved_at, run_owns, OwnBytes}
 use denote.RawPtr.{block_ptr}
 use denote.Triple.Entry.{alive}
 use denote.Triple.Walked.{says, ends_at}
@@ -9,8 +8,6 @@ use types.Kit.{‵, raw, ◌⊛◌, ◌$◌, ◌∵◌, !, qed, move, drop, suff
 use types.Part.{agg}
 use types.Run.{enter, returns, no_more}
 use base.Fml.{ftrue}
-use Rattle.raw_region.specs.Ownership.{run_owns}
-use Rattle.raw_region.specs.declared.raw.OwnBytes.{OwnBytes}
 use Rattle.raw_region.specs.contracts.raw.OwnBytes.empty as f
 use Rattle.raw_region.proofs.raw.OwnBytes.empty.Statement.{statement}
 use Rattle.raw_region.proofs.raw.OwnBytes.empty.Code as code

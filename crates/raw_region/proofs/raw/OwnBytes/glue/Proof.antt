@@ -1,8 +1,6 @@
 -- The bytes of two runs, the second right behind the first, are one run's. Assumes `Logic`.
-use Rattle.std.proofs.Common.{◌≡◌, ◌+◌, List, [], ◌∷◌, ◌++◌, length, refl, sym, ◌∙◌}
+use Rattle.raw_region.proofs.Cited.{◌≡◌, ◌+◌, List, [], ◌∷◌, ◌++◌, length, refl, sym, ◌∙◌, proved_at, Goes-blank, run_owns, OwnBytes}
 use denote.RawPtr.{◌+ₚ◌}
-use Rattle.std.proofs.raw_atomic.Walks.{proved_at}
-use Rattle.std.proofs.alloc.Calls.{Goes-blank}
 use contract.Monad.{fact}
 use denote.Exit.{yes}
 use denote.RattleType.{owns}
@@ -19,8 +17,6 @@ use types.Kit.{rewrite}
 use types.Kit.{use2}
 use types.Part.{agg}
 use types.Run.{enter, returns, no_more}
-use Rattle.raw_region.specs.Ownership.{run_owns}
-use Rattle.raw_region.specs.declared.raw.OwnBytes.{OwnBytes}
 use Rattle.raw_region.specs.contracts.raw.OwnBytes as R
 use Rattle.raw_region.specs.contracts.raw.OwnBytes.glue as f
 use Rattle.raw_region.proofs.raw.OwnBytes.glue.Statement.{statement}

@@ -1,10 +1,5 @@
-use Rattle.std.proofs.Common.{◌≡◌, ℕ, ◌+◌, List, length, drop, refl, ap, ◌∙◌}
-use Rattle.std.specs.List.{position_or_len}
-use Rattle.std.proofs.Common.{subst}
-use Rattle.memory_windows.specs.Windows.{InOrder}
-use Rattle.raw_region.specs.Gaps.{bytes_of, windows_of, gap_is}
-use Rattle.raw_region.specs.Regions.{IsRegion}
-use Rattle.raw_region.specs.declared.gaps.Gap.{Gap}
+use Rattle.raw_region.proofs.Cited.{◌≡◌, ℕ, ◌+◌, List, length, drop, refl, ap, ◌∙◌, position_or_len, subst, InOrder, bytes_of, windows_of}
+use Rattle.raw_region.proofs.Cited.{gap_is, IsRegion, Gap}
 use Rattle.raw_region.proofs.GapWindows.{windows_in_order}
 use Rattle.raw_region.proofs.Cutting.{none}
 use Rattle.raw_region.proofs.Joining.{Joins, joins}

@@ -1,8 +1,4 @@
-use Rattle.std.proofs.Common.{rules, ◌≡◌, ◌∙◌, ap}
-use Rattle.zone_bytes.proofs.Regions.Kept.{lies-kept}
-use Rattle.memory_windows.specs.Writes.{written}
-use Rattle.memory_windows.proofs.Ordered.{within}
-use Rattle.memory_windows.proofs.Outside.{got-written_outside}
+use Rattle.raw_zone.proofs.Cited.{rules, ◌≡◌, ◌∙◌, ap, lies-kept, written, within, got-written_outside}
 use Rattle.raw_zone.proofs.region_zones.RegionZonesZoneMaker.close.Goals as goal
 
 pub returns-clause-left : goal.returns-clause-left

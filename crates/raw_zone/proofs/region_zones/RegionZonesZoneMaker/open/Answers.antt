@@ -1,7 +1,4 @@
-use Rattle.std.proofs.Common.{rules, ℕ}
-use Rattle.std.proofs.lemmas.List.{length-replicate}
-use Rattle.zone_bytes.proofs.Regions.Kept.{lies-kept}
-use Rattle.memory_windows.proofs.Outside.{got-written_outside}
+use Rattle.raw_zone.proofs.Cited.{rules, ℕ, length-replicate, lies-kept, got-written_outside}
 use Rattle.raw_zone.proofs.region_zones.RegionZonesZoneMaker.open.Goals as goal
 
 pub returns-clause-left : goal.returns-clause-left

@@ -1,24 +1,8 @@
-use Rattle.std.proofs.Common.{◌≡◌, ◌∙◌, ◌++◌, ◌∷◌, true, false, ℕ, IsTrue, refl, ap, sym, subst, arith}
-use Rattle.std.specs.Option.{IfSome, IsSomeAnd}
-use Rattle.block_store.specs.Block.{Nonrelocatable, Relocatable, is_nonrelocatable, is_relocatable, is_masters}
-use Rattle.block_store.specs.Block.{content_of, count, free_sum}
-use Rattle.block_store.specs.Run.{has}
-use Rattle.block_store.specs.Room.{spot_at}
-use Rattle.block_store.specs.Slot.{is_used}
-use Rattle.block_store.specs.Rest.{IsRest}
-use Rattle.zone_bytes.specs.Decode.{zone_in}
-use Rattle.zone_bytes.specs.Table.{slot_in}
-use Rattle.zone_bytes.specs.Beside.{rest_in}
-use Rattle.raw_zone.specs.Held.{Held}
-use Rattle.raw_zone.specs.Raw.{held}
-use Rattle.raw_zone.specs.Parted.{zone_of, rest_of}
-use Rattle.zone_bytes.proofs.Places.AtPlace.{low, way-at, inside, some-here}
-use Rattle.zone_bytes.proofs.Places.Options.{if-spot, one-spot}
-use Rattle.zone_bytes.proofs.Laws.Lawful.{Made, rest-made, kept-made}
-use Rattle.zone_bytes.proofs.Blocks.Adopted.{NonrelocatableAt, nonrelocatable-at, adopt-reads-in, adopted-at}
-use Rattle.zone_bytes.proofs.Blocks.Adopted.{masters-adopted, free-adopted}
-use Rattle.zone_marks.proofs.Marks.Owed.{with-marks}
-use Rattle.zone_bytes.specs.Changes.{Became}
+use Rattle.raw_zone.proofs.Cited.{◌≡◌, ◌∙◌, ◌++◌, ◌∷◌, true, false, ℕ, IsTrue, refl, ap, sym, subst, arith, IfSome, IsSomeAnd}
+use Rattle.raw_zone.proofs.Cited.{Nonrelocatable, Relocatable, is_nonrelocatable, is_relocatable, is_masters, content_of, count, free_sum}
+use Rattle.raw_zone.proofs.Cited.{has, spot_at, is_used, IsRest, zone_in, slot_in, rest_in, Held, held, zone_of, rest_of, low, way-at}
+use Rattle.raw_zone.proofs.Cited.{inside, some-here, if-spot, one-spot, Made, rest-made, kept-made, NonrelocatableAt, nonrelocatable-at}
+use Rattle.raw_zone.proofs.Cited.{adopt-reads-in, adopted-at, masters-adopted, free-adopted, with-marks, Became}
 use Rattle.raw_zone.proofs.zone.RawZone.adopt.Goals as goal
 use Rattle.raw_zone.proofs.zone.RawZone.adopt.Goals.{After-adopt}
 

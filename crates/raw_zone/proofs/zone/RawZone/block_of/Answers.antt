@@ -1,16 +1,6 @@
-use Rattle.std.proofs.Common.{◌≡◌, ℕ, Some, sym, subst}
-use Rattle.std.specs.Option.{IfSome, IsSome}
-use Rattle.block_store.specs.Block.{is_relocatable}
-use Rattle.block_store.specs.Room.{Spot, spot}
-use Rattle.block_store.specs.Find.{FindsLowest}
-use Rattle.block_store.specs.Seen.{seen}
+use Rattle.raw_zone.proofs.Cited.{◌≡◌, ℕ, Some, sym, subst, IfSome, IsSome, is_relocatable, Spot, spot, FindsLowest, seen, zone_in, Held}
+use Rattle.raw_zone.proofs.Cited.{held, zone_of, a-spot, if-spot, led-slot, leads-here, led-found, led-told}
 use Rattle.block_store.specs.declared.sparing.Seen.TheVariants as see
-use Rattle.zone_bytes.specs.Decode.{zone_in}
-use Rattle.raw_zone.specs.Held.{Held}
-use Rattle.raw_zone.specs.Raw.{held}
-use Rattle.raw_zone.specs.Parted.{zone_of}
-use Rattle.zone_bytes.proofs.Places.Options.{a-spot, if-spot}
-use Rattle.zone_bytes.proofs.Places.LedTo.{led-slot, leads-here, led-found, led-told}
 use Rattle.raw_zone.proofs.zone.RawZone.block_of.Goals as goal
 
 -- the block that the slot leads to

@@ -1,13 +1,5 @@
-use Rattle.std.proofs.Common.{ap, ◌∙◌, subst, refl, arith}
-use Rattle.block_store.specs.Block.{free_sum}
-use Rattle.block_store.specs.Rest.{IsRest}
-use Rattle.block_store.specs.Sparing.{purged}
-use Rattle.zone_bytes.specs.Beside.{rest_in}
-use Rattle.zone_bytes.specs.Decode.{zone_in}
-use Rattle.zone_bytes.proofs.Joined.Handles.{Gained, gained-fits, gained-kept, gained-rest}
-use Rattle.zone_marks.proofs.Joined.PurgeStarts.{purge-gained}
-use Rattle.raw_zone.specs.Parted.{zone_of, rest_of}
-use Rattle.zone_marks.proofs.Marks.Owed.{with-marks, replaced-as}
+use Rattle.raw_zone.proofs.Cited.{ap, ◌∙◌, subst, refl, arith, free_sum, IsRest, purged, rest_in, zone_in, Gained, gained-fits, gained-kept}
+use Rattle.raw_zone.proofs.Cited.{gained-rest, purge-gained, zone_of, rest_of, with-marks, replaced-as}
 use Rattle.raw_zone.proofs.zone.RawZone.empty.Goals as goal
 use Rattle.raw_zone.proofs.zone.RawZone.empty.Goals.{After-purge_lowest-freed}
 

@@ -1,10 +1,5 @@
-use Rattle.std.proofs.Common.{◌≡◌, ◌<◌, ◌^◌, ◌∙◌, List, Option, Some, None, ap, is_some, subst, sym, ℕ}
-use Rattle.block_store.specs.Block.{Block, sizes}
-use Rattle.block_store.specs.Find.{FindsLowestRun}
-use Rattle.block_store.specs.Run.{has_free, run_spot}
-use Rattle.block_store.specs.Sparing.{purged}
-use Rattle.raw_zone.specs.Parted.{zone_of, zone-tidied}
-use Rattle.zone_bytes.proofs.Places.AtPlace.{left-zone, on-way, sizes-fit}
+use Rattle.raw_zone.proofs.Cited.{◌≡◌, ◌<◌, ◌^◌, ◌∙◌, List, Option, Some, None, ap, is_some, subst, sym, ℕ, Block, sizes, FindsLowestRun}
+use Rattle.raw_zone.proofs.Cited.{has_free, run_spot, purged, zone_of, zone-tidied, left-zone, on-way, sizes-fit}
 use Rattle.raw_zone.proofs.zone.RawZone.has_run.Goals as goal
 
 -- a run is found where there is one

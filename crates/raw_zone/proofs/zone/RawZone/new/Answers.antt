@@ -1,12 +1,6 @@
-use Rattle.std.proofs.Common.{sym, ◌-◌, ◌∙◌, ap, arith}
-use Rattle.block_store.specs.Block.{fresh}
-use Rattle.zone_bytes.proofs.FreshZones.FreshZone.{fresh-made, fresh-all, fresh-unused, free-fresh}
-use Rattle.zone_marks.proofs.Marks.Owed.{with-marks}
-use Rattle.zone_bytes.specs.PurgeableBytes.{purgeable_sum}
-use Rattle.zone_bytes.proofs.Bounds.Given.{given-fresh}
+use Rattle.raw_zone.proofs.Cited.{sym, ◌-◌, ◌∙◌, ap, arith, fresh, fresh-made, fresh-all, fresh-unused, free-fresh, with-marks}
+use Rattle.raw_zone.proofs.Cited.{purgeable_sum, given-fresh, kept-made, fresh_slots}
 use Rattle.raw_zone.proofs.zone.RawZone.new.Goals as goal
-use Rattle.zone_bytes.proofs.Laws.Lawful.{kept-made}
-use Rattle.zone_bytes.specs.Fresh.{fresh_slots}
 
 pub of-marks-requires : goal.of-marks-requires
 of-marks-requires c = record {

@@ -1,23 +1,7 @@
-use Rattle.std.proofs.Common.{◌≡◌, ◌∙◌, ◌+◌, Some, [], ap, refl, sym, subst, arith}
-use Rattle.std.specs.Option.{IfSome, IsSome}
-use Rattle.block_store.specs.Block.{sizes, tidy}
-use Rattle.block_store.specs.Run.{RunSpot, run_at, movers, settle, with_run}
-use Rattle.block_store.specs.Rest.{IsRest, lowered_in_run}
-use Rattle.zone_bytes.specs.Decode.{zone_in}
-use Rattle.zone_bytes.specs.Edges.{AreEdges}
-use Rattle.zone_marks.specs.Marked.{AreOf}
-use Rattle.zone_marks.specs.Purgeable.{NoneGoes}
-use Rattle.zone_bytes.specs.Table.{slot_in}
-use Rattle.zone_bytes.specs.Beside.{rest_in}
-use Rattle.zone_bytes.specs.Placing.{lay_at}
-use Rattle.zone_bytes.proofs.Laws.Lawful.{rest-made, kept-made}
-use Rattle.zone_bytes.proofs.Runs.RunsAt.{lay-is, lay-bytes, may-end, may-settle}
-use Rattle.zone_bytes.proofs.Places.Options.{a-spot}
-use Rattle.raw_zone.specs.Parted.{zone_of, rest_of}
-use Rattle.zone_bytes.proofs.Runs.Changed.{ChangedRun, if-one, settled-run, replaced-run}
-use Rattle.zone_bytes.proofs.Runs.Edged.{settled-edges}
-use Rattle.block_store.proofs.Regroup.Still.{still}
-use Rattle.zone_marks.proofs.Marks.Owed.{with-marks}
+use Rattle.raw_zone.proofs.Cited.{◌≡◌, ◌∙◌, ◌+◌, Some, [], ap, refl, sym, subst, arith, IfSome, IsSome, sizes, tidy, RunSpot, run_at}
+use Rattle.raw_zone.proofs.Cited.{movers, settle, with_run, IsRest, lowered_in_run, zone_in, AreEdges, AreOf, NoneGoes, slot_in, rest_in}
+use Rattle.raw_zone.proofs.Cited.{lay_at, rest-made, kept-made, lay-is, lay-bytes, may-end, may-settle, a-spot, zone_of, rest_of}
+use Rattle.raw_zone.proofs.Cited.{ChangedRun, if-one, settled-run, replaced-run, settled-edges, still, with-marks}
 use Rattle.raw_zone.proofs.zone.RawZone.pack.Goals as goal
 use Rattle.raw_zone.proofs.zone.RawZone.pack.Goals.{After-self, After-settle_run-packed}
 

@@ -1,4 +1,4 @@
-use Rattle.zone_bytes.specs.Placing.{lay_at}
+use Rattle.raw_zone.proofs.Cited.{lay_at}
 use Rattle.raw_zone.proofs.zone.RawZone.pack.Given as goal
 
 abbrev pub ghost-settle_run : goal.ghost-settle_run

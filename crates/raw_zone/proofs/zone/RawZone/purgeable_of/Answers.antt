@@ -1,8 +1,4 @@
-use Rattle.std.proofs.Common.{◌≡◌, Some, ap, sym, ◌∙◌, subst, arith}
-use Rattle.block_store.specs.Room.{spot_at}
-use Rattle.zone_bytes.specs.PurgeableBytes.{purgeable_at}
-use Rattle.zone_bytes.proofs.Places.AtPlace.{way-at, left-at, inside, some-here}
-use Rattle.raw_zone.specs.Parted.{zone_of}
+use Rattle.raw_zone.proofs.Cited.{◌≡◌, Some, ap, sym, ◌∙◌, subst, arith, spot_at, purgeable_at, way-at, left-at, inside, some-here, zone_of}
 use Rattle.raw_zone.proofs.zone.RawZone.purgeable_of.Goals as goal
 
 pub purgeable_at-requires-clause-way : goal.purgeable_at-requires-clause-way

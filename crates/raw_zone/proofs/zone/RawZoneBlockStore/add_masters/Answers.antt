@@ -1,20 +1,7 @@
-use Rattle.std.proofs.Common.{◌≡◌, ◌+◌, ◌++◌, ℕ, IsTrue, refl, ap, sym, subst, arith}
-use Rattle.std.specs.Option.{IsSomeAnd}
-use Rattle.block_store.specs.Block.{Masters, is_room, free_sum}
-use Rattle.block_store.specs.Room.{spot_at, filled}
-use Rattle.block_store.specs.Slot.{is_used}
-use Rattle.zone_bytes.specs.Decode.{zone_in}
-use Rattle.zone_bytes.specs.Table.{Lays, slot_in}
-use Rattle.zone_bytes.specs.Mastering.{slots_at, with_slots}
-use Rattle.zone_bytes.proofs.Laws.Lawful.{Made, kept-made}
-use Rattle.zone_bytes.proofs.Places.Options.{the-if}
-use Rattle.zone_bytes.proofs.SlotTable.Slotted.{count-small}
-use Rattle.zone_bytes.proofs.Placed.Carved.{Roomy, roomy, free-roomy, carved-free, carved-masters}
-use Rattle.zone_bytes.proofs.Placed.MastersCarved.{masters-made, masters-slots}
-use Rattle.zone_marks.proofs.Marks.Owed.{with-marks, filled-replaced}
-use Rattle.raw_zone.specs.Parted.{zone_of, rest_of}
-use Rattle.zone_bytes.specs.PurgeableBytes.{purgeable_sum}
-use Rattle.zone_bytes.proofs.Bounds.Given.{given-put}
+use Rattle.raw_zone.proofs.Cited.{◌≡◌, ◌+◌, ◌++◌, ℕ, IsTrue, refl, ap, sym, subst, arith, IsSomeAnd, Masters, is_room, free_sum, spot_at}
+use Rattle.raw_zone.proofs.Cited.{filled, is_used, zone_in, Lays, slot_in, slots_at, with_slots, Made, kept-made, the-if, count-small}
+use Rattle.raw_zone.proofs.Cited.{Roomy, roomy, free-roomy, carved-free, carved-masters, masters-made, masters-slots, with-marks}
+use Rattle.raw_zone.proofs.Cited.{filled-replaced, zone_of, rest_of, purgeable_sum, given-put}
 use Rattle.raw_zone.proofs.zone.RawZoneBlockStore.add_masters.Goals as goal
 use Rattle.raw_zone.proofs.zone.RawZoneBlockStore.add_masters.Goals.{After-self, After-add_masters}
 

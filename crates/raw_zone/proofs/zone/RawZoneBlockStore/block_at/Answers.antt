@@ -1,11 +1,4 @@
-use Rattle.std.proofs.Common.{◌≡◌, sym, subst}
-use Rattle.std.specs.Option.{option_map}
-use Rattle.block_store.specs.Find.{IsEdge}
-use Rattle.block_store.specs.Room.{Spot, spot_at}
-use Rattle.block_store.specs.Seen.{seen}
-use Rattle.block_store.specs.Walk.{Tells}
-use Rattle.raw_zone.specs.Parted.{zone_of}
-use Rattle.zone_bytes.proofs.Places.Edges.{edge-way, edge-tells}
+use Rattle.raw_zone.proofs.Cited.{◌≡◌, sym, subst, option_map, IsEdge, Spot, spot_at, seen, Tells, zone_of, edge-way, edge-tells}
 use Rattle.raw_zone.proofs.zone.RawZoneBlockStore.block_at.Goals as goal
 
 pub walk_from-requires : goal.walk_from-requires

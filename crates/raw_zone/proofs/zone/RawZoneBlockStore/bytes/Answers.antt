@@ -1,11 +1,5 @@
-use Rattle.std.proofs.Common.{◌≡◌, sym, subst, arith}
-use Rattle.std.specs.Option.{IfSome, IsSome}
-use Rattle.block_store.specs.Block.{content_of}
-use Rattle.block_store.specs.Room.{spot_at}
-use Rattle.zone_bytes.specs.Decode.{zone_in}
-use Rattle.raw_zone.specs.Parted.{zone_of}
-use Rattle.zone_bytes.proofs.Places.AtPlace.{way-at, left-at, inside, some-here}
-use Rattle.zone_bytes.proofs.Places.Options.{if-spot, a-spot}
+use Rattle.raw_zone.proofs.Cited.{◌≡◌, sym, subst, arith, IfSome, IsSome, content_of, spot_at, zone_in, zone_of, way-at, left-at, inside}
+use Rattle.raw_zone.proofs.Cited.{some-here, if-spot, a-spot}
 use Rattle.raw_zone.proofs.zone.RawZoneBlockStore.bytes.Goals as goal
 
 pub content_at-requires-clause-way : goal.content_at-requires-clause-way

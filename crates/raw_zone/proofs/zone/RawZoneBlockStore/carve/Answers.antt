@@ -1,20 +1,7 @@
-use Rattle.std.proofs.Common.{◌≡◌, ◌+◌, IsTrue, false, refl, ap, sym, subst, arith, replicate, ℕ}
-use Rattle.std.proofs.lemmas.List.{length-replicate}
-use Rattle.mac_words.specs.Size.{padded}
-use Rattle.block_store.specs.Block.{Block, Relocatable, no_flags, size, is_relocatable, free_sum}
-use Rattle.block_store.specs.Run.{has}
-use Rattle.block_store.specs.Room.{filled}
-use Rattle.block_store.specs.Slot.{is_used}
-use Rattle.zone_bytes.specs.Decode.{zone_in}
-use Rattle.zone_bytes.specs.Table.{slot_in}
-use Rattle.zone_bytes.specs.Laying.{new_header}
-use Rattle.zone_bytes.specs.PurgeableBytes.{purgeable_sum}
-use Rattle.zone_bytes.proofs.Laws.Lawful.{Made, rest-made, rest-placed, kept-made}
-use Rattle.zone_bytes.proofs.SlotTable.Slotted.{slot-reads-in}
-use Rattle.zone_bytes.proofs.Placed.Carved.{Roomy, roomy, free-roomy, may-carve, carved-free, carved-masters}
-use Rattle.zone_bytes.proofs.Placed.Carved.{relocatable-made}
-use Rattle.zone_bytes.proofs.Bounds.Given.{given-put}
-use Rattle.zone_marks.proofs.Marks.Owed.{with-marks, filled-replaced}
+use Rattle.raw_zone.proofs.Cited.{◌≡◌, ◌+◌, IsTrue, false, refl, ap, sym, subst, arith, replicate, ℕ, length-replicate, padded, Block}
+use Rattle.raw_zone.proofs.Cited.{Relocatable, no_flags, size, is_relocatable, free_sum, has, filled, is_used, zone_in, slot_in, new_header}
+use Rattle.raw_zone.proofs.Cited.{purgeable_sum, Made, rest-made, rest-placed, kept-made, slot-reads-in, Roomy, roomy, free-roomy}
+use Rattle.raw_zone.proofs.Cited.{may-carve, carved-free, carved-masters, relocatable-made, given-put, with-marks, filled-replaced}
 use Rattle.raw_zone.proofs.zone.RawZoneBlockStore.carve.Goals as goal
 use Rattle.raw_zone.proofs.zone.RawZoneBlockStore.carve.Goals.{After-self, After-carve}
 

@@ -1,18 +1,7 @@
-use Rattle.std.proofs.Common.{◌≡◌, ℕ, IsTrue, refl, ap, sym, subst, arith, replicate, ◌++◌, ◌∷◌, ◌-◌}
-use Rattle.std.proofs.lemmas.List.{length-replicate}
-use Rattle.std.specs.Option.{IsSomeAnd}
-use Rattle.mac_words.specs.Size.{padded}
-use Rattle.block_store.specs.Block.{Block, Free, Nonrelocatable, is_room, size, free_sum}
-use Rattle.block_store.specs.Room.{spot_at, filled}
-use Rattle.zone_bytes.specs.Decode.{zone_in}
-use Rattle.zone_bytes.specs.Table.{slot_in}
-use Rattle.zone_bytes.proofs.Laws.Lawful.{Made, rest-made, kept-made}
-use Rattle.zone_bytes.proofs.Places.Options.{the-if}
-use Rattle.zone_bytes.proofs.Placed.Carved.{Roomy, roomy, tidy-made, carved-free, carved-masters, free-roomy}
-use Rattle.zone_marks.proofs.Marks.Owed.{with-marks, filled-replaced}
-use Rattle.raw_zone.specs.Parted.{zone_of}
-use Rattle.zone_bytes.specs.PurgeableBytes.{purgeable_sum}
-use Rattle.zone_bytes.proofs.Bounds.Given.{given-put}
+use Rattle.raw_zone.proofs.Cited.{◌≡◌, ℕ, IsTrue, refl, ap, sym, subst, arith, replicate, ◌++◌, ◌∷◌, ◌-◌, length-replicate, IsSomeAnd}
+use Rattle.raw_zone.proofs.Cited.{padded, Block, Free, Nonrelocatable, is_room, size, free_sum, spot_at, filled, zone_in, slot_in, Made}
+use Rattle.raw_zone.proofs.Cited.{rest-made, kept-made, the-if, Roomy, roomy, tidy-made, carved-free, carved-masters, free-roomy}
+use Rattle.raw_zone.proofs.Cited.{with-marks, filled-replaced, zone_of, purgeable_sum, given-put}
 use Rattle.raw_zone.proofs.zone.RawZoneBlockStore.carve_nonrelocatable.Goals as goal
 use Rattle.raw_zone.proofs.zone.RawZoneBlockStore.carve_nonrelocatable.Goals.{After-self, After-carve_nonrelocatable}
 

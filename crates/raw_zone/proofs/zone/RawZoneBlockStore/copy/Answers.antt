@@ -1,20 +1,7 @@
-use Rattle.std.proofs.Common.{◌≡◌, ◌∙◌, ◌+◌, ◌≤◌, ◌∷◌, ◌++◌, Some, length, take, drop, ap, sym, subst, arith}
-use Rattle.std.specs.Option.{IfSome, IsSomeAnd}
-use Rattle.std.proofs.lemmas.List.{length-take-le, length-drop}
-use Rattle.memory_windows.specs.Writes.{written}
-use Rattle.block_store.specs.Block.{content_of, with_content}
-use Rattle.block_store.specs.Room.{Spot, spot_at}
-use Rattle.block_store.specs.Rest.{IsRest}
-use Rattle.zone_bytes.specs.Decode.{zone_in}
-use Rattle.zone_bytes.specs.Table.{slot_in}
-use Rattle.zone_bytes.specs.Beside.{rest_in}
-use Rattle.zone_bytes.proofs.Places.Options.{if-spot, the-spot, one-spot}
-use Rattle.zone_bytes.proofs.Laws.Lawful.{rest-made}
-use Rattle.zone_bytes.proofs.Placed.Standing.{standing}
-use Rattle.zone_bytes.proofs.Placed.Copied.{holds-inside, copied, copied-kept, copied-masters}
-use Rattle.zone_bytes.proofs.Places.AtPlace.{whole}
-use Rattle.zone_marks.proofs.Marks.Owed.{with-written}
-use Rattle.raw_zone.specs.Parted.{zone_of, rest_of}
+use Rattle.raw_zone.proofs.Cited.{◌≡◌, ◌∙◌, ◌+◌, ◌≤◌, ◌∷◌, ◌++◌, Some, length, take, drop, ap, sym, subst, arith, IfSome, IsSomeAnd}
+use Rattle.raw_zone.proofs.Cited.{length-take-le, length-drop, written, content_of, with_content, Spot, spot_at, IsRest, zone_in, slot_in}
+use Rattle.raw_zone.proofs.Cited.{rest_in, if-spot, the-spot, one-spot, rest-made, standing, holds-inside, copied, copied-kept}
+use Rattle.raw_zone.proofs.Cited.{copied-masters, whole, with-written, zone_of, rest_of}
 use Rattle.raw_zone.proofs.zone.RawZoneBlockStore.copy.Goals as goal
 use Rattle.raw_zone.proofs.zone.RawZoneBlockStore.copy.Goals.{After-move_bytes}
 

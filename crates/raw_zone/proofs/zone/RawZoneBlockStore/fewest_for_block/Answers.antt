@@ -1,13 +1,6 @@
-use Rattle.std.proofs.Common.{◌≡◌, ◌≤◌, ◌∙◌, ◌&&◌, ℕ, MatchOption, ap, false, is_some, subst, sym}
-use Rattle.std.proofs.lemmas.Bool.{and_parts}
-use Rattle.block_store.specs.Block.{count, free_sum, is_relocatable}
-use Rattle.block_store.specs.Fewest.{serves_block, IsFewest}
-use Rattle.block_store.specs.Run.{has, has_free}
-use Rattle.block_store.specs.Sparing.{purged}
-use Rattle.raw_zone.specs.Parted.{zone_of, zone-once}
-use Rattle.zone_bytes.proofs.Bounds.Given.{all-given}
-use Rattle.zone_bytes.proofs.Bounds.Short.{no-run}
-use Rattle.zone_bytes.proofs.Tiles.Spelling.{le-back}
+use Rattle.raw_zone.proofs.Cited.{◌≡◌, ◌≤◌, ◌∙◌, ◌&&◌, ℕ, MatchOption, ap, false, is_some, subst, sym, and_parts, count, free_sum}
+use Rattle.raw_zone.proofs.Cited.{is_relocatable, serves_block, IsFewest, has, has_free, purged, zone_of, zone-once, all-given, no-run}
+use Rattle.raw_zone.proofs.Cited.{le-back}
 use Rattle.raw_zone.proofs.zone.RawZoneBlockStore.fewest_for_block.Goals as goal
 
 pub returns-then-falls_short : goal.returns-then-falls_short

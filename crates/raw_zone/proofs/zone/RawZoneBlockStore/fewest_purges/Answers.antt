@@ -1,12 +1,5 @@
-use Rattle.std.proofs.Common.{◌≡◌, ℕ, MatchOption, ap, arith, false, is_some, subst, sym, ◌∙◌}
-use Rattle.block_store.specs.Block.{free_sum}
-use Rattle.block_store.specs.Fewest.{serves, IsFewest}
-use Rattle.block_store.specs.Run.{has_free}
-use Rattle.block_store.specs.Sparing.{purged}
-use Rattle.raw_zone.specs.Parted.{zone_of}
-use Rattle.zone_bytes.proofs.Bounds.Given.{all-given}
-use Rattle.zone_bytes.proofs.Bounds.Short.{no-run}
-use Rattle.zone_bytes.proofs.Tiles.Spelling.{le-back}
+use Rattle.raw_zone.proofs.Cited.{◌≡◌, ℕ, MatchOption, ap, arith, false, is_some, subst, sym, ◌∙◌, free_sum, serves, IsFewest, has_free}
+use Rattle.raw_zone.proofs.Cited.{purged, zone_of, all-given, no-run, le-back}
 use Rattle.raw_zone.proofs.zone.RawZoneBlockStore.fewest_purges.Goals as goal
 
 pub returns-then-has_run : goal.returns-then-has_run

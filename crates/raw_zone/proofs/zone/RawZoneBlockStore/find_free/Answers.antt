@@ -1,9 +1,4 @@
-use Rattle.std.proofs.Common.{◌≡◌, None, subst, arith}
-use Rattle.block_store.specs.Block.{is_room}
-use Rattle.block_store.specs.Room.{spot}
-use Rattle.raw_zone.specs.Parted.{zone_of}
-use Rattle.zone_bytes.specs.Decode.{zone_in}
-use Rattle.zone_bytes.proofs.Bounds.Short.{no-room}
+use Rattle.raw_zone.proofs.Cited.{◌≡◌, None, subst, arith, is_room, spot, zone_of, zone_in, no-room}
 use Rattle.raw_zone.proofs.zone.RawZoneBlockStore.find_free.Goals as goal
 
 pub returns-then-self-bytes : goal.returns-then-self-bytes

@@ -1,10 +1,4 @@
-use Rattle.std.proofs.Common.{◌≡◌, None, subst, arith}
-use Rattle.block_store.specs.Block.{free_sum}
-use Rattle.block_store.specs.Run.{has_free, run_spot}
-use Rattle.raw_zone.specs.Parted.{zone_of}
-use Rattle.zone_bytes.specs.Decode.{zone_in}
-use Rattle.zone_bytes.proofs.Bounds.Short.{no-run}
-use Rattle.zone_bytes.proofs.Tiles.Spelling.{le-back}
+use Rattle.raw_zone.proofs.Cited.{◌≡◌, None, subst, arith, free_sum, has_free, run_spot, zone_of, zone_in, no-run, le-back}
 use Rattle.raw_zone.proofs.zone.RawZoneBlockStore.find_run.Goals as goal
 
 pub returns-then-self-bytes : goal.returns-then-self-bytes

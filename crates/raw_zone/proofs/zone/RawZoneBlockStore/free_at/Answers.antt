@@ -1,22 +1,8 @@
-use Rattle.std.proofs.Common.{◌≡◌, ℕ, true, Some, refl, sym, ap, ◌∙◌, subst, arith}
-use Rattle.std.specs.Option.{IsSomeAnd}
-use Rattle.std.proofs.lemmas.Bool.{false≢true}
-use Rattle.block_store.specs.Block.{Block, Free, Nonrelocatable, Masters, Relocatable, is_nonrelocatable, tidy}
-use Rattle.block_store.specs.Grow.{freed}
-use Rattle.block_store.specs.Rest.{IsRest}
-use Rattle.block_store.specs.Room.{Spot, spot_at}
-use Rattle.zone_bytes.specs.Beside.{rest_in}
-use Rattle.zone_bytes.specs.Decode.{zone_in}
-use Rattle.zone_bytes.proofs.Places.Options.{the-spot}
-use Rattle.zone_bytes.proofs.Joined.Handles.{Gained, gained-fits, gained-kept, gained-rest}
-use Rattle.zone_bytes.proofs.Joined.NonrelocatableFreed.{standing, may-free_nonrelocatable, nonrelocatable-gained}
-use Rattle.zone_bytes.proofs.Joined.NonrelocatableFreed.{freed-is}
-use Rattle.zone_marks.specs.Marked.{AreOf}
-use Rattle.zone_bytes.proofs.Places.AtPlace.{whole}
-use Rattle.raw_zone.specs.Parted.{zone_of, rest_of}
-use Rattle.zone_marks.proofs.Marks.Owed.{with-marks, replaced-as}
-use Rattle.zone_bytes.specs.PurgeableBytes.{purgeable_of, purgeable_sum}
-use Rattle.zone_bytes.proofs.Bounds.Given.{given-freed}
+use Rattle.raw_zone.proofs.Cited.{◌≡◌, ℕ, true, Some, refl, sym, ap, ◌∙◌, subst, arith, IsSomeAnd, false≢true, Block, Free, Nonrelocatable}
+use Rattle.raw_zone.proofs.Cited.{Masters, Relocatable, is_nonrelocatable, tidy, freed, IsRest, Spot, spot_at, rest_in, zone_in, the-spot}
+use Rattle.raw_zone.proofs.Cited.{Gained, gained-fits, gained-kept, gained-rest, may-free_nonrelocatable, nonrelocatable-gained, freed-is}
+use Rattle.raw_zone.proofs.Cited.{AreOf, whole, zone_of, rest_of, with-marks, replaced-as, purgeable_of, purgeable_sum, given-freed}
+use Rattle.zone_bytes.proofs.Joined.NonrelocatableFreed.{standing}
 use Rattle.raw_zone.proofs.zone.RawZoneBlockStore.free_at.Goals as goal
 use Rattle.raw_zone.proofs.zone.RawZoneBlockStore.free_at.Goals.{After-self, After-free_block-freed}
 

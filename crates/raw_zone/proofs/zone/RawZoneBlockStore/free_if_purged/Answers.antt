@@ -1,10 +1,5 @@
-use Rattle.std.proofs.Common.{◌≡◌, ◌+◌, subst, arith}
-use Rattle.block_store.specs.Block.{free_sum}
-use Rattle.block_store.specs.Sparing.{most_purges, purged}
+use Rattle.raw_zone.proofs.Cited.{◌≡◌, ◌+◌, subst, arith, free_sum, most_purges, purged, zone_of, zone_in, all-given, given-fits}
 use Rattle.block_store.specs.declared.sparing.Sparing.TheVariants as sparing
-use Rattle.raw_zone.specs.Parted.{zone_of}
-use Rattle.zone_bytes.specs.Decode.{zone_in}
-use Rattle.zone_bytes.proofs.Bounds.Given.{all-given, given-fits}
 use Rattle.raw_zone.proofs.zone.RawZoneBlockStore.free_if_purged.Goals as goal
 
 pub overflow_add-result : goal.overflow_add-result

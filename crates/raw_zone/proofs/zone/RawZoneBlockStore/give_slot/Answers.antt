@@ -1,15 +1,6 @@
-use Rattle.std.proofs.Common.{◌≡◌, false, IsTrue, ◌+◌, sym, ap, ◌∙◌, subst, arith}
-use Rattle.block_store.specs.Block.{count, is_masters, is_relocatable}
-use Rattle.block_store.specs.Run.{has}
-use Rattle.block_store.specs.Slot.{Unused, set_slot, is_used}
-use Rattle.block_store.specs.Rest.{IsRest, with_slot}
-use Rattle.zone_bytes.specs.Decode.{zone_in}
-use Rattle.raw_zone.specs.Parted.{zone_of, rest_of}
-use Rattle.zone_bytes.specs.Beside.{rest_in}
-use Rattle.zone_bytes.specs.Table.{slot_in}
-use Rattle.zone_bytes.proofs.Laws.Lawful.{Made, rest-made, kept-made}
-use Rattle.zone_bytes.proofs.SlotTable.Slotted.{may-give, given-made, count-small}
-use Rattle.zone_marks.proofs.Marks.Owed.{with-same}
+use Rattle.raw_zone.proofs.Cited.{◌≡◌, false, IsTrue, ◌+◌, sym, ap, ◌∙◌, subst, arith, count, is_masters, is_relocatable, has, Unused}
+use Rattle.raw_zone.proofs.Cited.{set_slot, is_used, IsRest, with_slot, zone_in, zone_of, rest_of, rest_in, slot_in, Made, rest-made}
+use Rattle.raw_zone.proofs.Cited.{kept-made, may-give, given-made, count-small, with-same}
 use Rattle.raw_zone.proofs.zone.RawZoneBlockStore.give_slot.Goals as goal
 
 pub give_slot-requires : goal.give_slot-requires

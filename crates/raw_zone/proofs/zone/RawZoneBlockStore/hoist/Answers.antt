@@ -1,17 +1,7 @@
-use Rattle.std.proofs.Common.{◌≡◌, ◌∙◌, IsTrue, true, sym, subst, arith}
-use Rattle.std.specs.Option.{IfSome}
-use Rattle.block_store.specs.Block.{tidy, is_relocatable}
-use Rattle.block_store.specs.Run.{run_at, has, settle, high, with_run}
-use Rattle.block_store.specs.Rest.{IsRest}
-use Rattle.zone_bytes.specs.Decode.{zone_in}
-use Rattle.zone_bytes.specs.Table.{slot_in}
-use Rattle.zone_bytes.proofs.Laws.Lawful.{rest-placed}
-use Rattle.zone_bytes.proofs.Runs.Changed.{ChangedRun, if-one}
-use Rattle.zone_bytes.proofs.Runs.PackedAt.{IsPacked, is-packed, kept-changed, rest-changed, purgeable-changed}
-use Rattle.zone_bytes.proofs.Runs.PackedAt.{replaced-changed}
-use Rattle.zone_bytes.proofs.Runs.HoistedAt.{slot-inside, hoist-bytes, may-hoist, hoist-changed}
-use Rattle.raw_zone.specs.Parted.{zone_of, rest_of, zone-tidied, zone-once}
-use Rattle.zone_marks.proofs.Marks.Owed.{with-marks}
+use Rattle.raw_zone.proofs.Cited.{◌≡◌, ◌∙◌, IsTrue, true, sym, subst, arith, IfSome, tidy, is_relocatable, run_at, has, settle, high}
+use Rattle.raw_zone.proofs.Cited.{with_run, IsRest, zone_in, slot_in, rest-placed, ChangedRun, if-one, IsPacked, is-packed, kept-changed}
+use Rattle.raw_zone.proofs.Cited.{rest-changed, purgeable-changed, replaced-changed, slot-inside, hoist-bytes, may-hoist, hoist-changed}
+use Rattle.raw_zone.proofs.Cited.{zone_of, rest_of, zone-tidied, zone-once, with-marks}
 use Rattle.raw_zone.proofs.zone.RawZoneBlockStore.hoist.Goals as goal
 use Rattle.raw_zone.proofs.zone.RawZoneBlockStore.hoist.Goals.{After-self, After-note-arg-2-1}
 

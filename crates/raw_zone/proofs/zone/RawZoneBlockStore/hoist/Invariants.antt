@@ -1,4 +1,4 @@
-use Rattle.zone_bytes.specs.Placing.{hoist_at}
+use Rattle.raw_zone.proofs.Cited.{hoist_at}
 use Rattle.raw_zone.proofs.zone.RawZoneBlockStore.hoist.Given as goal
 
 abbrev pub ghost-hoist_block : goal.ghost-hoist_block

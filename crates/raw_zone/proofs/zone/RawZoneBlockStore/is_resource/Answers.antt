@@ -1,7 +1,4 @@
-use Rattle.std.proofs.Common.{◌≡◌, IsTrue, sym, subst}
-use Rattle.block_store.specs.Slot.{is_used, is_resource}
-use Rattle.raw_zone.specs.Parted.{rest_of}
-use Rattle.zone_bytes.proofs.SlotTable.Handled.{a-handle, flag-read}
+use Rattle.raw_zone.proofs.Cited.{◌≡◌, IsTrue, sym, subst, is_used, is_resource, rest_of, a-handle, flag-read}
 use Rattle.raw_zone.proofs.zone.RawZoneBlockStore.is_resource.Goals as goal
 
 pub slot_resource-requires : goal.slot_resource-requires

@@ -1,10 +1,5 @@
-use Rattle.std.proofs.Common.{◌∙◌, ap, sym, arith}
-use Rattle.block_store.specs.Compact.{largest_free}
-use Rattle.block_store.specs.Sparing.{purged}
+use Rattle.raw_zone.proofs.Cited.{◌∙◌, ap, sym, arith, largest_free, purged, zone_of, zone_in, stands-still}
 use Rattle.block_store.specs.declared.sparing.Sparing.TheVariants as sparing
-use Rattle.raw_zone.specs.Parted.{zone_of}
-use Rattle.zone_bytes.specs.Decode.{zone_in}
-use Rattle.zone_marks.proofs.Bounds.Space.{stands-still}
 use Rattle.raw_zone.proofs.zone.RawZoneBlockStore.largest_after.Goals as goal
 
 pub largest_free-requires-clause-sound : goal.largest_free-requires-clause-sound

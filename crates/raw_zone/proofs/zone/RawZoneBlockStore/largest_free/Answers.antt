@@ -1,6 +1,4 @@
-use Rattle.std.proofs.Common.{◌∙◌, ap}
-use Rattle.block_store.specs.Compact.{largest_free}
-use Rattle.raw_zone.specs.Parted.{zone_of}
+use Rattle.raw_zone.proofs.Cited.{◌∙◌, ap, largest_free, zone_of}
 use Rattle.raw_zone.proofs.zone.RawZoneBlockStore.largest_free.Goals as goal
 
 pub largest_free-requires-clause-sound : goal.largest_free-requires-clause-sound

@@ -1,6 +1,4 @@
-use Rattle.std.proofs.Common.{◌∙◌, ap}
-use Rattle.block_store.specs.Compact.{largest_run}
-use Rattle.raw_zone.specs.Parted.{zone_of}
+use Rattle.raw_zone.proofs.Cited.{◌∙◌, ap, largest_run, zone_of}
 use Rattle.raw_zone.proofs.zone.RawZoneBlockStore.largest_run.Goals as goal
 
 pub largest_run-requires-clause-sound : goal.largest_run-requires-clause-sound

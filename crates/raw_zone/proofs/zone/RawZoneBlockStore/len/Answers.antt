@@ -1,7 +1,4 @@
-use Rattle.std.proofs.Common.{sym, ap, ◌∙◌}
-use Rattle.raw_zone.specs.Parted.{zone_of}
-use Rattle.block_store.specs.Block.{sizes}
-use Rattle.zone_bytes.proofs.Laws.Lawful.{sizes-length}
+use Rattle.raw_zone.proofs.Cited.{sym, ap, ◌∙◌, zone_of, sizes, sizes-length}
 use Rattle.raw_zone.proofs.zone.RawZoneBlockStore.len.Goals as goal
 
 pub returns : goal.returns

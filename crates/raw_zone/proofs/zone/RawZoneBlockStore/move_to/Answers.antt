@@ -1,13 +1,7 @@
-use Rattle.std.proofs.Common.{◌∙◌, ℕ, IsTrue, sym, subst}
-use Rattle.std.specs.Option.{IsSome, IsSomeAnd}
-use Rattle.mac_words.specs.Size.{padded}
-use Rattle.block_store.specs.Block.{is_relocatable, is_room}
-use Rattle.block_store.specs.Room.{spot, spot_at}
-use Rattle.block_store.specs.Slot.{is_used}
-use Rattle.block_store.proofs.Content.MovedInSteps.{RoomAt, room-at, is-used, still, copies-to, stands, no-block, moved}
-use Rattle.zone_bytes.specs.Decode.{zone_in}
-use Rattle.raw_zone.specs.Held.{Held}
-use Rattle.raw_zone.specs.Parted.{zone_of, rest_of, zone-no_block}
+use Rattle.raw_zone.proofs.Cited.{◌∙◌, ℕ, IsTrue, sym, subst, IsSome, IsSomeAnd, padded, is_relocatable, is_room, spot, spot_at, is_used}
+use Rattle.raw_zone.proofs.Cited.{RoomAt, room-at, is-used, copies-to, stands, no-block, moved, zone_in, Held, zone_of, rest_of}
+use Rattle.raw_zone.proofs.Cited.{zone-no_block}
+use Rattle.block_store.proofs.Content.MovedInSteps.{still}
 use Rattle.raw_zone.proofs.zone.RawZoneBlockStore.move_to.Goals as goal
 
 room : (z : Held) (place bytes : ℕ)

@@ -1,13 +1,5 @@
-use Rattle.std.proofs.Common.{◌∙◌, ap, sym, subst, ◌<◌, ◌≤◌, ◌^◌, arith}
-use Rattle.block_store.specs.Block.{sizes, tidy}
-use Rattle.block_store.specs.Find.{FindsLowest}
-use Rattle.block_store.specs.Room.{may_be_purged}
-use Rattle.block_store.specs.Sparing.{opened, spared}
-use Rattle.raw_zone.specs.Parted.{zone_of}
-use Rattle.zone_bytes.proofs.Places.AtPlace.{left-zone, on-way, sizes-fit}
-use Rattle.zone_bytes.specs.Decode.{zone_in}
-use Rattle.zone_bytes.specs.PurgeableBytes.{purgeable_sum}
-use Rattle.zone_bytes.proofs.Bounds.Short.{none-next}
+use Rattle.raw_zone.proofs.Cited.{◌∙◌, ap, sym, subst, ◌<◌, ◌≤◌, ◌^◌, arith, sizes, tidy, FindsLowest, may_be_purged, opened, spared}
+use Rattle.raw_zone.proofs.Cited.{zone_of, left-zone, on-way, sizes-fit, zone_in, purgeable_sum, none-next}
 use Rattle.raw_zone.proofs.zone.RawZoneBlockStore.next_purgeable.Goals as goal
 
 pub returns-then-self-eq0 : goal.returns-then-self-eq0

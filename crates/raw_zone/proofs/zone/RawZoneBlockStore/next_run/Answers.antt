@@ -1,13 +1,5 @@
-use Rattle.std.proofs.Common.{◌≡◌, ◌+◌, Some, None, ap, sym, subst, arith}
-use Rattle.std.specs.Option.{IfSome, IsSome}
-use Rattle.block_store.specs.Block.{sizes}
-use Rattle.block_store.specs.Compact.{next_run}
-use Rattle.block_store.specs.Run.{RunSpot, run_at}
-use Rattle.raw_zone.specs.Parted.{zone_of}
-use Rattle.zone_bytes.specs.Decode.{zone_in}
-use Rattle.zone_bytes.proofs.Runs.RunsAt.{run-way, left-fits}
-use Rattle.zone_bytes.proofs.Places.Options.{a-spot, if-spot}
-use Rattle.zone_bytes.proofs.Runs.NextRuns.{next-fits, next-none, next-some}
+use Rattle.raw_zone.proofs.Cited.{◌≡◌, ◌+◌, Some, None, ap, sym, subst, arith, IfSome, IsSome, sizes, next_run, RunSpot, run_at, zone_of}
+use Rattle.raw_zone.proofs.Cited.{zone_in, run-way, left-fits, a-spot, if-spot, next-fits, next-none, next-some}
 use Rattle.raw_zone.proofs.zone.RawZoneBlockStore.next_run.Goals as goal
 
 pub walk_from-requires : goal.walk_from-requires

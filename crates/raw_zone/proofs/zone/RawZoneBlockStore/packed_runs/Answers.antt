@@ -1,9 +1,4 @@
-use Rattle.std.proofs.Common.{◌∙◌, ap, sym, subst, ◌<◌, ◌^◌}
-use Rattle.block_store.specs.Block.{sizes}
-use Rattle.block_store.specs.Compact.{packed_stretches}
-use Rattle.block_store.specs.Run.{runs}
-use Rattle.raw_zone.specs.Parted.{zone_of}
-use Rattle.zone_bytes.proofs.Places.AtPlace.{left-zone, on-way, sizes-fit}
+use Rattle.raw_zone.proofs.Cited.{◌∙◌, ap, sym, subst, ◌<◌, ◌^◌, sizes, packed_stretches, runs, zone_of, left-zone, on-way, sizes-fit}
 use Rattle.raw_zone.proofs.zone.RawZoneBlockStore.packed_runs.Goals as goal
 
 pub walk_from-requires : goal.walk_from-requires

@@ -1,9 +1,4 @@
-use Rattle.std.proofs.Common.{IsTrue, sym, subst}
-use Rattle.block_store.specs.Block.{is_relocatable}
-use Rattle.block_store.specs.Find.{FindsLowest}
-use Rattle.block_store.specs.Slot.{is_used}
-use Rattle.raw_zone.specs.Parted.{zone_of, rest_of}
-use Rattle.zone_bytes.proofs.SlotTable.Handled.{a-handle, place-found}
+use Rattle.raw_zone.proofs.Cited.{IsTrue, sym, subst, is_relocatable, FindsLowest, is_used, zone_of, rest_of, a-handle, place-found}
 use Rattle.raw_zone.proofs.zone.RawZoneBlockStore.place_of.Goals as goal
 
 pub slot_place-requires : goal.slot_place-requires

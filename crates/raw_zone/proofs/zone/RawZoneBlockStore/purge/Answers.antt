@@ -1,5 +1,4 @@
-use Rattle.std.proofs.Common.{rules, ◌≡◌, true, sym}
-use Rattle.raw_zone.specs.Parted.{zone_of, zone-tidied}
+use Rattle.raw_zone.proofs.Cited.{rules, ◌≡◌, true, sym, zone_of, zone-tidied}
 use Rattle.raw_zone.proofs.zone.RawZoneBlockStore.purge.Goals as goal
 
 pub returns-else-not-is_as_it_stands-clause-zone : goal.returns-else-not-is_as_it_stands-clause-zone

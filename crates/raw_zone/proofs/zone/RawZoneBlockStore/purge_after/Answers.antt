@@ -1,19 +1,7 @@
-use Rattle.std.proofs.Common.{◌≡◌, ◌+◌, Some, ◌∷◌, ◌++◌, ◌∙◌, ap, sym, subst, arith}
-use Rattle.std.specs.Option.{IfSome, IsSome}
-use Rattle.block_store.specs.Block.{tidy}
-use Rattle.block_store.specs.Rest.{IsRest}
-use Rattle.block_store.specs.Room.{Spot, spot_at, lowest_purged}
-use Rattle.block_store.specs.Sparing.{spared}
-use Rattle.zone_bytes.specs.Beside.{rest_in}
-use Rattle.zone_bytes.specs.Decode.{zone_in}
-use Rattle.zone_bytes.proofs.Places.Options.{if-spot, a-spot}
-use Rattle.zone_bytes.proofs.Joined.Handles.{Gained, gained-fits, gained-kept, gained-rest}
-use Rattle.zone_marks.proofs.Joined.PurgeStarts.{spot-at, may-purge, above-gained}
-use Rattle.raw_zone.specs.Parted.{zone_of, rest_of}
-use Rattle.zone_marks.proofs.Marks.Owed.{with-marks, replaced-as}
-use Rattle.zone_bytes.specs.PurgeableBytes.{purgeable_sum}
-use Rattle.zone_bytes.proofs.Bounds.Given.{given-purged}
-use Rattle.zone_bytes.proofs.Places.AtPlace.{whole}
+use Rattle.raw_zone.proofs.Cited.{◌≡◌, ◌+◌, Some, ◌∷◌, ◌++◌, ◌∙◌, ap, sym, subst, arith, IfSome, IsSome, tidy, IsRest, Spot, spot_at}
+use Rattle.raw_zone.proofs.Cited.{lowest_purged, spared, rest_in, zone_in, if-spot, a-spot, Gained, gained-fits, gained-kept, gained-rest}
+use Rattle.raw_zone.proofs.Cited.{spot-at, may-purge, above-gained, zone_of, rest_of, with-marks, replaced-as, purgeable_sum, given-purged}
+use Rattle.raw_zone.proofs.Cited.{whole}
 use Rattle.raw_zone.proofs.zone.RawZoneBlockStore.purge_after.Goals as goal
 use Rattle.raw_zone.proofs.zone.RawZoneBlockStore.purge_after.Goals.{After-self, After-purge_above-freed}
 

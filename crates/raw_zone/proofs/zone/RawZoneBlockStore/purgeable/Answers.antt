@@ -1,11 +1,5 @@
-use Rattle.std.proofs.Common.{◌∙◌, ap, sym, subst, ◌<◌, ◌≤◌, ◌^◌, arith}
-use Rattle.block_store.specs.Block.{sizes}
-use Rattle.block_store.specs.Sparing.{most_purges}
-use Rattle.raw_zone.specs.Parted.{zone_of}
-use Rattle.zone_bytes.proofs.Places.AtPlace.{left-zone, on-way, sizes-fit}
-use Rattle.zone_bytes.specs.Decode.{zone_in}
-use Rattle.zone_bytes.specs.PurgeableBytes.{purgeable_sum}
-use Rattle.zone_bytes.proofs.Bounds.Short.{none-goes}
+use Rattle.raw_zone.proofs.Cited.{◌∙◌, ap, sym, subst, ◌<◌, ◌≤◌, ◌^◌, arith, sizes, most_purges, zone_of, left-zone, on-way, sizes-fit}
+use Rattle.raw_zone.proofs.Cited.{zone_in, purgeable_sum, none-goes}
 use Rattle.raw_zone.proofs.zone.RawZoneBlockStore.purgeable.Goals as goal
 
 pub returns-then-self-eq0 : goal.returns-then-self-eq0

@@ -1,13 +1,5 @@
-use Rattle.std.proofs.Common.{◌≡◌, ◌∙◌, ap, sym, subst, ◌<◌, ◌^◌}
-use Rattle.std.specs.Option.{IfSome, IsSome}
-use Rattle.block_store.specs.Block.{sizes}
-use Rattle.block_store.specs.Room.{Spot, spot_at, count_of}
-use Rattle.block_store.specs.Run.{segments}
-use Rattle.block_store.specs.Sparing.{spared}
-use Rattle.raw_zone.specs.Parted.{zone_of}
-use Rattle.zone_bytes.specs.Decode.{zone_in}
-use Rattle.zone_bytes.proofs.Places.AtPlace.{way-at, left-at, above-fit}
-use Rattle.zone_bytes.proofs.Places.Options.{if-spot, a-spot}
+use Rattle.raw_zone.proofs.Cited.{◌≡◌, ◌∙◌, ap, sym, subst, ◌<◌, ◌^◌, IfSome, IsSome, sizes, Spot, spot_at, count_of, segments, spared}
+use Rattle.raw_zone.proofs.Cited.{zone_of, zone_in, way-at, left-at, above-fit, if-spot, a-spot}
 use Rattle.raw_zone.proofs.zone.RawZoneBlockStore.purgeable_after.Goals as goal
 
 pub walk_above-requires : goal.walk_above-requires

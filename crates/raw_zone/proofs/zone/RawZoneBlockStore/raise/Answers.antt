@@ -1,19 +1,8 @@
-use Rattle.std.proofs.Common.{◌≡◌, ◌∙◌, ◌+◌, IsTrue, Some, ap, sym, subst, arith}
-use Rattle.std.specs.Option.{IfSome, IsSomeAnd}
-use Rattle.block_store.specs.Block.{Free, sizes, tidy}
-use Rattle.block_store.specs.Run.{RunSpot, run_at, low, has_free, movers, with_run}
-use Rattle.zone_bytes.specs.Raising.{lifted}
-use Rattle.zone_bytes.specs.Decode.{zone_in}
-use Rattle.zone_bytes.specs.Edges.{AreEdges}
-use Rattle.zone_bytes.specs.Table.{slot_in}
-use Rattle.zone_bytes.proofs.Laws.Lawful.{rest-made, rest-placed, kept-made}
-use Rattle.zone_bytes.proofs.Runs.RunsAt.{lay-is, lay-bytes, may-end}
-use Rattle.zone_bytes.proofs.Runs.Changed.{ChangedRun, if-one, replaced-run}
-use Rattle.zone_bytes.proofs.Runs.RaisedAt.{room-run, may-lift, lifted-run, lifted-zone}
-use Rattle.zone_bytes.proofs.Places.Walks.{free_span-le}
-use Rattle.zone_bytes.proofs.Runs.Edged.{lifted-edges}
-use Rattle.zone_marks.proofs.Marks.Owed.{with-marks}
-use Rattle.raw_zone.specs.Parted.{zone_of}
+use Rattle.raw_zone.proofs.Cited.{◌≡◌, ◌∙◌, ◌+◌, IsTrue, Some, ap, sym, subst, arith, IfSome, IsSomeAnd, Free, sizes, tidy, RunSpot, run_at}
+use Rattle.raw_zone.proofs.Cited.{has_free, movers, with_run, lifted, zone_in, AreEdges, slot_in, rest-made, rest-placed, kept-made, lay-is}
+use Rattle.raw_zone.proofs.Cited.{lay-bytes, may-end, ChangedRun, if-one, replaced-run, room-run, may-lift, lifted-run, lifted-zone}
+use Rattle.raw_zone.proofs.Cited.{free_span-le, lifted-edges, with-marks, zone_of}
+use Rattle.block_store.specs.Run.{low}
 use Rattle.raw_zone.proofs.zone.RawZoneBlockStore.raise.Goals as goal
 use Rattle.raw_zone.proofs.zone.RawZoneBlockStore.raise.Goals.{After-raise_run-stop}
 

@@ -1,4 +1,4 @@
-use Rattle.zone_bytes.specs.Placing.{lay_at}
+use Rattle.raw_zone.proofs.Cited.{lay_at}
 use Rattle.raw_zone.proofs.zone.RawZoneBlockStore.raise.Given as goal
 
 abbrev pub ghost-raise_run : goal.ghost-raise_run

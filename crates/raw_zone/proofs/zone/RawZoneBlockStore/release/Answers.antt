@@ -1,16 +1,6 @@
-use Rattle.std.proofs.Common.{◌≡◌, ◌+◌, IsTrue, refl, sym, ap, ◌∙◌, subst, arith}
-use Rattle.block_store.specs.Block.{is_relocatable, tidy}
-use Rattle.block_store.specs.Grow.{freed}
-use Rattle.block_store.specs.Slot.{is_used}
-use Rattle.block_store.specs.Rest.{IsRest}
-use Rattle.zone_bytes.specs.Beside.{rest_in}
-use Rattle.zone_bytes.specs.Decode.{zone_in}
-use Rattle.zone_bytes.proofs.Joined.Handles.{Gained, gained-fits, gained-kept, gained-rest, table-of, has-handle}
-use Rattle.zone_bytes.proofs.Joined.Handles.{released-gained}
-use Rattle.raw_zone.specs.Parted.{zone_of, rest_of, zone-once}
-use Rattle.zone_marks.proofs.Marks.Owed.{with-marks, replaced-as}
-use Rattle.zone_bytes.specs.PurgeableBytes.{purgeable_sum}
-use Rattle.zone_bytes.proofs.Bounds.Given.{given-released}
+use Rattle.raw_zone.proofs.Cited.{◌≡◌, ◌+◌, IsTrue, refl, sym, ap, ◌∙◌, subst, arith, is_relocatable, tidy, freed, is_used, IsRest, rest_in}
+use Rattle.raw_zone.proofs.Cited.{zone_in, Gained, gained-fits, gained-kept, gained-rest, table-of, has-handle, released-gained, zone_of}
+use Rattle.raw_zone.proofs.Cited.{rest_of, zone-once, with-marks, replaced-as, purgeable_sum, given-released}
 use Rattle.raw_zone.proofs.zone.RawZoneBlockStore.release.Goals as goal
 use Rattle.raw_zone.proofs.zone.RawZoneBlockStore.release.Goals.{After-free_slot-freed}
 

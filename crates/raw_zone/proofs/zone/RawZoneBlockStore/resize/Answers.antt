@@ -1,23 +1,8 @@
-use Rattle.std.proofs.Common.{◌≡◌, ℕ, ◌+◌, ◌<◌, ◌≤◌, ◌^◌, Some, sym, ap, ◌∙◌, subst, arith}
-use Rattle.std.specs.Option.{IfSome, IsSomeAnd}
-use Rattle.block_store.specs.Block.{count, is_masters, resized, size, sizes}
-use Rattle.block_store.specs.Room.{Spot, spot_at, filled}
-use Rattle.block_store.specs.Grow.{grow_up}
-use Rattle.block_store.specs.Rest.{IsRest}
-use Rattle.zone_bytes.specs.Decode.{zone_in}
-use Rattle.zone_bytes.specs.Lawful.{IsSound}
-use Rattle.zone_bytes.specs.Table.{slot_in}
-use Rattle.zone_bytes.specs.Beside.{rest_in}
-use Rattle.zone_bytes.proofs.Laws.Lawful.{rest-made, sizes-length}
-use Rattle.zone_bytes.proofs.Placed.Standing.{Standing}
-use Rattle.zone_bytes.proofs.Placed.Sizes.{HasRoom, room-at, room-fits}
-use Rattle.zone_bytes.proofs.Placed.Resized.{resize-made, cut-zone, grown-zone}
-use Rattle.raw_zone.specs.Held.{Held}
-use Rattle.raw_zone.specs.Raw.{held}
-use Rattle.raw_zone.specs.Parted.{zone_of, rest_of}
-use Rattle.zone_marks.proofs.Marks.Owed.{with-marks}
-use Rattle.zone_bytes.specs.PurgeableBytes.{purgeable_sum}
-use Rattle.zone_bytes.proofs.Bounds.Given.{given-parts, given-small}
+use Rattle.raw_zone.proofs.Cited.{◌≡◌, ℕ, ◌+◌, ◌<◌, ◌≤◌, ◌^◌, Some, sym, ap, ◌∙◌, subst, arith, IfSome, IsSomeAnd, count, is_masters}
+use Rattle.raw_zone.proofs.Cited.{resized, size, sizes, Spot, spot_at, filled, grow_up, IsRest, zone_in, IsSound, slot_in, rest_in}
+use Rattle.raw_zone.proofs.Cited.{rest-made, sizes-length, Standing, HasRoom, room-fits, resize-made, cut-zone, grown-zone, Held, held}
+use Rattle.raw_zone.proofs.Cited.{zone_of, rest_of, with-marks, purgeable_sum, given-parts, given-small}
+use Rattle.zone_bytes.proofs.Placed.Sizes.{room-at}
 use Rattle.raw_zone.proofs.zone.RawZoneBlockStore.resize.Goals as goal
 use Rattle.raw_zone.proofs.zone.RawZoneBlockStore.resize.Goals.{After-resize_block-resized}
 

@@ -1,9 +1,4 @@
-use Rattle.std.proofs.Common.{◌≡◌, ap, subst, is_some}
-use Rattle.std.specs.Option.{IfSome}
-use Rattle.block_store.specs.Block.{is_relocatable}
-use Rattle.block_store.specs.Grow.{taken}
-use Rattle.block_store.specs.Room.{Spot, spot}
-use Rattle.raw_zone.specs.Parted.{zone_of}
+use Rattle.raw_zone.proofs.Cited.{◌≡◌, ap, subst, is_some, IfSome, is_relocatable, taken, Spot, spot, zone_of}
 use Rattle.raw_zone.proofs.zone.RawZoneBlockStore.room_above.Goals as goal
 
 pub returns : goal.returns

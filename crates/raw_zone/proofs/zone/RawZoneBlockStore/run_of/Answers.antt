@@ -1,12 +1,5 @@
-use Rattle.std.proofs.Common.{◌≡◌, ◌&&◌, None, arith, subst}
-use Rattle.std.proofs.lemmas.Bool.{and_parts}
-use Rattle.block_store.specs.Block.{free_sum, is_relocatable}
-use Rattle.block_store.specs.Find.{FindsLowestRun}
-use Rattle.block_store.specs.Run.{has, has_free, run_spot}
-use Rattle.raw_zone.specs.Parted.{zone_of}
-use Rattle.zone_bytes.specs.Decode.{zone_in}
-use Rattle.zone_bytes.proofs.Bounds.Short.{no-run}
-use Rattle.zone_bytes.proofs.Tiles.Spelling.{le-back}
+use Rattle.raw_zone.proofs.Cited.{◌≡◌, ◌&&◌, None, arith, subst, and_parts, free_sum, is_relocatable, FindsLowestRun, has, has_free}
+use Rattle.raw_zone.proofs.Cited.{run_spot, zone_of, zone_in, no-run, le-back}
 use Rattle.raw_zone.proofs.zone.RawZoneBlockStore.run_of.Goals as goal
 
 pub run_of-requires-clause-sound : goal.run_of-requires-clause-sound

@@ -1,25 +1,7 @@
-use Rattle.std.proofs.Common.{◌≡◌, ℕ, ◌<◌, ◌∙◌, ◌++◌, ◌∷◌, Some, length, ap, sym, subst, arith}
-use Rattle.std.specs.Option.{IfSome, IsSome}
-use Rattle.block_store.specs.Block.{count, is_masters, free_sum}
-use Rattle.block_store.specs.Room.{Spot, spot_at}
-use Rattle.block_store.specs.Rest.{IsRest}
-use Rattle.block_store.specs.Seen.{with_flags}
-use Rattle.block_store.proofs.Nonrelocatable.Placing.{size-flags}
-use Rattle.zone_bytes.specs.Decode.{zone_in}
-use Rattle.zone_bytes.specs.Stepping.{IsOnWay}
-use Rattle.zone_bytes.specs.Lawful.{IsSound}
-use Rattle.zone_bytes.specs.Table.{slot_in}
-use Rattle.raw_zone.specs.Held.{Held}
-use Rattle.raw_zone.specs.Raw.{held}
-use Rattle.raw_zone.specs.Parted.{zone_of, rest_of}
-use Rattle.zone_bytes.specs.Beside.{rest_in}
-use Rattle.zone_bytes.proofs.Places.AtPlace.{whole, low, way-at, left-at, inside, some-here}
-use Rattle.zone_bytes.proofs.Places.Options.{if-spot, a-spot}
-use Rattle.zone_bytes.proofs.Laws.Lawful.{Made, rest-made, kept-made}
-use Rattle.zone_bytes.proofs.Blocks.Marked.{flagged-made, masters-flagged, free-flagged}
-use Rattle.zone_marks.proofs.Marks.Owed.{with-marks}
-use Rattle.zone_bytes.specs.Changes.{Became}
-use Rattle.zone_bytes.specs.PurgeableBytes.{purgeable_of}
+use Rattle.raw_zone.proofs.Cited.{◌≡◌, ℕ, ◌<◌, ◌∙◌, ◌++◌, ◌∷◌, Some, length, ap, sym, subst, arith, IfSome, IsSome, count, is_masters}
+use Rattle.raw_zone.proofs.Cited.{free_sum, Spot, spot_at, IsRest, with_flags, size-flags, zone_in, IsOnWay, IsSound, slot_in, Held, held}
+use Rattle.raw_zone.proofs.Cited.{zone_of, rest_of, rest_in, whole, low, way-at, left-at, inside, some-here, if-spot, a-spot, Made}
+use Rattle.raw_zone.proofs.Cited.{rest-made, kept-made, flagged-made, masters-flagged, free-flagged, with-marks, Became, purgeable_of}
 use Rattle.raw_zone.proofs.zone.RawZoneBlockStore.set_flags.Goals as goal
 use Rattle.raw_zone.proofs.zone.RawZoneBlockStore.set_flags.Goals.{After-flag_at}
 

@@ -1,14 +1,5 @@
-use Rattle.std.proofs.Common.{IsTrue, sym, ap, ◌∙◌, subst}
-use Rattle.block_store.specs.Block.{count, is_masters}
-use Rattle.block_store.specs.Slot.{Used, set_slot, is_used}
-use Rattle.block_store.specs.Rest.{IsRest, with_slot}
-use Rattle.zone_bytes.specs.Decode.{zone_in}
-use Rattle.zone_bytes.specs.Beside.{rest_in}
-use Rattle.zone_bytes.specs.Table.{slot_in}
-use Rattle.zone_bytes.proofs.Laws.Lawful.{Made, rest-made, kept-made}
-use Rattle.zone_bytes.proofs.SlotTable.Handled.{a-handle, marked-made}
-use Rattle.raw_zone.specs.Parted.{zone_of, rest_of}
-use Rattle.zone_marks.proofs.Marks.Owed.{with-same}
+use Rattle.raw_zone.proofs.Cited.{IsTrue, sym, ap, ◌∙◌, subst, count, is_masters, Used, set_slot, is_used, IsRest, with_slot, zone_in}
+use Rattle.raw_zone.proofs.Cited.{rest_in, slot_in, Made, rest-made, kept-made, a-handle, marked-made, zone_of, rest_of, with-same}
 use Rattle.raw_zone.proofs.zone.RawZoneBlockStore.set_resource.Goals as goal
 
 pub mark_slot-requires : goal.mark_slot-requires

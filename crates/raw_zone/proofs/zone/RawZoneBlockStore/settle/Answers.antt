@@ -1,11 +1,5 @@
-use Rattle.std.proofs.Common.{◌≡◌, sym, subst}
-use Rattle.std.specs.Option.{IfSome}
-use Rattle.block_store.specs.Block.{tidy}
-use Rattle.block_store.specs.Run.{run_at, settle, with_run}
-use Rattle.block_store.proofs.Regroup.Repacked.{none-rises}
-use Rattle.block_store.proofs.Regroup.Lowered.{settle-counted}
-use Rattle.zone_bytes.specs.Decode.{zone_in}
-use Rattle.raw_zone.specs.Parted.{zone_of, zone-once, zone-tidied}
+use Rattle.raw_zone.proofs.Cited.{◌≡◌, sym, subst, IfSome, tidy, run_at, settle, with_run, none-rises, settle-counted, zone_in, zone_of}
+use Rattle.raw_zone.proofs.Cited.{zone-once, zone-tidied}
 use Rattle.raw_zone.proofs.zone.RawZoneBlockStore.settle.Goals as goal
 use Rattle.raw_zone.proofs.zone.RawZoneBlockStore.settle.Goals.{After-self}
 

@@ -1,14 +1,5 @@
-use Rattle.std.proofs.Common.{false, ◌-◌, ap, ◌∙◌, subst, arith}
-use Rattle.block_store.specs.Block.{count, is_masters}
-use Rattle.block_store.specs.Slot.{Used, set_slot}
-use Rattle.block_store.specs.Rest.{IsRest, with_slot}
-use Rattle.zone_bytes.specs.Decode.{zone_in}
-use Rattle.raw_zone.specs.Parted.{zone_of, rest_of}
-use Rattle.zone_bytes.specs.Beside.{rest_in}
-use Rattle.zone_bytes.specs.Table.{slot_in}
-use Rattle.zone_bytes.proofs.Laws.Lawful.{Made, rest-made, kept-made}
-use Rattle.zone_bytes.proofs.SlotTable.Slotted.{may-take, taken-made}
-use Rattle.zone_marks.proofs.Marks.Owed.{with-same}
+use Rattle.raw_zone.proofs.Cited.{false, ◌-◌, ap, ◌∙◌, subst, arith, count, is_masters, Used, set_slot, IsRest, with_slot, zone_in, zone_of}
+use Rattle.raw_zone.proofs.Cited.{rest_of, rest_in, slot_in, Made, rest-made, kept-made, may-take, taken-made, with-same}
 use Rattle.raw_zone.proofs.zone.RawZoneBlockStore.take_slot.Goals as goal
 
 pub take_slot-self-inside-requires : goal.take_slot-self-inside-requires

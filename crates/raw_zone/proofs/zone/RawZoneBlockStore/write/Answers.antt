@@ -1,18 +1,7 @@
-use Rattle.std.proofs.Common.{◌≡◌, ◌∙◌, ◌+◌, ◌≤◌, ◌++◌, ◌∷◌, ap, sym, subst, arith, length}
-use Rattle.std.specs.Option.{IfSome, IsSomeAnd}
-use Rattle.block_store.specs.Block.{content_of, with_content, count, is_masters, free_sum}
-use Rattle.memory_windows.specs.Writes.{written}
-use Rattle.block_store.specs.Room.{spot_at}
-use Rattle.block_store.specs.Rest.{IsRest}
-use Rattle.zone_bytes.specs.Decode.{zone_in}
-use Rattle.zone_bytes.specs.Table.{slot_in}
-use Rattle.raw_zone.specs.Parted.{zone_of, rest_of}
-use Rattle.zone_bytes.specs.Beside.{rest_in}
-use Rattle.zone_bytes.proofs.Places.AtPlace.{whole, low}
-use Rattle.zone_bytes.proofs.Places.Options.{if-spot, the-spot, one-spot}
-use Rattle.zone_bytes.proofs.Laws.Lawful.{rest-made, kept-made}
-use Rattle.zone_bytes.proofs.Blocks.Writes.{content-inside, written-in, masters-kept, free-kept}
-use Rattle.zone_marks.proofs.Marks.Owed.{with-written}
+use Rattle.raw_zone.proofs.Cited.{◌≡◌, ◌∙◌, ◌+◌, ◌≤◌, ◌++◌, ◌∷◌, ap, sym, subst, arith, length, IfSome, IsSomeAnd, content_of, with_content}
+use Rattle.raw_zone.proofs.Cited.{count, is_masters, free_sum, written, spot_at, IsRest, zone_in, slot_in, zone_of, rest_of, rest_in, whole}
+use Rattle.raw_zone.proofs.Cited.{low, if-spot, the-spot, one-spot, rest-made, kept-made, content-inside, written-in, masters-kept}
+use Rattle.raw_zone.proofs.Cited.{free-kept, with-written}
 use Rattle.raw_zone.proofs.zone.RawZoneBlockStore.write.Goals as goal
 
 pub overflow_add-place : goal.overflow_add-place

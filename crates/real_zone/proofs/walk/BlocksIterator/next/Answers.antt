@@ -1,4 +1,4 @@
-use Rattle.std.proofs.Common.{ap, rules, length, sym}
+use Rattle.real_zone.proofs.Cited.{ap, rules, length, sym}
 use Rattle.real_zone.proofs.Giving.{given}
 use Rattle.real_zone.proofs.walk.BlocksIterator.next.Goals as goal
 

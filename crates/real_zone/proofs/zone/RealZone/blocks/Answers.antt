@@ -1,5 +1,4 @@
-use Rattle.std.proofs.Common.{ap, map}
-use Rattle.real_zone.specs.Seen.{block_at}
+use Rattle.real_zone.proofs.Cited.{ap, map, block_at}
 use Rattle.real_zone.proofs.Passed.{all_passed}
 use Rattle.real_zone.proofs.zone.RealZone.blocks.Goals as goal
 

@@ -1,14 +1,6 @@
-use Rattle.std.proofs.Common.{refl, subst, sym, ◌∙◌, ap, List, Some, w16}
-use Rattle.std.proofs.lemmas.Int.{to_z-of_z}
-use Rattle.byteorder.specs.Endian.{big_number}
-use Rattle.heap_calls.specs.Answer.{Known}
-use Rattle.res_map.specs.Map.{new_reference}
-use Rattle.res_calls.specs.Files.{OpenFile, Resources}
+use Rattle.res_calls.proofs.Cited.{refl, subst, sym, ◌∙◌, ap, List, Some, w16, to_z-of_z, big_number, Known, new_reference, OpenFile}
+use Rattle.res_calls.proofs.Cited.{Resources, IsAnswered, managers, chained, resources_of, add_found}
 use Rattle.res_calls.specs.Changing as changing
-use Rattle.res_calls.specs.Given.{IsAnswered, managers}
-use Rattle.res_calls.specs.Places.{chained}
-use Rattle.res_calls.specs.View.{resources_of}
-use Rattle.res_calls.specs.Changing.{add_found}
 use Rattle.res_calls.proofs.Joining.{on_role}
 use Rattle.res_calls.proofs.Soundness.Calls.{add_resource_sound}
 use Rattle.res_calls.proofs.Soundness.Laws.{answered_sound}

@@ -1,10 +1,6 @@
-use Rattle.std.proofs.Common.{◌≡◌, ◌==◌, ◌∙◌, false, refl, arith, ap, map, subst}
-use Rattle.std.proofs.lemmas.Bool.{ne_eqb}
+use Rattle.res_calls.proofs.Cited.{◌≡◌, ◌==◌, ◌∙◌, false, refl, arith, ap, map, subst, ne_eqb, IsAnswered, managers, close_res_file}
+use Rattle.res_calls.proofs.Cited.{Resources, view_open, resources_of}
 use Rattle.std.specs.Prelude.{Ok, Err}
-use Rattle.res_calls.specs.Given.{IsAnswered, managers}
-use Rattle.res_calls.specs.Rows.{close_res_file}
-use Rattle.res_calls.specs.Files.{Resources}
-use Rattle.res_calls.specs.View.{view_open, resources_of}
 use Rattle.res_calls.proofs.LettingGo.{closed_seen, close_refused}
 use Rattle.res_calls.proofs.Soundness.Calls.{Sound_in, close_res_file_sound}
 use Rattle.res_calls.proofs.Soundness.Methods.{number_missing, system_stays}

@@ -1,5 +1,4 @@
-use Rattle.res_calls.specs.Files.{Resources}
-use Rattle.res_calls.specs.View.{resources_of}
+use Rattle.res_calls.proofs.Cited.{Resources, resources_of}
 use Rattle.res_calls.proofs.Soundness.Methods.{created_in, no_memory}
 use Rattle.res_calls.proofs.files.Resources.create.Goals as goal
 

@@ -1,7 +1,5 @@
+use Rattle.res_calls.proofs.Cited.{Resources, resources_of, detach_found}
 use Rattle.std.specs.Prelude.{Some}
-use Rattle.res_calls.specs.Files.{Resources}
-use Rattle.res_calls.specs.View.{resources_of}
-use Rattle.res_calls.specs.Rows.{detach_found}
 use Rattle.res_calls.proofs.Soundness.Calls.{detach_found_sound}
 use Rattle.res_calls.proofs.Soundness.Methods.{answered_in}
 use Rattle.res_calls.proofs.files.Resources.detach.Goals as goal

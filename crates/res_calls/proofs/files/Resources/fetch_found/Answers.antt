@@ -1,4 +1,4 @@
-use Rattle.res_calls.specs.View.{resources_of}
+use Rattle.res_calls.proofs.Cited.{resources_of}
 use Rattle.res_calls.proofs.FetchGone.{told_at}
 use Rattle.res_calls.proofs.Soundness.Methods.{fetched_in}
 use Rattle.res_calls.proofs.files.Resources.fetch_found.Goals as goal

@@ -1,8 +1,4 @@
-use Rattle.std.proofs.Common.{◌≡◌, ◌∙◌, ap, map}
-use Rattle.std.specs.Prelude.{option_map}
-use Rattle.res_calls.specs.Files.{Resources, find}
-use Rattle.res_calls.specs.Places.{spot_of, is_searched, is_wanted}
-use Rattle.res_calls.specs.View.{view_open}
+use Rattle.res_calls.proofs.Cited.{◌≡◌, ◌∙◌, ap, map, option_map, Resources, find, spot_of, is_searched, is_wanted, view_open}
 use Rattle.res_calls.proofs.Finding.{found_again, placed_again}
 use Rattle.res_calls.proofs.files.Resources.find.Goals as goal
 

@@ -1,7 +1,5 @@
-use Rattle.byteorder.specs.Endian.{big_number}
-use Rattle.mac_words.specs.declared.name.OsType.{OsType}
+use Rattle.res_calls.proofs.Cited.{big_number, OsType, managers}
 use Rattle.res_calls.specs.Rows as rows
-use Rattle.res_calls.specs.Given.{managers}
 use Rattle.res_calls.proofs.Noting.{is_noted}
 use Rattle.res_calls.proofs.files.Resources.get1_ind_type.Goals as goal
 

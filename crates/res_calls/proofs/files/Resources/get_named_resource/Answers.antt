@@ -1,8 +1,4 @@
-use Rattle.std.proofs.Common.{subst}
-use Rattle.res_calls.specs.Files.{Resources}
-use Rattle.res_calls.specs.Rows.{noting}
-use Rattle.res_calls.specs.Given.{IsFetched, managers}
-use Rattle.res_calls.specs.Places.{fetch_wanted}
+use Rattle.res_calls.proofs.Cited.{subst, Resources, noting, IsFetched, managers, fetch_wanted}
 use Rattle.res_calls.specs.declared.find.Within.TheVariants as within
 use Rattle.res_calls.specs.declared.find.Wanted.TheVariants as wanted
 use Rattle.res_calls.proofs.FetchGone.{told_current}

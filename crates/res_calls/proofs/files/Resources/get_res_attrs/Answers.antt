@@ -1,6 +1,5 @@
-use Rattle.mac_words.specs.declared.attributes.Attrs.{Attrs}
+use Rattle.res_calls.proofs.Cited.{Attrs, managers}
 use Rattle.res_calls.specs.Rows as rows
-use Rattle.res_calls.specs.Given.{managers}
 use Rattle.res_calls.proofs.Noting.{is_noted}
 use Rattle.res_calls.proofs.files.Resources.get_res_attrs.Goals as goal
 

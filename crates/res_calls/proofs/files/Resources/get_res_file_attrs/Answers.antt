@@ -1,6 +1,6 @@
+use Rattle.res_calls.proofs.Cited.{managers}
 use Rattle.std.specs.Prelude.{ℕ}
 use Rattle.res_calls.specs.Rows as rows
-use Rattle.res_calls.specs.Given.{managers}
 use Rattle.res_calls.proofs.Noting.{is_noted}
 use Rattle.res_calls.proofs.files.Resources.get_res_file_attrs.Goals as goal
 

@@ -1,6 +1,5 @@
-use Rattle.res_calls.specs.Places.{seen_info}
+use Rattle.res_calls.proofs.Cited.{seen_info, managers}
 use Rattle.res_calls.specs.Rows as rows
-use Rattle.res_calls.specs.Given.{managers}
 use Rattle.res_calls.proofs.Noting.{is_noted}
 use Rattle.res_calls.proofs.files.Resources.get_res_info.Goals as goal
 

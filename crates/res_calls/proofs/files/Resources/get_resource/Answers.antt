@@ -1,10 +1,5 @@
-use Rattle.std.proofs.Common.{subst}
+use Rattle.res_calls.proofs.Cited.{subst, to_z-of_z, Resources, noting, IsFetched, managers, fetch_wanted}
 use Rattle.std.specs.Int.{w16}
-use Rattle.std.proofs.lemmas.Int.{to_z-of_z}
-use Rattle.res_calls.specs.Files.{Resources}
-use Rattle.res_calls.specs.Rows.{noting}
-use Rattle.res_calls.specs.Given.{IsFetched, managers}
-use Rattle.res_calls.specs.Places.{fetch_wanted}
 use Rattle.res_calls.specs.declared.find.Within.TheVariants as within
 use Rattle.res_calls.specs.declared.find.Wanted.TheVariants as wanted
 use Rattle.res_calls.proofs.FetchGone.{told_current}

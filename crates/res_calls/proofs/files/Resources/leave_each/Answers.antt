@@ -1,6 +1,4 @@
-use Rattle.std.proofs.Common.{◌∙◌, sym, refl}
-use Rattle.mac_words.proofs.Plain.{on_err}
-use Rattle.res_calls.specs.Given.{managers}
+use Rattle.res_calls.proofs.Cited.{◌∙◌, sym, refl, on_err, managers}
 use Rattle.res_calls.proofs.LastOpened.{leaves-lies, leaves_next, one_more, stops_there}
 use Rattle.res_calls.proofs.files.Resources.leave_each.Goals as goal
 

@@ -1,6 +1,4 @@
-use Rattle.std.proofs.Common.{◌≡◌, length}
-use Rattle.res_calls.specs.Given.{managers}
-use Rattle.res_calls.specs.Undoing.{undone}
+use Rattle.res_calls.proofs.Cited.{◌≡◌, length, managers, undone}
 use Rattle.res_calls.proofs.LastOpened.{Leaves, LeftSome}
 use Rattle.res_calls.proofs.files.Resources.leave_each.Given as goal
 

@@ -1,7 +1,4 @@
-use Rattle.res_calls.specs.Files.{Resources}
-use Rattle.res_calls.specs.Given.{managers}
-use Rattle.res_calls.specs.Updating.{stored_in}
-use Rattle.res_calls.specs.View.{resources_of}
+use Rattle.res_calls.proofs.Cited.{Resources, managers, stored_in, resources_of}
 use Rattle.res_calls.proofs.LastOpened.{last_left, sound_left_last}
 use Rattle.res_calls.proofs.files.Resources.leave_last.Goals as goal
 

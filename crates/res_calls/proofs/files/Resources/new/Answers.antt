@@ -1,4 +1,4 @@
-use Rattle.fork_format.specs.View.{view}
+use Rattle.res_calls.proofs.Cited.{view}
 use Rattle.res_calls.proofs.OpeningForks.{launch_refused}
 use Rattle.res_calls.proofs.Soundness.Methods.{launched_in}
 use Rattle.res_calls.proofs.files.Resources.new.Goals as goal

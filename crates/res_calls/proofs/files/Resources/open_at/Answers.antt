@@ -1,9 +1,4 @@
-use Rattle.std.proofs.Common.{refl, ap, sym, ◌∙◌}
-use Rattle.res_calls.specs.Files.{Resources}
-use Rattle.res_calls.specs.Given.{managers}
-use Rattle.res_calls.specs.View.{view_file}
-use Rattle.res_calls.specs.Rows.{map_in}
-use Rattle.block_store.proofs.Content.Resizing.{if_some}
+use Rattle.res_calls.proofs.Cited.{refl, ap, sym, ◌∙◌, Resources, managers, view_file, map_in, if_some}
 use Rattle.res_calls.proofs.OpeningForks.{file_here, low_number, fork_refused, fork_opened}
 use Rattle.res_calls.proofs.OpeningGone.{gone_refused, gone_opened}
 use Rattle.res_calls.proofs.Stopping.{stopped_fork}

@@ -1,7 +1,4 @@
-use Rattle.heap_calls.proofs.Hearing.{rests-still}
-use Rattle.std.proofs.Common.{ap, map, ◌∙◌}
-use Rattle.res_calls.specs.Files.{Resources}
-use Rattle.res_calls.specs.View.{view_file}
+use Rattle.res_calls.proofs.Cited.{rests-still, ap, map, ◌∙◌, Resources, view_file}
 use Rattle.res_calls.proofs.OpeningForks.{open_already, open_anew}
 use Rattle.res_calls.proofs.OpeningGone.{gone_missing, gone_already, gone_anew}
 use Rattle.res_calls.proofs.Stopping.{stopped_anew}

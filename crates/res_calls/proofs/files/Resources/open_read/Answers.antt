@@ -1,5 +1,4 @@
-use Rattle.std.proofs.Common.{rules}
-use Rattle.res_calls.specs.View.{resources_of}
+use Rattle.res_calls.proofs.Cited.{rules, resources_of}
 use Rattle.res_calls.proofs.Soundness.Methods.{opened_in, opened_stopped}
 use Rattle.res_calls.proofs.files.Resources.open_read.Goals as goal
 

@@ -1,6 +1,5 @@
-use Rattle.std.proofs.Common.{ℕ}
+use Rattle.res_calls.proofs.Cited.{ℕ, managers}
 use Rattle.res_calls.specs.Rows as rows
-use Rattle.res_calls.specs.Given.{managers}
 use Rattle.res_calls.proofs.Noting.{is_noted}
 use Rattle.res_calls.proofs.files.Resources.open_res_file.Goals as goal
 

@@ -1,4 +1,4 @@
-use Rattle.res_calls.specs.View.{resources_of}
+use Rattle.res_calls.proofs.Cited.{resources_of}
 use Rattle.res_calls.proofs.Soundness.Methods.{loaded_first}
 use Rattle.res_calls.proofs.files.Resources.preload.Goals as goal
 

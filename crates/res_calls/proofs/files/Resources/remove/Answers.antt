@@ -1,7 +1,4 @@
-use Rattle.std.proofs.Common.{refl, Some}
-use Rattle.res_calls.specs.Files.{Resources}
-use Rattle.res_calls.specs.View.{resources_of}
-use Rattle.res_calls.specs.Changing.{remove_found}
+use Rattle.res_calls.proofs.Cited.{refl, Some, Resources, resources_of, remove_found}
 use Rattle.res_calls.proofs.Soundness.Calls.{remove_found_sound}
 use Rattle.res_calls.proofs.Soundness.Methods.{answered_in}
 use Rattle.res_calls.proofs.files.Resources.remove.Goals as goal

@@ -1,10 +1,5 @@
-use Rattle.std.proofs.Common.{Some, subst}
-use Rattle.res_calls.specs.Files.{Resources}
+use Rattle.res_calls.proofs.Cited.{Some, subst, Resources, IsAnswered, managers, found_from, chained, resources_of, set_found}
 use Rattle.res_calls.specs.Changing as changing
-use Rattle.res_calls.specs.Given.{IsAnswered, managers}
-use Rattle.res_calls.specs.Places.{found_from, chained}
-use Rattle.res_calls.specs.View.{resources_of}
-use Rattle.res_calls.specs.Changing.{set_found}
 use Rattle.res_calls.proofs.Noting.{found_so}
 use Rattle.res_calls.proofs.Soundness.Calls.{set_found_sound}
 use Rattle.res_calls.proofs.Soundness.Methods.{answered_in, no_memory}

@@ -1,9 +1,5 @@
-use Rattle.std.proofs.Common.{subst}
-use Rattle.res_calls.specs.Files.{Resources}
+use Rattle.res_calls.proofs.Cited.{subst, Resources, IsAnswered, managers, chained, resources_of}
 use Rattle.res_calls.specs.Changing as changing
-use Rattle.res_calls.specs.Given.{IsAnswered, managers}
-use Rattle.res_calls.specs.Places.{chained}
-use Rattle.res_calls.specs.View.{resources_of}
 use Rattle.res_calls.proofs.Soundness.Calls.{set_res_file_attrs_sound}
 use Rattle.res_calls.proofs.Soundness.Laws.{answered_sound}
 use Rattle.res_calls.proofs.Soundness.Methods.{no_memory}

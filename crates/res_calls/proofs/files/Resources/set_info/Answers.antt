@@ -1,11 +1,6 @@
-use Rattle.std.proofs.Common.{Some, subst, w16}
-use Rattle.std.proofs.lemmas.Int.{to_z-of_z}
-use Rattle.res_calls.specs.Files.{Resources}
+use Rattle.res_calls.proofs.Cited.{Some, subst, w16, to_z-of_z, Resources, IsAnswered, managers, found_from, chained, resources_of}
+use Rattle.res_calls.proofs.Cited.{rename_found}
 use Rattle.res_calls.specs.Changing as changing
-use Rattle.res_calls.specs.Given.{IsAnswered, managers}
-use Rattle.res_calls.specs.Places.{found_from, chained}
-use Rattle.res_calls.specs.View.{resources_of}
-use Rattle.res_calls.specs.Changing.{rename_found}
 use Rattle.res_calls.proofs.Noting.{found_so}
 use Rattle.res_calls.proofs.Soundness.Calls.{rename_found_sound}
 use Rattle.res_calls.proofs.Soundness.Methods.{answered_in, no_memory}

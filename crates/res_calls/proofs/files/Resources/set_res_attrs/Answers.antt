@@ -1,5 +1,5 @@
 use Rattle.res_calls.specs.Changing as changing
-use Rattle.res_calls.specs.Given.{managers}
+use Rattle.res_calls.proofs.Cited.{managers}
 use Rattle.res_calls.proofs.Noting.{is_noted}
 use Rattle.res_calls.proofs.files.Resources.set_res_attrs.Goals as goal
 

@@ -1,7 +1,5 @@
-use Rattle.std.proofs.Common.{w16}
-use Rattle.std.proofs.lemmas.Int.{to_z-of_z}
+use Rattle.res_calls.proofs.Cited.{w16, to_z-of_z, managers}
 use Rattle.res_calls.specs.Changing as changing
-use Rattle.res_calls.specs.Given.{managers}
 use Rattle.res_calls.proofs.Noting.{is_noted}
 use Rattle.res_calls.proofs.files.Resources.set_res_info.Goals as goal
 

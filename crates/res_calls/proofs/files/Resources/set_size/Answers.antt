@@ -1,7 +1,5 @@
+use Rattle.res_calls.proofs.Cited.{Resources, resources_of, set_size_found}
 use Rattle.std.specs.Prelude.{Some}
-use Rattle.res_calls.specs.Files.{Resources}
-use Rattle.res_calls.specs.View.{resources_of}
-use Rattle.res_calls.specs.Partial.{set_size_found}
 use Rattle.res_calls.proofs.Soundness.Calls.{set_size_found_sound}
 use Rattle.res_calls.proofs.Soundness.Methods.{answered_in}
 use Rattle.res_calls.proofs.files.Resources.set_size.Goals as goal

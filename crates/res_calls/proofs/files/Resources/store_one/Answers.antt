@@ -1,7 +1,4 @@
-use Rattle.std.proofs.Common.{subst, sym}
-use Rattle.res_calls.specs.Files.{Resources}
-use Rattle.res_calls.specs.Sound.{Sound}
-use Rattle.res_calls.specs.View.{resources_of}
+use Rattle.res_calls.proofs.Cited.{subst, sym, Resources, Sound, resources_of}
 use Rattle.res_calls.proofs.Storing.{stored-sound, stored-there}
 use Rattle.res_calls.proofs.files.Resources.store_one.Goals as goal
 

@@ -1,5 +1,4 @@
-use Rattle.std.proofs.Common.{◌≡◌, map}
-use Rattle.res_calls.specs.Purging.{stored_gone, view_purged}
+use Rattle.res_calls.proofs.Cited.{◌≡◌, map, stored_gone, view_purged}
 use Rattle.res_calls.proofs.files.Resources.store_purged.Given as goal
 
 -- what is left to be stored gives what all of it gives of the resources as they were

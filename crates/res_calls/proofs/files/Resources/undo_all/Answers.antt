@@ -1,5 +1,4 @@
-use Rattle.std.proofs.Common.{map}
-use Rattle.res_calls.specs.View.{view_file, resources_of}
+use Rattle.res_calls.proofs.Cited.{map, view_file, resources_of}
 use Rattle.res_calls.proofs.PuttingBack.{sound_undone}
 use Rattle.res_calls.proofs.files.Resources.undo_all.Goals as goal
 

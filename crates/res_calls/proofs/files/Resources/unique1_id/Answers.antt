@@ -1,10 +1,5 @@
-use Rattle.std.proofs.Common.{◌≡◌, ℕ, ap, subst}
-use Rattle.byteorder.specs.Endian.{big_number}
-use Rattle.mac_words.specs.declared.code.TheConstants.OsErr.{PROFILE}
-use Rattle.res_calls.specs.Files.{Resources}
+use Rattle.res_calls.proofs.Cited.{◌≡◌, ℕ, ap, subst, big_number, PROFILE, Resources, IsAnswered, managers, is_taken_in}
 use Rattle.res_calls.specs.Rows as rows
-use Rattle.res_calls.specs.Given.{IsAnswered, managers}
-use Rattle.res_calls.specs.Places.{is_taken_in}
 use Rattle.res_calls.specs.declared.find.Within.TheVariants as within
 use Rattle.res_calls.proofs.Noting.{is_noted}
 use Rattle.res_calls.proofs.files.Resources.unique1_id.Goals as goal

@@ -1,7 +1,6 @@
+use Rattle.res_calls.proofs.Cited.{big_number, managers}
 use Rattle.std.specs.Prelude.{ℕ}
-use Rattle.byteorder.specs.Endian.{big_number}
 use Rattle.res_calls.specs.Rows as rows
-use Rattle.res_calls.specs.Given.{managers}
 use Rattle.res_calls.proofs.Noting.{is_noted}
 use Rattle.res_calls.proofs.files.Resources.unique_id.Goals as goal
 

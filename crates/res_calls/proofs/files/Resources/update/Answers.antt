@@ -1,7 +1,4 @@
-use Rattle.std.proofs.Common.{◌≡◌, ◌==◌, ◌∙◌, false, ap, map, arith}
-use Rattle.std.proofs.lemmas.Bool.{ne_eqb}
-use Rattle.res_calls.specs.Files.{Resources}
-use Rattle.res_calls.specs.View.{view_open, resources_of}
+use Rattle.res_calls.proofs.Cited.{◌≡◌, ◌==◌, ◌∙◌, false, ap, map, arith, ne_eqb, Resources, view_open, resources_of}
 use Rattle.res_calls.proofs.WritingAnew.{updated_open, reads_open}
 use Rattle.res_calls.proofs.Soundness.Methods.{updated_in, number_missing}
 use Rattle.res_calls.proofs.files.Resources.update.Goals as goal

@@ -1,6 +1,4 @@
-use Rattle.std.proofs.Common.{ap, map, ◌∙◌}
-use Rattle.res_calls.specs.Files.{Resources}
-use Rattle.res_calls.specs.View.{view_open, resources_of}
+use Rattle.res_calls.proofs.Cited.{ap, map, ◌∙◌, Resources, view_open, resources_of}
 use Rattle.res_calls.proofs.Soundness.Methods.{current_sound, used_here, number_missing}
 use Rattle.res_calls.proofs.files.Resources.use_file.Goals as goal
 

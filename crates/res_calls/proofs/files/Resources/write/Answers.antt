@@ -1,7 +1,5 @@
+use Rattle.res_calls.proofs.Cited.{Resources, resources_of, write_found}
 use Rattle.std.specs.Prelude.{Some}
-use Rattle.res_calls.specs.Files.{Resources}
-use Rattle.res_calls.specs.View.{resources_of}
-use Rattle.res_calls.specs.Changing.{write_found}
 use Rattle.res_calls.proofs.Soundness.Calls.{write_found_sound}
 use Rattle.res_calls.proofs.Soundness.Methods.{answered_in}
 use Rattle.res_calls.proofs.files.Resources.write.Goals as goal

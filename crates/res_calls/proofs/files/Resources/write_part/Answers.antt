@@ -1,11 +1,6 @@
-use Rattle.std.proofs.Common.{Some, subst}
-use Rattle.heap_calls.specs.State.{Memory}
-use Rattle.res_calls.specs.Files.{Resources}
-use Rattle.res_calls.specs.View.{resources_of}
-use Rattle.res_calls.specs.Given.{IsAnswered, managers}
+use Rattle.res_calls.proofs.Cited.{Some, subst, Memory, Resources, resources_of, IsAnswered, managers, write_part_found, found_from}
+use Rattle.res_calls.proofs.Cited.{chained}
 use Rattle.res_calls.specs.Partial as partial
-use Rattle.res_calls.specs.Partial.{write_part_found}
-use Rattle.res_calls.specs.Places.{found_from, chained}
 use Rattle.res_calls.proofs.Noting.{found_so}
 use Rattle.res_calls.proofs.Soundness.Calls.{write_part_found_sound}
 use Rattle.res_calls.proofs.Soundness.Methods.{answered_in}

@@ -1,7 +1,4 @@
-use Rattle.std.proofs.Common.{◌≡◌, Bool, true, false, List, map, sym, ap, refl, ◌∙◌}
-use Rattle.std.proofs.lemmas.List.{take-map}
-use Rattle.heap_calls.specs.Gone.{Gone}
-use Rattle.res_calls.specs.Purging.{PurgesValue, heard, view_purged}
+use Rattle.res_calls.proofs.Cited.{◌≡◌, Bool, true, false, List, map, sym, ap, refl, ◌∙◌, take-map, Gone, PurgesValue, heard, view_purged}
 use Rattle.res_calls.proofs.purging.Purges.into_told.Goals as goal
 
 -- while it is on, all is heard

@@ -1,6 +1,4 @@
-use Rattle.std.proofs.Common.{◌≡◌, true, map, take, sym, ap, subst, arith, ◌∙◌}
-use Rattle.std.proofs.lemmas.List.{take-map, take-take}
-use Rattle.res_calls.specs.Purging.{PurgesValue, view_purged}
+use Rattle.res_calls.proofs.Cited.{◌≡◌, true, map, take, sym, ap, subst, arith, ◌∙◌, take-map, take-take, PurgesValue, view_purged}
 use Rattle.res_calls.proofs.purging.PurgesPurgeSink.forget.Goals as goal
 
 pub returns-clause-told : goal.returns-clause-told

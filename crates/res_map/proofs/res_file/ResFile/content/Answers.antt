@@ -1,9 +1,5 @@
-use Rattle.std.proofs.Common.{◌∙◌, ap, refl, map, List}
-use Rattle.fork_format.specs.Content.{Content}
-use Rattle.res_map.specs.Map.{Map, Reference, all_anew, content}
-use Rattle.res_map.specs.declared.stored.StoredReference.{StoredReference}
-use Rattle.res_map.specs.Runs.{leading_groups}
-use Rattle.res_map.specs.View.{view_reference, view_all}
+use Rattle.res_map.proofs.Cited.{◌∙◌, ap, refl, map, List, Content, Map, Reference, all_anew, content, StoredReference, leading_groups}
+use Rattle.res_map.proofs.Cited.{view_reference, view_all}
 use Rattle.res_map.proofs.Contents.{ordered_anew, runs_ordered}
 use Rattle.res_map.proofs.res_file.ResFile.content.Goals as goal
 

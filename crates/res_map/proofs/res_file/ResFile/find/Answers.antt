@@ -1,9 +1,5 @@
-use Rattle.std.proofs.Common.{◌∙◌, ap, sym, subst, w16, w32, to_z, of_z}
-use Rattle.std.proofs.Math.Facts.{sfits_widen}
-use Rattle.std.proofs.lemmas.Int.{to_z-of_z}
-use Rattle.byteorder.specs.Endian.{big_number}
-use Rattle.res_map.specs.Map.{Map, is_resource}
-use Rattle.res_map.specs.Index.{IsRising, place_in, first_place}
+use Rattle.res_map.proofs.Cited.{◌∙◌, ap, sym, subst, w16, w32, to_z, of_z, sfits_widen, to_z-of_z, big_number, Map, is_resource, IsRising}
+use Rattle.res_map.proofs.Cited.{place_in, first_place}
 use Rattle.res_map.proofs.res_file.ResFile.find.Goals as goal
 
 pub returns : goal.returns

@@ -1,9 +1,4 @@
-use Rattle.std.proofs.Common.{◌∙◌, ap, sym, subst}
-use Rattle.res_map.specs.declared.index.Row.{Row}
-use Rattle.std.proofs.Common.{List, map}
-use Rattle.res_map.specs.Map.{Map, has_handle}
-use Rattle.res_map.specs.View.{view_reference}
-use Rattle.res_map.specs.Index.{IsIndex, first_place, is_held}
+use Rattle.res_map.proofs.Cited.{◌∙◌, ap, sym, subst, Row, List, map, Map, has_handle, view_reference, IsIndex, first_place, is_held}
 use Rattle.res_map.proofs.res_file.ResFile.find_handle.Goals as goal
 
 pub returns : goal.returns

@@ -1,11 +1,5 @@
-use Rattle.std.proofs.Common.{◌≡◌, ◌∙◌, ap, subst, map, List, rules}
-use Rattle.std.proofs.lemmas.List.{length-map}
-use Rattle.res_map.specs.declared.stored.StoredReference.{StoredReference}
-use Rattle.res_map.specs.Index.{IsIndex, is_printed}
-use Rattle.res_map.specs.View.{view_reference}
-use Rattle.fork_format.specs.Content.{Group}
-use Rattle.fork_format.specs.View.{view_group}
-use Rattle.res_map.specs.Map.{is_resource, of_groups}
+use Rattle.res_map.proofs.Cited.{◌≡◌, ◌∙◌, ap, subst, map, List, rules, length-map, StoredReference, IsIndex, is_printed, view_reference}
+use Rattle.res_map.proofs.Cited.{Group, view_group, is_resource, of_groups}
 use Rattle.res_map.proofs.Contents.{ordered_groups}
 use Rattle.res_map.proofs.Handles.{holding-none}
 use Rattle.res_map.proofs.res_file.ResFile.open.Goals as goal

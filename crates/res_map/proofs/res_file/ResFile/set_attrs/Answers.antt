@@ -1,7 +1,4 @@
-use Rattle.std.proofs.Common.{refl, ap, map}
-use Rattle.res_map.specs.Index.{is_printed}
-use Rattle.res_map.specs.Map.{Map, Reference, is_resource}
-use Rattle.res_map.specs.View.{view_reference}
+use Rattle.res_map.proofs.Cited.{refl, ap, map, is_printed, Map, Reference, is_resource, view_reference}
 use Rattle.res_map.proofs.Order.{ordered-set}
 use Rattle.res_map.proofs.Rows.{index-set}
 use Rattle.res_map.proofs.Handles.{holding-set}

@@ -1,6 +1,4 @@
-use Rattle.std.proofs.Common.{refl}
-use Rattle.res_map.specs.Map.{is_resource}
-use Rattle.res_map.specs.Index.{is_printed}
+use Rattle.res_map.proofs.Cited.{refl, is_resource, is_printed}
 use Rattle.res_map.proofs.Contents.{ordered_anew}
 use Rattle.res_map.proofs.Rows.{index-anew}
 use Rattle.res_map.proofs.Handles.{holding-anew}

@@ -1,4 +1,4 @@
-use Rattle.std.specs.Prelude.{vec_capacity}
+use Rattle.res_map.proofs.Cited.{vec_capacity}
 use Rattle.res_map.proofs.res_file.ResFile.write_datum.Goals as goal
 
 pub invariant_of-self : goal.invariant_of-self

@@ -1,7 +1,4 @@
-use Rattle.std.proofs.Common.{◌≡◌, ◌+◌, ◌-◌, ◌*◌, length}
-use Rattle.rez_declarations.specs.Drafts.{draft_of}
-use Rattle.rez_declarations.specs.Parses.{parsing_of, cases_of}
-use Rattle.rez_declarations.specs.Declaring.{fields_in, fields_read, cases_read}
+use Rattle.rez_declarations.proofs.Cited.{◌≡◌, ◌+◌, ◌-◌, ◌*◌, length, draft_of, parsing_of, cases_of, fields_in, fields_read, cases_read}
 use Rattle.rez_declarations.proofs.parser.Parser.+read.Given as goal
 
 abbrev pub decreases-read_fields : goal.decreases-read_fields

@@ -1,6 +1,4 @@
-use Rattle.std.proofs.Common.{◌≡◌, ◌-◌}
-use Rattle.rez_declarations.specs.Parses.{parsing_of}
-use Rattle.rez_declarations.specs.Declaring.{modified, plain}
+use Rattle.rez_declarations.proofs.Cited.{◌≡◌, ◌-◌, parsing_of, modified, plain}
 use Rattle.rez_declarations.proofs.parser.Parser.take_modifiers.Given as goal
 
 -- the words to come, with those so far, are all

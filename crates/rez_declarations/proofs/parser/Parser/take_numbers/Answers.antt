@@ -1,5 +1,4 @@
-use Rattle.std.proofs.Common.{◌∙◌, sym, rules}
-use Rattle.rez_declarations.specs.Parses.{parsing_of}
+use Rattle.rez_declarations.proofs.Cited.{◌∙◌, sym, rules, parsing_of}
 use Rattle.rez_declarations.proofs.Readings.{numbers_last, numbers_more}
 use Rattle.rez_declarations.proofs.parser.Parser.take_numbers.Goals as goal
 

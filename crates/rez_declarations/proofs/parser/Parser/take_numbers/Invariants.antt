@@ -1,7 +1,4 @@
-use Rattle.std.proofs.Common.{◌≡◌, ◌-◌, [], map}
-use Rattle.rez_types.specs.View.{number_of}
-use Rattle.rez_declarations.specs.Parses.{parsing_of}
-use Rattle.rez_declarations.specs.Declaring.{numbers_named}
+use Rattle.rez_declarations.proofs.Cited.{◌≡◌, ◌-◌, [], map, number_of, parsing_of, numbers_named}
 use Rattle.rez_declarations.proofs.parser.Parser.take_numbers.Given as goal
 
 -- the names to come lead to what all lead to

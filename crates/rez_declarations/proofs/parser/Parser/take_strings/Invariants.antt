@@ -1,6 +1,4 @@
-use Rattle.std.proofs.Common.{◌≡◌, ◌-◌, [], length}
-use Rattle.rez_declarations.specs.Parses.{parsing_of}
-use Rattle.rez_declarations.specs.Declaring.{string_on}
+use Rattle.rez_declarations.proofs.Cited.{◌≡◌, ◌-◌, [], length, parsing_of, string_on}
 use Rattle.rez_declarations.proofs.parser.Parser.take_strings.Given as goal
 
 -- the strings to come, with those so far, are all

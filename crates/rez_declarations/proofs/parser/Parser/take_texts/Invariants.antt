@@ -1,7 +1,4 @@
-use Rattle.std.proofs.Common.{◌≡◌, ◌-◌, [], map}
-use Rattle.rez_types.specs.View.{text_of}
-use Rattle.rez_declarations.specs.Parses.{parsing_of}
-use Rattle.rez_declarations.specs.Declaring.{texts_named}
+use Rattle.rez_declarations.proofs.Cited.{◌≡◌, ◌-◌, [], map, text_of, parsing_of, texts_named}
 use Rattle.rez_declarations.proofs.parser.Parser.take_texts.Given as goal
 
 -- the names to come lead to what all lead to

@@ -1,7 +1,5 @@
-use Rattle.std.proofs.Common.{◌≡◌, ◌+◌, ◌-◌, ◌*◌, length, drop}
-use Rattle.rez_types.specs.View.{fields_of, blocks_of}
-use Rattle.rez_printing.specs.Leads.{showing_of}
-use Rattle.rez_printing.specs.Showing.{shown_block, shown_fields, shown_elements}
+use Rattle.rez_printing.proofs.Cited.{◌≡◌, ◌+◌, ◌-◌, ◌*◌, length, drop, fields_of, blocks_of, showing_of, shown_block, shown_fields}
+use Rattle.rez_printing.proofs.Cited.{shown_elements}
 use Rattle.rez_printing.proofs.printer.Printer.+print.Given as goal
 
 abbrev pub decreases-print_block : goal.decreases-print_block

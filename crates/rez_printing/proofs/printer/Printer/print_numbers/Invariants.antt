@@ -1,6 +1,4 @@
-use Rattle.std.proofs.Common.{◌≡◌, ◌-◌}
-use Rattle.rez_printing.specs.Leads.{showing_of}
-use Rattle.rez_printing.specs.Showing.{shown_numbers}
+use Rattle.rez_printing.proofs.Cited.{◌≡◌, ◌-◌, showing_of, shown_numbers}
 use Rattle.rez_printing.proofs.printer.Printer.print_numbers.Given as goal
 
 -- the coordinates to come lead to what all lead to

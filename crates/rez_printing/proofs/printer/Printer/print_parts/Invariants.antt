@@ -1,7 +1,4 @@
-use Rattle.std.proofs.Common.{◌≡◌, drop, map}
-use Rattle.rez_types.specs.View.{part_of}
-use Rattle.rez_printing.specs.Leads.{showing_of}
-use Rattle.rez_printing.specs.Showing.{shown_parts}
+use Rattle.rez_printing.proofs.Cited.{◌≡◌, drop, map, part_of, showing_of, shown_parts}
 use Rattle.rez_printing.proofs.printer.Printer.print_parts.Given as goal
 
 -- the parts to come lead to what all lead to

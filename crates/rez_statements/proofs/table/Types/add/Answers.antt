@@ -1,8 +1,4 @@
-use Rattle.std.proofs.Common.{◌≡◌, List, length, cond, Some, refl, sym, ap, ◌∙◌}
-use Rattle.std.specs.BTreeMap.{get}
-use Rattle.std.specs.Ordering.{nat_cmp, is_eq}
-use Rattle.rez_statements.specs.declared.table.DeclaredType.{DeclaredType}
-use Rattle.rez_statements.specs.Places.{last_place}
+use Rattle.rez_statements.proofs.Cited.{◌≡◌, List, length, cond, Some, refl, sym, ap, ◌∙◌, get, nat_cmp, is_eq, DeclaredType, last_place}
 use Rattle.rez_statements.proofs.Lasts.{last-push}
 use Rattle.rez_statements.proofs.table.Types.add.Goals as goal
 

@@ -1,5 +1,4 @@
-use Rattle.std.proofs.Common.{◌≡◌, ◌++◌, drop, map}
-use Rattle.rez_statements.specs.View.{declared_of, types_of}
+use Rattle.rez_statements.proofs.Cited.{◌≡◌, ◌++◌, drop, map, declared_of, types_of}
 use Rattle.rez_statements.proofs.table.Types.copied.Given as goal
 
 -- the types so far, with those to come, are all

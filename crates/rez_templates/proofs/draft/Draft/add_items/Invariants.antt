@@ -1,6 +1,4 @@
-use Rattle.std.proofs.Common.{◌≡◌}
-use Rattle.rez_templates.specs.Items.{with_items}
-use Rattle.rez_templates.specs.View.{drafted_of}
+use Rattle.rez_templates.proofs.Cited.{◌≡◌, with_items, drafted_of}
 use Rattle.rez_templates.proofs.draft.Draft.add_items.Given as goal
 
 -- the items to come lead to what all lead to

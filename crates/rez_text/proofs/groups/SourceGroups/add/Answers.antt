@@ -1,5 +1,4 @@
-use Rattle.std.proofs.Common.{refl}
-use Rattle.byteorder.specs.Endian.{big_number}
+use Rattle.rez_text.proofs.Cited.{refl, big_number}
 use Rattle.rez_text.proofs.Grouping.{put_found}
 use Rattle.rez_text.proofs.groups.SourceGroups.add.Goals as goal
 

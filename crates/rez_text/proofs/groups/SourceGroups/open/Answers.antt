@@ -1,11 +1,5 @@
-use Rattle.std.proofs.Common.{◌≡◌, List, [], ◌∷◌, ◌++◌, length, map, cond, Some, None, refl, sym, ap, ◌∙◌}
-use Rattle.std.specs.BTreeMap.{get}
-use Rattle.std.specs.List.{position}
-use Rattle.std.specs.Ordering.{nat_cmp, is_eq}
-use Rattle.byteorder.specs.Endian.{big_number}
-use Rattle.rez_text.specs.declared.source.SourceGroup.{SourceGroup}
-use Rattle.rez_text.specs.Groups.{is_of}
-use Rattle.rez_text.specs.View.{group_said}
+use Rattle.rez_text.proofs.Cited.{◌≡◌, List, [], ◌∷◌, ◌++◌, length, map, cond, Some, None, refl, sym, ap, ◌∙◌, get, position, nat_cmp}
+use Rattle.rez_text.proofs.Cited.{is_eq, big_number, SourceGroup, is_of, group_said}
 use Rattle.rez_text.proofs.Grouping.{put_new}
 use Rattle.rez_text.proofs.Placed.{place-push}
 use Rattle.rez_text.proofs.groups.SourceGroups.open.Goals as goal

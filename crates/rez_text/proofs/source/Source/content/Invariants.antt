@@ -1,7 +1,4 @@
-use Rattle.std.proofs.Common.{◌≡◌, ◌++◌, drop, map}
-use Rattle.fork_format.specs.Canonical.{clear_group}
-use Rattle.fork_format.specs.View.{view_group}
-use Rattle.rez_text.specs.View.{group_said}
+use Rattle.rez_text.proofs.Cited.{◌≡◌, ◌++◌, drop, map, clear_group, view_group, group_said}
 use Rattle.rez_text.proofs.source.Source.content.Given as goal
 
 -- the groups that are lent, with those to come, are all

@@ -1,7 +1,5 @@
-use Rattle.std.proofs.Common.{◌≡◌, ◌+◌, ◌-◌, ◌*◌, length, drop}
-use Rattle.rez_types.specs.View.{fields_of, blocks_of, end_of}
-use Rattle.rez_types.specs.Leads.{decoding_of}
-use Rattle.rez_types.specs.Decoding.{decoded, decoded_fields, decoded_elements, decoded_until}
+use Rattle.rez_types.proofs.Cited.{◌≡◌, ◌+◌, ◌-◌, ◌*◌, length, drop, fields_of, blocks_of, end_of, decoding_of, decoded, decoded_fields}
+use Rattle.rez_types.proofs.Cited.{decoded_elements, decoded_until}
 use Rattle.rez_types.proofs.decoder.Decoder.+decode.Given as goal
 
 abbrev pub decreases-take_block : goal.decreases-take_block

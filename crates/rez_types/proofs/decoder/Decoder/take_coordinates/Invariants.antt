@@ -1,6 +1,4 @@
-use Rattle.std.proofs.Common.{◌≡◌, ◌-◌}
-use Rattle.rez_types.specs.Leads.{decoding_of}
-use Rattle.rez_types.specs.Decoding.{decoded_coordinates}
+use Rattle.rez_types.proofs.Cited.{◌≡◌, ◌-◌, decoding_of, decoded_coordinates}
 use Rattle.rez_types.proofs.decoder.Decoder.take_coordinates.Given as goal
 
 -- the coordinates to come lead to what all lead to

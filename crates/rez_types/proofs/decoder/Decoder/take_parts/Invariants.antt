@@ -1,7 +1,4 @@
-use Rattle.std.proofs.Common.{◌≡◌, ◌≤◌, ◌*◌, drop, map}
-use Rattle.rez_types.specs.View.{part_of}
-use Rattle.rez_types.specs.Leads.{decoding_of}
-use Rattle.rez_types.specs.Decoding.{decoded_parts}
+use Rattle.rez_types.proofs.Cited.{◌≡◌, ◌≤◌, ◌*◌, drop, map, part_of, decoding_of, decoded_parts}
 use Rattle.rez_types.proofs.decoder.Decoder.take_parts.Given as goal
 
 -- the parts to come lead to what all lead to

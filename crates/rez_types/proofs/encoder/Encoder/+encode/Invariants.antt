@@ -1,7 +1,5 @@
-use Rattle.std.proofs.Common.{◌≡◌, ◌+◌, ◌-◌, ◌*◌, length, drop}
-use Rattle.rez_types.specs.View.{fields_of, blocks_of, end_of}
-use Rattle.rez_types.specs.Leads.{encoding_of}
-use Rattle.rez_types.specs.Encoding.{encoded, encoded_fields, encoded_elements}
+use Rattle.rez_types.proofs.Cited.{◌≡◌, ◌+◌, ◌-◌, ◌*◌, length, drop, fields_of, blocks_of, end_of, encoding_of, encoded, encoded_fields}
+use Rattle.rez_types.proofs.Cited.{encoded_elements}
 use Rattle.rez_types.proofs.encoder.Encoder.+encode.Given as goal
 
 abbrev pub decreases-write_block : goal.decreases-write_block

@@ -1,7 +1,4 @@
-use Rattle.std.proofs.Common.{◌≡◌, drop, map}
-use Rattle.rez_types.specs.View.{part_of}
-use Rattle.rez_types.specs.Leads.{encoding_of}
-use Rattle.rez_types.specs.Encoding.{encoded_parts}
+use Rattle.rez_types.proofs.Cited.{◌≡◌, drop, map, part_of, encoding_of, encoded_parts}
 use Rattle.rez_types.proofs.encoder.Encoder.next_parts.Given as goal
 
 -- the parts to come lead to what all lead to

@@ -1,6 +1,4 @@
-use Rattle.std.proofs.Common.{◌≡◌, ◌-◌}
-use Rattle.rez_types.specs.Leads.{encoding_of}
-use Rattle.rez_types.specs.Encoding.{encoded_coordinates}
+use Rattle.rez_types.proofs.Cited.{◌≡◌, ◌-◌, encoding_of, encoded_coordinates}
 use Rattle.rez_types.proofs.encoder.Encoder.write_coordinates.Given as goal
 
 -- the coordinates to come lead to what all lead to

@@ -1,5 +1,4 @@
-use Rattle.std.proofs.Common.{◌∙◌, sym, length, rules}
-use Rattle.rez_values.specs.View.{taking_of}
+use Rattle.rez_values.proofs.Cited.{◌∙◌, sym, length, rules, taking_of}
 use Rattle.rez_values.proofs.Turns.{element_on, element_fault}
 use Rattle.rez_values.proofs.taker.Taker.+take.Goals as goal
 

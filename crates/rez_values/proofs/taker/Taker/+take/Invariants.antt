@@ -1,7 +1,5 @@
-use Rattle.std.proofs.Common.{◌≡◌, ◌+◌, ◌-◌, ◌*◌, length, drop}
-use Rattle.rez_types.specs.View.{fields_of, blocks_of}
-use Rattle.rez_values.specs.View.{taking_of}
-use Rattle.rez_values.specs.Taken.{block_taken, fields_taken, elements_taken}
+use Rattle.rez_values.proofs.Cited.{◌≡◌, ◌+◌, ◌-◌, ◌*◌, length, drop, fields_of, blocks_of, taking_of, block_taken, fields_taken}
+use Rattle.rez_values.proofs.Cited.{elements_taken}
 use Rattle.rez_values.proofs.taker.Taker.+take.Given as goal
 
 abbrev pub decreases-take_block : goal.decreases-take_block

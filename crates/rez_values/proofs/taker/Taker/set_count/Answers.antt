@@ -1,7 +1,5 @@
-use Rattle.std.proofs.Common.{refl}
-use Rattle.std.proofs.lemmas.List.{map-set}
+use Rattle.rez_values.proofs.Cited.{refl, map-set, value_of}
 use Rattle.rez_types.specs.declared.value.Value.TheVariants as held
-use Rattle.rez_types.specs.View.{value_of}
 use Rattle.rez_values.proofs.taker.Taker.set_count.Goals as goal
 
 -- the values as they are seen, with the count in its place

@@ -1,6 +1,4 @@
-use Rattle.std.proofs.Common.{◌≡◌, ◌-◌}
-use Rattle.rez_values.specs.View.{taking_of}
-use Rattle.rez_values.specs.Stating.{coordinates_taken}
+use Rattle.rez_values.proofs.Cited.{◌≡◌, ◌-◌, taking_of, coordinates_taken}
 use Rattle.rez_values.proofs.taker.Taker.take_coordinates.Given as goal
 
 -- the coordinates to come lead to what all lead to

@@ -1,7 +1,4 @@
-use Rattle.std.proofs.Common.{◌≡◌, drop, map}
-use Rattle.rez_types.specs.View.{part_of}
-use Rattle.rez_values.specs.View.{taking_of}
-use Rattle.rez_values.specs.Stating.{parts_taken}
+use Rattle.rez_values.proofs.Cited.{◌≡◌, drop, map, part_of, taking_of, parts_taken}
 use Rattle.rez_values.proofs.taker.Taker.take_parts.Given as goal
 
 -- the parts to come lead to what all lead to

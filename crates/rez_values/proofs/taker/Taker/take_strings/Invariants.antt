@@ -1,6 +1,4 @@
-use Rattle.std.proofs.Common.{◌≡◌, ◌-◌, [], length}
-use Rattle.rez_values.specs.View.{taking_of}
-use Rattle.rez_values.specs.Stating.{strings_on}
+use Rattle.rez_values.proofs.Cited.{◌≡◌, ◌-◌, [], length, taking_of, strings_on}
 use Rattle.rez_values.proofs.taker.Taker.take_strings.Given as goal
 
 -- the strings to come, with those so far, are all

@@ -1,5 +1,4 @@
-use Rattle.std.proofs.Common.{ap, refl, ◌∙◌}
-use Rattle.script_text.specs.Named.{put_named}
+use Rattle.script_text.proofs.Cited.{ap, refl, ◌∙◌, put_named}
 use Rattle.script_text.proofs.Naming.{named, insert_named}
 use Rattle.script_text.proofs.blocks.Blocks.add.Goals as goal
 

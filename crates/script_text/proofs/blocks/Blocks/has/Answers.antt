@@ -1,5 +1,4 @@
-use Rattle.std.proofs.Common.{ap, refl, ◌∙◌}
-use Rattle.script_text.specs.Script.{has_block}
+use Rattle.script_text.proofs.Cited.{ap, refl, ◌∙◌, has_block}
 use Rattle.script_text.proofs.Naming.{has_named}
 use Rattle.script_text.proofs.blocks.Blocks.has.Goals as goal
 

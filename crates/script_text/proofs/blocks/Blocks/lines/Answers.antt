@@ -1,5 +1,4 @@
-use Rattle.std.proofs.Common.{None, Some, ap, refl, ◌∙◌}
-use Rattle.script_text.specs.Script.{block_of}
+use Rattle.script_text.proofs.Cited.{None, Some, ap, refl, ◌∙◌, block_of}
 use Rattle.script_text.proofs.Naming.{block_named}
 use Rattle.script_text.proofs.blocks.Blocks.lines.Goals as goal
 

@@ -1,5 +1,4 @@
-use Rattle.std.proofs.Common.{map, ap, ◌∙◌}
-use Rattle.script_text.specs.Job.{input_seen, may_follow}
+use Rattle.script_text.proofs.Cited.{map, ap, ◌∙◌, input_seen, may_follow}
 use Rattle.script_text.proofs.JobKnown.{joins}
 use Rattle.script_text.proofs.inputs.Inputs.fits.Goals as goal
 

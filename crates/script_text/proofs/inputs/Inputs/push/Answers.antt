@@ -1,7 +1,5 @@
-use Rattle.std.proofs.Common.{◌≡◌, true, map, [], ◌∷◌, ◌++◌, sym, ap, subst, ◌∙◌}
-use Rattle.std.proofs.lemmas.List.{map-append}
-use Rattle.script_text.specs.Job.{input_seen, may_follow}
-use Rattle.script_text.specs.Known.{IsKnown, known_with}
+use Rattle.script_text.proofs.Cited.{◌≡◌, true, map, [], ◌∷◌, ◌++◌, sym, ap, subst, ◌∙◌, map-append, input_seen, may_follow, IsKnown}
+use Rattle.script_text.proofs.Cited.{known_with}
 use Rattle.script_text.proofs.JobKnown.{known_more}
 use Rattle.script_text.proofs.inputs.Inputs.push.Goals as goal
 

@@ -1,6 +1,4 @@
-use Rattle.std.proofs.Common.{◌≡◌, true, length, rules}
-use Rattle.std.specs.Prelude.{◌==◌}
-use Rattle.script_text.specs.Job.{input_seen, may_follow}
+use Rattle.script_text.proofs.Cited.{◌≡◌, true, length, rules, ◌==◌, input_seen, may_follow}
 use Rattle.script_text.proofs.JobKept.{kept_with_input}
 use Rattle.script_text.proofs.job_lines.JobLines.add_input.Goals as goal
 

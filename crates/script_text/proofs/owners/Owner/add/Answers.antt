@@ -1,5 +1,4 @@
-use Rattle.std.proofs.Common.{ap, refl, ◌∙◌}
-use Rattle.script_text.specs.Known.{put_name, with_file}
+use Rattle.script_text.proofs.Cited.{ap, refl, ◌∙◌, put_name, with_file}
 use Rattle.script_text.proofs.JobKnown.{bytes_of, put_file}
 use Rattle.script_text.proofs.owners.Owner.add.Goals as goal
 

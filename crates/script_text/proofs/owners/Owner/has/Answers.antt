@@ -1,6 +1,4 @@
-use Rattle.std.proofs.Common.{◌≡◌, ap, refl, sym, ◌∙◌, false, rules}
-use Rattle.std.specs.Prelude.{bytes_eq, ◌||◌}
-use Rattle.script_text.specs.Job.{has_name}
+use Rattle.script_text.proofs.Cited.{◌≡◌, ap, refl, sym, ◌∙◌, false, rules, bytes_eq, ◌||◌, has_name}
 use Rattle.script_text.proofs.JobKnown.{has_file}
 use Rattle.script_text.proofs.owners.Owner.has.Goals as goal
 

@@ -1,8 +1,4 @@
-use Rattle.std.proofs.Common.{ℕ, List, Some, None, sym, subst, codes}
-use Rattle.script_text.specs.declared.script_lines.Begun.{Begun}
-use Rattle.script_text.specs.declared.script.Line.{Line}
-use Rattle.script_text.specs.Named.{put_named}
-use Rattle.script_text.specs.Inner.{IsKept}
+use Rattle.script_text.proofs.Cited.{ℕ, List, Some, None, sym, subst, codes, Begun, Line, put_named, IsKept}
 use Rattle.script_text.proofs.Allowed.{allowed_put}
 use Rattle.script_text.proofs.Naming.{absent_put}
 use Rattle.script_text.proofs.script_lines.ScriptLines.end.Goals as goal

@@ -1,7 +1,4 @@
-use Rattle.std.proofs.Common.{FitsSigned, rules}
-use Rattle.std.specs.Int.{w16}
-use Rattle.std.proofs.lemmas.Int.{to_z-of_z}
-use Rattle.segments.specs.Given.{program}
+use Rattle.segments.proofs.Cited.{FitsSigned, rules, w16, to_z-of_z, program}
 use Rattle.segments.proofs.Loading.{called_there, called_first}
 use Rattle.segments.proofs.table.JumpTable.call.Goals as goal
 

@@ -1,9 +1,4 @@
-use Rattle.std.proofs.Common.{◌≡◌, pos, false, rules}
-use Rattle.std.specs.Ordering.{int_eq}
-use Rattle.std.specs.Int.{w16}
-use Rattle.std.proofs.lemmas.Int.{to_z-of_z}
-use Rattle.res_calls.specs.Given.{managers, seen_fetched}
-use Rattle.segments.specs.Given.{program}
+use Rattle.segments.proofs.Cited.{◌≡◌, pos, false, rules, int_eq, w16, to_z-of_z, managers, seen_fetched, program}
 use Rattle.segments.proofs.Loading.{loaded_answer}
 use Rattle.segments.proofs.table.JumpTable.load.Goals as goal
 

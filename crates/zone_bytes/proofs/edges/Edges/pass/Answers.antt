@@ -1,7 +1,5 @@
-use Rattle.std.proofs.Common.{◌≡◌, ℕ, ◌+◌, ◌<◌, inl, inr, List, [], rules, ◌∷◌, ◌++◌, length, get_or, set, arith}
-use Rattle.block_store.specs.Block.{Block, size, sizes}
-use Rattle.zone_bytes.specs.Edges.{Starts, AreEdges}
-use Rattle.zone_bytes.specs.declared.edges.Edges.{Edges}
+use Rattle.zone_bytes.proofs.Cited.{◌≡◌, ℕ, ◌+◌, ◌<◌, inl, inr, List, [], rules, ◌∷◌, ◌++◌, length, get_or, set, arith, Block, size, sizes}
+use Rattle.zone_bytes.proofs.Cited.{Starts, AreEdges, Edges}
 use Rattle.zone_bytes.proofs.edges.Edges.pass.Goals as goal
 
 -- where blocks begin

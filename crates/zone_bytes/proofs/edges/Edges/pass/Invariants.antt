@@ -1,6 +1,4 @@
-use Rattle.std.proofs.Common.{◌+◌, ◌-◌, ◌≡◌, ◌∷◌, ◌++◌, [], ℕ, List, length}
-use Rattle.block_store.specs.Block.{Block, sizes}
-use Rattle.zone_bytes.specs.Edges.{AreEdges}
+use Rattle.zone_bytes.proofs.Cited.{◌+◌, ◌-◌, ◌≡◌, ◌∷◌, ◌++◌, [], ℕ, List, length, Block, sizes, AreEdges}
 use Rattle.zone_bytes.proofs.edges.Edges.pass.Given as goal
 
 abbrev pub invariant-loop-self : goal.invariant-loop-self

@@ -1,7 +1,5 @@
-use Rattle.std.proofs.Common.{◌≡◌, ℕ, ◌+◌, ◌<◌, ◌≤◌, Bool, true, false, List, length, Some, None, nat_lt, refl, subst, arith}
-use Rattle.std.proofs.lemmas.Bool.Decides.{nat_tests}
-use Rattle.block_store.specs.Walk.{Tells}
-use Rattle.zone_bytes.specs.Stepping.{IsOnWay, left_in}
+use Rattle.zone_bytes.proofs.Cited.{◌≡◌, ℕ, ◌+◌, ◌<◌, ◌≤◌, Bool, true, false, List, length, Some, None, nat_lt, refl, subst, arith}
+use Rattle.zone_bytes.proofs.Cited.{nat_tests, Tells, IsOnWay, left_in}
 use Rattle.zone_bytes.proofs.Places.Stepped.{stepped-read, tells-step, tells-none, may-read}
 use Rattle.zone_bytes.proofs.raw_walk.RawWalkWalk.next_block.Goals as goal
 

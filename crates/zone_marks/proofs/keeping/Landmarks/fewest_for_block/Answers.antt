@@ -1,13 +1,6 @@
 use Rattle.zone_marks.proofs.Marks.Lowering.{begins-end}
-use Rattle.std.proofs.Common.{◌≡◌, ◌∙◌, ap, arith}
-use Rattle.block_store.specs.Room.{count_of}
-use Rattle.block_store.specs.Sparing.{spared}
-use Rattle.zone_summary.specs.Stretches.{prefix, stretch_of}
-use Rattle.zone_summary.proofs.BlockRuns.{IsRunOf, enough-now, fewest-of, never-enough, no-run-of, run-of}
-use Rattle.zone_bytes.specs.Changes.{Begins}
-use Rattle.zone_bytes.specs.Decode.{zone_in}
-use Rattle.zone_bytes.specs.Stepping.{left_in}
-use Rattle.zone_bytes.proofs.Places.AtPlace.{left-above}
+use Rattle.zone_marks.proofs.Cited.{◌≡◌, ◌∙◌, ap, arith, count_of, spared, prefix, stretch_of, IsRunOf, enough-now, fewest-of, never-enough}
+use Rattle.zone_marks.proofs.Cited.{no-run-of, run-of, Begins, zone_in, left_in, left-above}
 use Rattle.zone_marks.proofs.Marks.Passing.{begins-left}
 use Rattle.zone_marks.proofs.keeping.Landmarks.fewest_for_block.Goals.{In_ok-run, After-free_at-free}
 use Rattle.zone_marks.proofs.keeping.Landmarks.fewest_for_block.Goals as goal

@@ -1,9 +1,4 @@
-use Rattle.std.proofs.Common.{◌∙◌, ◌-◌, ap, arith}
-use Rattle.block_store.specs.Sparing.{opened, spared}
-use Rattle.zone_summary.specs.Fewest.{purges_for}
-use Rattle.zone_summary.proofs.Fewest.{first-is, never-serves}
-use Rattle.zone_bytes.specs.Decode.{zone_in}
-use Rattle.zone_bytes.proofs.Places.AtPlace.{left-above}
+use Rattle.zone_marks.proofs.Cited.{◌∙◌, ◌-◌, ap, arith, opened, spared, purges_for, first-is, never-serves, zone_in, left-above}
 use Rattle.zone_marks.proofs.keeping.Landmarks.fewest_purges.Goals as goal
 
 pub returns-in_err-run : goal.returns-in_err-run

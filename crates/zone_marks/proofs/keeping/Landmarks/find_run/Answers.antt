@@ -1,4 +1,4 @@
-use Rattle.std.proofs.Common.{sym, ◌∙◌}
+use Rattle.zone_marks.proofs.Cited.{sym, ◌∙◌}
 use Rattle.block_store.specs.declared.sparing.Sparing.TheVariants as sparing
 use Rattle.zone_marks.proofs.Searches.RunStarting.{found-lowest, known-finds}
 use Rattle.zone_marks.proofs.keeping.Landmarks.find_run.Goals as goal

@@ -1,11 +1,6 @@
-use Rattle.std.proofs.Common.{refl, sym, ap, ◌∙◌, arith}
-use Rattle.block_store.specs.Compact.{largest_free}
+use Rattle.zone_marks.proofs.Cited.{refl, sym, ap, ◌∙◌, arith, largest_free, zone_in, purged-most, left-zone, spaces_of}
 use Rattle.block_store.specs.declared.sparing.Sparing.TheVariants as sparing
-use Rattle.zone_bytes.specs.Decode.{zone_in}
-use Rattle.zone_summary.proofs.Fewest.{purged-most}
 use Rattle.zone_marks.proofs.Bounds.Fewest.{most-fits}
-use Rattle.zone_bytes.proofs.Places.AtPlace.{left-zone}
-use Rattle.zone_summary.specs.Stretches.{spaces_of}
 use Rattle.zone_marks.proofs.Marks.Passing.{begins-here}
 use Rattle.zone_marks.proofs.Bounds.Space.{largest-from}
 use Rattle.zone_marks.proofs.keeping.Landmarks.largest_after.Goals as goal

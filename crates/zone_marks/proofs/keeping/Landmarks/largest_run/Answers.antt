@@ -1,6 +1,5 @@
-use Rattle.std.proofs.Common.{arith}
+use Rattle.zone_marks.proofs.Cited.{arith, left-zone}
 use Rattle.zone_marks.proofs.Marks.Passing.{begins-here}
-use Rattle.zone_bytes.proofs.Places.AtPlace.{left-zone}
 use Rattle.zone_marks.proofs.keeping.Landmarks.largest_run.Goals as goal
 
 pub stretch_above-requires-clause-begins : goal.stretch_above-requires-clause-begins

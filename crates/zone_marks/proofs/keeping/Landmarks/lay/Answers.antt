@@ -1,5 +1,4 @@
-use Rattle.std.proofs.Common.{arith}
-use Rattle.std.proofs.lemmas.Grind.{common_steps}
+use Rattle.zone_marks.proofs.Cited.{arith, common_steps}
 use Rattle.zone_marks.proofs.Marks.Tallies.{marks-of}
 use Rattle.zone_marks.proofs.keeping.Landmarks.lay.Goals as goal
 

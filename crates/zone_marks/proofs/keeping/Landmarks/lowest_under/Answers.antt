@@ -1,4 +1,4 @@
-use Rattle.std.proofs.Common.{arith}
+use Rattle.zone_marks.proofs.Cited.{arith}
 use Rattle.zone_marks.proofs.Bounds.Going.{stays-under}
 use Rattle.zone_marks.proofs.keeping.Landmarks.lowest_under.Goals as goal
 

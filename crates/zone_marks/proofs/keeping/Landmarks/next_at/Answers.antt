@@ -1,5 +1,4 @@
-use Rattle.std.proofs.Common.{◌∙◌, ap, drop, rules}
-use Rattle.zone_marks.specs.Marks.{above_all, next_of}
+use Rattle.zone_marks.proofs.Cited.{◌∙◌, ap, drop, rules, above_all, next_of}
 use Rattle.zone_marks.proofs.Marks.Edges.{laid-there}
 use Rattle.zone_marks.proofs.keeping.Landmarks.next_at.Goals as goal
 

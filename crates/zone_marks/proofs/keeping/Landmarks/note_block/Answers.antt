@@ -1,6 +1,5 @@
-use Rattle.std.proofs.Common.{arith, rules}
+use Rattle.zone_marks.proofs.Cited.{arith, rules, became-fits, became-inside, became-left, became-way}
 use Rattle.zone_marks.proofs.Marks.Keeping.{became-replaced}
-use Rattle.zone_bytes.proofs.Places.Became.{became-fits, became-inside, became-left, became-way}
 use Rattle.zone_marks.proofs.keeping.Landmarks.note_block.Goals as goal
 
 pub size_at-size-requires-clause-way : goal.size_at-size-requires-clause-way

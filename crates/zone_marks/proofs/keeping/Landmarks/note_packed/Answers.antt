@@ -1,6 +1,4 @@
-use Rattle.std.proofs.Common.{subst, sym}
-use Rattle.zone_bytes.specs.Decode.{zone_in}
-use Rattle.zone_marks.specs.LaidMarks.{AreLaid}
+use Rattle.zone_marks.proofs.Cited.{subst, sym, zone_in, AreLaid}
 use Rattle.zone_marks.proofs.keeping.Landmarks.note_packed.Goals as goal
 
 pub lay_edges-next-requires-clause-laid : goal.lay_edges-next-requires-clause-laid

@@ -1,4 +1,4 @@
-use Rattle.zone_bytes.specs.Decode.{zone_in}
+use Rattle.zone_marks.proofs.Cited.{zone_in}
 use Rattle.zone_marks.proofs.keeping.Landmarks.renew.Goals as goal
 
 pub lay-requires-clause-laid : goal.lay-requires-clause-laid

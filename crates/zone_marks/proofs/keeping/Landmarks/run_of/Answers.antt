@@ -1,10 +1,5 @@
-use Rattle.std.proofs.Common.{◌≤◌, ◌∙◌, ap, arith, subst, sym}
-use Rattle.block_store.specs.Block.{is_relocatable, sizes}
-use Rattle.block_store.specs.Room.{spot}
-use Rattle.block_store.proofs.Zone.Apart.{Apart, apart-tidied}
-use Rattle.zone_bytes.proofs.Places.AtPlace.{left-zone}
-use Rattle.zone_bytes.proofs.Places.LedTo.{led-place, led-slot}
-use Rattle.zone_bytes.proofs.Places.Options.{if-spot}
+use Rattle.zone_marks.proofs.Cited.{◌≤◌, ◌∙◌, ap, arith, subst, sym, is_relocatable, sizes, spot, Apart, apart-tidied, left-zone, led-place}
+use Rattle.zone_marks.proofs.Cited.{led-slot, if-spot}
 use Rattle.zone_marks.proofs.Searches.SlotRuns.{none-there, slot-run}
 use Rattle.zone_marks.proofs.keeping.Landmarks.run_of.Goals as goal
 

@@ -1,8 +1,6 @@
-use Rattle.zone_marks.specs.Purgeable.{NoneGoes}
+use Rattle.zone_marks.proofs.Cited.{NoneGoes, arith, subst, sym, zone_in}
 use Rattle.zone_marks.proofs.Marks.Passing.{at-append, at-left}
 use Rattle.zone_marks.proofs.Bounds.Going.{stays-whole}
-use Rattle.std.proofs.Common.{arith, subst, sym}
-use Rattle.zone_bytes.specs.Decode.{zone_in}
 use Rattle.zone_marks.proofs.Marks.Lowering.{begins-way, seen-from}
 use Rattle.zone_marks.proofs.keeping.Landmarks.seek.Goals as goal
 

@@ -1,10 +1,6 @@
-use Rattle.std.proofs.Common.{◌≡◌, ◌*◌, arith, sym, subst, replicate}
-use Rattle.zone_bytes.specs.Decode.{zone_in}
-use Rattle.zone_marks.specs.Marks.{AreMarks, AreGroups, above_all}
-use Rattle.zone_marks.specs.declared.landmark.Group.{Group}
-use Rattle.zone_marks.specs.declared.landmark.Landmark.{Landmark}
+use Rattle.zone_marks.proofs.Cited.{◌≡◌, ◌*◌, arith, sym, subst, replicate, zone_in, AreMarks, AreGroups, above_all, Group, Landmark}
+use Rattle.zone_marks.proofs.Cited.{sizes-length}
 use Rattle.zone_marks.proofs.Bounds.Going.{stays-above}
-use Rattle.zone_bytes.proofs.Laws.Lawful.{sizes-length}
 use Rattle.zone_marks.proofs.Marks.Lowering.{unlaid-marks}
 use Rattle.zone_marks.proofs.Marks.Groups.{same-groups, unknown}
 use Rattle.zone_marks.proofs.keeping.Landmarks.unlaid.Goals as goal

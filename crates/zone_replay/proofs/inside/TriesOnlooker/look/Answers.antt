@@ -1,7 +1,4 @@
-use Rattle.std.proofs.Common.{◌≡◌, ◌∙◌, List, ℕ, ap, refl}
-use Rattle.applications.specs.Inside.{Glance}
-use Rattle.zone_replay.specs.Inside.{try_of, view_try}
-use Rattle.zone_replay.specs.Moments.{moment}
+use Rattle.zone_replay.proofs.Cited.{◌≡◌, ◌∙◌, List, ℕ, ap, refl, Glance, try_of, view_try, moment}
 use Rattle.zone_replay.specs.declared.inside.Try as seen
 use Rattle.zone_replay.proofs.Glancing.{looked}
 use Rattle.zone_replay.proofs.inside.TriesOnlooker.look.Goals as goal
