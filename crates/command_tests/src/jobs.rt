@@ -15,7 +15,7 @@ use std::alloc::{AllocError, Global};
 use std::test::Fail;
 
 /// Returns a fork that holds the sizes of a partition, as the resource 'SIZE' -1.
-pub fn sized_fork(alloc: Global, sizes: &'static [u8]) -> Result<Vec<u8>, Fail> {
+pub fn sized_fork(alloc: Global, sizes: &'static [u8]) -> Result<Vec<u8>, AllocError> {
     let reference = Ref {
         id: -1,
         name: None,
@@ -31,7 +31,7 @@ pub fn sized_fork(alloc: Global, sizes: &'static [u8]) -> Result<Vec<u8>, Fail> 
         attrs: 0,
         groups: vec![in alloc; group]?,
     };
-    Ok(write_fork(alloc, &content)?)
+    write_fork(alloc, &content).map_err(|_| AllocError)
 }
 
 /// Returns a label that holds `bytes`.

@@ -1,11 +1,11 @@
 //! What a quit leaves for which the host is out of memory.
 
+use crate::jobs::sized_fork;
 use applications::empty_content;
 use arrayvec::ArrayVec;
-use fork_format::{Content, Group, Ref, write_fork};
 use heap_calls::{Heap, NoSink};
 use list_store::ListStore;
-use mac_words::{Attrs, FileName, OsErr, OsType};
+use mac_words::{FileName, OsErr, OsType};
 use res_calls::{File, Resources};
 use std::alloc::{AllocError, Global};
 use std::process::Abort;
@@ -13,31 +13,11 @@ use std::process::Abort;
 /// The stored data of the 'SIZE' -1 of each file.
 const SIZES: &[u8] = b"\0\0\0\0\x02\0\0\0\x02\0";
 
-/// Returns a fork that has the 'SIZE' -1.
-fn fork_of(alloc: Global) -> Result<Vec<u8>, AllocError> {
-    let reference = Ref {
-        id: -1,
-        name: None,
-        attrs: Attrs(0),
-        datum: SIZES,
-    };
-    let group = Group {
-        ty: OsType(*b"SIZE"),
-        refs: vec![in alloc; reference]?,
-    };
-    let content = Content {
-        area: [0; 240],
-        attrs: 0,
-        groups: vec![in alloc; group]?,
-    };
-    write_fork(alloc, &content).map_err(|_| AllocError)
-}
-
-/// Returns a file with such a fork.
+/// Returns a file whose fork has the 'SIZE' -1.
 fn file_of(alloc: Global, name: FileName) -> Result<File, AllocError> {
     Ok(File {
         name,
-        fork: fork_of(alloc)?,
+        fork: sized_fork(alloc, SIZES)?,
         written: false,
     })
 }
@@ -52,7 +32,7 @@ fn change(resources: &mut Resources, heap: &mut Heap<ListStore>) -> Result<(), A
 
 /// Quits with two open files that were changed.
 fn quit(rt: &impl Abort, alloc: Global) -> Result<(), AllocError> {
-    let as_it_was = fork_of(alloc)?;
+    let as_it_was = sized_fork(alloc, SIZES)?;
     let mut name = ArrayVec::new();
     let _full = name.try_push(b'b').is_err();
     let own = file_of(alloc, FileName(ArrayVec::new()))?;

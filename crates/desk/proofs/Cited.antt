@@ -17,6 +17,7 @@ pub use Rattle.applications.specs.declared.quitting.Exit.TheVariants.{Quits, Sto
 pub use Rattle.block_store.specs.Block.{Block, fresh, sizes}
 pub use Rattle.block_store.specs.Rest.{Site}
 pub use Rattle.block_store.specs.Slot.{Slot}
+pub use Rattle.raw_region.proofs.WholeWindow.{whole_home, whole_there}
 pub use Rattle.desk.specs.Alone.{IsAsAlone, IsPlaceOf, LeftAsAlone, RunsAsAlone, launched_alone}
 pub use Rattle.desk.specs.Desk.{Place, State, acted_at, acted_in, after_event, after_events, any_runs, begun_if, begun_in, begun_with}
 pub use Rattle.desk.specs.Desk.{coming, each_turned, end_told, launch_answer, launch_reply, launched_at, launched_by, launched_in, left_by}
@@ -58,7 +59,7 @@ pub use Rattle.memory_windows.proofs.Listed.{All-without_window, length-with_win
 pub use Rattle.memory_windows.proofs.Ordered.{apart-taken_out, contains-counted, length-taken_out, none-counted, one-itself, times-put_in}
 pub use Rattle.memory_windows.proofs.Ordered.{times-taken_out}
 pub use Rattle.memory_windows.specs.Outside.{IsOutside, IsOutsideAll}
-pub use Rattle.memory_windows.specs.Windows.{InOrder, IsApart, Misses, put_in, taken_out, window, with_window, without_window}
+pub use Rattle.memory_windows.specs.Windows.{InOrder, IsApart, Misses, put_in, taken_out}
 pub use Rattle.memory_windows.specs.Writes.{written}
 pub use Rattle.memory_windows.specs.declared.Window.{Window}
 pub use Rattle.partitions.proofs.Order.{given_back}

@@ -1,32 +1,9 @@
 -- A zone that fills a region, cut from it and joined again.
-use Rattle.desk.proofs.Cited.{◌≡◌, ◌∙◌, ◌+◌, ◌++◌, ℕ, Bool, false, List, [], length, Result, Ok, Err, IfOk, ap, subst, sym, arith}
-use Rattle.desk.proofs.Cited.{nil_from_length, drop_all, Contains, Window, with_window, without_window, window, put_in, taken_out, written}
-use Rattle.desk.proofs.Cited.{contains-counted, length-taken_out, one-itself, Block, Slot, IsStored, LaysOut, ScriptParts, Resources}
+use Rattle.desk.proofs.Cited.{◌≡◌, ◌∙◌, ◌+◌, ◌++◌, ℕ, Bool, false, List, length, Result, Ok, Err, IfOk, ap, subst, sym, arith}
+use Rattle.desk.proofs.Cited.{drop_all, written, Block, Slot, IsStored, LaysOut, ScriptParts, Resources}
 use Rattle.desk.proofs.Cited.{own_resources, heap_alone, script_heap, LieAs, IsZone}
 use Rattle.std.proofs.lemmas.List.{append-nil}
 use Rattle.heap_calls.specs.State.{State as Heap}
-
-alone_out : (w : Window) → taken_out w (put_in w []) ≡ []
-alone_out w =
-    let o = one-itself w in
-    let e = length-taken_out w (put_in w []) (contains-counted w (put_in w []) (omega (arith, o))) in
-    nil_from_length (taken_out w (put_in w [])) (omega (arith, e))
-
--- no window is out, once the one that was cut is home
-pub whole_home : (at len : ℕ) (before out after : List Window) (from n : ℕ) → before ≡ []
-    → out ≡ with_window from n before → at ≡ from → len ≡ n → after ≡ without_window at len out → after ≡ []
-whole_home at len before out after from n b o a l h =
-    h ∙ (λ i. without_window (a i) (l i) (o i)) ∙ ap (λ ws. without_window from n (with_window from n ws)) b
-    ∙ alone_out (window from n)
-
--- the window that was cut is out
-pub whole_there : (at len : ℕ) (before out : List Window) (from n : ℕ) → before ≡ [] → out ≡ with_window from n before
-    → at ≡ from → len ≡ n → Contains out (window at len)
-whole_there at len before out from n b o a l =
-    let is : out ≡ with_window at len [] = o ∙ (λ i. with_window (sym a i) (sym l i) (b i)) in
-    let w = window at len in
-    let one = one-itself w in
-    subst (λ ws. Contains ws w) (sym is) (contains-counted w (put_in w []) (omega (arith, one)))
 
 -- bytes written over as many are all there are
 whole_written : (at : ℕ) (ys xs : List ℕ) → at ≡ 0 → length ys ≡ length xs → written at ys xs ≡ ys

@@ -1,9 +1,5 @@
 -- The names that the proofs of this library cite of others and of its specs, passed on from one place. Declares nothing.
-pub use Rattle.applications.proofs.Elsewhere.{sizes-fresh}
-pub use Rattle.block_store.specs.Block.{fresh, sizes}
-pub use Rattle.block_store.specs.Rest.{Site}
 pub use Rattle.desk.proofs.Givens.{has_started}
-pub use Rattle.desk.proofs.WholeRegion.{whole_home, whole_there}
 pub use Rattle.desk.specs.Live.{leaves_seen}
 pub use Rattle.desk.specs.Outcome.{AppResult, Launched, Outcome}
 pub use Rattle.desk.specs.View.{outcome_seen, told_seen}
@@ -67,7 +63,6 @@ pub use Rattle.job_tasks.specs.declared.playing.Playing.{Playing}
 pub use Rattle.job_tasks.specs.declared.running.Errand.{Errand}
 pub use Rattle.job_tasks.specs.declared.tasks.Work.{Work}
 pub use Rattle.mac_words.specs.declared.code.OsErr.{OsErr}
-pub use Rattle.raw_zone.specs.Parted.{zone_of}
 pub use Rattle.real_zone_view.specs.Answers.{Tells, dump_fault}
 pub use Rattle.real_zone_view.specs.declared.dump.DumpView.{DumpView}
 pub use Rattle.real_zone_view.specs.declared.dump.ViewFault.{ViewFault}
@@ -102,5 +97,3 @@ pub use Rattle.std.specs.Prelude.{◌&&◌}
 pub use Rattle.std.specs.Slice.{IsItemAt}
 pub use Rattle.std.specs.Str.{encode_utf8_all}
 pub use Rattle.std.specs.Str.Parse.{ParsesUnsigned}
-pub use Rattle.zone_replay.specs.Sight.{sight_text}
-pub use Rattle.zone_replay.specs.Words.{telling_text}

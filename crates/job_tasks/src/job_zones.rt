@@ -16,7 +16,6 @@ ghost use Rattle.job_tasks.specs.JobZones.{IsUnseen, Shows, IsUnshown};
 
 use crate::gathering::{gather, system_path};
 use crate::running::{job_text, outcome_of};
-use crate::showing::show_in_region;
 use crate::size::PartitionSize;
 use crate::sizing::not_launched;
 use applications::Unwatched;
@@ -27,7 +26,7 @@ use raw_region::Region;
 use res_calls::Resources;
 use script_text::Script;
 use std::alloc::{AllocError, Global};
-use zone_replay::{Form, Sight, steps_at};
+use zone_replay::{Form, Sight, show_in_region, steps_at};
 
 /// A request for the zone of an application of a job.
 #[derive(Clone, Copy)]

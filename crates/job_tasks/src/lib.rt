@@ -9,7 +9,6 @@ mod outputs;
 mod paths;
 mod playing;
 mod running;
-mod showing;
 mod size;
 mod sizing;
 mod speaking;

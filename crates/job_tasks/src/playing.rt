@@ -29,7 +29,6 @@ use crate::gathering::Source;
 use crate::loading::{AppFork, Forks, forks_given, own_path, system_path};
 use crate::outputs::{Owner, write_forks_within};
 use crate::paths::{room_for_paths, set_folder_path, set_log_path};
-use crate::showing::{show_in_region, tell_in_region};
 use crate::size::PartitionSize;
 use crate::tasks::script_fault;
 use crate::work::{Lines, ToldLines, sight_of, telling_of};
@@ -44,7 +43,7 @@ use raw_region::Region;
 use res_calls::Resources;
 use script_text::{Script, read_script};
 use std::alloc::{AllocError, Global};
-use zone_replay::Telling;
+use zone_replay::{Telling, show_in_region, tell_in_region};
 
 /// What is asked for of a script that is run with files.
 #[derive(Clone, Copy)]

@@ -11,7 +11,6 @@ ghost use Rattle.fork_commands.specs.Reading.{content_of_fork, content_in};
 ghost use Rattle.job_tasks.specs.Work.{IsTranscriptOf, IsZoneOf, IsForkForm, IsFormOf, TellsForm};
 ghost use Rattle.job_tasks.specs.Work.{text_of, sight_of, telling_of};
 
-use crate::showing::show_script;
 use crate::size::PartitionSize;
 use applications::Watch;
 use desk::run_script;
@@ -20,7 +19,7 @@ use fork_format::{Content, WriteFault, write_fork};
 use raw_region::Region;
 use script_text::{FaultKind, Script, ScriptFault, read_script};
 use std::alloc::{AllocError, Global};
-use zone_replay::{Sight, Strips, Telling, steps_at};
+use zone_replay::{Sight, Strips, Telling, show_script, steps_at};
 
 /// The form of a resource fork: what its bytes are to its content.
 #[derive(Clone, Copy)]

@@ -1,14 +1,14 @@
 -- The names that the proofs of this library cite of others and of its specs, passed on from one place. Declares nothing.
 pub use Rattle.applications.proofs.Elsewhere.{sizes-fresh}
 pub use Rattle.applications.specs.Trying.{code_told}
-pub use Rattle.block_store.specs.Block.{fresh, sizes}
+pub use Rattle.block_store.specs.Block.{sizes}
 pub use Rattle.block_store.specs.Rest.{Site}
 pub use Rattle.core.proofs.alloc.Calls.{Al, Goes-blank, handle_tells}
 pub use Rattle.core.proofs.alloc.Shapes.{after}
 pub use Rattle.core.proofs.atomic.Steps.{fm}
 pub use Rattle.core.proofs.cell.Inside.{Good, one}
 pub use Rattle.core.specs.declared.alloc.Allocator.{Ghosts}
-pub use Rattle.desk.proofs.WholeRegion.{whole_home, whole_there}
+pub use Rattle.raw_region.proofs.WholeWindow.{whole_home, whole_there}
 pub use Rattle.fork_commands.proofs.Pairs.{also_ok}
 pub use Rattle.fork_commands.specs.Faults.{Stops, made_then}
 unfoldable pub use Rattle.fork_commands.specs.Info.{info_text}
@@ -74,5 +74,3 @@ pub use Rattle.std.specs.contracts.impls.GlobalAllocator.TheImpl.{dict, ghosts}
 pub use Rattle.std_alloc.proofs.BoxSteps.Steps.{box_in, box_out}
 pub use Rattle.std_alloc.proofs.ResultValues.{and_tt}
 pub use Rattle.std_alloc.proofs.boxed.Box.from_raw.Met.{met}
-pub use Rattle.zone_replay.specs.Sight.{sight_text}
-pub use Rattle.zone_replay.specs.Words.{telling_text}

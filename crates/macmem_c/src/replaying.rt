@@ -1,20 +1,16 @@
 //! A script, replayed in a fresh partition.
 
-ghost use Rattle.std.specs.Prelude.{◌≡◌, ◌≤◌, ◌%◌, [], length, IfOk, IfErr};
+ghost use Rattle.std.specs.Prelude.{◌≡◌, ◌≤◌, ◌%◌, IfOk, IfErr};
 ghost use Rattle.block_store.specs.declared.measures.TheConstants.{LEAST_ZONE, GREATEST_ZONE};
-ghost use Rattle.applications.specs.Trying.{own_resources as own};
-ghost use Rattle.zone_replay.specs.Sight.{sight_text};
 ghost use Rattle.macmem_c.specs.Replayed.{IsTranscript, IsShowing, IsUnread, sight_of};
 
-use applications::{Unwatched, own_resources};
+use applications::Unwatched;
 use desk::run_script;
 use raw_region::Region;
-use raw_zone::RawZone;
-use res_calls::Resources;
 use script_text::{FaultKind, Script, ScriptFault, read_script};
-use std::alloc::{AllocError, Global};
+use std::alloc::Global;
 use zone_drawing::{Choice, Digits, Part};
-use zone_replay::{Details, Form, Only, Sight, Strips, show, steps_at};
+use zone_replay::{Details, Form, Only, Sight, Strips, show_script, steps_at};
 
 /// What C asks to be shown of a script.
 #[derive(Clone, Copy)]
@@ -85,63 +81,6 @@ pub fn transcript_of(alloc: Global, size: u32, text: &[u8]) -> Result<Vec<u8>, S
     match transcript {
         Ok(transcript) => Ok(transcript),
         Err(_) => Err(NO_MEMORY),
-    }
-}
-
-/// Runs a script as far as is to be shown in a partition that fills a region, whatever the region's
-/// bytes were. Returns what is shown, and the region. `text` is the text of the script.
-///
-/// # Errors
-///
-/// The host is out of memory.
-fn show_in_region(
-    alloc: Global,
-    region: Region,
-    resources: Resources,
-    script: &Script,
-    text: &[u8],
-    sight: Sight,
-) -> (Result<Vec<u8>, AllocError>, Region)
-    requires home { region.out ≡ [] }
-    requires even { length region.bytes % 16 ≡ 0 }
-    requires low { LEAST_ZONE ≤ length region.bytes }
-    requires high { length region.bytes ≤ GREATEST_ZONE }
-    ensures shown { IfOk result.0 (λ out. out.items
-        ≡ sight_text sight resources (length region.bytes) script.now text.now) }
-    ensures home { result.1.out ≡ [] }
-{
-    let mut region = region;
-    let len = region.len();
-    let zone = RawZone::new(alloc, region.cut(0, len));
-    let (shown, zone) = show(alloc, zone, resources, script, text, sight);
-    region.join(zone.into_part());
-    (shown, region)
-}
-
-/// The same of an application without resources.
-fn show_script(
-    alloc: Global,
-    region: Region,
-    script: &Script,
-    text: &[u8],
-    sight: Sight,
-) -> (Result<Vec<u8>, AllocError>, Region)
-    requires home { region.out ≡ [] }
-    requires even { length region.bytes % 16 ≡ 0 }
-    requires low { LEAST_ZONE ≤ length region.bytes }
-    requires high { length region.bytes ≤ GREATEST_ZONE }
-    ensures shown { IfOk result.0 (λ out. out.items
-        ≡ sight_text sight own (length region.bytes) script.now text.now) }
-    ensures home { result.1.out ≡ [] }
-{
-    let resources = match own_resources(alloc) {
-        Ok(resources) => resources,
-        Err(fault) => return (Err(fault), region),
-    };
-    let (shown, region) = show_in_region(alloc, region, resources, script, text, sight);
-    match shown {
-        Ok(out) => (Ok(out), region),
-        Err(fault) => (Err(fault), region),
     }
 }
 

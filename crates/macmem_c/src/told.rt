@@ -1,9 +1,7 @@
 //! The calls of a script in words.
 
-ghost use Rattle.std.specs.Prelude.{◌≡◌, ◌≤◌, ◌%◌, [], length, IfOk, IfErr};
+ghost use Rattle.std.specs.Prelude.{◌≡◌, ◌≤◌, ◌%◌, IfOk, IfErr};
 ghost use Rattle.block_store.specs.declared.measures.TheConstants.{LEAST_ZONE, GREATEST_ZONE};
-ghost use Rattle.applications.specs.Trying.{own_resources as own};
-ghost use Rattle.zone_replay.specs.Words.{telling_text};
 ghost use Rattle.macmem_c.specs.Codes.{paramErr};
 ghost use Rattle.macmem_c.specs.Handed.{Hands};
 ghost use Rattle.macmem_c.specs.Made.{IsZoneSize, NoZoneSize};
@@ -15,13 +13,10 @@ use crate::faults::Fault;
 use crate::replaying::NO_MEMORY;
 use crate::scripts::hand_over_script;
 use crate::sizes::is_zone_size;
-use applications::own_resources;
 use raw_region::Region;
-use raw_zone::RawZone;
-use res_calls::Resources;
 use script_text::{Script, ScriptFault, read_script};
-use std::alloc::{AllocError, Global};
-use zone_replay::{Telling, steps_at, tell};
+use std::alloc::Global;
+use zone_replay::{Telling, steps_at, tell_script};
 
 /// Returns how much of the transcript is told: the calls from a line to another.
 fn telling_of(from: usize, to: usize, script: &Script) -> Telling
@@ -29,63 +24,6 @@ fn telling_of(from: usize, to: usize, script: &Script) -> Telling
 {
     let before = from.saturating_sub(1);
     Telling::Steps(steps_at(Some(before), script), steps_at(Some(to), script))
-}
-
-/// Runs a script in a partition that fills a region, whatever the region's bytes were. Returns so
-/// much of its transcript in words, and the region. `text` is the text of the script.
-///
-/// # Errors
-///
-/// The host is out of memory.
-fn tell_in_region(
-    alloc: Global,
-    region: Region,
-    resources: Resources,
-    script: &Script,
-    text: &[u8],
-    telling: Telling,
-) -> (Result<Vec<u8>, AllocError>, Region)
-    requires home { region.out ≡ [] }
-    requires even { length region.bytes % 16 ≡ 0 }
-    requires low { LEAST_ZONE ≤ length region.bytes }
-    requires high { length region.bytes ≤ GREATEST_ZONE }
-    ensures told { IfOk result.0 (λ out. out.items
-        ≡ telling_text telling resources (length region.bytes) script.now text.now) }
-    ensures home { result.1.out ≡ [] }
-{
-    let mut region = region;
-    let len = region.len();
-    let zone = RawZone::new(alloc, region.cut(0, len));
-    let (told, zone) = tell(alloc, zone, resources, script, text, telling);
-    region.join(zone.into_part());
-    (told, region)
-}
-
-/// The same of an application without resources.
-fn tell_script(
-    alloc: Global,
-    region: Region,
-    script: &Script,
-    text: &[u8],
-    telling: Telling,
-) -> (Result<Vec<u8>, AllocError>, Region)
-    requires home { region.out ≡ [] }
-    requires even { length region.bytes % 16 ≡ 0 }
-    requires low { LEAST_ZONE ≤ length region.bytes }
-    requires high { length region.bytes ≤ GREATEST_ZONE }
-    ensures told { IfOk result.0 (λ out. out.items
-        ≡ telling_text telling own (length region.bytes) script.now text.now) }
-    ensures home { result.1.out ≡ [] }
-{
-    let resources = match own_resources(alloc) {
-        Ok(resources) => resources,
-        Err(fault) => return (Err(fault), region),
-    };
-    let (told, region) = tell_in_region(alloc, region, resources, script, text, telling);
-    match told {
-        Ok(out) => (Ok(out), region),
-        Err(fault) => (Err(fault), region),
-    }
 }
 
 /// Runs a script in a fresh partition, and returns its calls from a line to another in words.

@@ -1,9 +1,10 @@
 -- The names that the proofs of this library cite of others and of its specs, passed on from one place. Declares nothing.
-pub use Rattle.memory_windows.proofs.Ordered.{below_cond, order-from}
+pub use Rattle.memory_windows.proofs.Ordered.{below_cond, contains-counted, length-taken_out, one-itself, order-from}
 pub use Rattle.memory_windows.proofs.Pieces.{drop-written_above, piece-written_below}
 pub use Rattle.memory_windows.proofs.Written.{written-before, written-then}
-pub use Rattle.memory_windows.specs.Windows.{InOrder, IsApart, is_window, window, with_window, without_window}
+pub use Rattle.memory_windows.specs.Windows.{InOrder, IsApart, is_window, put_in, taken_out, window, with_window, without_window}
 pub use Rattle.memory_windows.specs.Writes.{written}
+pub use Rattle.memory_windows.specs.declared.Window.{Window}
 pub use Rattle.plain_laws.proofs.Mapped.{prefix_len-map}
 pub use Rattle.raw_region.specs.Gaps.{Beside, EndsFit, Fits, IsCut, IsGlued, IsLaid, IsStart, back, before, bytes_of, front, gap_ends_by}
 pub use Rattle.raw_region.specs.Gaps.{gap_is, joined, middle, window_of, windows_of}
@@ -23,7 +24,7 @@ pub use Rattle.std.proofs.alloc.Calls.{Goes-blank}
 pub use Rattle.std.proofs.lemmas.Bool.{and_parts, eq-eqb, eqb-true, leb-false, leb-true, ne_eqb, not-false, not_from_false}
 pub use Rattle.std.proofs.lemmas.List.{drop-drop, drop-map, drop-set-lt, drop-take, drop_more, get_or-drop, get_or-take, get_or_append_left}
 pub use Rattle.std.proofs.lemmas.List.{get_or_default, get_or_read_under, length-drop, length-map, length-replicate, length-take-le}
-pub use Rattle.std.proofs.lemmas.List.{map-append, set-append_left, take-map, take-take, take_more, take_more_set, with_items_is}
+pub use Rattle.std.proofs.lemmas.List.{map-append, nil_from_length, set-append_left, take-map, take-take, take_more, take_more_set, with_items_is}
 pub use Rattle.std.proofs.lemmas.List.Elements.{All-head, All-tail}
 pub use Rattle.std.proofs.lemmas.List.Sums.{prefix_len-le-length, prefix_len_stops}
 pub use Rattle.std.proofs.raw_atomic.Walks.{proved_at}

@@ -11,3 +11,4 @@ pub mod Moving
 pub mod Opening
 pub mod Runs
 pub mod Steps
+pub mod WholeWindow

@@ -1,5 +1,6 @@
 -- The names that the proofs of this library cite of others and of its specs, passed on from one place. Declares nothing.
-pub use Rattle.applications.proofs.Elsewhere.{glance_elsewhere, glances-elsewhere, launched-elsewhere, launched_course, step-elsewhere}
+pub use Rattle.applications.proofs.Elsewhere.{glance_elsewhere, glances-elsewhere, launched-elsewhere, launched_course, sizes-fresh}
+pub use Rattle.applications.proofs.Elsewhere.{step-elsewhere}
 pub use Rattle.applications.proofs.Quits.{end_if-elsewhere, ending-told, launched-lies}
 pub use Rattle.applications.proofs.Rounds.{over-of}
 pub use Rattle.applications.specs.Alone.{ending, first_steps}
@@ -12,13 +13,15 @@ pub use Rattle.applications.specs.Step.{Course, course_of, joined, step}
 pub use Rattle.applications.specs.Trying.{Blocks, Running, launched_with, nowhere}
 pub use Rattle.applications.specs.declared.quitting.Exit.{Exit}
 pub use Rattle.block_store.proofs.Renamed.Renaming.{total-rename}
-pub use Rattle.block_store.specs.Block.{Block, Free, Masters, Nonrelocatable, Relocatable, no_flags, rename, rename_block, sizes, total}
+pub use Rattle.block_store.specs.Block.{Block, Free, Masters, Nonrelocatable, Relocatable, fresh, no_flags, rename, rename_block, sizes}
+pub use Rattle.block_store.specs.Block.{total}
 pub use Rattle.block_store.specs.Compact.{Placed, largest}
 pub use Rattle.block_store.specs.Rest.{Site}
 pub use Rattle.block_store.specs.Run.{runs}
 pub use Rattle.block_store.specs.Seen.{seen}
 pub use Rattle.block_store.specs.Slot.{Slot}
 pub use Rattle.block_store.specs.declared.measures.TheConstants.{MASTERS_SIZE}
+pub use Rattle.raw_region.proofs.WholeWindow.{whole_home, whole_there}
 pub use Rattle.heap_calls.proofs.Numbering.Largest.{largest_free-rename, largest_run-rename, runs-rename}
 pub use Rattle.heap_calls.specs.Answer.{silent}
 pub use Rattle.heap_calls.specs.Busy.{pointer_barred, unless_silent}
@@ -32,6 +35,7 @@ pub use Rattle.mac_words.specs.Size.{padded}
 pub use Rattle.mac_words.specs.declared.code.OsErr.{OsErr}
 pub use Rattle.mac_words.specs.declared.name.Label.{Label}
 pub use Rattle.mac_words.specs.declared.reply.Reply.{Reply}
+pub use Rattle.raw_zone.specs.Parted.{zone_of}
 pub use Rattle.res_calls.specs.Files.{Resources}
 pub use Rattle.res_calls.specs.View.{view_open}
 pub use Rattle.res_map.specs.Map.{Reference, has_handle}
@@ -81,8 +85,9 @@ pub use Rattle.zone_replay.specs.Inside.{unless_ended, view_try}
 pub use Rattle.zone_replay.specs.Known.{entered, first_of, given, name_of, named_by, owned, owner, owner_in, owner_of, tag, tag_by}
 pub use Rattle.zone_replay.specs.Moments.{moment, moments_behind, moments_of, step_moment, words_after}
 pub use Rattle.zone_replay.specs.Shown.{block_lines, content_in, lines_shown, listing_of, unless_barred, zone_lines, zone_shown}
-pub use Rattle.zone_replay.specs.Words.{end_told_in, standing, stands_for_handle, step_told_in, steps_told, then_told, told_alone}
-pub use Rattle.zone_replay.specs.Words.{told_between}
+pub use Rattle.zone_replay.specs.Sight.{sight_text}
+pub use Rattle.zone_replay.specs.Words.{end_told_in, standing, stands_for_handle, step_told_in, steps_told, telling_text, then_told}
+pub use Rattle.zone_replay.specs.Words.{told_alone, told_between}
 pub use Rattle.zone_replay.specs.declared.form.Details.{Details}
 pub use Rattle.zone_replay.specs.declared.form.Form.{Form}
 pub use Rattle.zone_replay.specs.declared.moments.Strips.{Strips}

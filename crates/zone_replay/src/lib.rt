@@ -4,6 +4,7 @@
 
 mod behind;
 mod form;
+mod in_region;
 mod inside;
 mod known;
 mod moments;
@@ -15,6 +16,7 @@ mod words;
 
 pub use behind::{show_behind, steps_at};
 pub use form::{BlockName, Details, Form, Only};
+pub use in_region::{show_in_region, show_script, tell_in_region, tell_script};
 pub use moments::{Strips, show_moments};
 pub use shown::show_zone;
 pub use sight::{Sight, show};

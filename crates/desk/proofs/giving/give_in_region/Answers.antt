@@ -1,6 +1,7 @@
 use Rattle.desk.proofs.Cited.{◌≡◌, ◌∙◌, ℕ, ap, sym, subst, length, arith, IfOk, zone_of, fresh, sizes, Site, alone, heap_alone, sizes-fresh}
 use Rattle.applications.specs.Alone as gives
-use Rattle.desk.proofs.WholeRegion.{whole_home, whole_laid, whole_lies, whole_there}
+use Rattle.desk.proofs.WholeRegion.{whole_laid, whole_lies}
+use Rattle.desk.proofs.Cited.{whole_home, whole_there}
 use Rattle.desk.proofs.giving.give_in_region.Goals as goal
 
 -- the zone is fresh, and fills the region
