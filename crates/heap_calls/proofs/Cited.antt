@@ -1,5 +1,5 @@
 -- The names that the proofs of this library cite of others and of its specs, passed on from one place. Declares nothing.
-pub use Rattle.block_store.proofs.Content.Resizing.{is_relocatable-resized, length-resized, on_ok, size-resized}
+pub use Rattle.block_store.proofs.Content.Resizing.{is_relocatable-resized, length-resized, size-resized}
 pub use Rattle.block_store.proofs.Nonrelocatable.Counts.{has-counts, is_nonrelocatable-content, is_nonrelocatable-flags}
 pub use Rattle.block_store.proofs.Nonrelocatable.Counts.{is_nonrelocatable-resized, not_nonrelocatable-other}
 pub use Rattle.block_store.proofs.Nonrelocatable.Counts.{not_nonrelocatable-relocatable, not_nonrelocatable-room}
@@ -95,16 +95,15 @@ pub use Rattle.heap_calls.specs.FewSearches.{SearchesFew}
 pub use Rattle.heap_calls.specs.Gone.{Gone, Hears, IsIdle, Rests, Tells, TellsNothing, all_gone, block_gone, copy_slot_gone, found_gone}
 pub use Rattle.heap_calls.specs.Gone.{gone, gone_of, gone_unless, made_gone, purge_mem_gone, ready_gone, refill_gone, room_gone, slot_gone}
 pub use Rattle.heap_calls.specs.History.{after_calls}
-pub use Rattle.heap_calls.specs.Inner.Appending.{bytes_of, length_of, lengthened, size_for}
+pub use Rattle.heap_calls.specs.Inner.Appending.{bytes_of, length_of, seek_longer, size_for}
 pub use Rattle.heap_calls.specs.Inner.Base.{IsBase, IsBaseAt, base, base_searches}
 pub use Rattle.heap_calls.specs.Inner.Copied.{IsCopied, IsCopy}
 pub use Rattle.heap_calls.specs.Inner.Filling.{IsFilling, IsFresh, IsNext, IsRefilling, IsReplaced, IsSizeOf, owned_by, refilled}
 pub use Rattle.heap_calls.specs.Inner.Filling.{refilled_moves, refilled_searches, wanted_as}
 pub use Rattle.heap_calls.specs.Inner.Given.{FindsBlock, IsAnswer, KeepsMoves, KeepsNames, found, seen_flags, seen_in_run, seen_mover}
 pub use Rattle.heap_calls.specs.Inner.Given.{slot_at, slot_of}
-pub use Rattle.heap_calls.specs.Inner.Growing.{CanGrowUp, FindsGrowth, GrewUp, IsToGrow, SameBlocks, Spares, Stays, block_of, fitted}
-pub use Rattle.heap_calls.specs.Inner.Growing.{growing, growing_searches, grown}
-pub use Rattle.heap_calls.specs.Inner.GrowingInPlace.{FindsPurges, above_taken, enough, made_zone, pushed_up, room_at, seen_size}
+pub use Rattle.heap_calls.specs.Inner.Growing.{CanGrowUp, FindsGrowth, GrewUp, IsToGrow, SameBlocks, Spares, Stays, block_of, grown}
+pub use Rattle.heap_calls.specs.Inner.GrowingInPlace.{above_taken, pushed_up, room_at, seen_size}
 pub use Rattle.heap_calls.specs.Inner.Halting.{Halts}
 pub use Rattle.heap_calls.specs.Inner.Least.{IsMost, enough_above}
 pub use Rattle.heap_calls.specs.Inner.Loose.{FindsLoose, IsRenewal, bits_of, flags_with, loose, loose_at, renewed, renewed_moves}
@@ -121,9 +120,10 @@ pub use Rattle.heap_calls.specs.Inner.Packed.{KeepsAllButPlaced, Packs, content_
 pub use Rattle.heap_calls.specs.Inner.Pointing.{FindsHeld, target, target_at, target_of}
 pub use Rattle.heap_calls.specs.Inner.Reaching.{Reaches, sized_reply}
 pub use Rattle.heap_calls.specs.Inner.Search.{FindsPlacement, IsAt, placement, placement_searches, tries}
-pub use Rattle.heap_calls.specs.Inner.Telling.{IsNumberOf, LeavesSlot, OpensNone, after_slot_gone, base_gone, blocks_from, fitted_gone}
-pub use Rattle.heap_calls.specs.Inner.Telling.{fresh_gone, from_spot, gone_from, gone_named, grown_gone, new_gone, placement_gone}
-pub use Rattle.heap_calls.specs.Inner.Telling.{pointer_gone, renewed_gone, still_gone, try_gone, zone_slot_gone}
+pub use Rattle.heap_calls.specs.Inner.Telling.{IsNumberOf, LeavesSlot, OpensNone, after_slot_gone, base_gone, blocks_from, fresh_gone}
+pub use Rattle.heap_calls.specs.Inner.Telling.{from_spot, gone_from, gone_named, new_gone, placement_gone, pointer_gone, renewed_gone}
+pub use Rattle.heap_calls.specs.Inner.Telling.{zone_slot_gone}
+pub use Rattle.heap_calls.specs.Inner.Went.{Went, at_spot, seek_growth, seek_sized, seek_still, told_along, told_named}
 pub use Rattle.heap_calls.specs.Inside.{cast, cast_as, for_known, guarded_as, has_block, held_high, inside, is_owned, loosened, new_all}
 pub use Rattle.heap_calls.specs.Inside.{new_empty, new_empty_inside, new_filled, new_inside, number_if, owned_as, refill, refill_inside}
 pub use Rattle.heap_calls.specs.Inside.{refill_moves, refill_searches, released, released_as, resource_role}
@@ -131,8 +131,7 @@ pub use Rattle.heap_calls.specs.LastPut.{Holds, put_by}
 pub use Rattle.heap_calls.specs.Left.{Stops}
 pub use Rattle.heap_calls.specs.Locked.{OneBlockEach, StaysLocked, is_locked, locked_place, releases}
 pub use Rattle.heap_calls.specs.Lowering.{CompactCountsLowered, CompactRaisesNone, MaxCountsLowered, MaxRaisesNone}
-pub use Rattle.heap_calls.specs.Moves.{all_moves, as_it_is, compact_mem_moves, grow_moves, growth_moves, max_mem_moves, mover_moves}
-pub use Rattle.heap_calls.specs.Moves.{new_handle_moves, place_moves, put_moves, room_moves, run_moves, size_moves}
+pub use Rattle.heap_calls.specs.Moves.{all_moves, compact_mem_moves, max_mem_moves, new_handle_moves, put_moves, room_moves}
 pub use Rattle.heap_calls.specs.Munging.{Like, Many, Target, begins, behind, first_from, found_at, found_in, munged, occurrence}
 pub use Rattle.heap_calls.specs.Owned.{resource_meant, resource_only, resource_role_at}
 pub use Rattle.heap_calls.specs.Path.{Cast, NewEmpty, NewFilled, Refill, Release, Step, gone_at, left_zone, put_reads, read_again, read_by}
@@ -145,12 +144,11 @@ pub use Rattle.heap_calls.specs.Purging.{h_set_state, is_loose, is_resource, max
 pub use Rattle.heap_calls.specs.Purging.{reallocated}
 pub use Rattle.heap_calls.specs.Refused.{BarredLeaves, LeavesMasters, RefusedLeaves, code_left, refused_zone, zone_behind}
 pub use Rattle.heap_calls.specs.Rows.{Done, answer_made, append, changed, doing, doing_silently, hand_and_hand, hand_to_hand, heap_after}
-pub use Rattle.heap_calls.specs.Rows.{is_unused, moves_made, munger, new_empty_handle, new_handle, new_pointer, next_block}
-pub use Rattle.heap_calls.specs.Rows.{pointer_and_hand, pointer_to_x_hand, purged_by, purges_made, reallocate_handle, reply_of, reserve_mem}
-pub use Rattle.heap_calls.specs.Rows.{room_for, searches_made, set_handle_size, set_pointer_size, told_blocks, work}
-pub use Rattle.heap_calls.specs.Searches.{block_searches, compact_mem_searches, growth_searches, in_place_searches}
-pub use Rattle.heap_calls.specs.Searches.{new_empty_handle_searches, new_handle_searches, purge_mem_searches, ready_searches, resized_at}
-pub use Rattle.heap_calls.specs.Searches.{room_searches, size_searches, slot_searches}
+pub use Rattle.heap_calls.specs.Rows.{is_unused, moves_made, new_empty_handle, new_handle, new_pointer, next_block, pointer_and_hand}
+pub use Rattle.heap_calls.specs.Rows.{pointer_to_x_hand, purged_by, purges_made, reallocate_handle, reply_of, reserve_mem, room_for}
+pub use Rattle.heap_calls.specs.Rows.{searches_made, set_handle_size, set_pointer_size, told_blocks, work}
+pub use Rattle.heap_calls.specs.Searches.{block_searches, compact_mem_searches, new_empty_handle_searches, new_handle_searches}
+pub use Rattle.heap_calls.specs.Searches.{purge_mem_searches, ready_searches, room_searches, slot_searches}
 pub use Rattle.heap_calls.specs.Shown.{Shows}
 pub use Rattle.heap_calls.specs.Slots.{if_ready, made, more_masters, slotted, slotted_zone}
 pub use Rattle.heap_calls.specs.Standing.{NextIsNew, StaysNonrelocatable, disposes, pointer_place}
@@ -192,7 +190,7 @@ pub use Rattle.moves.proofs.Searches.{seek-rename, size_at-rename, slot-rename, 
 pub use Rattle.moves.proofs.Steady.{steady}
 pub use Rattle.moves.specs.Moves.{Base, Cut, Did, Drop, Extend, Grow, Move, Purge, Push, Put, Search, Write, did, gone_above, gone_by}
 pub use Rattle.moves.specs.Moves.{growth_lowers, is_same, last_lowers, lowered_by, lowered_in, lowest_gone, moved, one, place_lowers}
-pub use Rattle.moves.specs.Moves.{pushed, rename_did, rename_move, rewritten, run_above, searches_by}
+pub use Rattle.moves.specs.Moves.{rename_did, rename_move, rewritten, run_above, searches_by}
 pub use Rattle.moves.specs.Seeking.{Sought, around, at_hand, if_fits, no_room, purges_for, rename_sought, seek, seek_in_place, seek_resized}
 pub use Rattle.moves.specs.Seeking.{seek_size, seek_slot, sought, then_seek}
 pub use Rattle.std.proofs.Common.{Bool, Err, List, None, Ok, OnOk, Option, Result, Some, [], ap, append-nil, append_assoc, arith, cond}

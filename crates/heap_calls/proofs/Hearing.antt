@@ -12,12 +12,16 @@ pub rests-still : {A : Type 0} (told waits : A → List Gone → Type 0) (listen
     → IsIdle told waits sink → Rests told waits listens sink sink
 rests-still told waits listens sink idle = record { idle = idle; same = refl }
 
+-- A sink that is told of no block is as it was.
+pub tells-none : {A : Type 0} (told : A → List Gone → Type 0) (more : List Gone) (old : A) → more ≡ []
+    → Tells told more old old
+tells-none told more old none before was = subst (told old) (sym (ap (λ l. before ++ l) none ∙ append-nil before)) was
+
 -- A sink hears nothing of a call that purges nothing and says nothing to it.
 pub hears-none : {A : Type 0} (told waits : A → List Gone → Type 0) (listens : A → Bool) (done : Type 0)
     (blocks : List Gone) (sink : A) → IsIdle told waits sink → blocks ≡ [] → Hears told waits listens done blocks sink sink
 hears-none told waits listens done blocks sink idle none = record {
-  tells = λ is on before was.
-      subst (told sink) (sym (ap (λ (l : List Gone). before ++ l) none ∙ append-nil before)) was;
+  tells = λ is on. tells-none told blocks sink none;
   rests = rests-still told waits listens sink idle;
 }
 

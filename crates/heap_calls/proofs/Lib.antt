@@ -10,13 +10,13 @@ pub mod Promises
 pub mod Tries
 pub mod Steps
 pub mod GoneBlocks
-pub mod GoneForSizes
 pub mod GonePlaces
 pub mod Hearing
 mod Exchanging
 mod Worked
 mod Same
 pub mod Rows
+pub mod Going
 pub mod Went
 pub mod Made
 pub mod Exchanged

@@ -1,3 +1,4 @@
+use Rattle.heap_calls.proofs.Cited.{Went}
 use Rattle.heap_calls.proofs.Cited.{◌≡◌, ℕ, ◌+◌, ◌-◌, ◌*◌, zero, suc, Bool, true, false, List, [], ◌∷◌, ◌++◌, length, map, replicate}
 use Rattle.heap_calls.proofs.Cited.{Option, Some, None, refl, sym, ◌∙◌, ap, cond, arith, is_some, inl, inr, option_map, unwrap_or}
 use Rattle.heap_calls.proofs.Cited.{false_from_ne_true, nat_tests, length-map, length-replicate, phys, padded, is_some-map, Flags, Block}
@@ -6,7 +7,7 @@ use Rattle.heap_calls.proofs.Cited.{place, least, filled, purge, count_of, put_i
 use Rattle.heap_calls.proofs.Cited.{IsRest, KeepsSlots, with_slot, counted, spared, opened, Sparing, Nothing, map-none, least-map, Put, did}
 use Rattle.heap_calls.proofs.Cited.{Sought, no_room, seek, seek_slot, then_seek, if_fits, rename_sought, Along, along-if, along-then}
 use Rattle.heap_calls.proofs.Cited.{along-seek, along-slot, Names, PathNames, seek-rename, slot-rename, then-rename, State, Memory, Plain}
-use Rattle.heap_calls.proofs.Cited.{Handle, used_slots, all_slots, nothing, place_moves, put_moves, Done, doing_silently, purges_made}
+use Rattle.heap_calls.proofs.Cited.{Handle, used_slots, all_slots, nothing, place_lowers, put_moves, Done, doing_silently, purges_made}
 use Rattle.heap_calls.proofs.Cited.{reply_of, is_unused, new_handle, new_empty_handle, new_inside, room_searches, Anchor, Log, IsFilling}
 use Rattle.heap_calls.proofs.Cited.{entered, number_of, fresh_block, HasNoRoom, IsPut, IsNewBlock, new_searches, place_searches}
 use Rattle.heap_calls.proofs.Cited.{ready_count, HasMore, TakesSlot, zone_slotted, zone_searches, state_of, memory_of, name_of}
@@ -22,7 +23,7 @@ use Rattle.heap_calls.proofs.Same.Agreeing.{on_some}
 use Rattle.heap_calls.proofs.Same.NewBlocks.{slot_after, slot_looks, slot-agrees, next, new-agrees, filling}
 use Rattle.heap_calls.proofs.Same.NewBlocks.{filled-same, new_empty_handle-same}
 use Rattle.heap_calls.proofs.Same.Silent.{filled-silent}
-use Rattle.heap_calls.proofs.Went.{Follows, follows-none, given-is, path-names, seek-any, fits-rename}
+use Rattle.heap_calls.proofs.Went.{follows-none, given-is, path-names, seek-any, fits-rename}
 
 -- A call that makes a handle: what its path does is what the store did.
 
@@ -120,7 +121,7 @@ module _ (sparing : Sparing) (closed : (z : List Block) → opened sparing z ≡
 
     pub taken-follows : (slot : Option ℕ) (zone' : List Block) (rest' : Rest) (n : ℕ)
         → TakesSlot sparing zone rest slot zone' rest' → n ≡ zone_searches sparing rest.unused zone
-        → rest'.moves ≡ rest.moves → Follows (spared sparing) zone (seek_slot unused (spared sparing) zone)
+        → rest'.moves ≡ rest.moves → Went (spared sparing) zone (seek_slot unused (spared sparing) zone)
         (is_some slot) n zone' rest rest'
     taken-follows slot zone' rest' n took looks still =
         let a = slot-agrees 0 (spared sparing) unused zone in
@@ -194,10 +195,10 @@ module _ (sparing : Sparing) (closed : (z : List Block) → opened sparing z ≡
         place-lowers : (k : ℕ) (z : List Block)
             → placement_moves (padded n) sparing z ≡ put_moves (new k) (spared sparing) z
         place-lowers k z =
-            ap (λ j. place_moves (padded n) (purge (j - 1) (spared sparing) (opened sparing z))) (place-looks k z)
-            ∙ ap (λ z'. place_moves (padded n) (purge (room_searches (put_in_place (new k)) (spared sparing) z - 1)
+            ap (λ j. place_lowers (padded n) (purge (j - 1) (spared sparing) (opened sparing z))) (place-looks k z)
+            ∙ ap (λ z'. place_lowers (padded n) (purge (room_searches (put_in_place (new k)) (spared sparing) z - 1)
             (spared sparing) z')) (closed z)
-            ∙ ap (λ m. place_moves (padded m) (purge (room_searches (put_in_place (new k)) (spared sparing) z - 1)
+            ∙ ap (λ m. place_lowers (padded m) (purge (room_searches (put_in_place (new k)) (spared sparing) z - 1)
             (spared sparing) z)) (sym long)
 
         ready-as : (f g : List Block → ℕ) → ((z : List Block) → f z ≡ g z) → (o : Option (List Block))
@@ -207,7 +208,7 @@ module _ (sparing : Sparing) (closed : (z : List Block) → opened sparing z ≡
 
         follows : (k : ℕ) (found : Bool) → Ends k found → (m : ℕ) → m ≡ new_searches sparing n rest.unused zone
             → Packs (new_moves sparing n rest.unused zone) rest rest'
-            → Follows (spared sparing) zone (seek_new (spared sparing) unused (new k) fits zone) found m zone' rest rest'
+            → Went (spared sparing) zone (seek_new (spared sparing) unused (new k) fits zone) found m zone' rest rest'
         follows k found ends m looks packs =
             let a = new-agrees 0 (spared sparing) unused (new k) (omega arith) fits zone in
             record {
@@ -226,13 +227,13 @@ module _ (sparing : Sparing) (closed : (z : List Block) → opened sparing z ≡
 
         pub unmade-follows : IsNewBlock sparing n zone rest None zone' rest' → (m : ℕ)
             → m ≡ new_searches sparing n rest.unused zone → Packs (new_moves sparing n rest.unused zone) rest rest'
-            → Follows (spared sparing) zone (seek_new (spared sparing) unused (new 0) fits zone) false m zone' rest rest'
+            → Went (spared sparing) zone (seek_new (spared sparing) unused (new 0) fits zone) false m zone' rest rest'
         unmade-follows h = follows 0 false (none-ends 0 h)
 
         pub made-follows : (slot : ℕ) (made : List Block) (mid : Rest) (p : IsPut sparing n slot zone rest made mid)
             → room (put_in_place (new slot)) (spared sparing) p.ready ≡ Some zone' → (m : ℕ)
             → m ≡ new_searches sparing n rest.unused zone → Packs (new_moves sparing n rest.unused zone) rest rest'
-            → Follows (spared sparing) zone (seek_new (spared sparing) unused (new slot) fits zone) true m zone' rest rest'
+            → Went (spared sparing) zone (seek_new (spared sparing) unused (new slot) fits zone) true m zone' rest rest'
         made-follows slot made mid p put = follows slot true (put-ends slot p.ready p.slotted p.fits put)
 
 -- the path of a row, by names
@@ -359,7 +360,7 @@ module _ (zone : List Block) (rest : Rest) (es : List Anchor) (masters : rest.al
             )
 
             answers : (st : Sought) → PathNames f g st.path → call s ≡ given (Handle Plain) p (rename_sought f g st) s
-                → Follows q zone st (is_some slot) m zone' rest rest' → Answers
+                → Went q zone st (is_some slot) m zone' rest rest' → Answers
             answers st names row did = given-is zone rest es log value is zone' rest' call (Handle Plain) p q
                 (entered slot es) spares st names (kept slot slotted) row (is_some slot) m did (named slot slotted)
                 (lies slot slotted) ∙ ap (λ r. (
@@ -374,7 +375,7 @@ module _ (zone : List Block) (rest : Rest) (es : List Anchor) (masters : rest.al
 
             -- NewEmptyHandle
             pub empty-is : call s ≡ given (Handle Plain) p (seek_slot (is_unused s) p s.zone) s
-                → Follows q zone (seek_slot (some_left rest.unused) q zone) (is_some slot) m zone' rest rest' → Answers
+                → Went q zone (seek_slot (some_left rest.unused) q zone) (is_some slot) m zone' rest rest' → Answers
             empty-is row did = answers (seek_slot (some_left rest.unused) q zone)
                 (slot-names f g p q spares (some_left rest.unused) zone)
                 (row ∙ ap (λ r. given (Handle Plain) p r s) (ap (λ u. seek_slot u p s.zone) unused-is
@@ -410,7 +411,7 @@ module _ (zone : List Block) (rest : Rest) (es : List Anchor) (masters : rest.al
                         t.was t.slots.slots t.one t.slots.all (none-there k t))) ∙ renamed
 
                 pub made-is : call s ≡ given (Handle Plain) p (seek_new p (is_unused s) (next_new (length s.names)) fits s.zone) s
-                    → Follows q zone stored (is_some slot) m zone' rest rest' → Answers
+                    → Went q zone stored (is_some slot) m zone' rest rest' → Answers
                 made-is row did = answers stored (new-names f g p q spares (some_left rest.unused) (next_new (unwrap_or slot 0))
                     fits zone)
                     (row ∙ ap (λ r. given (Handle Plain) p r s)
@@ -444,7 +445,7 @@ module _ (zone : List Block) (rest : Rest) (es : List Anchor) (masters : rest.al
             (new-slotted Nothing n slot zone zone' rest rest' made) (λ b. refl) no_flags (replicate n 0) (is_some (phys n))
             refl (follows_by slot made)
           where
-            follows_by : (slot : Option ℕ) → IsNewBlock Nothing n zone rest slot zone' rest' → Follows nothing zone
+            follows_by : (slot : Option ℕ) → IsNewBlock Nothing n zone rest slot zone' rest' → Went nothing zone
                 (seek_new nothing (some_left rest.unused) (fresh_block (unwrap_or slot 0) n) (is_some (phys n)) zone)
                 (is_some slot) m zone' rest rest'
             follows_by None h = unmade-follows Nothing (λ z. refl) zone rest no_flags (replicate n 0) n
@@ -462,7 +463,7 @@ module _ (zone : List Block) (rest : Rest) (es : List Anchor) (masters : rest.al
             (filled-slotted flags x slot zone zone' rest rest' made) (λ b. refl) flags x (is_some (phys (length x)))
             refl (follows_by slot made)
           where
-            follows_by : (slot : Option ℕ) → IsFilling flags x zone rest slot zone' rest' → Follows nothing zone
+            follows_by : (slot : Option ℕ) → IsFilling flags x zone rest slot zone' rest' → Went nothing zone
                 (seek_new nothing (some_left rest.unused) (Relocatable (unwrap_or slot 0) flags x)
                 (is_some (phys (length x))) zone) (is_some slot) m zone' rest rest'
             follows_by None h = unmade-follows Nothing (λ z. refl) zone rest flags x (length x) refl

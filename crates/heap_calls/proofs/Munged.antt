@@ -3,7 +3,7 @@ use Rattle.heap_calls.proofs.Cited.{arith, Option, Some, Result, Ok, Err, length
 use Rattle.heap_calls.proofs.Cited.{is_relocatable, content_of, resized, size, sizes, counted, spot, length-resized, counted-none}
 use Rattle.heap_calls.proofs.Cited.{spot-passes, spot-is, total-append, GREATEST_ZONE, Cut, Write, Did, did, Sought, around, State, Memory}
 use Rattle.heap_calls.proofs.Cited.{Held, look_up, IsSizeOf, IsAnswer, KeepsNames, HasBytes, exchanged, shifted, behind, doing_silently}
-use Rattle.heap_calls.proofs.Cited.{heap_after, munger, purges_made, purged_by, told_blocks, work, Occurrence, Refusal, Code, HostMemory}
+use Rattle.heap_calls.proofs.Cited.{Occurrence, Refusal, Code, HostMemory}
 use Rattle.heap_calls.specs.Rows as rows
 use Rattle.heap_calls.proofs.Exchanged.{exchanged-grown, exchanged-cut, grown-held, shifted-is, left_with, cutting}
 use Rattle.heap_calls.proofs.Exchanged.{size-held}

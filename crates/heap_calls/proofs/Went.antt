@@ -6,7 +6,7 @@ use Rattle.heap_calls.proofs.Cited.{rename_sought, Along, along-seek, Names, Pat
 use Rattle.heap_calls.proofs.Cited.{nothing, Done, work, doing_silently, purges_made, reply_of, changed, room_for, heap_after, purged_by}
 use Rattle.heap_calls.proofs.Cited.{told_blocks, reserve_mem, Anchor, Log, base, base_searches, IsBaseAt, IsMade, state_of, memory_of}
 use Rattle.heap_calls.proofs.Cited.{name_of, handle_number, pointer_number, Agrees, KeepsNonrelocatable, KeepsAllButPlaced, sized_reply}
-use Rattle.heap_calls.proofs.Cited.{base_gone}
+use Rattle.heap_calls.proofs.Cited.{base_gone, Went}
 use Rattle.block_store.specs.declared.sparing.Sparing.TheVariants as sparing
 use Rattle.moves.specs.Moves as moves
 use Rattle.heap_calls.specs.Rows.{given, refused}
@@ -56,18 +56,11 @@ doing-is {T = T} call value zone zone' rest rest' es es' log log' r d is worked 
     } in
     subst P is (done ∙ ap (λ (m : Memory). (r, m)) kept)
 
--- what a store did is what a path does; so many searches were made
-pub record Follows (spared : Block → Bool) (zone : List Block) (p : Sought) (found : Bool) (searches : ℕ)
-    (zone' : List Block) (rest rest' : Rest) : Type 0 where
-  pub finds : found ≡ p.found
-  pub leaves : zone' ≡ (did spared p.path zone).zone
-  pub looks : searches ≡ (did spared p.path zone).searches
-  pub lowers : rest'.moves ≡ counted rest.moves (did spared p.path zone).lowered
-
+-- where nothing is moved down
 pub follows-none : {spared : Block → Bool} {zone zone' : List Block} {p : Sought} {found : Bool} {searches : ℕ}
     {rest rest' : Rest} → found ≡ p.found → zone' ≡ (did spared p.path zone).zone
     → searches ≡ (did spared p.path zone).searches → 0 ≡ (did spared p.path zone).lowered → rest'.moves ≡ rest.moves
-    → Follows spared zone p found searches zone' rest rest'
+    → Went spared zone p found searches zone' rest rest'
 follows-none {rest = rest} finds leaves looks none still = record {
   finds = finds;
   leaves = leaves;
@@ -171,7 +164,7 @@ module _ (zone : List Block) (rest : Rest) (es : List Anchor) (log : Log) (value
     pub changed-is : (call : State → Done (Unit {0})) (spared spared' : Block → Bool)
         → ((b : Block) → spared (rename_block f g b) ≡ spared' b) → (p : Sought) → PathNames f g p.path
         → call s ≡ changed spared (rename_sought f g p) s → (found : Bool) (n : ℕ)
-        → Follows spared' zone p found n zone' rest rest' → Stays → doing_silently call value
+        → Went spared' zone p found n zone' rest rest' → Stays → doing_silently call value
         ≡ (sized_reply found, memory_of zone' rest' es (record log { searches = counted log.searches n }))
     changed-is call spared spared' spares p names row found n did stays =
         doing-is call value zone zone' rest rest' es es log (record log { searches = counted log.searches n })
@@ -198,7 +191,7 @@ module _ (zone : List Block) (rest : Rest) (es : List Anchor) (log : Log) (value
         → (p : Sought) → PathNames (handle_number es') (pointer_number es') p.path
         → rename (handle_number es') (pointer_number es') zone ≡ s.zone
         → call s ≡ given name spared (rename_sought (handle_number es') (pointer_number es') p) s → (found : Bool) (n : ℕ)
-        → Follows spared' zone p found n zone' rest rest'
+        → Went spared' zone p found n zone' rest rest'
         → map (name_of rest'.slots) es' ≡ cond found (s.names ++ name ∷ []) s.names → rest'.window ≡ rest.window
         → doing_silently call value
         ≡ (reply_of found (length es), memory_of zone' rest' es' (record log { searches = counted log.searches n }))

@@ -13,6 +13,7 @@ pub mod Packed
 pub mod Least
 pub mod SearchLaws
 pub mod Telling
+pub mod Went
 pub mod Halting
 pub mod Reaching
 pub mod Loose

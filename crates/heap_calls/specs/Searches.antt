@@ -1,11 +1,9 @@
-use Rattle.std.specs.Prelude.{ℕ, ◌+◌, Bool, Option, Some, None, List, length, replicate, is_some, nat_lt, nat_le}
+use Rattle.std.specs.Prelude.{ℕ, ◌+◌, Bool, Option, Some, None, List, length, replicate, is_some, nat_lt}
 use Rattle.std.specs.Prelude.{if◌then◌else◌}
 use Rattle.mac_words.specs.Size.{phys}
-use Rattle.block_store.specs.Block.{Block, Masters, Relocatable, size, is_mover}
-use Rattle.block_store.specs.Block.{no_flags, resized}
-use Rattle.block_store.specs.Run.{has_free, segments, runs}
-use Rattle.block_store.specs.Room.{Spot, spot, put_at_base, put_in_place, purge, count_of}
-use Rattle.block_store.specs.Grow.{growth, grow_up, grow_mover}
+use Rattle.block_store.specs.Block.{Block, Masters, Relocatable, no_flags}
+use Rattle.block_store.specs.Run.{runs}
+use Rattle.block_store.specs.Room.{put_at_base, put_in_place, purge, count_of}
 use Rattle.block_store.specs.Compact.{runs_settled, stretches}
 use Rattle.heap_calls.specs.State.{State, used_slots, all_slots}
 use Rattle.heap_calls.specs.Answer.{nothing}
@@ -44,30 +42,6 @@ new_handle_searches n s =
 -- The searches of NewEmptyHandle.
 abbrev pub new_empty_handle_searches : State → ℕ
 new_empty_handle_searches s = slot_searches nothing s
-
--- The searches for the growth of a nonrelocatable or locked block: one where the free block above it is large enough,
--- else one at each number of purges in the run above it.
-abbrev pub in_place_searches : (Block → Bool) → Block → Spot → ℕ
-in_place_searches spared new s =
-    if is_some (grow_up new s) then 1
-    else room_searches (λ run. if has_free (growth new s) run then Some run else None) spared (segments s.above).first
-
--- The searches where the block at a spot gets another size.
-abbrev pub growth_searches : (Block → Bool) → (Block → Bool) → Block → List Block → Option Spot → ℕ
-growth_searches test spared new zone None = 0
-growth_searches test spared new zone (Some s) =
-    if nat_le (size new) (size s.here) then 0
-    else (if is_mover s.here then room_searches (grow_mover test new) spared zone else in_place_searches spared new s)
-
--- The block at a spot, with n bytes of content.
-abbrev pub resized_at : ℕ → Option Spot → Block
-resized_at n None = Masters
-resized_at n (Some s) = resized n s.here
-
--- The searches where the block that passes a test gets n bytes of content.
-abbrev pub size_searches : (Block → Bool) → (Block → Bool) → ℕ → List Block → ℕ
-size_searches test spared n zone = if is_some (phys n) then growth_searches test spared (resized_at n (spot test zone))
-    zone (spot test zone) else 0
 
 -- The searches of CompactMem: one more than the runs with blocks that it compacts.
 abbrev pub compact_mem_searches : ℕ → State → ℕ

@@ -1,7 +1,7 @@
 //! Bytes appended to a handle's block.
 
-ghost use Rattle.std.specs.Prelude.{◌≡◌, ◌≢◌, ◌⊎◌, ◌≤◌, ◌+◌, ◌||◌, Some, Err, true, false, length};
-ghost use Rattle.std.specs.Prelude.{take, IsSome, IsSomeAnd, IsTrue, IsErr, IfOk, OnOk, OnErr};
+ghost use Rattle.std.specs.Prelude.{◌≡◌, ◌≢◌, ◌⊎◌, ◌≤◌, ◌+◌, ◌||◌, Some, Err, true, length};
+ghost use Rattle.std.specs.Prelude.{take, IsSome, IsSomeAnd, IsTrue, IsErr, IfOk, OnErr};
 ghost use Rattle.std.specs.Prelude.{IsOk, None};
 ghost use Rattle.block_store.specs.Block.{is_relocatable, content_of};
 ghost use Rattle.block_store.specs.Find.{FindsLowest};
@@ -9,20 +9,16 @@ ghost use Rattle.block_store.specs.Sparing.{spared};
 ghost use Rattle.block_store.specs.Rest.{IsRest, KeepsSlots};
 ghost use Rattle.block_store.specs.Room.{spot};
 ghost use Rattle.heap_calls.specs.Busy.{change_barred, both_barred, unless};
-ghost use Rattle.heap_calls.specs.Inner.Appending.{size_for, behind, lengthened, bytes_of};
+ghost use Rattle.heap_calls.specs.Inner.Appending.{size_for, behind, bytes_of, seek_longer};
 ghost use Rattle.heap_calls.specs.Inner.Appending.{length_of};
 ghost use Rattle.heap_calls.specs.Gone.{IsIdle, gone_unless};
 ghost use Rattle.heap_calls.specs.Rows.{hand_and_hand, pointer_and_hand, doing, doing_silently};
 ghost use Rattle.heap_calls.specs.Rows.{purges_made};
 ghost use Rattle.heap_calls.specs.Inner.Halting.{Halts};
 ghost use Rattle.heap_calls.specs.Inner.Given.{IsAnswer, KeepsNames};
-ghost use Rattle.heap_calls.specs.Inner.Growing.{Spares, Stays, fitted};
-ghost use Rattle.heap_calls.specs.Inner.GrowingInPlace.{made_zone};
-ghost use Rattle.heap_calls.specs.Moves.{size_moves};
+ghost use Rattle.heap_calls.specs.Inner.Growing.{Spares, Stays};
 ghost use Rattle.heap_calls.specs.Inner.Numbered.{KeepsNonrelocatable};
-ghost use Rattle.heap_calls.specs.Inner.Packed.{Packs};
-ghost use Rattle.heap_calls.specs.Inner.Telling.{fitted_gone};
-ghost use Rattle.heap_calls.specs.Searches.{size_searches};
+ghost use Rattle.heap_calls.specs.Inner.Went.{Went, seek_sized, told_along};
 ghost use Rattle.block_store.specs.declared.measures.TheConstants.{GREATEST_ZONE};
 ghost use Rattle.heap_calls.specs.Gone.{Hears};
 ghost use Rattle.heap_calls.specs.Left.{Stops};
@@ -201,20 +197,15 @@ fn lengthen<S: BlockStore, K: PurgeSink>(
     requires found { FindsLowest (is_relocatable slot) (S.zone store.old) (Some place) }
     requires len { len ≡ length_of slot (S.zone store.old) }
     requires small { len ≤ GREATEST_ZONE }
-    ensures zone { IfOk result (λ grown. fitted (is_relocatable slot) (spared sparing)
-        (length_of slot (S.zone store.old) + more) (S.zone store.old)
-        ≡ made_zone grown.done (S.zone store.new)) }
-    ensures full { IfOk result (λ grown. grown.done ≡ false → S.zone store.new ≡ S.zone store.old) }
-    ensures searches { IfOk result (λ grown. grown.searches ≡ size_searches (is_relocatable slot)
-        (spared sparing) (length_of slot (S.zone store.old) + more) (S.zone store.old)) }
+    ensures went { IfOk result (λ r. Went (spared sparing) (S.zone store.old)
+        (seek_sized (is_relocatable slot) (length_of slot (S.zone store.old) + more)
+        (spared sparing) (S.zone store.old))
+        r.done r.searches (S.zone store.new) (S.rest store.old) (S.rest store.new)) }
     ensures nonrelocatable { KeepsNonrelocatable (S.zone store.old) (S.zone store.new) }
     ensures rest { KeepsSlots (S.rest store.old) (S.rest store.new) }
-    ensures moves { OnOk result (Packs (size_moves (is_relocatable slot) (spared sparing)
-        (length_of slot (S.zone store.old) + more) (S.zone store.old)) (S.rest store.old)
-        (S.rest store.new)) }
-    ensures hears { Hears K.told K.waits K.listens (IsOk result)
-        (fitted_gone names.now (is_relocatable slot) sparing
-        (length_of slot (S.zone store.old) + more) (S.zone store.old)) sink.old sink.new }
+    ensures hears { Hears K.told K.waits K.listens (IsOk result) (told_along names.now
+        (spared sparing) (seek_sized (is_relocatable slot) (length_of slot (S.zone store.old)
+        + more) (spared sparing) (S.zone store.old)) (S.zone store.old)) sink.old sink.new }
     ensures halts { OnErr result (Halts S.TAKES_HOST K.told K.listens (S.zone store.old)
         (S.rest store.old) (S.zone store.new) (S.rest store.new) sink.old sink.new) }
 {
@@ -271,22 +262,14 @@ fn append_bytes<S: BlockStore, K: PurgeSink>(
 ) -> Result<Grown, AllocError>
     requires idle { IsIdle K.told K.waits sink.old }
     requires found { FindsLowest (is_relocatable slot) (S.zone store.old) (Some place) }
-    ensures zone { IfOk result (λ grown. lengthened (is_relocatable slot) slot
-        (length_of slot (S.zone store.old)) bytes.now (S.zone store.old)
-        ≡ made_zone grown.done (S.zone store.new)) }
-    ensures full { IfOk result (λ grown. grown.done ≡ false → S.zone store.new ≡ S.zone store.old) }
-    ensures searches { IfOk result (λ grown. grown.searches
-        ≡ size_searches (is_relocatable slot) (is_relocatable slot)
-        (length_of slot (S.zone store.old) + length bytes.now) (S.zone store.old)) }
+    ensures went { IfOk result (λ r. Went (is_relocatable slot) (S.zone store.old)
+        (seek_longer slot bytes.now (is_relocatable slot) (S.zone store.old))
+        r.done r.searches (S.zone store.new) (S.rest store.old) (S.rest store.new)) }
     ensures nonrelocatable { KeepsNonrelocatable (S.zone store.old) (S.zone store.new) }
     ensures rest { KeepsSlots (S.rest store.old) (S.rest store.new) }
-    ensures moves { OnOk result (Packs (size_moves (is_relocatable slot) (is_relocatable slot)
-        (length_of slot (S.zone store.old) + length bytes.now) (S.zone store.old))
-        (S.rest store.old) (S.rest store.new)) }
-    ensures hears { Hears K.told K.waits K.listens (IsOk result)
-        (fitted_gone names.now (is_relocatable slot) (Sparing.One slot)
-        (length_of slot (S.zone store.old) + length bytes.now) (S.zone store.old))
-        sink.old sink.new }
+    ensures hears { Hears K.told K.waits K.listens (IsOk result) (told_along names.now
+        (is_relocatable slot) (seek_longer slot bytes.now (is_relocatable slot) (S.zone store.old))
+        (S.zone store.old)) sink.old sink.new }
     ensures halts { OnErr result (Halts S.TAKES_HOST K.told K.listens (S.zone store.old)
         (S.rest store.old) (S.zone store.new) (S.rest store.new) sink.old sink.new) }
 {
@@ -322,22 +305,17 @@ fn append_block<S: BlockStore, K: PurgeSink>(
     requires source { IsSome (spot (is_relocatable source) (S.zone store.old)) }
     requires more { more ≡ length_of source (S.zone store.old) }
     requires found { FindsLowest (is_relocatable slot) (S.zone store.old) (Some place) }
-    ensures zone { IfOk result (λ grown.
-        lengthened (spared (Sparing.Two source slot)) slot (length_of slot (S.zone store.old))
-        (bytes_of (spot (is_relocatable source) (S.zone store.old))) (S.zone store.old)
-        ≡ made_zone grown.done (S.zone store.new)) }
-    ensures full { IfOk result (λ grown. grown.done ≡ false → S.zone store.new ≡ S.zone store.old) }
-    ensures searches { IfOk result (λ grown. grown.searches
-        ≡ size_searches (is_relocatable slot) (spared (Sparing.Two source slot))
-        (length_of slot (S.zone store.old) + more) (S.zone store.old)) }
+    ensures went { IfOk result (λ r. Went (spared (Sparing.Two source slot)) (S.zone store.old)
+        (seek_longer slot (bytes_of (spot (is_relocatable source) (S.zone store.old)))
+        (spared (Sparing.Two source slot)) (S.zone store.old))
+        r.done r.searches (S.zone store.new) (S.rest store.old) (S.rest store.new)) }
     ensures nonrelocatable { KeepsNonrelocatable (S.zone store.old) (S.zone store.new) }
     ensures rest { KeepsSlots (S.rest store.old) (S.rest store.new) }
-    ensures moves { OnOk result (Packs (size_moves (is_relocatable slot)
-        (spared (Sparing.Two source slot)) (length_of slot (S.zone store.old) + more)
-        (S.zone store.old)) (S.rest store.old) (S.rest store.new)) }
-    ensures hears { Hears K.told K.waits K.listens (IsOk result)
-        (fitted_gone names.now (is_relocatable slot) (Sparing.Two source slot)
-        (length_of slot (S.zone store.old) + more) (S.zone store.old)) sink.old sink.new }
+    ensures hears { Hears K.told K.waits K.listens (IsOk result) (told_along names.now
+        (spared (Sparing.Two source slot)) (seek_longer slot
+        (bytes_of (spot (is_relocatable source) (S.zone store.old)))
+        (spared (Sparing.Two source slot)) (S.zone store.old)) (S.zone store.old))
+        sink.old sink.new }
     ensures halts { OnErr result (Halts S.TAKES_HOST K.told K.listens (S.zone store.old)
         (S.rest store.old) (S.zone store.new) (S.rest store.new) sink.old sink.new) }
 {

@@ -3,22 +3,21 @@
 ghost use Rattle.std.specs.Prelude.{◌≡◌, ◌+◌, ◌-◌, ◌≤◌, ◌<◌, Some, None, IsSome, IfSome, IsSomeAnd};
 ghost use Rattle.std.specs.Prelude.{IsTrue, IsErr, IsOk, OnOk, OnErr, IfOk, is_some, true, false};
 ghost use Rattle.mac_words.specs.Size.{phys as physical_size};
-ghost use Rattle.block_store.specs.Block.{is_relocatable, resized, is_mover, size as size_of};
-ghost use Rattle.block_store.specs.Room.{spot, room};
+ghost use Rattle.block_store.specs.Block.{is_relocatable, is_mover, size as size_of};
+ghost use Rattle.block_store.specs.Room.{spot};
 ghost use Rattle.block_store.specs.Grow.{growth, grow_mover};
-ghost use Rattle.block_store.specs.Sparing.{purged, spared};
+ghost use Rattle.block_store.specs.Sparing.{opened, purged, spared};
 ghost use Rattle.block_store.specs.Rest.{IsRest, KeepsSlots};
-ghost use Rattle.heap_calls.specs.Inner.Growing.{FindsGrowth, growing, growing_searches, Spares};
-ghost use Rattle.heap_calls.specs.Inner.Growing.{Stays, grown, IsToGrow, CanGrowUp, GrewUp};
-ghost use Rattle.heap_calls.specs.Inner.GrowingInPlace.{made_zone};
-ghost use Rattle.heap_calls.specs.Moves.{grow_moves, room_moves};
+ghost use Rattle.moves.specs.Moves.{Grow, lowered_by};
+ghost use Rattle.moves.specs.Seeking.{purges_for};
+ghost use Rattle.heap_calls.specs.Inner.Growing.{FindsGrowth, Spares, Stays, grown, IsToGrow};
+ghost use Rattle.heap_calls.specs.Inner.Growing.{CanGrowUp, GrewUp};
 ghost use Rattle.block_store.specs.Fewest.{smaller};
 ghost use Rattle.heap_calls.specs.Inner.Numbered.{KeepsNonrelocatable};
 ghost use Rattle.heap_calls.specs.Inner.Packed.{Packs};
-ghost use Rattle.heap_calls.specs.Inner.Telling.{try_gone};
+ghost use Rattle.heap_calls.specs.Inner.Went.{Went, seek_growth, told_along};
 ghost use Rattle.heap_calls.specs.Gone.{IsIdle, Hears};
 ghost use Rattle.heap_calls.specs.Inner.Halting.{Halts};
-ghost use Rattle.heap_calls.specs.Searches.{room_searches};
 ghost use Rattle.block_store.specs.declared.measures.TheConstants.{GREATEST_ZONE};
 
 use crate::anchor::Anchor;
@@ -107,13 +106,9 @@ fn count_for_growth<S: BlockStore>(
     ensures there { result.there ≡ is_some (grow_mover (is_relocatable number)
         (grown size (spot (is_relocatable number) (S.zone store.now)))
         (purged result.purges sparing (S.zone store.now))) }
-    ensures least { growing (is_relocatable number)
-        (grown size (spot (is_relocatable number) (S.zone store.now))) sparing (S.zone store.now)
-        ≡ grow_mover (is_relocatable number)
-        (grown size (spot (is_relocatable number) (S.zone store.now)))
-        (purged result.purges sparing (S.zone store.now)) }
-    ensures searches { result.purges + 1 ≡ growing_searches (is_relocatable number)
-        (grown size (spot (is_relocatable number) (S.zone store.now))) sparing (S.zone store.now) }
+    ensures least { result.purges ≡ purges_for (λ zone. is_some (grow_mover (is_relocatable number)
+        (grown size (spot (is_relocatable number) (S.zone store.now))) zone)) (spared sparing)
+        (opened sparing (S.zone store.now)) }
     ensures few { result.purges ≤ GREATEST_ZONE }
 {
     let for_place = store.fewest_purges(bytes, sparing);
@@ -165,9 +160,8 @@ fn grow_away<S: BlockStore>(
         ≡ Some (S.zone store.new)) }
     ensures nonrelocatable { KeepsNonrelocatable (S.zone store.old) (S.zone store.new) }
     ensures rest { KeepsSlots (S.rest store.old) (S.rest store.new) }
-    ensures moves { Packs (grow_moves (is_relocatable number)
-        (grown size (spot (is_relocatable number) (S.zone store.old))) (S.zone store.old))
-        (S.rest store.old) (S.rest store.new) }
+    ensures moves { Packs (lowered_by (Grow (grown size (spot (is_relocatable number)
+        (S.zone store.old)))) (S.zone store.old)) (S.rest store.old) (S.rest store.new) }
     ensures host { IsErr result → IsTrue S.TAKES_HOST }
 {
     let place = pack_placement(store, bytes, placement);
@@ -191,9 +185,8 @@ fn grow_as_last<S: BlockStore>(
         ≡ Some (S.zone store.new)) }
     ensures nonrelocatable { KeepsNonrelocatable (S.zone store.old) (S.zone store.new) }
     ensures rest { KeepsSlots (S.rest store.old) (S.rest store.new) }
-    ensures moves { Packs (grow_moves (is_relocatable number)
-        (grown size (spot (is_relocatable number) (S.zone store.old))) (S.zone store.old))
-        (S.rest store.old) (S.rest store.new) }
+    ensures moves { Packs (lowered_by (Grow (grown size (spot (is_relocatable number)
+        (S.zone store.old)))) (S.zone store.old)) (S.rest store.old) (S.rest store.new) }
     ensures host { IsErr result → IsTrue S.TAKES_HOST }
 {
     store.hoist(run, number);
@@ -221,9 +214,8 @@ fn carry_out<S: BlockStore>(
         ≡ Some (S.zone store.new)) }
     ensures nonrelocatable { KeepsNonrelocatable (S.zone store.old) (S.zone store.new) }
     ensures rest { KeepsSlots (S.rest store.old) (S.rest store.new) }
-    ensures moves { Packs (grow_moves (is_relocatable number)
-        (grown size (spot (is_relocatable number) (S.zone store.old))) (S.zone store.old))
-        (S.rest store.old) (S.rest store.new) }
+    ensures moves { Packs (lowered_by (Grow (grown size (spot (is_relocatable number)
+        (S.zone store.old)))) (S.zone store.old)) (S.rest store.old) (S.rest store.new) }
     ensures host { IsErr result → IsTrue S.TAKES_HOST }
 {
     match growth {
@@ -263,22 +255,14 @@ pub fn grow_movable<S: BlockStore, K: PurgeSink>(
         IsTrue (is_mover s.here)) }
     requires more { IsToGrow (is_relocatable slot) bytes (S.zone store.old) }
     requires fits { IsSome (physical_size bytes) }
-    ensures zone { IfOk result (λ grown. IfSome (spot (is_relocatable slot) (S.zone store.old))
-        (λ s. room (grow_mover (is_relocatable slot) (resized bytes s.here)) (spared sparing)
-        (S.zone store.old) ≡ made_zone grown.done (S.zone store.new))) }
-    ensures full { IfOk result (λ grown. grown.done ≡ false → S.zone store.new ≡ S.zone store.old) }
-    ensures searches { IfOk result (λ grown. IfSome (spot (is_relocatable slot) (S.zone store.old))
-        (λ s. grown.searches ≡ room_searches (grow_mover (is_relocatable slot)
-        (resized bytes s.here)) (spared sparing) (S.zone store.old))) }
+    ensures went { IfOk result (λ r. Went (spared sparing) (S.zone store.old)
+        (seek_growth (is_relocatable slot) bytes (spared sparing) (S.zone store.old))
+        r.done r.searches (S.zone store.new) (S.rest store.old) (S.rest store.new)) }
     ensures nonrelocatable { KeepsNonrelocatable (S.zone store.old) (S.zone store.new) }
     ensures rest { KeepsSlots (S.rest store.old) (S.rest store.new) }
-    ensures moves { OnOk result (IfSome (spot (is_relocatable slot) (S.zone store.old)) (λ s.
-        Packs (room_moves (grow_mover (is_relocatable slot) (resized bytes s.here))
-        (grow_moves (is_relocatable slot) (resized bytes s.here)) (spared sparing)
-        (S.zone store.old)) (S.rest store.old) (S.rest store.new))) }
-    ensures hears { Hears K.told K.waits K.listens (IsOk result)
-        (try_gone names.now (grow_mover (is_relocatable slot) (grown bytes (spot
-        (is_relocatable slot) (S.zone store.old)))) sparing (S.zone store.old)) sink.old sink.new }
+    ensures hears { Hears K.told K.waits K.listens (IsOk result) (told_along names.now
+        (spared sparing) (seek_growth (is_relocatable slot) bytes (spared sparing)
+        (S.zone store.old)) (S.zone store.old)) sink.old sink.new }
     ensures halts { OnErr result (Halts S.TAKES_HOST K.told K.listens (S.zone store.old)
         (S.rest store.old) (S.zone store.new) (S.rest store.new) sink.old sink.new) }
 {

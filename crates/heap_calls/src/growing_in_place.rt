@@ -7,23 +7,23 @@ ghost use Rattle.mac_words.specs.Size.{padded, phys as physical_size};
 ghost use Rattle.block_store.specs.Block.{size, resized};
 ghost use Rattle.block_store.specs.Find.{IsEdge};
 ghost use Rattle.block_store.specs.Run.{in_run, has_free, segments};
-ghost use Rattle.block_store.specs.Room.{spot_at, purge, count_of};
-ghost use Rattle.block_store.specs.Grow.{grow_nonrelocatable};
+ghost use Rattle.block_store.specs.Room.{spot, spot_at, purge, count_of};
 ghost use Rattle.block_store.specs.Sparing.{spared};
-ghost use Rattle.heap_calls.specs.Inner.GrowingInPlace.{made_zone, enough, seen_size, room_at};
-ghost use Rattle.heap_calls.specs.Inner.GrowingInPlace.{FindsPurges, pushed_up};
+ghost use Rattle.moves.specs.Moves.{is_same, run_above};
+ghost use Rattle.moves.specs.Seeking.{purges_for};
+ghost use Rattle.heap_calls.specs.Inner.GrowingInPlace.{seen_size, room_at, pushed_up};
 ghost use Rattle.heap_calls.specs.Inner.SearchLaws.{above-rises, above-ends};
 ghost use Rattle.heap_calls.specs.Inner.Least.{IsMost, enough_above};
 ghost use Rattle.heap_calls.specs.Inner.Numbered.{KeepsNonrelocatable};
-ghost use Rattle.heap_calls.specs.Inner.Telling.{OpensNone, gone_from, still_gone};
+ghost use Rattle.heap_calls.specs.Inner.Telling.{OpensNone, gone_from};
+ghost use Rattle.heap_calls.specs.Inner.Went.{Went, seek_still, told_along};
 ghost use Rattle.heap_calls.specs.Gone.{IsIdle, Hears};
 ghost use Rattle.heap_calls.specs.Inner.Halting.{Halts};
-ghost use Rattle.heap_calls.specs.Searches.{room_searches, in_place_searches};
 ghost use Rattle.block_store.specs.declared.measures.TheConstants.{GREATEST_ZONE};
 ghost use Rattle.heap_calls.specs.Inner.Packed.{KeepsAllButPlaced};
 
 use crate::anchor::Anchor;
-use crate::least::{Sought, least_search};
+use crate::least::{Searched, Sought, least_search};
 use crate::sink::PurgeSink;
 use crate::telling::purge_above_telling;
 use block_store::{BlockStore, MASTERS_SIZE, Seen, Sparing};
@@ -35,14 +35,6 @@ use std::alloc::AllocError;
 pub struct Grown {
     pub done: bool,
     pub searches: u32,
-}
-
-/// The least number of purges that gives room, if there is one, and how many searches were made to
-/// find that number.
-#[derive(Clone, Copy)]
-struct Fewest {
-    purges: Option<u32>,
-    searches: u32,
 }
 
 /// Grows a nonrelocatable or locked block at `place` to `bytes` bytes of content where the block
@@ -61,21 +53,21 @@ pub fn grow_in_place<S: BlockStore, K: PurgeSink>(
     sink: &mut K,
 ) -> Result<Grown, AllocError>
     requires still { IsSomeAnd (spot_at place (S.zone store.old)) (λ s. in_run s.here ≡ false) }
+    requires lowest { IsSomeAnd (spot_at place (S.zone store.old)) (λ s.
+        spot (is_same s.here) (S.zone store.old) ≡ Some s) }
     requires grows { IsSomeAnd (spot_at place (S.zone store.old)) (λ s. size s.here
         < size (resized bytes s.here)) }
     requires fits { IsSome (physical_size bytes) }
     requires whole { OpensNone sparing }
     requires idle { IsIdle K.told K.waits sink.old }
-    ensures zone { IfOk result (λ grown. IfSome (spot_at place (S.zone store.old))
-        (λ s. grow_nonrelocatable (spared sparing) (resized bytes s.here) s
-        ≡ made_zone grown.done (S.zone store.new))) }
-    ensures none { IfOk result (λ grown. grown.done ≡ false → S.zone store.new ≡ S.zone store.old) }
-    ensures searches { IfOk result (λ grown. IfSome (spot_at place (S.zone store.old))
-        (λ s. grown.searches ≡ in_place_searches (spared sparing) (resized bytes s.here) s)) }
+    ensures went { IfOk result (λ r. Went (spared sparing) (S.zone store.old)
+        (seek_still place bytes (spared sparing) (S.zone store.old))
+        r.done r.searches (S.zone store.new) (S.rest store.old) (S.rest store.new)) }
     ensures nonrelocatable { KeepsNonrelocatable (S.zone store.old) (S.zone store.new) }
     ensures rest { KeepsAllButPlaced (S.rest store.old) (S.rest store.new) }
-    ensures hears { IfSome (spot_at place (S.zone store.old)) (λ s. Hears K.told K.waits K.listens
-        (IsOk result) (still_gone names.now sparing (resized bytes s.here) s) sink.old sink.new) }
+    ensures hears { Hears K.told K.waits K.listens (IsOk result) (told_along names.now
+        (spared sparing) (seek_still place bytes (spared sparing) (S.zone store.old))
+        (S.zone store.old)) sink.old sink.new }
     ensures halts { OnErr result (Halts S.TAKES_HOST K.told K.listens (S.zone store.old)
         (S.rest store.old) (S.zone store.new) (S.rest store.new) sink.old sink.new) }
 {
@@ -89,18 +81,28 @@ pub fn grow_in_place<S: BlockStore, K: PurgeSink>(
             searches: 1,
         });
     }
-    let fewest = least_purges(store, place, more, sparing);
-    let Some(purges) = fewest.purges else {
+    let counted = count_for_run_above(store, place, more, sparing);
+    let searches = counted.purges + 1;
+    if !counted.there {
         return Ok(Grown {
             done: false,
-            searches: fewest.searches,
+            searches,
         });
-    };
-    push_up(store, names, place, taken, more, purges, sparing, sink)?;
+    }
+    push_up(
+        store,
+        names,
+        place,
+        taken,
+        more,
+        counted.purges,
+        sparing,
+        sink,
+    )?;
     store.resize(place, bytes)?;
     Ok(Grown {
         done: true,
-        searches: fewest.searches,
+        searches,
     })
 }
 
@@ -188,15 +190,20 @@ impl Sought for RunAbove {
         allows };
 }
 
-/// Finds the least number of blocks to purge from the run above the block at `place` so that the
-/// run has `bytes` free bytes.
-fn least_purges<S: BlockStore>(store: &S, place: u32, bytes: u32, sparing: Sparing) -> Fewest
+/// Counts the purges in the run above the block at `place` after which the run has `bytes` free
+/// bytes: the least number that serves, or all that there can be where none serves.
+fn count_for_run_above<S: BlockStore>(
+    store: &S,
+    place: u32,
+    bytes: u32,
+    sparing: Sparing,
+) -> Searched
     requires { IsSome (spot_at place (S.zone store.now)) }
-    ensures found { IfSome (spot_at place (S.zone store.now)) (λ s.
-        FindsPurges bytes (spared sparing) (segments s.above).first result.purges) }
-    ensures searches { IfSome (spot_at place (S.zone store.now)) (λ s. result.searches
-        ≡ room_searches (enough bytes) (spared sparing) (segments s.above).first) }
-    ensures counted { IfSome result.purges (λ k. k + 1 ≡ result.searches) }
+    ensures least { IfSome (spot_at place (S.zone store.now)) (λ s. result.purges
+        ≡ purges_for (has_free bytes) (spared sparing) (segments s.above).first) }
+    ensures there { IfSome (spot_at place (S.zone store.now)) (λ s. result.there
+        ≡ has_free bytes (run_above result.purges (spared sparing) s)) }
+    ensures few { result.purges ≤ GREATEST_ZONE }
 {
     let most = store.purgeable_after(place, sparing);
     let sought = RunAbove {
@@ -205,18 +212,7 @@ fn least_purges<S: BlockStore>(store: &S, place: u32, bytes: u32, sparing: Spari
         sparing,
         most,
     };
-    let searched = least_search(store, &sought);
-    let searches = searched.purges + 1;
-    if !searched.there {
-        return Fewest {
-            purges: None,
-            searches,
-        };
-    }
-    Fewest {
-        purges: Some(searched.purges),
-        searches,
-    }
+    least_search(store, &sought)
 }
 
 /// Packs the run above the block at `place` upward, after the given number of purges in the run, so

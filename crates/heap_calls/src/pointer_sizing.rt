@@ -1,6 +1,6 @@
 //! The size of a pointer's block.
 
-ghost use Rattle.std.specs.Prelude.{◌≡◌, ◌≢◌, ◌⊎◌, Some, Err, true, false, IfOk, OnOk, OnErr};
+ghost use Rattle.std.specs.Prelude.{◌≡◌, ◌≢◌, ◌⊎◌, Some, Err, true, IfOk, OnErr};
 ghost use Rattle.std.specs.Prelude.{IsErr, IsTrue};
 ghost use Rattle.block_store.specs.Block.{is_nonrelocatable};
 ghost use Rattle.block_store.specs.Find.{FindsLowest};
@@ -10,11 +10,8 @@ ghost use Rattle.heap_calls.specs.Gone.{IsIdle, gone_unless, Hears};
 ghost use Rattle.heap_calls.specs.Rows.{set_pointer_size, doing, doing_silently, purges_made};
 ghost use Rattle.heap_calls.specs.Inner.Halting.{Halts};
 ghost use Rattle.heap_calls.specs.Inner.Given.{IsAnswer, KeepsMoves};
-ghost use Rattle.heap_calls.specs.Inner.Growing.{fitted};
-ghost use Rattle.heap_calls.specs.Inner.GrowingInPlace.{made_zone};
 ghost use Rattle.heap_calls.specs.Inner.Numbered.{KeepsNonrelocatable};
-ghost use Rattle.heap_calls.specs.Inner.Telling.{fitted_gone};
-ghost use Rattle.heap_calls.specs.Searches.{size_searches};
+ghost use Rattle.heap_calls.specs.Inner.Went.{Went, seek_sized, told_along};
 ghost use Rattle.heap_calls.specs.Inner.Packed.{KeepsAllButPlaced};
 ghost use Rattle.heap_calls.specs.Left.{Stops};
 ghost use Rattle.std.specs.Prelude.{IsOk, None};
@@ -95,16 +92,14 @@ fn fit_nonrelocatable<S: BlockStore, K: PurgeSink>(
 ) -> Result<Grown, AllocError>
     requires found { FindsLowest (is_nonrelocatable place) (S.zone store.old) (Some place) }
     requires idle { IsIdle K.told K.waits sink.old }
-    ensures zone { IfOk result (λ grown.
-        fitted (is_nonrelocatable place) nothing size (S.zone store.old)
-        ≡ made_zone grown.done (S.zone store.new)) }
-    ensures full { IfOk result (λ grown. grown.done ≡ false → S.zone store.new ≡ S.zone store.old) }
-    ensures searches { IfOk result (λ grown. grown.searches
-        ≡ size_searches (is_nonrelocatable place) nothing size (S.zone store.old)) }
+    ensures went { IfOk result (λ r. Went nothing (S.zone store.old)
+        (seek_sized (is_nonrelocatable place) size nothing (S.zone store.old))
+        r.done r.searches (S.zone store.new) (S.rest store.old) (S.rest store.new)) }
     ensures nonrelocatable { KeepsNonrelocatable (S.zone store.old) (S.zone store.new) }
     ensures rest { KeepsAllButPlaced (S.rest store.old) (S.rest store.new) }
-    ensures hears { Hears K.told K.waits K.listens (IsOk result) (fitted_gone names.now
-        (is_nonrelocatable place) Sparing.Nothing size (S.zone store.old)) sink.old sink.new }
+    ensures hears { Hears K.told K.waits K.listens (IsOk result) (told_along names.now nothing
+        (seek_sized (is_nonrelocatable place) size nothing (S.zone store.old)) (S.zone store.old))
+        sink.old sink.new }
     ensures halts { OnErr result (Halts S.TAKES_HOST K.told K.listens (S.zone store.old)
         (S.rest store.old) (S.zone store.new) (S.rest store.new) sink.old sink.new) }
 {

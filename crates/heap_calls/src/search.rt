@@ -9,7 +9,7 @@ ghost use Rattle.block_store.specs.Sparing.{opened, purged};
 ghost use Rattle.block_store.specs.Rest.{KeepsSlots};
 ghost use Rattle.heap_calls.specs.Gone.{IsIdle, Hears};
 ghost use Rattle.heap_calls.specs.Inner.Halting.{Unheard};
-ghost use Rattle.heap_calls.specs.Moves.{place_moves};
+ghost use Rattle.moves.specs.Moves.{place_lowers};
 ghost use Rattle.heap_calls.specs.Inner.Growing.{SameBlocks};
 ghost use Rattle.heap_calls.specs.Inner.Numbered.{KeepsNonrelocatable};
 ghost use Rattle.heap_calls.specs.Inner.Packed.{Packs, placement_moves};
@@ -62,7 +62,7 @@ pub fn pack_placement<S: BlockStore>(store: &mut S, bytes: u32, placement: Place
         → has (is_relocatable number) (S.zone store.new) ≡ false }
     ensures nonrelocatable { KeepsNonrelocatable (S.zone store.old) (S.zone store.new) }
     ensures rest { KeepsSlots (S.rest store.old) (S.rest store.new) }
-    ensures moves { Packs (place_moves bytes (S.zone store.old)) (S.rest store.old)
+    ensures moves { Packs (place_lowers bytes (S.zone store.old)) (S.rest store.old)
         (S.rest store.new) }
 {
     let run = match placement {
@@ -96,7 +96,7 @@ fn placement_at_once<S: BlockStore>(store: &S, bytes: u32, sparing: Sparing) -> 
     ensures searches { IfSome result (λ p. 1
         ≡ placement_searches bytes sparing (S.zone store.now)) }
     ensures moves { IfSome result (λ p. placement_moves bytes sparing (S.zone store.now)
-        ≡ place_moves bytes (S.zone store.now)) }
+        ≡ place_lowers bytes (S.zone store.now)) }
 {
     if counts_as_free(sparing) {
         return None;

@@ -1,25 +1,20 @@
 //! The size of a handle's block.
 
-ghost use Rattle.std.specs.Prelude.{◌≡◌, ◌≢◌, ◌⊎◌, Some, Err, true, false, IsSome, IsTrue, IsErr};
-ghost use Rattle.std.specs.Prelude.{IfOk, OnOk, OnErr};
+ghost use Rattle.std.specs.Prelude.{◌≡◌, ◌≢◌, ◌⊎◌, Some, Err, true, IsSome, IsTrue, IsErr};
+ghost use Rattle.std.specs.Prelude.{IfOk, OnErr};
 ghost use Rattle.mac_words.specs.Size.{phys as physical_size};
 ghost use Rattle.block_store.specs.Block.{is_relocatable};
 ghost use Rattle.block_store.specs.Find.{FindsLowest};
-ghost use Rattle.block_store.specs.Grow.{grow};
 ghost use Rattle.block_store.specs.Rest.{KeepsSlots, counted};
 ghost use Rattle.heap_calls.specs.Busy.{change_barred, unless};
 ghost use Rattle.heap_calls.specs.Inner.Reaching.{sized_reply};
-ghost use Rattle.heap_calls.specs.Inner.GrowingInPlace.{made_zone};
 ghost use Rattle.heap_calls.specs.Inner.Numbered.{KeepsNonrelocatable};
 ghost use Rattle.heap_calls.specs.Inner.Given.{IsAnswer, KeepsNames};
-ghost use Rattle.heap_calls.specs.Moves.{size_moves};
 ghost use Rattle.heap_calls.specs.Gone.{IsIdle, gone_unless, Hears};
 ghost use Rattle.heap_calls.specs.Rows.{set_handle_size, doing, doing_silently, purges_made};
 ghost use Rattle.heap_calls.specs.Inner.Halting.{Halts};
-ghost use Rattle.heap_calls.specs.Inner.Packed.{Packs};
-ghost use Rattle.heap_calls.specs.Inner.Telling.{fitted_gone};
-ghost use Rattle.heap_calls.specs.Searches.{size_searches};
-ghost use Rattle.heap_calls.specs.Inner.Growing.{Spares, Stays, fitted};
+ghost use Rattle.heap_calls.specs.Inner.Went.{Went, seek_sized, told_along};
+ghost use Rattle.heap_calls.specs.Inner.Growing.{Spares, Stays};
 ghost use Rattle.block_store.specs.Sparing.{spared};
 ghost use Rattle.heap_calls.specs.Left.{Stops};
 ghost use Rattle.std.specs.Prelude.{IsOk, None};
@@ -134,18 +129,14 @@ pub fn fit_block<S: BlockStore, K: PurgeSink>(
     requires stays { Stays sparing (is_relocatable slot) }
     requires found { FindsLowest (is_relocatable slot) (S.zone store.old) (Some place) }
     requires idle { IsIdle K.told K.waits sink.old }
-    ensures zone { IfOk result (λ grown.
-        fitted (is_relocatable slot) (spared sparing) size (S.zone store.old)
-        ≡ made_zone grown.done (S.zone store.new)) }
-    ensures full { IfOk result (λ grown. grown.done ≡ false → S.zone store.new ≡ S.zone store.old) }
-    ensures searches { IfOk result (λ grown. grown.searches
-        ≡ size_searches (is_relocatable slot) (spared sparing) size (S.zone store.old)) }
+    ensures went { IfOk result (λ r. Went (spared sparing) (S.zone store.old)
+        (seek_sized (is_relocatable slot) size (spared sparing) (S.zone store.old))
+        r.done r.searches (S.zone store.new) (S.rest store.old) (S.rest store.new)) }
     ensures nonrelocatable { KeepsNonrelocatable (S.zone store.old) (S.zone store.new) }
     ensures rest { KeepsSlots (S.rest store.old) (S.rest store.new) }
-    ensures moves { OnOk result (Packs (size_moves (is_relocatable slot) (spared sparing) size
-        (S.zone store.old)) (S.rest store.old) (S.rest store.new)) }
-    ensures hears { Hears K.told K.waits K.listens (IsOk result) (fitted_gone names.now
-        (is_relocatable slot) sparing size (S.zone store.old)) sink.old sink.new }
+    ensures hears { Hears K.told K.waits K.listens (IsOk result) (told_along names.now
+        (spared sparing) (seek_sized (is_relocatable slot) size (spared sparing)
+        (S.zone store.old)) (S.zone store.old)) sink.old sink.new }
     ensures halts { OnErr result (Halts S.TAKES_HOST K.told K.listens (S.zone store.old)
         (S.rest store.old) (S.zone store.new) (S.rest store.new) sink.old sink.new) }
 {
@@ -175,18 +166,14 @@ fn resize_block<S: BlockStore, K: PurgeSink>(
     requires stays { Stays sparing (is_relocatable slot) }
     requires found { FindsLowest (is_relocatable slot) (S.zone store.old) (Some place) }
     requires idle { IsIdle K.told K.waits sink.old }
-    ensures zone { IfOk result (λ grown.
-        grow (is_relocatable slot) (spared sparing) size (S.zone store.old)
-        ≡ made_zone grown.done (S.zone store.new)) }
-    ensures full { IfOk result (λ grown. grown.done ≡ false → S.zone store.new ≡ S.zone store.old) }
-    ensures searches { IfOk result (λ grown. grown.searches
-        ≡ size_searches (is_relocatable slot) (spared sparing) size (S.zone store.old)) }
+    ensures went { IfOk result (λ r. Went (spared sparing) (S.zone store.old)
+        (seek_sized (is_relocatable slot) size (spared sparing) (S.zone store.old))
+        r.done r.searches (S.zone store.new) (S.rest store.old) (S.rest store.new)) }
     ensures nonrelocatable { KeepsNonrelocatable (S.zone store.old) (S.zone store.new) }
     ensures rest { KeepsSlots (S.rest store.old) (S.rest store.new) }
-    ensures moves { OnOk result (Packs (size_moves (is_relocatable slot) (spared sparing) size
-        (S.zone store.old)) (S.rest store.old) (S.rest store.new)) }
-    ensures hears { Hears K.told K.waits K.listens (IsOk result) (fitted_gone names.now
-        (is_relocatable slot) sparing size (S.zone store.old)) sink.old sink.new }
+    ensures hears { Hears K.told K.waits K.listens (IsOk result) (told_along names.now
+        (spared sparing) (seek_sized (is_relocatable slot) size (spared sparing)
+        (S.zone store.old)) (S.zone store.old)) sink.old sink.new }
     ensures halts { OnErr result (Halts S.TAKES_HOST K.told K.listens (S.zone store.old)
         (S.rest store.old) (S.zone store.new) (S.rest store.new) sink.old sink.new) }
 {

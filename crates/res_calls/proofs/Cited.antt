@@ -23,8 +23,7 @@ pub use Rattle.fork_format.specs.Canonical.{canon, clear, clear_group, clear_ref
 pub use Rattle.fork_format.specs.Content.{Content, Group, IsContent, Ref, distinct, joined}
 pub use Rattle.fork_format.specs.Fork.{Spells, content_of, group_at, is_fork, map_kept, map_start, number, ref_at, ref_places, type_places}
 pub use Rattle.fork_format.specs.View.{view, view_group}
-pub use Rattle.heap_calls.proofs.GoneForSizes.{tells-none}
-pub use Rattle.heap_calls.proofs.Hearing.{rests-still}
+pub use Rattle.heap_calls.proofs.Hearing.{rests-still, tells-none}
 pub use Rattle.heap_calls.proofs.Promises.FewSearches.{unsearched}
 pub use Rattle.heap_calls.proofs.Promises.Taking.{StaysOr}
 pub use Rattle.heap_calls.proofs.Steps.FewSearches.{step-searches, steps-fits}

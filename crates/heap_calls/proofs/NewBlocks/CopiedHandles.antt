@@ -1,3 +1,4 @@
+use Rattle.heap_calls.proofs.Cited.{Went}
 use Rattle.heap_calls.proofs.Cited.{◌≡◌, ℕ, ◌*◌, ◌≤◌, ◌<◌, zero, suc, Bool, true, false, List, [], ◌∷◌, ◌++◌, length, refl, sym, ◌∙◌, ap}
 use Rattle.heap_calls.proofs.Cited.{subst, cond, arith, Option, Some, None, is_some, slice_get, Ok, Err, option_map, ok_or, IfSome}
 use Rattle.heap_calls.proofs.Cited.{unwrap_or, none-some, le-leb, phys, padded, OsErr, NIL_HANDLE, Block, Relocatable, count, is_masters}
@@ -17,7 +18,6 @@ use Rattle.heap_calls.proofs.Made.{made-agrees, made-is}
 use Rattle.heap_calls.proofs.Numbering.Answering.{slot_of-ok, look_up-by, held, content_of-rename, place-small, header-fits}
 use Rattle.heap_calls.proofs.Numbering.Numbers.{is_relocatable-number}
 use Rattle.heap_calls.proofs.Same.NewBlocks.{made-same}
-use Rattle.heap_calls.proofs.Went.{Follows}
 
 -- HandToHand.
 
@@ -130,7 +130,7 @@ module _ (zone : List Block) (rest : Rest) (es : List Anchor) (masters : rest.al
             row (follows_by slot made)
           where
             follows_by : (slot : Option ℕ) → IsCopy f.slot n zone rest slot zone' rest'
-                → Follows (is_relocatable f.slot) zone (seek_new (is_relocatable f.slot) (some_left rest.unused)
+                → Went (is_relocatable f.slot) zone (seek_new (is_relocatable f.slot) (some_left rest.unused)
                 (Relocatable (unwrap_or slot 0) no_flags bytes) true zone) (is_some slot) m zone' rest rest'
             follows_by None h = unmade-follows (sparing.One f.slot) (λ z. refl) zone rest no_flags bytes n k.long true
                 (sym (fits n refl)) zone' rest' h m looks packs

@@ -1,3 +1,4 @@
+use Rattle.heap_calls.proofs.Cited.{Went}
 use Rattle.heap_calls.proofs.Cited.{is_used, ◌≡◌, ℕ, ◌+◌, ◌-◌, Bool, true, false, ◌||◌, List, [], ◌∷◌, ◌++◌, length, refl, sym, ◌∙◌, ap}
 use Rattle.heap_calls.proofs.Cited.{cond, map, arith, Option, Some, None, slice_get, count_by, subst, ◌⊎◌, inl, inr, is_some, map_push}
 use Rattle.heap_calls.proofs.Cited.{length-map, length-replicate, sum_by_push, same_Some, false_from_ne_true, option_map, IfSome, IsSomeAnd}
@@ -17,7 +18,7 @@ use Rattle.heap_calls.proofs.Numbering.Changing.{slots_kept}
 use Rattle.heap_calls.proofs.NewBlocks.NewSlots.{put_at_base-is}
 use Rattle.heap_calls.proofs.Same.Agreeing.{agrees-if}
 use Rattle.heap_calls.proofs.Same.NewBlocks.{base-agrees}
-use Rattle.heap_calls.proofs.Went.{Follows, follows-none, given-is, path-names, seek-any, fits-rename}
+use Rattle.heap_calls.proofs.Went.{follows-none, given-is, path-names, seek-any, fits-rename}
 use Rattle.heap_calls.specs.declared.anchor.Anchor.TheVariants.{Handle, Pointer}
 use Rattle.heap_calls.proofs.Numbering.Numbers.{flipped, leads_to-same}
 use Rattle.heap_calls.proofs.Numbering.Changing.{number_from-push, number_from-new, slice_get-push, names-same}
@@ -234,7 +235,7 @@ module _ (zone : List Block) (rest : Rest) (es : List Anchor) (log : Log) (value
         (looks : m ≡ nonrelocatable_searches n zone)
       where
         follows : (k : ℕ) (o : Option ℕ) → is_some (after k) ≡ is_some o → zone' ≡ unwrap_or (after k) zone
-            → Follows nothing zone (seek_it k zone) (is_some o) m zone' rest rest'
+            → Went nothing zone (seek_it k zone) (is_some o) m zone' rest rest'
         follows k o finds leaves =
             let a = agrees-if refl (is_some (phys n)) (room (put_at_base (new k)) nothing zone)
             (room_searches (put_at_base (new k)) nothing zone)

@@ -5,7 +5,7 @@ use Rattle.heap_calls.proofs.Cited.{is_room, tidy, has, has_free, settle, with_r
 use Rattle.heap_calls.proofs.Cited.{filled, place, put_in_place, room, lowest_purged, freed, Rest, spared, purged, most_purges}
 use Rattle.heap_calls.proofs.Cited.{freed-rename, has-tidy, has-freed, spot-is, is_some-map, place-room, least-map, least-some, Log, Room}
 use Rattle.heap_calls.proofs.Cited.{Anchor, State, Memory, nothing, fresh_block, placement, placement_searches, IsAt, room_searches}
-use Rattle.heap_calls.proofs.Cited.{place_moves, put_moves, placement_moves, reallocated, loose_at, renewed, renewed_searches, IsRenewal}
+use Rattle.heap_calls.proofs.Cited.{place_lowers, put_moves, placement_moves, reallocated, loose_at, renewed, renewed_searches, IsRenewal}
 use Rattle.heap_calls.proofs.Cited.{renewed_moves, state_of, memory_of, handle_number, pointer_number, no_number, none-lowest_purged}
 use Rattle.heap_calls.proofs.Cited.{none-settled, unwrap_or, counted, Packs, sized_reply, Put, Drop, Sought, seek, if_fits, around}
 use Rattle.heap_calls.proofs.Cited.{rename_sought, PathNames, seek-rename, Done, doing_silently, purges_made, purged_by, changed}
@@ -102,7 +102,7 @@ module _ (slot : ℕ) (zone : List Block)
         pub renewed_moves-is : placement_moves bytes (sparing.Freed slot) zone ≡ renewed_moves slot n zone
         renewed_moves-is =
             ap (λ p. placement_moves p (sparing.Freed slot) zone) (sym sized)
-            ∙ ap (λ (k : ℕ). place_moves (size new) (purged (k - 1) (sparing.Freed slot) zone))
+            ∙ ap (λ (k : ℕ). place_lowers (size new) (purged (k - 1) (sparing.Freed slot) zone))
             (sym (searches-renewed new))
             ∙ sym (ap (λ t. cond {A = ℕ} t (put_moves new nothing (freed is_it zone)) 0) (phys-some n bytes fits).0)
 

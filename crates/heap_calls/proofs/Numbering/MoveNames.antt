@@ -3,7 +3,7 @@ use Rattle.heap_calls.proofs.Cited.{is_some, length-map, option_map, Block, Free
 use Rattle.heap_calls.proofs.Cited.{rename_block, is_mover, is_room, RunSpot, run_spot, runs, has_free, rename_spot, spot, purge}
 use Rattle.heap_calls.proofs.Cited.{put_in_place, lowered_in_runs, runs_settled, lowered_in_run, size-rename, total-rename, is_mover-rename}
 use Rattle.heap_calls.proofs.Cited.{is_room-rename, spot-rename, run_spot-rename, rename_run_spot, has_free-rename, purge-rename}
-use Rattle.heap_calls.proofs.Cited.{put_in_place-rename, is_some-map, run_moves, as_it_is, place_moves, room_moves, put_moves, all_moves}
+use Rattle.heap_calls.proofs.Cited.{put_in_place-rename, is_some-map, lowered_in, place_lowers, room_moves, put_moves, all_moves}
 use Rattle.heap_calls.proofs.Cited.{purged_all, room_searches}
 use Rattle.heap_calls.proofs.Numbering.Largest.{runs-rename, runs_settled-rename}
 use Rattle.heap_calls.proofs.Numbering.Looking.{room_searches-rename}
@@ -48,21 +48,19 @@ purged_moves-rename f g zone = ap all_moves (purged_all-rename f g zone) ∙ all
 
 module _ (f g : ℕ → ℕ)
   where
-    run_moves-rename : (c d : List Block → List Block) → ((run : List Block) → c (rename f g run) ≡ rename f g (d run))
-        → (o : Option RunSpot) → run_moves c (option_map (rename_run_spot f g) o) ≡ run_moves d o
-    run_moves-rename c d same None = refl
-    run_moves-rename c d same (Some r) = ap lowered_in_run (same r.run) ∙ lowered_in_run-rename f g (d r.run)
-
-    pub place_moves-rename : (p : ℕ) (zone : List Block) → place_moves p (rename f g zone) ≡ place_moves p zone
-    place_moves-rename p zone =
+    pub place_lowers-rename : (p : ℕ) (zone : List Block) → place_lowers p (rename f g zone) ≡ place_lowers p zone
+    place_lowers-rename p zone =
         let free : is_some (spot (is_room p) (rename f g zone)) ≡ is_some (spot (is_room p) zone) =
         ap is_some (spot-rename f g (is_room p) (is_room p) (is_room-rename f g p) zone)
         ∙ is_some-map (rename_spot f g) (spot (is_room p) zone) in
-        let packed : run_moves as_it_is (run_spot (has_free p) (rename f g zone))
-        ≡ run_moves as_it_is (run_spot (has_free p) zone) =
-        ap (run_moves as_it_is) (run_spot-rename f g (has_free p) (has_free p) (has_free-rename f g p) zone)
-        ∙ run_moves-rename as_it_is as_it_is (λ run. refl) (run_spot (has_free p) zone) in
+        let packed : lowered_in (run_spot (has_free p) (rename f g zone)) ≡ lowered_in (run_spot (has_free p) zone) =
+        ap lowered_in (run_spot-rename f g (has_free p) (has_free p) (has_free-rename f g p) zone)
+        ∙ cases (run_spot (has_free p) zone) in
         (λ i. cond {A = ℕ} (free i) 0 (packed i))
+      where
+        cases : (o : Option RunSpot) → lowered_in (option_map (rename_run_spot f g) o) ≡ lowered_in o
+        cases None = refl
+        cases (Some r) = lowered_in_run-rename f g r.run
 
     module _ (p q : Block → Bool) (spares : (b : Block) → p (rename_block f g b) ≡ q b)
       where
@@ -80,6 +78,6 @@ module _ (f g : ℕ → ℕ)
             → put_moves (rename_block f g new) p (rename f g zone) ≡ put_moves new q zone
         put_moves-rename new zone =
             room_moves-rename (put_in_place (rename_block f g new)) (put_in_place new) (put_in_place-rename f g new)
-            (place_moves (size (rename_block f g new))) (place_moves (size new))
-            (λ bs. ap (λ k. place_moves k (rename f g bs)) (size-rename f g new) ∙ place_moves-rename (size new) bs)
+            (place_lowers (size (rename_block f g new))) (place_lowers (size new))
+            (λ bs. ap (λ k. place_lowers k (rename f g bs)) (size-rename f g new) ∙ place_lowers-rename (size new) bs)
             zone

@@ -3,10 +3,10 @@ use Rattle.heap_calls.proofs.Cited.{ap, subst, cond, Option, Some, None, Result,
 use Rattle.heap_calls.proofs.Cited.{option_map, unwrap_or, if◌then◌else◌, phys, OsErr, LOCKED, PROFILE, PURGED, Flags, Block, Free}
 use Rattle.heap_calls.proofs.Cited.{Nonrelocatable, Masters, Relocatable, size, sizes, is_mover, is_relocatable, is_nonrelocatable}
 use Rattle.heap_calls.proofs.Cited.{content_of, with_content, tidy, resized, written, in_run, change_run, has, high, runs, Spot, spot}
-use Rattle.heap_calls.proofs.Cited.{put_at_base, room, freed, runs_settled, settled, spot-is, spot-passes, State, Memory, Meaning, Role}
-use Rattle.heap_calls.proofs.Cited.{Plain, Resource, SystemResource, used_slots, all_slots, Answer, Held, nothing, given, refused}
-use Rattle.heap_calls.proofs.Cited.{disposed_of, rebuilt, flagged, change_flags, hoisted, move_h_hi, look_up, handle_at, for_found}
-use Rattle.heap_calls.proofs.Cited.{written_at, on_block, slotted, more_masters, pointed_at, block_named, moved_into, emptied_at, is_loose}
+use Rattle.heap_calls.proofs.Cited.{put_at_base, room, freed, runs_settled, settled, spot-is, spot-passes, State, Memory, Role}
+use Rattle.heap_calls.proofs.Cited.{Plain, Resource, SystemResource, used_slots, all_slots, Answer, Held, nothing, refused}
+use Rattle.heap_calls.proofs.Cited.{disposed_of, flagged, change_flags, hoisted, move_h_hi, look_up, handle_at, for_found}
+use Rattle.heap_calls.proofs.Cited.{written_at, slotted, more_masters, pointed_at, block_named, moved_into, emptied_at, is_loose}
 use Rattle.heap_calls.proofs.Cited.{blocks_purged, purgeable, purged_all, Asked, answered, row, may_purge, OneBlockEach, map-some, stands}
 use Rattle.heap_calls.proofs.Cited.{Alike, alike-refl, alike-then, alike-append, alike-cons, alike-tidy, alike-purged, alike-freed}
 use Rattle.heap_calls.proofs.Cited.{alike-changed, alike-high, alike-compacted, alike-based, alike-room}

@@ -5,10 +5,10 @@ use Rattle.heap_calls.proofs.Cited.{LOCKED, PROFILE, PURGED, Flags, Block, Free,
 use Rattle.heap_calls.proofs.Cited.{is_mover, is_purgeable, is_masters, is_relocatable, is_nonrelocatable, content_of, with_content}
 use Rattle.heap_calls.proofs.Cited.{no_flags, tidy, resized, written, has, runs, Spot, spot, put_at_base, room, freed, runs_settled}
 use Rattle.heap_calls.proofs.Cited.{spot-is, total-append, total-le, count-none, has-count, State, Memory, Role, Plain, Resource}
-use Rattle.heap_calls.proofs.Cited.{SystemResource, used_slots, all_slots, Answer, Held, nothing, given, refused, disposed_of, rebuilt}
-use Rattle.heap_calls.proofs.Cited.{flagged, change_flags, hoisted, move_h_hi, look_up, handle_at, for_found, written_at, on_block, slotted}
-use Rattle.heap_calls.proofs.Cited.{more_masters, pointed_at, block_named, moved_into, is_resource, block_bits, emptied_at, is_loose}
-use Rattle.heap_calls.proofs.Cited.{reallocated, blocks_purged, purgeable, Asked, answered, row, may_purge, Weighs, OneBlockEach}
+use Rattle.heap_calls.proofs.Cited.{SystemResource, used_slots, all_slots, Answer, Held, nothing, refused, disposed_of}
+use Rattle.heap_calls.proofs.Cited.{flagged, change_flags, hoisted, move_h_hi, look_up, handle_at, for_found, written_at, slotted}
+use Rattle.heap_calls.proofs.Cited.{more_masters, pointed_at, block_named, moved_into, emptied_at, is_loose}
+use Rattle.heap_calls.proofs.Cited.{blocks_purged, purgeable, Asked, answered, row, may_purge, Weighs, OneBlockEach}
 use Rattle.heap_calls.proofs.Cited.{has_purgeable, PurgesOnlyPurgeable, map-some, unless, tidied, freed-is, Move, Put, Drop, Did, did}
 use Rattle.heap_calls.proofs.Cited.{Sought, no_room, seek, around, Refuses, seek-refused, put-there, heap_after, settled-all, purged-all}
 use Rattle.heap_calls.proofs.Cited.{base-all}

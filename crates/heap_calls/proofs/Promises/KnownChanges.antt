@@ -4,8 +4,8 @@ use Rattle.heap_calls.proofs.Cited.{nat_lt, take_all, drop_all, length-replicate
 use Rattle.heap_calls.proofs.Cited.{unwrap_or, if◌then◌else◌, OsErr, LOCKED, Flags, Block, Free, Nonrelocatable, Masters, Relocatable}
 use Rattle.heap_calls.proofs.Cited.{total, count, is_mover, is_relocatable, is_nonrelocatable, content_of, with_content, no_flags, tidy}
 use Rattle.heap_calls.proofs.Cited.{resized, resized_content, written, change_run, has, high, Spot, spot, raised, put_at_base, room, freed}
-use Rattle.heap_calls.proofs.Cited.{State, Meaning, Role, used_slots, all_slots, Answer, Held, nothing, given, refused, rebuilt, flagged}
-use Rattle.heap_calls.proofs.Cited.{change_flags, hoisted, move_h_hi, look_up, for_found, written_at, slotted, more_masters, rewritten}
+use Rattle.heap_calls.proofs.Cited.{State, Meaning, Role, used_slots, all_slots, Answer, Held, refused, flagged}
+use Rattle.heap_calls.proofs.Cited.{change_flags, hoisted, move_h_hi, look_up, for_found, slotted, more_masters, rewritten}
 use Rattle.heap_calls.proofs.Cited.{length-resized, map-some, SeesNoFree, unless, unless-le, unless-none, tidied, freed-is, changed-le}
 use Rattle.heap_calls.proofs.Cited.{high-le, base-le, swapped-le, changed-all, high-all}
 use Rattle.std.proofs.Common.{length-append}

@@ -7,7 +7,7 @@ use Rattle.heap_calls.proofs.Cited.{Spot, spot, purge, freed, compacted, runs_se
 use Rattle.heap_calls.proofs.Cited.{spot-passes, Move, Put, Base, Drop, Write, Did, did, Sought, seek, if_fits, seek_slot, seek_size}
 use Rattle.heap_calls.proofs.Cited.{around, did-append, Refuses, seek-refused, fits-refused, size-refused, around-refused, size-new}
 use Rattle.heap_calls.proofs.Cited.{seek-more, if-more, again-more, State, Memory, Meaning, Role, Plain, Resource, SystemResource, Answer}
-use Rattle.heap_calls.proofs.Cited.{Held, nothing, refused, disposed_of, move_h_hi, look_up, handle_at, for_found, written_at, on_block}
+use Rattle.heap_calls.proofs.Cited.{Held, nothing, refused, disposed_of, move_h_hi, look_up, handle_at, for_found, written_at}
 use Rattle.heap_calls.proofs.Cited.{pointed_at, pointed, block_named, named_block, moved_into, emptied_at, is_loose, blocks_purged}
 use Rattle.heap_calls.proofs.Cited.{purgeable, purged_all, Asked, told_as, heap_after, reply_of, is_unused, next_block, answered, put_by}
 use Rattle.heap_calls.proofs.Cited.{fun_ext, leb-true, Decides-eqb, found_in, behind, munged, Occurrence}

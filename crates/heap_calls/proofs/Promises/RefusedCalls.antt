@@ -3,8 +3,8 @@ use Rattle.heap_calls.proofs.Cited.{cond, arith, Option, Some, None, Result, Ok,
 use Rattle.heap_calls.proofs.Cited.{◌==◌, ℤ, pos, ◌-◌, take, drop, option_map, ok_or, unwrap_or, if◌then◌else◌, phys, OsErr, NIL_HANDLE}
 use Rattle.heap_calls.proofs.Cited.{LOCKED, PROFILE, PURGED, Flags, Block, Nonrelocatable, Masters, Relocatable, is_mover, is_relocatable}
 use Rattle.heap_calls.proofs.Cited.{is_nonrelocatable, content_of, with_content, no_flags, sizes, tidy, count, written, Spot, spot, freed}
-use Rattle.heap_calls.proofs.Cited.{State, Memory, Role, Plain, Resource, SystemResource, Meaning, Handle, Pointer, Disposed, Answer, Known}
-use Rattle.heap_calls.proofs.Cited.{Held, nothing, given, refused, disposed_of, rebuilt, flagged, change_flags, hoisted, look_up, held_at}
+use Rattle.heap_calls.proofs.Cited.{State, Memory, Role, Plain, Resource, SystemResource, Meaning, Handle, Pointer, Disposed, Answer}
+use Rattle.heap_calls.proofs.Cited.{Held, nothing, refused, disposed_of, flagged, change_flags, hoisted, look_up, held_at}
 use Rattle.heap_calls.proofs.Cited.{handle_at, known_as, for_found, written_at, on_block, code_of, without, munger_nil, place_in}
 use Rattle.heap_calls.proofs.Cited.{pointed_at, block_named, dispose_pointer, get_pointer_size, pointer_zone, put_pointer, show_pointer}
 use Rattle.heap_calls.proofs.Cited.{place_of, recover_handle, block_move, moved_into, is_resource, block_bits, bit, emptied_at, is_loose}

@@ -1,12 +1,12 @@
 use Rattle.heap_calls.proofs.Cited.{◌≡◌, ℕ, ◌-◌, zero, suc, Bool, true, false, ◌&&◌, ◌||◌, List, [], ◌∷◌, ◌++◌, filter, refl, sym, ◌∙◌, ap}
-use Rattle.heap_calls.proofs.Cited.{cond, Option, Some, None, Result, Ok, Err, option_map, option_or, IfSome, IsSomeAnd, option_and_then}
+use Rattle.heap_calls.proofs.Cited.{Option, Some, None, Result, Ok, Err, option_map, option_or, IfSome, IsSomeAnd, option_and_then}
 use Rattle.heap_calls.proofs.Cited.{IsTrue, OnErr, none-some, same_Some, list_any-append, Block, Free, Nonrelocatable, Masters, Relocatable}
 use Rattle.heap_calls.proofs.Cited.{size, free, free_sum, resized, is_nonrelocatable, is_mover, is_room, is_relocatable, with_content, tidy}
 use Rattle.heap_calls.proofs.Cited.{Flags, RunSpot, change_run, run_spot, run_at, with_run, has, has_free, movers, others, settle, low}
-use Rattle.heap_calls.proofs.Cited.{high, Stretch, segments, joined, Spot, spot, filled, place, lowest_purged, purge, room, count_of, freed}
-use Rattle.heap_calls.proofs.Cited.{growth, grow_up, taken_low, grow_nonrelocatable, move_away, grow_last, grow_mover, spared, opened}
+use Rattle.heap_calls.proofs.Cited.{high, Stretch, segments, joined, Spot, spot, filled, place, lowest_purged, freed}
+use Rattle.heap_calls.proofs.Cited.{growth, grow_up, move_away, grow_last, grow_mover, spared, opened}
 use Rattle.heap_calls.proofs.Cited.{purged, with_flags, moved_away, settled_runs, settled, Sparing, has-tidy, spot-is, spot-passes}
-use Rattle.heap_calls.proofs.Cited.{joined-segments, none-append, run_spot-parts, run_at-parts, AreLoose, segments-loose, least-some}
+use Rattle.heap_calls.proofs.Cited.{joined-segments, none-append, run_spot-parts, run_at-parts, AreLoose, segments-loose}
 use Rattle.heap_calls.proofs.Cited.{not_nonrelocatable-relocatable, not_nonrelocatable-room, has-counts, is_nonrelocatable-content}
 use Rattle.heap_calls.proofs.Cited.{is_nonrelocatable-flags, is_nonrelocatable-resized, Loose, KeepsNonrelocatable, none-filter, none-free}
 use Rattle.std.specs.Result.{OnOk}
@@ -33,12 +33,6 @@ pub nonrelocatable-spot : (below above : List Block) (b c : Block) → SameNonre
     → KeepsNonrelocatable (below ++ b ∷ above) (below ++ c ∷ above)
 nonrelocatable-spot [] above b c same p = ap (λ t. t || has (is_nonrelocatable p) above) (same p)
 nonrelocatable-spot (d ∷ below) above b c same p = ap (λ t. is_nonrelocatable p d || t) (nonrelocatable-spot below above b c same p)
-
--- other blocks above one
-pub nonrelocatable-above : (below above above' : List Block) → KeepsNonrelocatable above above'
-    → KeepsNonrelocatable (below ++ above) (below ++ above')
-nonrelocatable-above [] above above' same p = same p
-nonrelocatable-above (d ∷ below) above above' same p = ap (λ t. is_nonrelocatable p d || t) (nonrelocatable-above below above above' same p)
 
 -- a block at the lower end of another
 pub nonrelocatable-filled : (new : Block) (s : Spot) → SameNonrelocatable s.here new → KeepsNonrelocatable (s.below ++ s.here ∷ s.above)
@@ -182,59 +176,6 @@ pub nonrelocatable-grow_up : (new : Block) (s : Spot) (after : List Block) → S
     → KeepsNonrelocatable (s.below ++ s.here ∷ s.above) after
 nonrelocatable-grow_up new s after same e p = has-counts (is_nonrelocatable p) (s.below ++ s.here ∷ s.above) after
     (counts.nonrelocatable-grow_up p new s after (same p) e)
-
-nonrelocatable-joined : (p : ℕ) (xs ys : List Block) (parts : List Stretch) → has (is_nonrelocatable p) xs ≡ has (is_nonrelocatable p) ys
-    → has (is_nonrelocatable p) (joined xs parts) ≡ has (is_nonrelocatable p) (joined ys parts)
-nonrelocatable-joined p xs ys [] e = e
-nonrelocatable-joined p xs ys (q ∷ parts) e =
-    list_any-append (is_nonrelocatable p) xs (q.barrier ∷ joined q.run parts)
-    ∙ ap (λ t. t || has (is_nonrelocatable p) (q.barrier ∷ joined q.run parts)) e
-    ∙ sym (list_any-append (is_nonrelocatable p) ys (q.barrier ∷ joined q.run parts))
-
-none-enough : (d k : ℕ) (sp : Block → Bool) (first run : List Block) → NoNonrelocatable first
-    → cond (has_free d (purge k sp first)) (Some (purge k sp first)) None ≡ Some run → NoNonrelocatable run
-none-enough d k sp first run none e = cases (has_free d (purge k sp first)) e
-  where
-    cases : (t : Bool) → cond t (Some (purge k sp first)) None ≡ Some run → NoNonrelocatable run
-    cases true e p = ap (has (is_nonrelocatable p)) (sym (same_Some _ _ e)) ∙ nonrelocatable-purge k sp first p ∙ none p
-    cases false e p = absurd (none-some _ e)
-
-nonrelocatable-taken_low : (d : ℕ) (sp : Block → Bool) (above rest : List Block) → taken_low d sp above ≡ Some rest
-    → KeepsNonrelocatable above rest
-nonrelocatable-taken_low d sp above rest e =
-    cases (room (λ run. cond (has_free d run) (Some run) None) sp (segments above).first)
-    (λ run is. least-some NoNonrelocatable (λ k. cond (has_free d (purge k sp (segments above).first))
-    (Some (purge k sp (segments above).first)) None) (count_of sp (segments above).first) run
-    (λ k y. none-enough d k sp (segments above).first y (none-loose (segments above).first (segments-loose above).0))
-    is) e
-  where
-    cases : (o : Option (List Block)) → ((run : List Block) → o ≡ Some run → NoNonrelocatable run)
-        → option_map (λ run. joined (movers run ++ free (free_sum run - d)) (segments above).rest) o ≡ Some rest
-        → KeepsNonrelocatable above rest
-    cases None none e p = absurd (none-some _ e)
-    cases (Some run) none e p =
-        let left = none-append (is_nonrelocatable p) (movers run) (free (free_sum run - d))
-        (none-filter (is_nonrelocatable p) is_mover run (none run refl p))
-        (none-free (is_nonrelocatable p) (λ n. refl) (free_sum run - d)) in
-        ap (has (is_nonrelocatable p)) (sym (same_Some _ _ e))
-        ∙ nonrelocatable-joined p (movers run ++ free (free_sum run - d)) (segments above).first (segments above).rest
-        (left ∙ sym (none-loose (segments above).first (segments-loose above).0 p))
-        ∙ ap (has (is_nonrelocatable p)) (joined-segments above)
-
-pub nonrelocatable-grow_nonrelocatable : (sp : Block → Bool) (new : Block) (s : Spot) (after : List Block) → SameNonrelocatable s.here new
-    → grow_nonrelocatable sp new s ≡ Some after → KeepsNonrelocatable (s.below ++ s.here ∷ s.above) after
-nonrelocatable-grow_nonrelocatable sp new s after same e = cases (grow_up new s) (taken_low (growth new s) sp s.above) refl refl e
-  where
-    cases : (a b : Option (List Block)) → grow_up new s ≡ a → taken_low (growth new s) sp s.above ≡ b
-        → option_or a (option_map (λ above. s.below ++ new ∷ above) b) ≡ Some after
-        → KeepsNonrelocatable (s.below ++ s.here ∷ s.above) after
-    cases (Some z) b up lower e p = nonrelocatable-grow_up new s after same (up ∙ e) p
-    cases None None up lower e p = absurd (none-some _ e)
-    cases None (Some rest) up lower e p =
-        ap (has (is_nonrelocatable p)) (sym (same_Some _ _ e))
-        ∙ nonrelocatable-above s.below (s.here ∷ s.above) (new ∷ rest) (λ p. ap (λ t. is_nonrelocatable p new || t)
-        (nonrelocatable-taken_low (growth new s) sp s.above rest lower p) ∙ ap (λ t. t || has (is_nonrelocatable p) s.above) (same p))
-        p
 
 -- the lowest run that passes, changed
 nonrelocatable-changed : (change : List Block → List Block) → ((run : List Block) → NoNonrelocatable run → NoNonrelocatable (change run))

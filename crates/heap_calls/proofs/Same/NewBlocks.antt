@@ -1,10 +1,10 @@
 use Rattle.heap_calls.proofs.Cited.{◌≡◌, ℕ, ◌+◌, ◌-◌, ◌<◌, Bool, true, false, List, [], ◌∷◌, ◌++◌, length, replicate, Option, Some, None}
 use Rattle.heap_calls.proofs.Cited.{Ok, Err, refl, sym, ◌∙◌, ap, cond, arith, is_some, option_map, unwrap_or, length-replicate, phys}
-use Rattle.heap_calls.proofs.Cited.{MEM_FULL, is_some-map, padded, Block, Masters, size, is_room, Relocatable, no_flags, Flags, RunSpot}
-use Rattle.heap_calls.proofs.Cited.{run_spot, has_free, spot, filled, place, put_in_place, put_at_base, room, purge, count_of, map-none}
-use Rattle.heap_calls.proofs.Cited.{Put, Base, place_lowers, lowered_in, Sought, no_room, seek, if_fits, seek_slot, then_seek, State, Plain}
+use Rattle.heap_calls.proofs.Cited.{MEM_FULL, is_some-map, padded, Block, Masters, size, Relocatable, no_flags, Flags}
+use Rattle.heap_calls.proofs.Cited.{filled, place, put_in_place, put_at_base, room, purge, count_of, map-none}
+use Rattle.heap_calls.proofs.Cited.{Put, Base, place_lowers, Sought, no_room, seek, if_fits, seek_slot, then_seek, State, Plain}
 use Rattle.heap_calls.proofs.Cited.{Meaning, Handle, Answer, nothing, slotted, more_masters, room_searches, slot_searches, ready_searches}
-use Rattle.heap_calls.proofs.Cited.{block_searches, new_handle_searches, new_empty_handle_searches, run_moves, as_it_is, place_moves}
+use Rattle.heap_calls.proofs.Cited.{block_searches, new_handle_searches, new_empty_handle_searches}
 use Rattle.heap_calls.proofs.Cited.{put_moves, new_handle_moves, Gone, room_gone, slot_gone, ready_gone, new_filled, new_empty, told_blocks}
 use Rattle.heap_calls.proofs.Cited.{Done, work, heap_after, purged_by, is_unused}
 use Rattle.heap_calls.specs.Answer as today
@@ -34,19 +34,11 @@ base-agrees n spared new zone =
     (room_gone n (put_at_base new) spared zone) (gone-is (put_at_base new) spared zone n)
 
 -- a relocatable block
-packs-same : (o : Option RunSpot) → run_moves as_it_is o ≡ lowered_in o
-packs-same None = refl
-packs-same (Some r) = refl
-
-pub place-same : (p : ℕ) (zone : List Block) → place_moves p zone ≡ place_lowers p zone
-place-same p zone =
-    ap (λ (m : ℕ). cond (is_some (spot (is_room p) zone)) 0 m) (packs-same (run_spot (has_free p) zone))
-
 pub put-agrees : (n : ℕ) (spared : Block → Bool) (new : Block) → 0 < size new → (zone : List Block)
     → Agrees (told_blocks n) spared zone (room (put_in_place new) spared zone) (room_searches (put_in_place new) spared zone)
     (put_moves new spared zone) (room_gone n (put_in_place new) spared zone) (seek (Put new) spared zone)
 put-agrees n spared new pos zone =
-    seek-agrees (told_blocks n) refl spared (Put new) refl (λ z. refl) (place_moves (size new)) (place-same (size new))
+    seek-agrees (told_blocks n) refl spared (Put new) refl (λ z. refl) (place_lowers (size new)) (λ z. refl)
     (λ z e. no-place (size new) z pos (map-none (filled new) (place (size new) z) e)) zone
     (room_gone n (put_in_place new) spared zone) (gone-is (put_in_place new) spared zone n)
 
@@ -217,8 +209,8 @@ module _ (a b : Block) (sized : size a ≡ size b) (spared : Block → Bool) (zo
             ∙ sym (is_some-map (filled b) (place (size b) z))
 
     sized-moves : put_moves a spared zone ≡ put_moves b spared zone
-    sized-moves = ap (λ (k : ℕ). place_moves (size a) (purge (k - 1) spared zone)) sized-searches
-        ∙ ap (λ (n : ℕ). place_moves n (purge (room_searches (put_in_place b) spared zone - 1) spared zone)) sized
+    sized-moves = ap (λ (k : ℕ). place_lowers (size a) (purge (k - 1) spared zone)) sized-searches
+        ∙ ap (λ (n : ℕ). place_lowers n (purge (room_searches (put_in_place b) spared zone - 1) spared zone)) sized
 
 ready-same : (o : Option State) (f g : State → ℕ) → ((r : State) → f r ≡ g r)
     → ready_searches o f ≡ ready_searches o g

@@ -1,16 +1,15 @@
 use Rattle.heap_calls.proofs.Cited.{◌≡◌, ℕ, Bool, true, false, List, [], ◌∷◌, ◌++◌, Option, Some, None, Result, Ok, Err, refl, sym, ◌∙◌, ap}
 use Rattle.heap_calls.proofs.Cited.{cond, arith, is_some, append-nil, option_map, ok_or, result_ok, unwrap_or, none-some, same_Some, phys}
-use Rattle.heap_calls.proofs.Cited.{OsErr, NIL_HANDLE, Block, is_relocatable, is_nonrelocatable, Spot, spot, put_in_place, freed, Move, Put}
-use Rattle.heap_calls.proofs.Cited.{Drop, Write, Did, did, moved, gone_by, lowered_by, searches_by, rewritten, Sought, seek, if_fits}
-use Rattle.heap_calls.proofs.Cited.{around, did-append, Refuses, fits-refused, seek-refused, State, Meaning, Handle, Pointer, Disposed}
-use Rattle.heap_calls.proofs.Cited.{Known, Held, held_at, nothing, pointed, pointed_at, written_in, reallocated, room_searches, put_moves}
+use Rattle.heap_calls.proofs.Cited.{OsErr, NIL_HANDLE, Block, is_relocatable, is_nonrelocatable, Spot, spot, put_in_place, freed, Put}
+use Rattle.heap_calls.proofs.Cited.{Drop, Did, did, Sought, seek, if_fits}
+use Rattle.heap_calls.proofs.Cited.{around, Refuses, fits-refused, seek-refused, State, Meaning, Handle, Pointer, Disposed}
+use Rattle.heap_calls.proofs.Cited.{Known, Held, held_at, nothing, pointed, pointed_at, reallocated, room_searches, put_moves}
 use Rattle.heap_calls.proofs.Cited.{Gone, room_gone, told_blocks, fresh_block, renewed, renewed_searches, renewed_moves}
 use Rattle.std.specs.Prelude.{slice_get}
-use Rattle.heap_calls.specs.Inner.Appending.{behind}
 use Rattle.heap_calls.proofs.Same.Agreeing.{Agrees, agrees-if}
 use Rattle.heap_calls.proofs.Same.NewBlocks.{put-agrees}
 
--- What is done beside a search: bytes are written after it, or a block is freed before it.
+-- A block that is freed before a search.
 
 -- a block that is found stands at its spot
 spot-held : (kind : ℕ → Block → Bool) (k : ℕ) (zone : List Block) (held : Held) → ok_or (option_map (λ (at : Spot).
@@ -41,59 +40,6 @@ pointer-spot (Some p) s held e = cases (slice_get s.names p) e
     cases (Some (Handle role)) e = absurd (none-some _ (ap result_ok e))
     cases (Some Pointer) e = spot-held is_nonrelocatable p s.zone held e
     cases (Some Disposed) e = absurd (none-some _ (ap result_ok e))
-
--- a move after what is found, which itself neither searches nor moves blocks down nor purges
-module _ (tell : List Block → List Gone) (spared : Block → Bool) (zone : List Block) (after : Option (List Block)) (searches moves : ℕ)
-    (purged : List Gone) (r : Sought) (a : Agrees tell spared zone after searches moves purged r)
-  where
-    abbrev now : Did
-    now = did spared r.path zone
-
-    pub later-agrees : (m : Move) → searches_by m ≡ 0 → ((z : List Block) → lowered_by m z ≡ 0)
-        → ((z : List Block) → gone_by spared m z ≡ []) → (change : List Block → List Block)
-        → ((z : List Block) → change z ≡ unwrap_or (moved spared m z) z)
-        → Agrees tell spared zone (option_map change after) searches moves purged (around [] (m ∷ []) r)
-    later-agrees m quiet low still change changes = cases after refl
-      where
-        cases : (o : Option (List Block)) → after ≡ o
-            → Agrees tell spared zone (option_map change o) searches moves purged (around [] (m ∷ []) r)
-        cases None e =
-            let none : r.found ≡ false = sym a.finds ∙ ap is_some e in
-            let d = ap (λ t. did spared (cond t (r.path ++ m ∷ []) r.path) zone) none in
-            record {
-              finds = sym none;
-              leaves = ap (λ o. unwrap_or o zone) (sym e) ∙ a.leaves ∙ sym (ap (λ (x : Did). x.zone) d);
-              looks = a.looks ∙ sym (ap (λ (x : Did). x.searches) d);
-              lowers = a.lowers ∙ sym (ap (λ (x : Did). x.lowered) d);
-              tells = a.tells ∙ sym (ap (λ (x : Did). tell x.gone) d);
-            }
-        cases (Some z) e =
-            let some : r.found ≡ true = sym a.finds ∙ ap is_some e in
-            let d = ap (λ t. did spared (cond t (r.path ++ m ∷ []) r.path) zone) some
-            ∙ did-append spared r.path (m ∷ []) zone in
-            let here : z ≡ now.zone = sym (ap (λ o. unwrap_or o zone) e) ∙ a.leaves in
-            let l = low now.zone in
-            record {
-              finds = sym some;
-              leaves = changes z ∙ ap (λ z. unwrap_or (moved spared m z) z) here ∙ sym (ap (λ (x : Did). x.zone) d);
-              looks = (let x = ap (λ (x : Did). x.searches) d in let y = a.looks in omega arith);
-              lowers = (let x = ap (λ (x : Did). x.lowered) d in let y = a.lowers in omega arith);
-              tells = a.tells ∙ ap tell (sym (ap (λ l. now.gone ++ (l ++ [])) (still now.zone)
-                  ∙ append-nil now.gone)) ∙ sym (ap (λ (x : Did). tell x.gone) d);
-            }
-
--- bytes written into the block of a handle
-pub written-agrees : (tell : List Block → List Gone) (spared : Block → Bool) (zone : List Block)
-    (after : Option (List Block)) (searches moves : ℕ) (purged : List Gone) (r : Sought)
-    → Agrees tell spared zone after searches moves purged r → (h i : ℕ) (x : List ℕ)
-    → Agrees tell spared zone (option_map (behind h i x) after) searches moves purged (around [] (Write h i x ∷ []) r)
-written-agrees tell spared zone after searches moves purged r a h i x =
-    later-agrees tell spared zone after searches moves purged r a (Write h i x) refl (λ z. refl) (λ z. refl) (behind h i x)
-    (λ z. by_spot z (spot (is_relocatable h) z))
-  where
-    by_spot : (z : List Block) (o : Option Spot) → written_in h i x z o ≡ unwrap_or (option_map (rewritten i x) o) z
-    by_spot z None = refl
-    by_spot z (Some t) = refl
 
 -- a new block for a handle whose old one is freed before
 module _ (n h : ℕ) (zone : List Block) (after : Option (List Block)) (searches moves : ℕ) (purged : List Gone)

@@ -1,11 +1,11 @@
-use Rattle.heap_calls.proofs.Cited.{◌≡◌, ℕ, ◌+◌, ◌-◌, ◌≤◌, zero, suc, Bool, true, false, ◌==◌, List, [], ◌∷◌, ◌++◌, length, take, replicate}
+use Rattle.heap_calls.proofs.Cited.{◌≡◌, ℕ, ◌-◌, ◌≤◌, zero, suc, Bool, true, false, ◌==◌, List, [], ◌∷◌, ◌++◌, length, take, replicate}
 use Rattle.heap_calls.proofs.Cited.{refl, sym, ◌∙◌, ap, subst, cond, arith, Option, Some, None, is_some, take-append_seam, Decides-eqb}
 use Rattle.heap_calls.proofs.Cited.{none-some, same_Some, option_map, IsSome, IfSome, IsSomeAnd, phys, Block, Free, Nonrelocatable, Masters}
 use Rattle.heap_calls.proofs.Cited.{Relocatable, size, sizes, count, is_relocatable, resized, resized_content, content_of, Spot, spot}
-use Rattle.heap_calls.proofs.Cited.{spot_at, grow, spot-passes, length-resized, fitted, made_zone, size_for, lengthened, bytes_of}
+use Rattle.heap_calls.proofs.Cited.{spot_at, grow, spot-passes, length-resized, size_for, bytes_of, Rest, Went, seek_sized}
 use Rattle.heap_calls.proofs.Cited.{length_of, FindsLowest}
-use Rattle.heap_calls.specs.Inner.Appending.{behind}
 use Rattle.heap_calls.proofs.Numbering.Answering.{at_place}
+use Rattle.heap_calls.proofs.Same.Growing.{same-handle, sized-grew}
 use Rattle.heap_calls.proofs.Sizes.GrowingInPlace.{spot-small, some_spot, spot_and}
 use Rattle.heap_calls.proofs.Sizes.Fronts.{own-grown, other-grown}
 
@@ -43,6 +43,13 @@ size-is n m e = cases (is_some (phys n)) refl e
     cases true is e = (same_Some _ _ e, is)
     cases false is e = absurd (none-some _ e)
 
+pub size-none : (n : ℕ) → size_for n ≡ None → is_some (phys n) ≡ false
+size-none n e = cases (is_some (phys n)) e
+  where
+    cases : (t : Bool) → cond t (Some n) None ≡ None → t ≡ false
+    cases true e = absurd (none-some _ (sym e))
+    cases false e = refl
+
 pub length-known : (slot place n : ℕ) (zone : List Block) → FindsLowest (is_relocatable slot) zone (Some place)
     → IfSome (spot_at place zone) (λ s. n ≡ length (content_of s.here))
     → (n ≡ length_of slot zone) × (n ≤ sizes zone)
@@ -53,23 +60,6 @@ length-known slot place n zone here is =
       omega (arith, few, content-fits here.0.here, spot-small place zone here.0 here.2),
     )
 
--- bytes were put behind those of a block that was given room for them, if it was
-pub lengthened-is : (slot : ℕ) (sp : Block → Bool) (zone : List Block) (x : List ℕ) (n : ℕ) (done : Bool)
-    (zone1 zone2 : List Block) → n ≡ length x
-    → fitted (is_relocatable slot) sp (length_of slot zone + n) zone ≡ made_zone done zone1
-    → made_zone done zone2 ≡ made_zone done (behind slot (length_of slot zone) x zone1)
-    → lengthened sp slot (length_of slot zone) x zone ≡ made_zone done zone2
-lengthened-is slot sp zone x n done zone1 zone2 n_is made put =
-    ap (λ k. option_map (behind slot (length_of slot zone) x) (fitted (is_relocatable slot) sp
-    (length_of slot zone + k) zone)) (sym n_is) ∙ ap (option_map (behind slot (length_of slot zone) x)) made
-    ∙ cases done
-    ∙ sym put
-  where
-    cases : (t : Bool) → option_map (behind slot (length_of slot zone) x) (made_zone t zone1)
-        ≡ made_zone t (behind slot (length_of slot zone) x zone1)
-    cases true = refl
-    cases false = refl
-
 -- where the block of a slot has room for n bytes, and the bytes of a source stay, behind its own where it is
 -- the one that grew
 pub record HasRoom (slot n source more : ℕ) (zone zone1 : List Block) : Type 0 where
@@ -78,17 +68,13 @@ pub record HasRoom (slot n source more : ℕ) (zone zone1 : List Block) : Type 0
   pub kept : take more (bytes_of (spot (is_relocatable source) zone1)) ≡ bytes_of (spot (is_relocatable source) zone)
 
 -- the block of a slot has grown to n bytes
-module _ (slot : ℕ) (sp : Block → Bool) (zone : List Block) (n : ℕ) (done : Bool) (zone1 : List Block)
-    (is : done ≡ true) (made : fitted (is_relocatable slot) sp n zone ≡ made_zone done zone1) (s : Spot)
+module _ (slot : ℕ) (sp : Block → Bool) (zone : List Block) (n : ℕ) (zone1 : List Block) {m : ℕ} {rest rest1 : Rest}
+    (went : Went sp zone (seek_sized (is_relocatable slot) n sp zone) true m zone1 rest rest1) (s : Spot)
     (found : spot (is_relocatable slot) zone ≡ Some s) (once : count (is_relocatable slot) zone ≤ 1)
   where
     grew : grow (is_relocatable slot) sp n zone ≡ Some zone1
-    grew = cases (is_some (phys n)) (made ∙ ap (λ (t : Bool). made_zone t zone1) is)
-      where
-        cases : (t : Bool) → cond t (grow (is_relocatable slot) sp n zone) None ≡ Some zone1
-            → grow (is_relocatable slot) sp n zone ≡ Some zone1
-        cases true e = e
-        cases false e = absurd (none-some _ e)
+    grew = sized-grew (is_relocatable slot) sp n zone s found
+        (same-handle slot n s.here (spot-passes (is_relocatable slot) zone s found)) went
 
     own : (t : Spot) × (spot (is_relocatable slot) zone1 ≡ Some t) × (t.here ≡ resized n s.here)
     own = the-block (spot (is_relocatable slot) zone1) (resized n s.here)

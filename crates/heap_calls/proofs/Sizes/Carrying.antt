@@ -4,16 +4,19 @@ use Rattle.heap_calls.proofs.Cited.{none-some, same_Some, cond-true, cond-false,
 use Rattle.heap_calls.proofs.Cited.{find, option_map, option_or, IfSome, IsSome, IsSomeAnd, IsTrue, padded, phys, Block, Free}
 use Rattle.heap_calls.proofs.Cited.{Nonrelocatable, Masters, Relocatable, size, count, free_sum, free_of, free, is_mover, is_room}
 use Rattle.heap_calls.proofs.Cited.{is_relocatable, tidy, resized, has, has_free, movers, others, high, settle, with_run, RunSpot, run_spot}
-use Rattle.heap_calls.proofs.Cited.{run_at, Spot, raised, spot, spot_at, place, filled, room, growth, taken, grow_up, grow_mover}
+use Rattle.heap_calls.proofs.Cited.{run_at, Spot, raised, spot, spot_at, place, filled, growth, taken, grow_up, grow_mover}
 use Rattle.heap_calls.proofs.Cited.{FindsLowestRun, spot-passes, total-append, free_sum-free, none-count, size-resized, filter-none}
 use Rattle.heap_calls.proofs.Cited.{none-append, has-count, place-room, run_spot-passes, run_at-parts, Loose, purged, spared, Sparing}
 use Rattle.heap_calls.proofs.Cited.{moved_away, Rest, IsRest, KeepsSlots, with_moves, with_placed, lowered_in_run, FindsPlacement, IsAt}
-use Rattle.heap_calls.proofs.Cited.{Placement, grown, growing, growing_searches, Spares, Stays, FindsGrowth, IsToGrow, block_of, SameBlocks}
-use Rattle.heap_calls.proofs.Cited.{CanGrowUp, GrewUp, room_searches, put_run, run_at-change, tidy-change, apart-settle, apart-high}
-use Rattle.heap_calls.proofs.Cited.{all-high}
+use Rattle.heap_calls.proofs.Cited.{Placement, grown, Spares, Stays, FindsGrowth, IsToGrow, block_of, SameBlocks}
+use Rattle.heap_calls.proofs.Cited.{CanGrowUp, GrewUp, put_run, run_at-change, tidy-change, apart-settle, apart-high}
+use Rattle.heap_calls.proofs.Cited.{all-high, opened, purge, counted, some_and, Grow, is_same, lowered_by, purges_for, Packs, Sought}
+use Rattle.heap_calls.proofs.Cited.{Anchor, gone_from, Went, seek_growth, told_named, told_along}
 use Rattle.std.proofs.lemmas.List.{append-nil}
 use Rattle.heap_calls.specs.declared.growing.Growth.TheVariants as grows
-use Rattle.heap_calls.proofs.Sizes.Growth.{opened-stays, find-purged, find-tidy, spot-find, growth-stays}
+use Rattle.heap_calls.proofs.Going.{went-none, went-some, gone-none, gone-some, goes-named}
+use Rattle.heap_calls.proofs.Same.Growing.{grown-named}
+use Rattle.heap_calls.proofs.Sizes.Growth.{opened-stays, opens-none, find-purged, find-tidy, spot-find, growth-stays}
 use Rattle.heap_calls.proofs.Numbering.Changing.{phys-some}
 use Rattle.block_store.proofs.Regroup.Regrouping.{changed}
 
@@ -498,43 +501,59 @@ module _ (nd : Sparing) (number n k : ℕ) (zone : List Block) (spares : Spares 
     purged-mover zone1 is = ap (grow_mover (is_relocatable number) (grown n (spot (is_relocatable number) zone))) (sym is)
         ∙ ap (λ b. grow_mover (is_relocatable number) b zone1) (sym (purged-grown zone1 is))
 
-    -- as it was carried out
-    pub carried : (zone1 zone2 : List Block) → zone1 ≡ purged k nd zone
-        → growing (is_relocatable number) (grown n (spot (is_relocatable number) zone)) nd zone
-        ≡ grow_mover (is_relocatable number) (grown n (spot (is_relocatable number) zone)) (purged k nd zone)
-        → grow_mover (is_relocatable number) (grown n (spot (is_relocatable number) zone1)) zone1 ≡ Some zone2
-        → growing (is_relocatable number) (grown n (spot (is_relocatable number) zone)) nd zone ≡ Some zone2
-    carried zone1 zone2 is least done = least ∙ purged-mover zone1 is ∙ done
-
--- the same told of the spot that there is
+-- What the search for the growth of a block that may move comes to, after the least number of purges.
 module _ (nd : Sparing) (number n : ℕ) (zone : List Block) (stays : Stays nd (is_relocatable number))
+    (grows : IsToGrow (is_relocatable number) n zone) (k : ℕ)
+    (least : k ≡ purges_for (λ z. is_some (grow_mover (is_relocatable number)
+    (grown n (spot (is_relocatable number) zone)) z)) (spared nd) (opened nd zone))
   where
-    -- what the whole growth comes to
-    pub grown-zone : (answer : Option (List Block)) → growing (is_relocatable number)
-        (grown n (spot (is_relocatable number) zone)) nd zone ≡ answer
-        → IfSome (spot (is_relocatable number) zone) (λ s. room (grow_mover (is_relocatable number) (resized n s.here))
-        (spared nd) zone ≡ answer)
-    grown-zone answer is = cases (spot (is_relocatable number) zone) is
-      where
-        cases : (o : Option Spot) → growing (is_relocatable number) (grown n o) nd zone ≡ answer
-            → IfSome o (λ s. room (grow_mover (is_relocatable number) (resized n s.here)) (spared nd) zone ≡ answer)
-        cases None is = tt
-        cases (Some s) is = ap (room (grow_mover (is_relocatable number) (resized n s.here)) (spared nd))
-            (sym (opened-stays (is_relocatable number) nd zone stays)) ∙ is
+    abbrev new : Block
+    new = grown n (spot (is_relocatable number) zone)
 
-    -- how many searches it takes
-    pub grown-searches : (looks : ℕ) → looks ≡ growing_searches (is_relocatable number)
-        (grown n (spot (is_relocatable number) zone)) nd zone
-        → IfSome (spot (is_relocatable number) zone) (λ s. looks
-        ≡ room_searches (grow_mover (is_relocatable number) (resized n s.here)) (spared nd) zone)
-    grown-searches looks is = cases (spot (is_relocatable number) zone) is
+    abbrev sp : Block → Bool
+    sp = spared nd
+
+    abbrev path : Sought
+    path = seek_growth (is_relocatable number) n sp zone
+
+    abbrev grows_in : (Block → Bool) → List Block → Option (List Block)
+    grows_in t z = grow_mover t new z
+
+    named : is_same new ≡ is_relocatable number
+    named = let found = some_and (spot (is_relocatable number) zone) (λ s. size s.here < size (resized n s.here)) grows in
+        grown-named number n zone found.0 found.1
+
+    whole : opened nd zone ≡ zone
+    whole = opened-stays (is_relocatable number) nd zone stays
+
+    least_is : k ≡ purges_for (λ z. is_some (grows_in (is_same new) z)) sp zone
+    least_is = least ∙ ap (purges_for (λ z. is_some (grows_in (is_relocatable number) z)) sp) whole
+        ∙ ap (λ t. purges_for (λ z. is_some (grows_in t z)) sp zone) (sym named)
+
+    there : grows_in (is_same new) (purge k sp zone) ≡ grows_in (is_relocatable number) (purged k nd zone)
+    there = ap (λ t. grows_in t (purge k sp zone)) named
+        ∙ ap (λ z. grows_in (is_relocatable number) (purge k sp z)) (sym whole)
+
+    pub growth-went : (zone' : List Block) → grows_in (is_relocatable number) (purged k nd zone) ≡ Some zone'
+        → (rest rest' : Rest) → Packs (lowered_by (Grow new) (purged k nd zone)) rest rest'
+        → Went sp zone path true (k + 1) zone' rest rest'
+    growth-went zone' done rest rest' packs =
+        went-some sp zone (Grow new) refl (λ z. refl) k least_is zone' (there ∙ done) rest rest'
+        (packs ∙ ap (λ z. counted rest.moves (lowered_by (Grow new) (purge k sp z))) whole)
+
+    pub growth-told : (es : List Anchor) → is_some (grows_in (is_relocatable number) (purged k nd zone)) ≡ true
+        → gone_from es nd k zone ≡ told_along es sp path zone
+    growth-told es is = goes-named es nd (opens-none (is_relocatable number) nd stays) k zone
+        ∙ ap (told_named es) (sym (gone-some sp zone (Grow new) refl (λ z. refl) k least_is (ap is_some there ∙ is)))
+
+    module _ (none : is_some (grows_in (is_relocatable number) (purged k nd zone)) ≡ false)
       where
-        cases : (o : Option Spot) → looks ≡ growing_searches (is_relocatable number) (grown n o) nd zone
-            → IfSome o (λ s. looks ≡ room_searches (grow_mover (is_relocatable number) (resized n s.here)) (spared nd)
-            zone)
-        cases None is = tt
-        cases (Some s) is = is ∙ ap (room_searches (grow_mover (is_relocatable number) (resized n s.here)) (spared nd))
-            (opened-stays (is_relocatable number) nd zone stays)
+        pub growth-not_went : (rest : Rest) → Went sp zone path false (k + 1) zone rest rest
+        growth-not_went = went-none sp zone (Grow new) refl (λ z. refl) k least_is (ap is_some there ∙ none)
+
+        pub growth-untold : (es : List Anchor) → told_along es sp path zone ≡ []
+        growth-untold es = ap (told_named es)
+            (gone-none sp zone (Grow new) refl (λ z. refl) k least_is (ap is_some there ∙ none))
 
 -- the bytes that the block takes at its new size
 pub grown-size : (number n takes : ℕ) (zone : List Block) → IsToGrow (is_relocatable number) n zone

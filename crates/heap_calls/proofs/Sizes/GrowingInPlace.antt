@@ -1,18 +1,19 @@
 use Rattle.heap_calls.proofs.Cited.{◌≡◌, ℕ, ◌+◌, ◌-◌, ◌≤◌, ◌<◌, zero, suc, Bool, true, false, not, ◌==◌, List, [], ◌∷◌, ◌++◌, refl, sym}
-use Rattle.heap_calls.proofs.Cited.{◌∙◌, ap, subst, cond, arith, Option, Some, None, is_some, nat_le, append_assoc, option_map, option_or}
+use Rattle.heap_calls.proofs.Cited.{◌∙◌, ap, subst, cond, arith, Option, Some, None, is_some, nat_le, append_assoc, option_map}
 use Rattle.heap_calls.proofs.Cited.{IfSome, IsSome, IsSomeAnd, IsTrue, none-some, same_Some, cond-true, cond-false, or_parts, le-leb}
-use Rattle.heap_calls.proofs.Cited.{leb-true, nat_tests, least_or_last-le, IsMost, enough_above, room_searches, in_place_searches, padded}
+use Rattle.heap_calls.proofs.Cited.{leb-true, nat_tests, IsMost, enough_above, padded}
 use Rattle.heap_calls.proofs.Cited.{phys, Block, Free, Nonrelocatable, Masters, Relocatable, size, sizes, free_sum, free_of, free, is_room}
 use Rattle.heap_calls.proofs.Cited.{add, tidy, resized, has, has_free, in_run, movers, low, with_run, RunSpot, run_raised, run_at, run_from}
-use Rattle.heap_calls.proofs.Cited.{segments, Segments, joined, Stretch, Spot, raised, spot_at, room, may_be_purged, lowest_purged, purge}
-use Rattle.heap_calls.proofs.Cited.{count_of, growth, taken, grow_up, taken_low, grow_nonrelocatable, beyond, least_or_last, spared}
+use Rattle.heap_calls.proofs.Cited.{segments, Segments, joined, Stretch, Spot, raised, spot, spot_at, may_be_purged, lowest_purged, purge}
+use Rattle.heap_calls.proofs.Cited.{count_of, growth, taken, grow_up, beyond, least_or_last, spared, is_same, run_above, purges_for}
 use Rattle.heap_calls.proofs.Cited.{Sparing, seen, Seen, total-tidy, has-tidy, total-append, Apart, apart-tidied, apart-tidy, tidy-apart}
 use Rattle.heap_calls.proofs.Cited.{apart-size, apart-next, barrier-alone, apart-above, joined-segments, joined-is, length-resized}
-use Rattle.heap_calls.proofs.Cited.{some_and, is_some-map, not_some, spot_at-below, barrier-size, none-lowest_purged, room_at, enough}
-use Rattle.heap_calls.proofs.Cited.{above_taken, pushed_up, FindsPurges}
+use Rattle.heap_calls.proofs.Cited.{some_and, is_some-map, spot_at-below, barrier-size, none-lowest_purged, room_at}
+use Rattle.heap_calls.proofs.Cited.{above_taken, pushed_up}
 use Rattle.std.proofs.lemmas.List.{append-nil}
+use Rattle.moves.specs.Moves as moves
 use Rattle.heap_calls.proofs.Room.Searching.{count-le}
-use Rattle.heap_calls.proofs.Room.LeastSearches.{least-of, tries-of}
+use Rattle.heap_calls.proofs.Same.Growing.{same-resized}
 use Rattle.heap_calls.proofs.Numbering.Changing.{spot_at-is}
 
 -- Growth of a block where it stands.
@@ -534,27 +535,18 @@ resized-size n (Relocatable id flags content) less = ap padded (length-resized n
 pub up-allowed : (new : Block) (s : Spot) → is_some (taken (growth new s) s.above) ≡ true → IsSome (grow_up new s)
 up-allowed new s e = is_some-map (λ above. s.below ++ new ∷ above) (taken (growth new s) s.above) ∙ e
 
-pub grown-up : (sp : Block → Bool) (new : Block) (s : Spot) (zone' : List Block)
-    → is_some (taken (growth new s) s.above) ≡ true → IfSome (grow_up new s) (λ after. zone' ≡ after)
-    → grow_nonrelocatable sp new s ≡ Some zone'
-grown-up sp new s zone' e h = cases (grow_up new s) (up-allowed new s e) h
+pub up-made : (new : Block) (s : Spot) (zone' : List Block) → is_some (taken (growth new s) s.above) ≡ true
+    → IfSome (grow_up new s) (λ after. zone' ≡ after) → grow_up new s ≡ Some zone'
+up-made new s zone' e h = cases (grow_up new s) (up-allowed new s e) h
   where
-    cases : (o : Option (List Block)) → is_some o ≡ true → IfSome o (λ after. zone' ≡ after)
-        → option_or o (option_map (λ above. s.below ++ new ∷ above) (taken_low (growth new s) sp s.above)) ≡ Some zone'
+    cases : (o : Option (List Block)) → is_some o ≡ true → IfSome o (λ after. zone' ≡ after) → o ≡ Some zone'
     cases None is h = let f : false ≡ true = is in cc
     cases (Some after) is h = ap Some (sym h)
 
--- neither they nor the run above
-no-up : (new : Block) (s : Spot) → is_some (taken (growth new s) s.above) ≡ false → grow_up new s ≡ None
-no-up new s e = ap (option_map (λ above. s.below ++ new ∷ above)) (not_some (taken (growth new s) s.above) e)
-
-pub grown-none : (sp : Block → Bool) (new : Block) (s : Spot) → is_some (taken (growth new s) s.above) ≡ false
-    → room (enough (growth new s)) sp (segments s.above).first ≡ None → grow_nonrelocatable sp new s ≡ None
-grown-none sp new s e none =
-    ap (λ o. option_or o (option_map (λ above. s.below ++ new ∷ above) (taken_low (growth new s) sp s.above)))
-    (no-up new s e)
-    ∙ ap (λ o. option_map (λ above. s.below ++ new ∷ above) (option_map
-    (λ run. above_taken (growth new s) run (segments s.above).rest) o)) none
+-- or don't
+pub not-up : (new : Block) (s : Spot) → is_some (taken (growth new s) s.above) ≡ false
+    → is_some (grow_up new s) ≡ false
+not-up new s e = is_some-map (λ above. s.below ++ new ∷ above) (taken (growth new s) s.above) ∙ e
 
 -- the spot after the run above it was packed upward
 abbrev pub pushed : ℕ → ℕ → (Block → Bool) → Spot → Spot
@@ -573,80 +565,31 @@ module _ (place : ℕ) (zone : List Block) (tidied : tidy zone ≡ zone) (s : Sp
   pub pushed-allowed : IsSome (grow_up new (pushed (growth new s) k sp s))
   pushed-allowed = ap is_some up-pushed
 
-  pub grown-pushed : (zone' : List Block) → is_some (taken (growth new s) s.above) ≡ false
-      → room (enough (growth new s)) sp (segments s.above).first ≡ Some (purge k sp (segments s.above).first)
-      → IfSome (grow_up new (pushed (growth new s) k sp s)) (λ after. zone' ≡ after) → grow_nonrelocatable sp new s ≡ Some zone'
-  grown-pushed zone' e found h =
+  -- the zone is that in which the block grew into the run
+  pub pushed-made : (zone' : List Block) → IfSome (grow_up new (pushed (growth new s) k sp s)) (λ after. zone' ≡ after)
+      → (grow_up new (pushed (growth new s) k sp s) ≡ Some zone') × (zone' ≡ moves.pushed k sp new s)
+  pushed-made zone' h =
       let Q : Option (List Block) → Type 0 = λ o. IfSome o (λ after. zone' ≡ after) in
-      let is : zone' ≡ s.below ++ new ∷ above_taken (growth new s) (purge k sp (segments s.above).first)
-      (segments s.above).rest = subst Q up-pushed h in
-      ap (λ o. option_or o (option_map (λ above. s.below ++ new ∷ above) (taken_low (growth new s) sp s.above)))
-      (no-up new s e)
-      ∙ ap (λ o. option_map (λ above. s.below ++ new ∷ above) (option_map
-      (λ run. above_taken (growth new s) run (segments s.above).rest) o)) found
-      ∙ ap Some (sym is)
+      let is : zone' ≡ moves.pushed k sp new s = subst Q up-pushed h in
+      (up-pushed ∙ ap Some (sym is), is)
 
--- the run above a spot, and how many blocks may go from it
-abbrev above_of : Spot → List Block
-above_of s = (segments s.above).first
-
-abbrev AllThatMayGo : ℕ → Sparing → Option Spot → Type 0
-AllThatMayGo most n o = IfSome o (λ s. most ≡ count_of (spared n) (above_of s))
-
--- what a look at it tells
-enough-test : (d : ℕ) (run : List Block) → is_some (enough d run) ≡ has_free d run
-enough-test d run = elim (has_free d run) as (λ t. is_some (cond t (Some run) None) ≡ t) [ true ↦ refl | false ↦ refl ]
-
+-- what a look at the run above a spot tells, and the least number of purges in it that gives d Free bytes
 pub above-seen : (d k most : ℕ) (n : Sparing) (o : Option Spot) (r : Bool) → IsMost most n o
-    → IfSome o (λ s. r ≡ has_free d (lowest_purged k (spared n) (above_of s))) → r ≡ enough_above d k n o
+    → IfSome o (λ s. r ≡ has_free d (lowest_purged k (spared n) (segments s.above).first)) → r ≡ enough_above d k n o
 above-seen d k most n None r is h = absurd is
-above-seen d k most n (Some s) r is h = h ∙ sym (has_free-purged d k (spared n) (above_of s))
+above-seen d k most n (Some s) r is h = h ∙ sym (has_free-purged d k (spared n) (segments s.above).first)
 
--- the least number of purges in it that gives d Free bytes, or that none does, and the searches that this takes
-module _ (d k most : ℕ) (n : Sparing) (s : Spot) (all : AllThatMayGo most n (Some s))
-    (least_is : k ≡ least_or_last (λ j. enough_above d j n (Some s)) most)
-  where
-    abbrev tried : ℕ → Option (List Block)
-    tried j = enough d (purge j (spared n) (above_of s))
+pub above-least : (d k most : ℕ) (n : Sparing) (o : Option Spot)
+    → IfSome o (λ s. most ≡ count_of (spared n) (segments s.above).first)
+    → k ≡ least_or_last (λ j. enough_above d j n o) most
+    → IfSome o (λ s. k ≡ purges_for (has_free d) (spared n) (segments s.above).first)
+above-least d k most n None all e = tt
+above-least d k most n (Some s) all e = e ∙ ap (least_or_last (λ j. enough_above d j n (Some s))) all
 
-    least_tried : k ≡ least_or_last (λ j. is_some (tried j)) (count_of (spared n) (above_of s))
-    least_tried =
-        least_is ∙ ap (least_or_last (λ j. enough_above d j n (Some s))) all
-        ∙ ap (λ (t : ℕ → Bool). least_or_last t (count_of (spared n) (above_of s)))
-        (λ i j. (sym (enough-test d (purge j (spared n) (above_of s)))) i)
-
-    here-searches : k + 1 ≡ room_searches (enough d) (spared n) (above_of s)
-    here-searches = tries-of tried (count_of (spared n) (above_of s)) k least_tried
-
-    here-room : room (enough d) (spared n) (above_of s) ≡ tried k
-    here-room = least-of tried (count_of (spared n) (above_of s)) k least_tried
-
-    here-found : true ≡ enough_above d k n (Some s) → FindsPurges d (spared n) (above_of s) (Some k)
-    here-found is = (
-      omega (arith, least_tried, least_or_last-le (λ j. is_some (tried j)) (count_of (spared n) (above_of s))),
-      sym is,
-      here-room ∙ cond-true (has_free d (purge k (spared n) (above_of s))) _ _ (sym is),
-    )
-
-    here-none : false ≡ enough_above d k n (Some s) → FindsPurges d (spared n) (above_of s) None
-    here-none is = here-room ∙ cond-false (has_free d (purge k (spared n) (above_of s))) _ _ (sym is)
-
-module _ (d k most : ℕ) (n : Sparing)
-  where
-    pub above-searches : (o : Option Spot) → AllThatMayGo most n o → k ≡ least_or_last (λ j. enough_above d j n o) most
-        → IfSome o (λ s. k + 1 ≡ room_searches (enough d) (spared n) (above_of s))
-    above-searches None all e = tt
-    above-searches (Some s) all e = here-searches d k most n s all e
-
-    pub above-found : (o : Option Spot) → AllThatMayGo most n o → k ≡ least_or_last (λ j. enough_above d j n o) most
-        → true ≡ enough_above d k n o → IfSome o (λ s. FindsPurges d (spared n) (above_of s) (Some k))
-    above-found None all e is = tt
-    above-found (Some s) all e is = here-found d k most n s all e is
-
-    pub above-none : (o : Option Spot) → AllThatMayGo most n o → k ≡ least_or_last (λ j. enough_above d j n o) most
-        → false ≡ enough_above d k n o → IfSome o (λ s. FindsPurges d (spared n) (above_of s) None)
-    above-none None all e is = tt
-    above-none (Some s) all e is = here-none d k most n s all e is
+pub above-there : (d k : ℕ) (n : Sparing) (o : Option Spot) (r : Bool) → r ≡ enough_above d k n o
+    → IfSome o (λ s. r ≡ has_free d (run_above k (spared n) s))
+above-there d k n None r e = tt
+above-there d k n (Some s) r e = e
 
 -- no more blocks go from the run above a place than the zone has bytes
 pub most-above : (place : ℕ) (n : Sparing) (zone : List Block) (most : ℕ) → IsMost most n (spot_at place zone)
@@ -669,20 +612,11 @@ most-above place n zone most h =
     total-append size (segments s.above).first (beyond (segments s.above).rest) in
     omega (arith, is, count-le sp (segments s.above).first, a, b, c, d, e)
 
--- how many searches growth where it stands takes: one where the Free block above serves, else those at the run above
-pub searches-up : (sp : Block → Bool) (new : Block) (s : Spot) → is_some (taken (growth new s) s.above) ≡ true
-    → 1 ≡ in_place_searches sp new s
-searches-up sp new s e = sym (cond-true _ 1 _ (up-allowed new s e))
-
-pub searches-run : (sp : Block → Bool) (new : Block) (s : Spot) (looks : ℕ)
-    → is_some (taken (growth new s) s.above) ≡ false → looks ≡ room_searches (enough (growth new s)) sp
-    (segments s.above).first → looks ≡ in_place_searches sp new s
-searches-run sp new s looks e is = is ∙ sym (cond-false _ 1 _ (ap is_some (no-up new s e)))
-
 -- what is known of a block that is to grow: where it is, by how much, and whether the Free block right above it serves
 pub record Grows (place : ℕ) (zone : List Block) (n more : ℕ) (up : Bool) : Type 0 where
   pub s : Spot
   pub at : spot_at place zone ≡ Some s
+  pub here : spot (is_same (resized n s.here)) zone ≡ Some s
   pub ends : in_run s.here ≡ false
   pub less : size s.here < size (resized n s.here)
   pub more_is : more ≡ growth (resized n s.here) s
@@ -690,10 +624,11 @@ pub record Grows (place : ℕ) (zone : List Block) (n more : ℕ) (up : Bool) : 
 
 pub grows : (place : ℕ) (zone : List Block) (n bytes wanted : ℕ) (up : Bool)
     → IsSomeAnd (spot_at place zone) (λ s. in_run s.here ≡ false)
+    → IsSomeAnd (spot_at place zone) (λ s. spot (is_same s.here) zone ≡ Some s)
     → IsSomeAnd (spot_at place zone) (λ s. size s.here < size (resized n s.here))
     → IfSome (spot_at place zone) (λ s. bytes ≡ size s.here) → wanted ≡ padded n
     → up ≡ room_at (wanted - bytes) (spot_at (place + bytes) zone) → Grows place zone n (wanted - bytes) up
-grows place zone n bytes wanted up still more is size_is up_is =
+grows place zone n bytes wanted up still lowest more is size_is up_is =
     let found = some_and (spot_at place zone) (λ s. in_run s.here ≡ false) still in
     let s = found.0 in
     let less : size s.here < size (resized n s.here) = same_spot (spot_at place zone) s
@@ -705,6 +640,8 @@ grows place zone n bytes wanted up still more is size_is up_is =
     record {
       s = s;
       at = found.1;
+      here = ap (λ t. spot t zone) (same-resized n s.here)
+          ∙ same_spot (spot_at place zone) s (λ s. spot (is_same s.here) zone ≡ Some s) found.1 lowest;
       ends = found.2;
       less = less;
       more_is = by;

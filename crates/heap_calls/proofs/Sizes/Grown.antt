@@ -1,26 +1,22 @@
-use Rattle.heap_calls.proofs.Cited.{◌≡◌, ℕ, ◌+◌, ◌<◌, Bool, true, false, ◌||◌, List, [], ◌∷◌, ◌++◌, length, map, Option, Ok, Err, Result}
-use Rattle.heap_calls.proofs.Cited.{nat_le, refl, sym, ◌∙◌, ap, subst, cond, is_some, unwrap_or, map-append, phys, OsErr, Block}
-use Rattle.heap_calls.proofs.Cited.{rename_block, is_relocatable, is_nonrelocatable, content_of, resized, size, grow_mover, counted-none}
-use Rattle.heap_calls.proofs.Cited.{Rest, KeepsSlots, counted, Spot, spot, rename_spot, Slot, spared, Sparing, Nothing, One, Two}
-use Rattle.heap_calls.proofs.Cited.{resized-rename, spot-passes, Move, Write, is_same, rename_move, Sought, no_room, seek_size}
-use Rattle.heap_calls.proofs.Cited.{seek_resized, around, rename_sought, PathNames, resized-names, size_at-rename, Anchor, Log, Reached}
-use Rattle.heap_calls.proofs.Cited.{State, Memory, Held, look_up, nothing, Gone, pointed_at, Done, doing_silently, purges_made, changed}
-use Rattle.heap_calls.proofs.Cited.{append, set_handle_size, set_pointer_size, pointer_and_hand, hand_and_hand, size_searches, resized_at}
-use Rattle.heap_calls.proofs.Cited.{grow_moves, room_moves, growth_moves, size_moves, lengthened, bytes_of, length_of, fitted, made_zone}
-use Rattle.heap_calls.proofs.Cited.{Agrees, state_of, memory_of, handle_number, pointer_number, no_number, Packs, Reaches, sized_reply}
-use Rattle.heap_calls.proofs.Cited.{OpensNone, fitted_gone}
+use Rattle.heap_calls.proofs.Cited.{◌≡◌, ℕ, ◌+◌, ◌<◌, Bool, true, false, ◌||◌, List, [], ◌∷◌, ◌++◌, length, map, Option, Some, Ok, Err, Result}
+use Rattle.heap_calls.proofs.Cited.{refl, sym, ◌∙◌, ap, subst, cond, is_some, map-append, phys, OsErr, Block, rename_block, is_relocatable}
+use Rattle.heap_calls.proofs.Cited.{is_nonrelocatable, content_of, resized, Rest, KeepsSlots, counted, Spot, spot, rename_spot, Slot, spared}
+use Rattle.heap_calls.proofs.Cited.{Sparing, Nothing, One, Two, resized-rename, spot-passes, Move, Write, is_same, rename_move, Sought}
+use Rattle.heap_calls.proofs.Cited.{no_room, seek_size, seek_resized, around, rename_sought, PathNames, resized-names, size_at-rename}
+use Rattle.heap_calls.proofs.Cited.{Anchor, Log, Reached, State, Memory, Held, look_up, nothing, pointed_at, Done, doing_silently}
+use Rattle.heap_calls.proofs.Cited.{purges_made, changed, append, set_handle_size, set_pointer_size, pointer_and_hand, hand_and_hand}
+use Rattle.heap_calls.proofs.Cited.{bytes_of, length_of, seek_longer, Went, seek_sized, told_along, Agrees, state_of, memory_of}
+use Rattle.heap_calls.proofs.Cited.{handle_number, pointer_number, no_number, Reaches, sized_reply}
 use Rattle.moves.proofs.Renamed.{Apart}
 use Rattle.heap_calls.specs.declared.anchor.Target.{Target}
 use Rattle.heap_calls.specs.Rows.{refused, for_found}
+use Rattle.heap_calls.proofs.Going.{sized-at}
 use Rattle.heap_calls.proofs.Numbering.Answering.{held, content_of-rename}
 use Rattle.heap_calls.proofs.Numbering.Changing.{names-same}
 use Rattle.heap_calls.proofs.Numbering.Numbers.{handle_number-at, is_relocatable-number}
 use Rattle.heap_calls.proofs.Numbering.Pointing.{Lone, IsHeld, is_nonrelocatable-number}
-use Rattle.heap_calls.proofs.Same.Agreeing as same
-use Rattle.heap_calls.proofs.Same.Growing.{same-handle, same-pointer, tell, size-agrees}
-use Rattle.heap_calls.proofs.Same.Resizing.{written-agrees}
-use Rattle.heap_calls.proofs.Sizes.PointerSizes.{stands}
-use Rattle.heap_calls.proofs.Went.{Follows, changed-is, changed-gone}
+use Rattle.heap_calls.proofs.Same.Growing.{same-handle, same-pointer}
+use Rattle.heap_calls.proofs.Went.{changed-is, changed-gone}
 
 -- A call that gives a block another size: what its path does is what the store did.
 
@@ -57,24 +53,6 @@ module _ (from to : Option ℕ) (s : State) (code : OsErr)
         → hand_and_hand from to s ≡ refused code s
     hand-nowhere x found none = ap (λ r. for_found r s (λ x. for_found (look_up to s) s (joined x))) found
         ∙ ap (λ r. for_found r s (joined x)) none
-
--- the store came to a zone, or found no room for it
-follows-made : {tell : List Block → List Gone} {spared : Block → Bool} {zone zone' : List Block} {p : Sought} {done : Bool}
-    {n : ℕ} {rest rest' : Rest} (after : Option (List Block)) (searches moves : ℕ) (purged : List Gone)
-    → same.Agrees tell spared zone after searches moves purged p → after ≡ made_zone done zone'
-    → (done ≡ false → zone' ≡ zone) → n ≡ searches → Packs moves rest rest' → Follows spared zone p done n zone' rest rest'
-follows-made {zone = zone} {zone' = zone'} {done = done} {rest = rest} after searches moves purged a made full looks packs =
-    record {
-      finds = (cases done full).0 ∙ sym (ap is_some made) ∙ a.finds;
-      leaves = (cases done full).1 ∙ sym (ap (λ o. unwrap_or o zone) made) ∙ a.leaves;
-      looks = looks ∙ a.looks;
-      lowers = packs ∙ ap (counted rest.moves) a.lowers;
-    }
-  where
-    cases : (t : Bool) → (t ≡ false → zone' ≡ zone) → (t ≡ is_some (made_zone t zone'))
-        × (zone' ≡ unwrap_or (made_zone t zone') zone)
-    cases true full = (refl, refl)
-    cases false full = (refl, full refl)
 
 -- the names of a path, and what is written after it
 names-append : (f g : ℕ → ℕ) (a b : List Move) → PathNames f g a → PathNames f g b → PathNames f g (a ++ b)
@@ -119,19 +97,22 @@ module _ (zone : List Block) (rest : Rest) (es : List Anchor)
 
     -- a block that gets another size, by names
     module _ (n : ℕ) (t u : Block → Bool) (named : (b : Block) → t (rename_block f g b) ≡ u b) (at : Spot)
-        (here : is_same (resized n at.here) ≡ u) (there : is_same (resized n (rename_block f g at.here)) ≡ t)
+        (found : spot u zone ≡ Some at) (here : is_same (resized n at.here) ≡ u)
+        (there : is_same (resized n (rename_block f g at.here)) ≡ t)
       where
         apart : Apart f g (resized n at.here)
         apart b = ap (λ (v : Block → Bool). v (rename_block f g b)) (ap is_same (sym (resized-rename f g n at.here)) ∙ there)
             ∙ named b ∙ sym (ap (λ (v : Block → Bool). v b) here)
 
-        sized-names : (q : Block → Bool) → PathNames f g (seek_size n q zone at).path
-        sized-names q = fits-names f g (is_some (phys n)) (seek_resized (resized n at.here) q zone at)
-            (resized-names f g (resized n at.here) q zone at apart)
+        sized-names : (q : Block → Bool) → PathNames f g (seek_sized u n q zone).path
+        sized-names q = subst (λ (p : Sought). PathNames f g p.path) (sym (sized-at u n q zone at found))
+            (fits-names f g (is_some (phys n)) (seek_resized (resized n at.here) q zone at)
+            (resized-names f g (resized n at.here) q zone at apart))
 
         sized-row : (p q : Block → Bool) → ((b : Block) → p (rename_block f g b) ≡ q b)
-            → seek_size n p s.zone (rename_spot f g at) ≡ rename_sought f g (seek_size n q zone at)
+            → seek_size n p s.zone (rename_spot f g at) ≡ rename_sought f g (seek_sized u n q zone)
         sized-row p q spares = size_at-rename f g p q spares n zone at apart
+            ∙ ap (rename_sought f g) (sym (sized-at u n q zone at found))
 
     -- a call whose row has a path of the store, by names
     pub record IsCall (call : State → Done (Unit {0})) (p : Block → Bool) (nd : Sparing) (path : Sought) : Type 0 where
@@ -139,23 +120,19 @@ module _ (zone : List Block) (rest : Rest) (es : List Anchor)
       pub names : PathNames f g path.path
       pub row : call s ≡ changed p (rename_sought f g path) s
 
-    -- what is answered where the store came to a zone, or found no room for it, and what is purged
+    -- what is answered where the store went its path, and what is purged
     module _ (log : Log) (value : Memory) (is : memory_of zone rest es log ≡ value) (call : State → Done (Unit {0}))
-        (p : Block → Bool) (nd : Sparing) (path : Sought) (c : IsCall call p nd path) (after : Option (List Block))
-        (searches moves : ℕ) (purged : List Gone) (whole : OpensNone nd)
-        (a : same.Agrees (tell es nd whole) (spared nd) zone after searches moves purged path)
+        (p : Block → Bool) (nd : Sparing) (path : Sought) (c : IsCall call p nd path)
       where
         pub grown-answer : (zone' : List Block) (rest' : Rest) (done : Bool) (m : ℕ) → KeepsSlots rest rest'
-            → after ≡ made_zone done zone' → (done ≡ false → zone' ≡ zone) → m ≡ searches → Packs moves rest rest'
-            → doing_silently call value
+            → Went (spared nd) zone path done m zone' rest rest' → doing_silently call value
             ≡ (sized_reply done, memory_of zone' rest' es (record log { searches = counted log.searches m }))
-        grown-answer zone' rest' done m kept made full looks packs =
-            changed-is zone rest es log value is zone' rest' call p (spared nd) c.spares path c.names c.row done m
-            (follows-made after searches moves purged a made full looks packs)
+        grown-answer zone' rest' done m kept went =
+            changed-is zone rest es log value is zone' rest' call p (spared nd) c.spares path c.names c.row done m went
             (names-same rest.slots rest'.slots es (λ h k t at. kept.slots k), kept.window)
 
-        pub grown-gone : purged ≡ purges_made call value.heap
-        grown-gone = a.tells ∙ changed-gone zone rest es log value is zone rest call p (spared nd) c.spares path c.names c.row
+        pub grown-gone : told_along es (spared nd) path zone ≡ purges_made call value.heap
+        grown-gone = changed-gone zone rest es log value is zone rest call p (spared nd) c.spares path c.names c.row
 
     -- SetPtrSize
     module _ (pointer : Option ℕ) (t : Target) (there : IsHeld zone rest.slots es pointer t) (lone : Lone es) (n : ℕ)
@@ -168,42 +145,17 @@ module _ (zone : List Block) (rest : Rest) (es : List Anchor)
         place_same = same-pointer t.place n there.s.here there.nonrelocatable
 
         pub pointer-call : t.number < no_number
-            → IsCall (set_pointer_size pointer n) nothing Nothing (seek_size n nothing zone there.s)
+            → IsCall (set_pointer_size pointer n) nothing Nothing (seek_sized (is_nonrelocatable t.place) n nothing zone)
         pointer-call small =
             let other = same-pointer t.number n (rename_block f g there.s.here)
             (named_place small there.s.here ∙ there.nonrelocatable) in record {
               spares = λ b. refl;
               names = sized-names n (is_nonrelocatable t.number) (is_nonrelocatable t.place) (named_place small) there.s
-                  place_same other nothing;
+                  there.found place_same other nothing;
               row = ap (λ r. for_found r s (λ (k : Held). changed nothing (seek_size n nothing s.zone k.at) s)) there.looked
                   ∙ ap (λ x. changed nothing x s) (sized-row n (is_nonrelocatable t.number) (is_nonrelocatable t.place)
-                  (named_place small) there.s place_same other nothing nothing (λ b. refl));
+                  (named_place small) there.s there.found place_same other nothing nothing (λ b. refl));
             }
-
-        pub pointer-agrees : same.Agrees (tell es Nothing (λ b. refl)) nothing zone
-            (fitted (is_nonrelocatable t.place) nothing n zone) (size_searches (is_nonrelocatable t.place) nothing n zone)
-            (size_moves (is_nonrelocatable t.place) nothing n zone)
-            (fitted_gone es (is_nonrelocatable t.place) Nothing n zone) (seek_size n nothing zone there.s)
-        pointer-agrees = size-agrees es Nothing (λ b. refl) (is_nonrelocatable t.place) zone there.s there.found n place_same
-
-        -- nothing is moved down for it
-        pub pointer-packs : (rest' : Rest) → rest'.moves ≡ rest.moves
-            → Packs (size_moves (is_nonrelocatable t.place) nothing n zone) rest rest'
-        pointer-packs rest' still =
-            let new = resized n there.s.here in
-            let u = is_nonrelocatable t.place in
-            let small = nat_le (size new) (size there.s.here) in
-            let fits = is_some (phys n) in
-            still ∙ sym (counted-none rest.moves) ∙ ap (counted rest.moves)
-            (sym (ap (λ o. cond {A = ℕ} fits (growth_moves u nothing (resized_at n o) zone o) 0) there.found
-            ∙ ap (λ v. cond {A = ℕ} fits (cond {A = ℕ} small 0 (cond {A = ℕ} v (room_moves (grow_mover u new)
-            (grow_moves u new) nothing zone) 0)) 0) (stands t.place there.s.here there.nonrelocatable).0
-            ∙ zero fits small))
-          where
-            zero : (v w : Bool) → cond {A = ℕ} v (cond {A = ℕ} w 0 0) 0 ≡ 0
-            zero true true = refl
-            zero true false = refl
-            zero false w = refl
 
     module _ (agrees : Agrees zone rest es)
       where
@@ -227,40 +179,30 @@ module _ (zone : List Block) (rest : Rest) (es : List Anchor)
 
             -- SetHandleSize
             pub resize-call : (n : ℕ) → IsCall (set_handle_size handle n) own (One r.slot)
-                (seek_size n (is_relocatable r.slot) zone at)
+                (seek_sized (is_relocatable r.slot) n (is_relocatable r.slot) zone)
             resize-call n = record {
               spares = named;
-              names = sized-names n own (is_relocatable r.slot) named at (slot_same n) (own_same n) (is_relocatable r.slot);
+              names = sized-names n own (is_relocatable r.slot) named at there.2 (slot_same n) (own_same n) (is_relocatable r.slot);
               row = ap (λ q. for_found q s (λ (k : Held). changed (is_relocatable k.number)
                   (seek_size n (is_relocatable k.number) s.zone k.at) s)) there.1
-                  ∙ ap (λ x. changed own x s) (sized-row n own (is_relocatable r.slot) named at (slot_same n) (own_same n)
+                  ∙ ap (λ x. changed own x s) (sized-row n own (is_relocatable r.slot) named at there.2 (slot_same n) (own_same n)
                   own (is_relocatable r.slot) named);
             }
-
-            pub sized-agrees : (nd : Sparing) (whole : OpensNone nd) (n : ℕ) → same.Agrees (tell es nd whole) (spared nd)
-                zone (fitted (is_relocatable r.slot) (spared nd) n zone)
-                (size_searches (is_relocatable r.slot) (spared nd) n zone)
-                (size_moves (is_relocatable r.slot) (spared nd) n zone) (fitted_gone es (is_relocatable r.slot) nd n zone)
-                (seek_size n (spared nd) zone at)
-            sized-agrees nd whole n = size-agrees es nd whole (is_relocatable r.slot) zone at there.2 n (slot_same n)
 
             -- bytes appended
             abbrev len : ℕ
             len = length_of r.slot zone
 
-            abbrev appended : Sparing → List ℕ → Sought
-            appended nd x = around [] (Write r.slot len x ∷ []) (seek_size (len + length x) (spared nd) zone at)
-
             append-call : (call : State → Done (Unit {0})) (p : Block → Bool) (nd : Sparing)
                 → ((b : Block) → p (rename_block f g b) ≡ spared nd b) → (x y : List ℕ) → x ≡ y
-                → call s ≡ append p (held r.number (rename_spot f g at)) x s → IsCall call p nd (appended nd y)
+                → call s ≡ append p (held r.number (rename_spot f g at)) x s → IsCall call p nd (seek_longer r.slot y (spared nd) zone)
             append-call call p nd spares x y same_bytes row =
                 let n = len + length y in
                 let q = spared nd in
-                let sized = seek_size n q zone at in record {
+                let sized = seek_sized (is_relocatable r.slot) n q zone in record {
                   spares = spares;
                   names = around-names f g [] (Write r.slot len y ∷ []) sized tt
-                      (sized-names n own (is_relocatable r.slot) named at (slot_same n) (own_same n) q) (
+                      (sized-names n own (is_relocatable r.slot) named at there.2 (slot_same n) (own_same n) q) (
                         λ b. ap (λ (k : ℕ). is_relocatable k (rename_block f g b))
                             (handle_number-at es r.number r.slot there.5 agrees.apart) ∙ named b,
                         tt,
@@ -271,26 +213,15 @@ module _ (zone : List Block) (rest : Rest) (es : List Anchor)
                       (seek_size (k + length y) p s.zone (rename_spot f g at))) s)
                       (ap length (content_of-rename f g at.here) ∙ ap (λ o. length (bytes_of o)) (sym there.2))
                       ∙ ap (λ z. changed p (around [] (Write r.number len y ∷ []) z) s)
-                      (sized-row n own (is_relocatable r.slot) named at (slot_same n) (own_same n) p q spares)
+                      (sized-row n own (is_relocatable r.slot) named at there.2 (slot_same n) (own_same n) p q spares)
                       ∙ ap (λ (k : ℕ). changed p (around [] (Write k len y ∷ []) (rename_sought f g sized)) s)
                       (sym (handle_number-at es r.number r.slot there.5 agrees.apart))
                       ∙ ap (λ z. changed p z s) (around-rename f g [] (Write r.slot len y ∷ []) sized);
                 }
 
-            pub appended-agrees : (nd : Sparing) (whole : OpensNone nd) (x : List ℕ) → same.Agrees (tell es nd whole)
-                (spared nd) zone (lengthened (spared nd) r.slot len x zone)
-                (size_searches (is_relocatable r.slot) (spared nd) (len + length x) zone)
-                (size_moves (is_relocatable r.slot) (spared nd) (len + length x) zone)
-                (fitted_gone es (is_relocatable r.slot) nd (len + length x) zone) (appended nd x)
-            appended-agrees nd whole x =
-                let n = len + length x in
-                written-agrees (tell es nd whole) (spared nd) zone (fitted (is_relocatable r.slot) (spared nd) n zone)
-                (size_searches (is_relocatable r.slot) (spared nd) n zone)
-                (size_moves (is_relocatable r.slot) (spared nd) n zone) (fitted_gone es (is_relocatable r.slot) nd n zone)
-                (seek_size n (spared nd) zone at) (sized-agrees nd whole n) r.slot len x
-
             -- PtrAndHand
-            pub slice-call : (x : List ℕ) → IsCall (pointer_and_hand handle x) own (One r.slot) (appended (One r.slot) x)
+            pub slice-call : (x : List ℕ) → IsCall (pointer_and_hand handle x) own (One r.slot)
+                (seek_longer r.slot x (is_relocatable r.slot) zone)
             slice-call x = append-call (pointer_and_hand handle x) own (One r.slot) named x x refl
                 (ap (λ q. for_found q s (λ (k : Held). append (is_relocatable k.number) k x s)) there.1)
 
@@ -298,7 +229,7 @@ module _ (zone : List Block) (rest : Rest) (es : List Anchor)
         pub hand-call : (from to : Option ℕ) (a r : Reached) (source : Reaches zone rest.slots es from (Ok a))
             (there : Reaches zone rest.slots es to (Ok r)) → IsCall (hand_and_hand from to)
             (λ b. is_relocatable a.number b || is_relocatable r.number b) (Two a.slot r.slot)
-            (appended to r there (Two a.slot r.slot) (bytes_of (spot (is_relocatable a.slot) zone)))
+            (seek_longer r.slot (bytes_of (spot (is_relocatable a.slot) zone)) (spared (Two a.slot r.slot)) zone)
         hand-call from to a r source there =
             append-call to r there (hand_and_hand from to) (λ b. is_relocatable a.number b || is_relocatable r.number b)
             (Two a.slot r.slot) (λ b. rw (named from a source b, named to r there b) refl)

@@ -3,7 +3,7 @@ use Rattle.heap_calls.proofs.Cited.{subst, cond, Option, Some, None, is_some, no
 use Rattle.heap_calls.proofs.Cited.{IsSomeAnd, Block, is_purgeable, Free, size, add, tidy, has, has_free, run_spot, Spot, raised, spot}
 use Rattle.heap_calls.proofs.Cited.{place, may_be_purged, lowest_purged, growth, taken, grow_up, grow_mover, move_away, FindsLowestRun}
 use Rattle.heap_calls.proofs.Cited.{spared, opened, purged, FindsPlacement, FindsGrowth, Spares, Stays, Sparing, the_some, is_some-map}
-use Rattle.heap_calls.proofs.Cited.{not_some, Placement, Growth, add-joined}
+use Rattle.heap_calls.proofs.Cited.{not_some, Placement, Growth, add-joined, OpensNone}
 use Rattle.block_store.specs.declared.sparing.Sparing.TheVariants as sparing
 use Rattle.heap_calls.specs.declared.growing.Growth.TheVariants as grows
 use Rattle.heap_calls.proofs.Room.Searching.{placement-some}
@@ -117,6 +117,12 @@ opened-stays test sparing.Nothing zone s = refl
 opened-stays test (sparing.One a) zone s = refl
 opened-stays test (sparing.Two a b) zone s = refl
 opened-stays test (sparing.Freed a) zone s = absurd s
+
+pub opens-none : (test : Block → Bool) (n : Sparing) → Stays n test → OpensNone n
+opens-none test sparing.Nothing s b = refl
+opens-none test (sparing.One a) s b = refl
+opens-none test (sparing.Two a b) s c = refl
+opens-none test (sparing.Freed a) s b = absurd s
 
 find-opened : (test : Block → Bool) (n : Sparing) → ((m : ℕ) → test (Free m) ≡ false) → (zone : List Block)
     → Stays n test → find test (opened n zone) ≡ find test zone

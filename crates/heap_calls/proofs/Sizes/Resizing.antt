@@ -1,123 +1,131 @@
-use Rattle.heap_calls.proofs.Cited.{arith, ◌≡◌, ℕ, ◌≤◌, ◌<◌, Bool, true, false, List, refl, sym, ◌∙◌, ap, subst, cond, Option, Some, Result}
-use Rattle.heap_calls.proofs.Cited.{Ok, Err, is_some, cond-true, cond-false, lt-leb, option_map, IfSome, IfOk, phys, padded, Block, Free}
-use Rattle.heap_calls.proofs.Cited.{Nonrelocatable, Masters, Relocatable, size, is_relocatable, is_mover, resized, in_run, Spot, spot}
-use Rattle.heap_calls.proofs.Cited.{spot_at, grow_mover, grow_nonrelocatable, grow, FindsLowest, seen, Seen, spot-passes, size-resized}
-use Rattle.heap_calls.proofs.Cited.{seen_mover, made_zone, Grown, room_searches, in_place_searches, size_searches}
-use Rattle.heap_calls.proofs.Numbering.Hoisting.{seen_mover-is}
+use Rattle.heap_calls.proofs.Cited.{arith, ◌≡◌, ℕ, ◌≤◌, ◌<◌, Bool, true, false, List, [], ◌∷◌, refl, sym, ◌∙◌, ap, subst, Option, Some}
+use Rattle.heap_calls.proofs.Cited.{option_map, is_some, IfSome, IsSomeAnd, phys, Block, Free, Nonrelocatable, Masters, Relocatable, size}
+use Rattle.heap_calls.proofs.Cited.{is_relocatable, is_nonrelocatable, is_mover, resized, in_run, has, Spot, spot, spot_at, filled, seen}
+use Rattle.heap_calls.proofs.Cited.{FindsLowest, Seen, spot-passes, size-resized, seen_mover, Rest, KeepsNonrelocatable, Cut, Grow, grown}
+use Rattle.heap_calls.proofs.Cited.{is_same, Sought, at_hand, seek, seek_in_place, Anchor, Went, at_spot, seek_sized, seek_growth}
+use Rattle.heap_calls.proofs.Cited.{seek_still, told_along}
+use Rattle.heap_calls.proofs.Going.{went-cut, sized-cut, sized-moves, sized-stays}
 use Rattle.heap_calls.proofs.Numbering.Answering.{at_place}
-use Rattle.heap_calls.proofs.Numbering.Changing.{phys-some}
+use Rattle.heap_calls.proofs.Numbering.Changing.{phys-some, nonrelocatable-at}
+use Rattle.heap_calls.proofs.Numbering.Hoisting.{seen_mover-is}
+use Rattle.heap_calls.proofs.Room.Staying.{nonrelocatable-filled, alike-resized}
+use Rattle.heap_calls.proofs.Same.Growing.{same-handle, same-pointer, same-resized}
+use Rattle.heap_calls.proofs.Sizes.GrowingInPlace.{spot_and}
+use Rattle.heap_calls.proofs.Sizes.PointerSizes.{nonrelocatable-size}
 
--- The size of a handle's block.
+-- The size of the block of a handle or a pointer.
 
--- the block that a slot leads to doesn't move
-pub stands-still : (number : ℕ) (zone : List Block) (at : ℕ) (o : Option Seen) (t : Bool)
-    → FindsLowest (is_relocatable number) zone (Some at) → o ≡ option_map (λ (s : Spot). seen s.here) (spot_at at zone)
-    → t ≡ seen_mover o → t ≡ false
-    → (s : Spot) × (spot (is_relocatable number) zone ≡ Some s) × (spot_at at zone ≡ Some s) × (is_mover s.here ≡ false)
-    × (in_run s.here ≡ false)
-stands-still number zone at o t found is told not_mover =
-    let s = found.0 in
-    let passes = spot-passes (is_relocatable number) zone s found.1 in
-    let e : is_mover s.here ≡ false = one s.here passes ∙ sym (told
-    ∙ ap seen_mover (is ∙ ap (option_map (λ (s : Spot). seen s.here)) found.2)) ∙ not_mover in
-    (s, found.1, found.2, e, two s.here passes ∙ e)
-  where
-    one : (b : Block) → is_relocatable number b ≡ true → is_mover b ≡ seen_mover (Some (seen b))
-    one (Free m) e = refl
-    one (Nonrelocatable id content) e = refl
-    one Masters e = refl
-    one (Relocatable id flags content) e = refl
+-- what is known of a block that takes so many bytes, and is to take others
+pub record IsSized (test : Block → Bool) (place n bytes taken : ℕ) (zone : List Block) : Type 0 where
+  pub s : Spot
+  pub found : spot test zone ≡ Some s
+  pub at : spot_at place zone ≡ Some s
+  pub fits : is_some (phys n) ≡ true
+  pub named : is_same (resized n s.here) ≡ test
+  pub new_is : bytes ≡ size (resized n s.here)
+  pub was : taken ≡ size s.here
 
-    two : (b : Block) → is_relocatable number b ≡ true → in_run b ≡ is_mover b
-    two (Free m) e = let f : false ≡ true = e in cc
-    two (Nonrelocatable id content) e = refl
-    two Masters e = refl
-    two (Relocatable id flags content) e = refl
-
--- the block that a slot leads to may move
-pub moves : (number : ℕ) (zone : List Block) (at : ℕ) (o : Option Seen) (t : Bool)
-    → FindsLowest (is_relocatable number) zone (Some at) → o ≡ option_map (λ (s : Spot). seen s.here) (spot_at at zone)
-    → t ≡ seen_mover o → t ≡ true
-    → (s : Spot) × (spot (is_relocatable number) zone ≡ Some s) × (is_mover s.here ≡ true)
-moves number zone at o t found is told mover =
-    let s = found.0 in (
-      s,
-      found.1,
-      sym (seen_mover-is s.here) ∙ sym (told ∙ ap seen_mover
-          (is ∙ ap (option_map (λ (s : Spot). seen s.here)) found.2)) ∙ mover,
-    )
-
--- a locked block that grows where it stands
-pub grown-still : (t sp : Block → Bool) (n : ℕ) (zone : List Block) (answer : Option (List Block)) (s : Spot)
-    → spot t zone ≡ Some s → is_mover s.here ≡ false → size s.here < size (resized n s.here)
-    → grow_nonrelocatable sp (resized n s.here) s ≡ answer → grow t sp n zone ≡ answer
-grown-still t sp n zone answer s found still more is =
-    rw found (cond-false _ _ _ (lt-leb (size (resized n s.here)) (size s.here) more) ∙ cond-false _ _ _ still ∙ is)
-
--- how many searches the growth of a block takes
-searches-is : (t sp : Block → Bool) (n : ℕ) (zone : List Block) (s : Spot) → spot t zone ≡ Some s → is_some (phys n)
-    ≡ true
-    → size s.here < size (resized n s.here)
-    → size_searches t sp n zone ≡ cond (is_mover s.here) (room_searches (grow_mover t (resized n s.here)) sp zone)
-    (in_place_searches sp (resized n s.here) s)
-searches-is t sp n zone s found fits more = cond-true _ _ 0 fits
-    ∙ rw found (cond-false _ 0 _ (lt-leb (size (resized n s.here)) (size s.here) more))
-
--- where it may move
-pub searches-moved : {E : Type 0} (t sp : Block → Bool) (n : ℕ) (zone : List Block) (r : Result Grown E) (s : Spot)
-    → spot t zone ≡ Some s → is_mover s.here ≡ true → is_some (phys n) ≡ true → size s.here < size (resized n s.here)
-    → IfOk r (λ g. IfSome (spot t zone) (λ s. g.searches ≡ room_searches (grow_mover t (resized n s.here)) sp zone))
-    → IfOk r (λ g. g.searches ≡ size_searches t sp n zone)
-searches-moved t sp n zone (Err e) s found mover fits more is = tt
-searches-moved t sp n zone (Ok g) s found mover fits more is =
-    let P : Option Spot → Type 0 = λ o. IfSome o (λ s. g.searches
-    ≡ room_searches (grow_mover t (resized n s.here)) sp zone) in
-    subst P found is ∙ sym (searches-is t sp n zone s found fits more ∙ cond-true _ _ _ mover)
-
--- where it doesn't
-pub searches-still : {E : Type 0} (t sp : Block → Bool) (n at : ℕ) (zone : List Block) (r : Result Grown E) (s : Spot)
-    → spot t zone ≡ Some s → spot_at at zone ≡ Some s → is_mover s.here ≡ false → is_some (phys n) ≡ true
-    → size s.here < size (resized n s.here)
-    → IfOk r (λ g. IfSome (spot_at at zone) (λ s. g.searches ≡ in_place_searches sp (resized n s.here) s))
-    → IfOk r (λ g. g.searches ≡ size_searches t sp n zone)
-searches-still t sp n at zone (Err e) s found stands still fits more is = tt
-searches-still t sp n at zone (Ok g) s found stands still fits more is =
-    at_place at zone s (λ s. g.searches ≡ in_place_searches sp (resized n s.here) s) stands is
-    ∙ sym (searches-is t sp n zone s found fits more ∙ cond-false _ _ _ still)
-
--- what the block takes, and what it is to take
-as-sized : (number n bytes taken : ℕ) (zone : List Block) (s : Spot) → spot (is_relocatable number) zone ≡ Some s
-    → phys n ≡ Some bytes → IfSome (spot (is_relocatable number) zone) (λ s. taken ≡ size s.here)
-    → (taken ≡ size s.here) × (bytes ≡ size (resized n s.here))
-as-sized number n bytes taken zone s found fits takes =
+pub handle-sized : (slot place n bytes taken : ℕ) (zone : List Block) → FindsLowest (is_relocatable slot) zone (Some place)
+    → phys n ≡ Some bytes → IfSome (spot (is_relocatable slot) zone) (λ s. taken ≡ size s.here)
+    → IsSized (is_relocatable slot) place n bytes taken zone
+handle-sized slot place n bytes taken zone found fits takes =
+    let passes = spot-passes (is_relocatable slot) zone found.0 found.1 in
     let P : Option Spot → Type 0 = λ o. IfSome o (λ s. taken ≡ size s.here) in
-    let new : size (resized n s.here) ≡ padded n = size-resized number n s.here
-    (spot-passes (is_relocatable number) zone s found) in
-    let e : bytes ≡ padded n = (phys-some n bytes fits).1 in (
-      subst P found takes,
-      omega (arith, new, e),
-    )
+    record {
+      s = found.0;
+      found = found.1;
+      at = found.2;
+      fits = (phys-some n bytes fits).0;
+      named = same-handle slot n found.0.here passes;
+      new_is = (phys-some n bytes fits).1 ∙ sym (size-resized slot n found.0.here passes);
+      was = subst P found.1 takes;
+    }
 
--- the block is to grow
-pub is-to-grow : (number n bytes taken : ℕ) (zone : List Block) (s : Spot) → spot (is_relocatable number) zone ≡ Some s
-    → phys n ≡ Some bytes → IfSome (spot (is_relocatable number) zone) (λ s. taken ≡ size s.here) → taken < bytes
-    → size s.here < size (resized n s.here)
-is-to-grow number n bytes taken zone s found fits takes more =
-    let k = as-sized number n bytes taken zone s found fits takes in omega (arith, k.0, k.1, more)
+pub pointer-sized : (place n bytes taken : ℕ) (zone : List Block) → FindsLowest (is_nonrelocatable place) zone (Some place)
+    → phys n ≡ Some bytes → IfSome (spot_at place zone) (λ s. taken ≡ size s.here)
+    → IsSized (is_nonrelocatable place) place n bytes taken zone
+pointer-sized place n bytes taken zone found fits takes =
+    let passes = spot-passes (is_nonrelocatable place) zone found.0 found.1 in
+    record {
+      s = found.0;
+      found = found.1;
+      at = found.2;
+      fits = (phys-some n bytes fits).0;
+      named = same-pointer place n found.0.here passes;
+      new_is = (phys-some n bytes fits).1 ∙ sym (nonrelocatable-size place n found.0.here passes);
+      was = at_place place zone found.0 (λ s. taken ≡ size s.here) found.2 takes;
+    }
 
--- the block is to be cut
-pub is-to-fit : (number n bytes taken : ℕ) (zone : List Block) (s : Spot) → spot (is_relocatable number) zone ≡ Some s
-    → phys n ≡ Some bytes → IfSome (spot (is_relocatable number) zone) (λ s. taken ≡ size s.here) → bytes ≤ taken
-    → size (resized n s.here) ≤ size s.here
-is-to-fit number n bytes taken zone s found fits takes less =
-    let k = as-sized number n bytes taken zone s found fits takes in omega (arith, k.0, k.1, less)
+module _ {test : Block → Bool} {place n bytes taken : ℕ} {zone : List Block} (k : IsSized test place n bytes taken zone)
+  where
+    abbrev new : Block
+    new = resized n k.s.here
 
--- what growth where it stands came to
-pub grown-done : {E : Type 0} (t sp : Block → Bool) (n at : ℕ) (zone zone' : List Block) (r : Result Grown E) (s : Spot)
-    → spot t zone ≡ Some s → spot_at at zone ≡ Some s → is_mover s.here ≡ false → size s.here < size (resized n s.here)
-    → IfOk r (λ g. IfSome (spot_at at zone) (λ s. grow_nonrelocatable sp (resized n s.here) s ≡ made_zone g.done zone'))
-    → IfOk r (λ g. grow t sp n zone ≡ made_zone g.done zone')
-grown-done t sp n at zone zone' (Err e) s found stands still more is = tt
-grown-done t sp n at zone zone' (Ok g) s found stands still more is =
-    grown-still t sp n zone (made_zone g.done zone') s found still more
-    (at_place at zone s (λ s. grow_nonrelocatable sp (resized n s.here) s ≡ made_zone g.done zone') stands is)
+    pub lowest : IsSomeAnd (spot_at place zone) (λ s. spot (is_same s.here) zone ≡ Some s)
+    lowest = spot_and (spot_at place zone) k.s (λ s. spot (is_same s.here) zone ≡ Some s) k.at
+        (ap (λ u. spot u zone) (sym (same-resized n k.s.here) ∙ k.named) ∙ k.found)
+
+    -- whether it may move
+    pub movable : (o : Option Seen) (t : Bool) → o ≡ option_map (λ (s : Spot). seen s.here) (spot_at place zone)
+        → t ≡ seen_mover o → is_mover k.s.here ≡ t
+    movable o t is told = sym (seen_mover-is k.s.here)
+        ∙ sym (told ∙ ap seen_mover (is ∙ ap (option_map (λ (s : Spot). seen s.here)) k.at))
+
+    -- it is cut
+    abbrev IsCut : List Block → Type 0
+    IsCut zone' = IfSome (spot_at place zone) (λ s. size (resized n s.here) ≤ size s.here → zone' ≡ filled (resized n s.here) s)
+
+    module _ (less : bytes ≤ taken) (sp : Block → Bool)
+      where
+        smaller : size new ≤ size k.s.here
+        smaller = omega (arith, k.new_is, k.was, less)
+
+        cut-is : seek_sized test n sp zone ≡ at_hand (Cut new ∷ [])
+        cut-is = sized-cut test n sp zone k.s k.found k.fits smaller
+
+        cut-zone : (zone' : List Block) → IsCut zone' → zone' ≡ filled new k.s
+        cut-zone zone' cut = at_place place zone k.s (λ s. size (resized n s.here) ≤ size s.here
+            → zone' ≡ filled (resized n s.here) s) k.at cut smaller
+
+        pub cut-went : (zone' : List Block) (rest rest' : Rest) → IsCut zone' → rest'.moves ≡ rest.moves
+            → Went sp zone (seek_sized test n sp zone) true 0 zone' rest rest'
+        cut-went zone' rest rest' cut kept =
+            subst (λ (p : Sought). Went sp zone p true 0 zone' rest rest') (sym cut-is) (went-cut new sp zone k.s
+            (ap (λ u. spot u zone) k.named ∙ k.found) rest rest' kept zone' (cut-zone zone' cut))
+
+        pub cut-told : (es : List Anchor) → told_along es sp (seek_sized test n sp zone) zone ≡ []
+        cut-told es = ap (λ (p : Sought). told_along es sp p zone) cut-is
+
+        pub cut-nonrelocatable : (zone' : List Block) → IsCut zone' → KeepsNonrelocatable zone zone'
+        cut-nonrelocatable zone' cut p = ap (has (is_nonrelocatable p)) (cut-zone zone' cut)
+            ∙ nonrelocatable-at place zone (filled new k.s) k.s k.at
+            (nonrelocatable-filled new k.s (alike-resized n k.s.here)) p
+
+    -- or grows
+    module _ (more : taken < bytes)
+      where
+        larger : size k.s.here < size new
+        larger = omega (arith, k.new_is, k.was, more)
+
+        pub grows : IsSomeAnd (spot_at place zone) (λ s. size s.here < size (resized n s.here))
+        grows = spot_and (spot_at place zone) k.s (λ s. size s.here < size (resized n s.here)) k.at larger
+
+        pub still : is_mover k.s.here ≡ false → IsSomeAnd (spot_at place zone) (λ s. in_run s.here ≡ false)
+        still stays = spot_and (spot_at place zone) k.s (λ s. in_run s.here ≡ false) k.at
+            (alone k.s.here larger ∙ stays)
+          where
+            alone : (b : Block) → size b < size (resized n b) → in_run b ≡ is_mover b
+            alone (Free m) more = absurd (let z : m < m = more in omega arith)
+            alone (Nonrelocatable id content) more = refl
+            alone Masters more = refl
+            alone (Relocatable id flags content) more = refl
+
+        pub stays-is : is_mover k.s.here ≡ false → (sp : Block → Bool)
+            → seek_sized test n sp zone ≡ seek_still place n sp zone
+        stays-is stays sp = sized-stays test n sp zone k.s k.found k.fits larger stays
+            ∙ sym (ap (at_spot (λ s. seek_in_place (resized n s.here) sp s)) k.at)
+
+        pub moves-is : is_mover k.s.here ≡ true → (sp : Block → Bool)
+            → seek_sized test n sp zone ≡ seek_growth test n sp zone
+        moves-is moves sp = sized-moves test n sp zone k.s k.found k.fits larger moves
+            ∙ ap (λ o. seek (Grow (grown n o)) sp zone) (sym k.found)

@@ -2,7 +2,7 @@ use Rattle.heap_calls.proofs.Cited.{◌≡◌, ℕ, ◌+◌, ◌≤◌, ◌<◌,
 use Rattle.heap_calls.proofs.Cited.{Option, Some, None, Result, Ok, Err, is_some, length, replicate, Decides-eqb, length-replicate}
 use Rattle.heap_calls.proofs.Cited.{unwrap_or, option_map, phys, padded, OsErr, MEM_FULL, Flags, Block, Free, Nonrelocatable, Masters}
 use Rattle.heap_calls.proofs.Cited.{Relocatable, sizes, total, count, is_purgeable, is_relocatable, with_content, no_flags, resized, runs}
-use Rattle.heap_calls.proofs.Cited.{put_in_place, room, GREATEST_ZONE, settled-le, settled-all, State, Memory, Meaning, Role, Plain, Answer}
+use Rattle.heap_calls.proofs.Cited.{put_in_place, room, GREATEST_ZONE, settled-le, settled-all, State, Memory, Meaning, Role, Answer}
 use Rattle.heap_calls.proofs.Cited.{nothing, given, refused, rebuilt, handle_at, for_found, slotted, if_ready, made, purgeable}
 use Rattle.heap_calls.proofs.Cited.{blocks_purged, purged_all, Asked, answered, row, has_block, refill, refill_inside, NewFilled, NewEmpty}
 use Rattle.heap_calls.proofs.Cited.{Refill, stepped, gone_at, Gone, gone_of, room_gone, slot_gone, ready_gone, block_gone, found_gone}

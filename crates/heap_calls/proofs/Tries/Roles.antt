@@ -3,8 +3,8 @@ use Rattle.heap_calls.proofs.Cited.{ap, subst, cond, arith, Option, Some, None, 
 use Rattle.heap_calls.proofs.Cited.{drop, Decides-eqb, option_map, ok_or, OsErr, NIL_HANDLE, LOCKED, PROFILE, PURGED, Flags, Block}
 use Rattle.heap_calls.proofs.Cited.{is_mover, is_relocatable, is_nonrelocatable, content_of, with_content, tidy, written, Spot, spot, freed}
 use Rattle.heap_calls.proofs.Cited.{State, Memory, Plain, Resource, SystemResource, Meaning, Handle, Pointer, Disposed, Answer, Held}
-use Rattle.heap_calls.proofs.Cited.{nothing, given, refused, disposed_of, rebuilt, change_flags, hoisted, look_up, known_as, handle_at}
-use Rattle.heap_calls.proofs.Cited.{for_found, written_at, on_block, pointed, pointed_at, dispose_pointer, block_named, moved_into}
+use Rattle.heap_calls.proofs.Cited.{nothing, refused, disposed_of, change_flags, hoisted, look_up, known_as, handle_at}
+use Rattle.heap_calls.proofs.Cited.{for_found, written_at, pointed, pointed_at, dispose_pointer, block_named, moved_into}
 use Rattle.heap_calls.proofs.Cited.{emptied_at, is_loose, Asked, answered, Done, heap_after, Sought, served, resource_meant}
 use Rattle.heap_calls.proofs.Cited.{resource_role_at, if◌then◌else◌, found_in, Occurrence}
 use Rattle.heap_calls.specs.Answer as calls

@@ -1,5 +1,5 @@
 use Rattle.heap_calls.proofs.Cited.{◌≡◌, true, false, [], ◌∷◌, refl, Some, Flags, Free, Masters, Relocatable, no_flags, State, Handle}
-use Rattle.heap_calls.proofs.Cited.{Plain, place_moves, compact_mem_moves, max_mem_moves, moves_made}
+use Rattle.heap_calls.proofs.Cited.{Plain, place_lowers, compact_mem_moves, max_mem_moves, moves_made}
 use Rattle.heap_calls.specs.Rows as rows
 
 -- How many blocks packing moves down, by the definitions alone.
@@ -9,13 +9,13 @@ abbrev between : State
 between = record { zone = Masters ∷ Free 32 ∷ Relocatable 0 no_flags [] ∷ Free 48 ∷ []; names = Handle Plain ∷ [] }
 
 -- a Free block serves, or the run is packed, or there is no room
-a_free_block_serves : place_moves 48 between.zone ≡ 0
+a_free_block_serves : place_lowers 48 between.zone ≡ 0
 a_free_block_serves = refl
 
-a_run_is_packed : place_moves 64 between.zone ≡ 1
+a_run_is_packed : place_lowers 64 between.zone ≡ 1
 a_run_is_packed = refl
 
-no_run_has_room : place_moves 96 between.zone ≡ 0
+no_run_has_room : place_lowers 96 between.zone ≡ 0
 no_run_has_room = refl
 
 a_block_that_fits_moves_none : moves_made (rows.new_handle 32) between ≡ 0

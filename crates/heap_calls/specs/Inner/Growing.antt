@@ -1,16 +1,14 @@
 use Rattle.std.specs.Prelude.{◌≡◌, ℕ, ◌<◌, Bool, true, ◌&&◌, Option, Some, None, List, is_some, IsSomeAnd, IfSome}
-use Rattle.std.specs.Prelude.{if◌then◌else◌}
 use Rattle.std.specs.Option.{option_map}
-use Rattle.mac_words.specs.Size.{phys}
 use Rattle.block_store.specs.Block.{Block, Masters, size, resized, is_relocatable}
 use Rattle.block_store.specs.Run.{has, has_free}
-use Rattle.block_store.specs.Room.{Spot, spot, place, least}
-use Rattle.block_store.specs.Grow.{growth, grow_up, grow_mover, grow}
+use Rattle.block_store.specs.Room.{Spot, spot, place}
+use Rattle.block_store.specs.Grow.{growth, grow_up, grow_mover}
 use Rattle.block_store.specs.Find.{FindsLowestRun}
-use Rattle.block_store.specs.Sparing.{purged, most_purges, spared}
+use Rattle.block_store.specs.Sparing.{spared}
 use Rattle.block_store.specs.declared.sparing.Sparing.{Sparing}
 use Rattle.block_store.specs.declared.sparing.Sparing.TheVariants as sparing
-use Rattle.heap_calls.specs.Inner.Search.{FindsPlacement, tries}
+use Rattle.heap_calls.specs.Inner.Search.{FindsPlacement}
 use Rattle.heap_calls.specs.declared.growing.Growth.{Growth}
 use Rattle.heap_calls.specs.declared.growing.Growth.TheVariants as grows
 
@@ -42,15 +40,6 @@ Stays (sparing.One slot) test = Unit {0}
 Stays (sparing.Two slot other) test = Unit {0}
 Stays (sparing.Freed slot) test = ⊥
 
--- The zone in which the block that passes a test has grown, after as few purges as serve.
-abbrev pub growing : (Block → Bool) → Block → Sparing → List Block → Option (List Block)
-growing test new sparing zone = least (λ k. grow_mover test new (purged k sparing zone)) (most_purges sparing zone)
-
--- The number of searches for the growth of that block.
-abbrev pub growing_searches : (Block → Bool) → Block → Sparing → List Block → ℕ
-growing_searches test new sparing zone = tries (λ k. grow_mover test new (purged k sparing zone))
-    (most_purges sparing zone)
-
 -- The block that passes a test is there, and is to grow to n bytes of content.
 abbrev pub IsToGrow : (Block → Bool) → ℕ → List Block → Type 0
 IsToGrow test n zone = IsSomeAnd (spot test zone) (λ s. size s.here < size (resized n s.here))
@@ -71,8 +60,3 @@ CanGrowUp test n zone = (s : Spot) × (spot test zone ≡ Some s) × (size s.her
 -- The block that passes a test has grown to n bytes of content into the free block above it.
 abbrev pub GrewUp : (Block → Bool) → ℕ → List Block → List Block → Type 0
 GrewUp test n old new = IfSome (spot test old) (λ s. grow_up (resized n s.here) s ≡ Some new)
-
--- The zone in which the block that passes a test has n bytes of content; `None` where there is no room or no block
--- can have that size.
-abbrev pub fitted : (Block → Bool) → (Block → Bool) → ℕ → List Block → Option (List Block)
-fitted test spared n zone = if is_some (phys n) then grow test spared n zone else None

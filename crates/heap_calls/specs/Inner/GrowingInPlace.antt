@@ -1,16 +1,11 @@
-use Rattle.std.specs.Prelude.{◌≡◌, ◌≤◌, ℕ, ◌-◌, Bool, true, false, Option, Some, None, List, ◌++◌, if◌then◌else◌}
+use Rattle.std.specs.Prelude.{ℕ, ◌-◌, Bool, false, Option, Some, None, List, ◌++◌}
 use Rattle.mac_words.specs.Size.{padded}
 use Rattle.block_store.specs.Block.{Block, Free, free_sum, free, is_room, add}
-use Rattle.block_store.specs.Run.{Stretch, has_free, movers, joined, segments}
-use Rattle.block_store.specs.Room.{Spot, room, purge, count_of}
+use Rattle.block_store.specs.Run.{Stretch, movers, joined, segments}
+use Rattle.block_store.specs.Room.{Spot, purge}
 use Rattle.block_store.specs.declared.sparing.Seen.{Seen}
 use Rattle.block_store.specs.declared.sparing.Seen.TheVariants as see
 use Rattle.block_store.specs.declared.measures.TheConstants.{MASTERS_SIZE}
-
--- A zone, if it was made.
-abbrev pub made_zone : Bool → List Block → Option (List Block)
-made_zone false zone = None
-made_zone true zone = Some zone
 
 -- The physical size of a block, as it is seen.
 abbrev pub seen_size : Seen → ℕ
@@ -23,16 +18,6 @@ seen_size (see.Relocatable slot flags n) = padded n
 abbrev pub room_at : ℕ → Option Spot → Bool
 room_at d None = false
 room_at d (Some s) = is_room d s.here
-
--- A run, if it has d free bytes.
-abbrev pub enough : ℕ → List Block → Option (List Block)
-enough d run = if has_free d run then Some run else None
-
--- The least number of blocks to purge from a run so that it has d free bytes; `None` where no number serves.
-abbrev pub FindsPurges : ℕ → (Block → Bool) → List Block → Option ℕ → Type 0
-FindsPurges d spared run None = room (enough d) spared run ≡ None
-FindsPurges d spared run (Some k) = (k ≤ count_of spared run) × (has_free d (purge k spared run) ≡ true)
-    × (room (enough d) spared run ≡ Some (purge k spared run))
 
 -- A run and the parts above it, without d free bytes at the bottom of the run.
 abbrev pub above_taken : ℕ → List Block → List Stretch → List Block

@@ -4,7 +4,7 @@ use Rattle.block_store.specs.Block.{Block}
 use Rattle.block_store.specs.Sparing.{purged}
 use Rattle.block_store.specs.Rest.{Rest, IsRest, counted}
 use Rattle.block_store.specs.declared.sparing.Sparing.{Sparing}
-use Rattle.heap_calls.specs.Moves.{place_moves}
+use Rattle.moves.specs.Moves.{place_lowers}
 use Rattle.heap_calls.specs.Inner.NewBlock.{ready_count}
 use Rattle.heap_calls.specs.Inner.NewSlot.{zone_slotted}
 use Rattle.heap_calls.specs.Inner.Search.{placement_searches}
@@ -25,7 +25,7 @@ KeepsAllButPlaced old new = IsRest (record old { placed = new.placed }) new
 
 -- The moves for a relocatable block of p bytes, after as few purges as give it a place.
 abbrev pub placement_moves : ℕ → Sparing → List Block → ℕ
-placement_moves p sparing zone = place_moves p (purged (placement_searches p sparing zone - 1) sparing zone)
+placement_moves p sparing zone = place_lowers p (purged (placement_searches p sparing zone - 1) sparing zone)
 
 -- The moves for a relocatable block of n bytes of content.
 abbrev pub content_moves : Sparing → ℕ → List Block → ℕ

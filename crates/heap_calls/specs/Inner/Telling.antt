@@ -1,9 +1,7 @@
-use Rattle.std.specs.Prelude.{◌≡◌, ◌⊎◌, ◌≤◌, ◌<◌, ◌-◌, is_some, ℕ, Bool, Option, Some, None, List, [], ◌∷◌, ◌++◌, length}
-use Rattle.std.specs.Prelude.{nat_le, if◌then◌else◌, zero, suc}
-use Rattle.block_store.specs.Block.{Block, size, is_mover, rename_block}
-use Rattle.block_store.specs.Run.{segments}
-use Rattle.block_store.specs.Room.{Spot, spot, spot_at, may_be_purged, room}
-use Rattle.block_store.specs.Grow.{growth, grow_up, grow_mover}
+use Rattle.std.specs.Prelude.{◌≡◌, ◌⊎◌, ◌≤◌, ◌<◌, ◌-◌, is_some, ℕ, Option, Some, None, List, [], ◌∷◌, ◌++◌, length}
+use Rattle.std.specs.Prelude.{if◌then◌else◌, zero, suc}
+use Rattle.block_store.specs.Block.{Block, rename_block}
+use Rattle.block_store.specs.Room.{Spot, spot_at, may_be_purged}
 use Rattle.block_store.specs.Sparing.{spared}
 use Rattle.block_store.specs.Inner.Stretch.{opened_block}
 use Rattle.block_store.specs.declared.sparing.Sparing.{Sparing}
@@ -11,9 +9,7 @@ use Rattle.block_store.specs.declared.sparing.Sparing.TheVariants.{Nothing, Free
 use Rattle.block_store.specs.declared.measures.TheConstants.{MASTERS_SIZE}
 use Rattle.mac_words.specs.Size.{phys, padded}
 use Rattle.heap_calls.specs.Gone.{Gone, gone_of, Tells, TellsNothing}
-use Rattle.heap_calls.specs.Searches.{room_searches, resized_at}
 use Rattle.heap_calls.specs.Inner.Base.{base, base_searches}
-use Rattle.heap_calls.specs.Inner.GrowingInPlace.{enough}
 use Rattle.heap_calls.specs.Inner.Numbered.{handle_number, pointer_number}
 use Rattle.heap_calls.specs.Inner.NewSlot.{zone_slotted, HasMore}
 use Rattle.block_store.specs.Rest.{Rest, IsRest}
@@ -61,30 +57,6 @@ pointer_gone entries n zone = if is_some (phys n) then base_gone entries (padded
 abbrev pub zone_slot_gone : List Anchor → Sparing → ℕ → List Block → List Gone
 zone_slot_gone entries sparing zero zone = base_gone entries MASTERS_SIZE sparing zone
 zone_slot_gone entries sparing (suc n) zone = []
-
--- The blocks of a store that are purged for what `try` does, where no block counts as free.
-abbrev pub try_gone : List Anchor → (List Block → Option (List Block)) → Sparing → List Block → List Gone
-try_gone entries try sparing zone =
-    if is_some (room try (spared sparing) zone)
-    then gone_from entries sparing (room_searches try (spared sparing) zone - 1) zone else []
-
--- The blocks of a store that are purged for the growth of a block that stays where it is.
-abbrev pub still_gone : List Anchor → Sparing → Block → Spot → List Gone
-still_gone entries sparing new s =
-    if is_some (grow_up new s) then [] else try_gone entries (enough (growth new s)) sparing (segments s.above).first
-
--- The blocks of a store that are purged where the block at a spot gets another size.
-abbrev pub grown_gone : List Anchor → (Block → Bool) → Sparing → Block → List Block → Option Spot → List Gone
-grown_gone entries test sparing new zone None = []
-grown_gone entries test sparing new zone (Some s) =
-    if nat_le (size new) (size s.here) then []
-    else (if is_mover s.here then try_gone entries (grow_mover test new) sparing zone
-    else still_gone entries sparing new s)
-
--- The blocks of a store that are purged where the block that passes a test gets so many bytes of content.
-abbrev pub fitted_gone : List Anchor → (Block → Bool) → Sparing → ℕ → List Block → List Gone
-fitted_gone entries test sparing bytes zone = if is_some (phys bytes) then grown_gone entries test sparing
-    (resized_at bytes (spot test zone)) zone (spot test zone) else []
 
 -- No block counts as free for the search.
 abbrev pub OpensNone : Sparing → Type 0

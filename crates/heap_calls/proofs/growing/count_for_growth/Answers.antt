@@ -1,6 +1,5 @@
 use Rattle.heap_calls.proofs.Cited.{◌≡◌, arith, sym, ◌∙◌, is_some, is_relocatable, least_or_last, grow_mover, spot, purged, most_purges}
 use Rattle.heap_calls.proofs.Cited.{least_or_last-le, grown}
-use Rattle.heap_calls.proofs.Room.LeastSearches.{least-of, tries-of}
 use Rattle.heap_calls.proofs.Room.Searching.{most-le}
 use Rattle.heap_calls.proofs.Sizes.FewestForGrowth.{growth-fewest, growth-least, growth-fails, growth-never}
 use Rattle.heap_calls.proofs.Sizes.Growth.{opened-stays}
@@ -47,18 +46,7 @@ returns-in-Some-clause-there g c =
     c.fewest_for_block-in_run.ensures c.in-Some.purges (sym c.in-Some.ensures)).there)
 
 pub returns-in-Some-clause-least : goal.returns-in-Some-clause-least
-returns-in-Some-clause-least g c =
-    let zone = g.S.BlockStore.zone c.args.store.now in
-    let t = is_relocatable c.args.number in
-    least-of (λ k. grow_mover t (grown c.args.size (spot t zone)) (purged k c.args.sparing zone))
-    (most_purges c.args.sparing zone) c.in-Some.purges (least g (goal.at.returns-in-Some-clause-least g c).In-Some)
-
-pub returns-in-Some-clause-searches : goal.returns-in-Some-clause-searches
-returns-in-Some-clause-searches g c =
-    let zone = g.S.BlockStore.zone c.args.store.now in
-    let t = is_relocatable c.args.number in
-    tries-of (λ k. grow_mover t (grown c.args.size (spot t zone)) (purged k c.args.sparing zone))
-    (most_purges c.args.sparing zone) c.in-Some.purges (least g (goal.at.returns-in-Some-clause-searches g c).In-Some)
+returns-in-Some-clause-least g c = least g (goal.at.returns-in-Some-clause-least g c).In-Some
 
 pub returns-in-Some-clause-few : goal.returns-in-Some-clause-few
 returns-in-Some-clause-few g c =
@@ -82,20 +70,7 @@ returns-in-None-clause-there g c =
     c.fewest_for_block-in_run.ensures (sym c.in-None.ensures) c.purgeable.result)
 
 pub returns-in-None-clause-least : goal.returns-in-None-clause-least
-returns-in-None-clause-least g c =
-    let zone = g.S.BlockStore.zone c.args.store.now in
-    let t = is_relocatable c.args.number in
-    least-of (λ k. grow_mover t (grown c.args.size (spot t zone)) (purged k c.args.sparing zone))
-    (most_purges c.args.sparing zone) c.purgeable.result
-    (c.purgeable.ensures ∙ never g (goal.at.returns-in-None-clause-least g c).In-None)
-
-pub returns-in-None-clause-searches : goal.returns-in-None-clause-searches
-returns-in-None-clause-searches g c =
-    let zone = g.S.BlockStore.zone c.args.store.now in
-    let t = is_relocatable c.args.number in
-    tries-of (λ k. grow_mover t (grown c.args.size (spot t zone)) (purged k c.args.sparing zone))
-    (most_purges c.args.sparing zone) c.purgeable.result
-    (c.purgeable.ensures ∙ never g (goal.at.returns-in-None-clause-searches g c).In-None)
+returns-in-None-clause-least g c = c.purgeable.ensures ∙ never g (goal.at.returns-in-None-clause-least g c).In-None
 
 pub returns-in-None-clause-few : goal.returns-in-None-clause-few
 returns-in-None-clause-few g c =

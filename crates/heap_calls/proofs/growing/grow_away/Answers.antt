@@ -3,6 +3,7 @@ use Rattle.heap_calls.proofs.Sizes.Carrying.{away-room, away-block, away-done}
 use Rattle.heap_calls.proofs.Sizes.Steady.{nonrelocatable-carried}
 use Rattle.heap_calls.proofs.Room.MoveCounts.{away-moves}
 use Rattle.heap_calls.proofs.Numbering.Changing.{may_place}
+use Rattle.heap_calls.proofs.Same.Growing.{grown-named}
 use Rattle.heap_calls.proofs.growing.grow_away.Goals as goal
 
 pub move_to-requires-clause-room : goal.move_to-requires-clause-room
@@ -43,5 +44,6 @@ returns-clause-moves g c =
     let placed = may_place c.move_to.result 1 (g.S.BlockStore.rest c.pack_placement-place.new.store)
     (g.S.BlockStore.rest c.move_to.new.self) c.move_to.ensures.rest c.move_to.ensures.same in
     placed.moves ∙ c.pack_placement-place.ensures.moves
-    ∙ ap (counted rest.moves) (sym (away-moves t (grown c.args.size (spot t zone)) zone c.args.bytes c.args.placement
+    ∙ ap (counted rest.moves) (sym (away-moves t (grown c.args.size (spot t zone)) zone
+    (grown-named c.args.number c.args.size zone c.requires.found.0 c.requires.found.1) c.args.bytes c.args.placement
     c.requires.takes c.requires.positive c.requires.found))

@@ -1,5 +1,5 @@
 use Rattle.heap_calls.proofs.Cited.{◌∙◌, sym, ap, refl, not-true, not_some, is_relocatable, is_nonrelocatable, counted, place, has, purged}
-use Rattle.heap_calls.proofs.Cited.{none-purged, placement_moves, place_moves}
+use Rattle.heap_calls.proofs.Cited.{none-purged, placement_moves, place_lowers}
 use Rattle.heap_calls.proofs.Room.MoveCounts.{packs-none, packs-after, no-place, placement-at}
 use Rattle.heap_calls.proofs.Room.Staying.{nonrelocatable-purged}
 use Rattle.heap_calls.proofs.search.make_room.Goals as goal
@@ -35,5 +35,5 @@ returns-clause-moves g c =
     let counts = c.count_for_placement-counted in
     packs-after (g.S.BlockStore.rest c.args.store.now) rest1 (g.S.BlockStore.rest packed.new.store)
     (placement_moves c.args.bytes c.args.sparing zone) c.purge_telling.ensures.rest.moves
-    (packed.ensures.moves ∙ ap (counted rest1.moves) (ap (place_moves c.args.bytes) c.in_ok-purge_telling.ensures.zone
+    (packed.ensures.moves ∙ ap (counted rest1.moves) (ap (place_lowers c.args.bytes) c.in_ok-purge_telling.ensures.zone
     ∙ sym (placement-at c.args.bytes counts.result.purges c.args.sparing zone counts.ensures.searches)))

@@ -1,6 +1,6 @@
 use Rattle.heap_calls.proofs.Cited.{◌≡◌, Some, ◌∙◌, ap, subst, refl, is_nonrelocatable, is_relocatable, tidy, has, has_free, settle}
 use Rattle.heap_calls.proofs.Cited.{with_run, none-settled, FindsPlacement, block_of, Placement, IsRest, with_moves, lowered_in_run}
-use Rattle.heap_calls.proofs.Cited.{place_moves}
+use Rattle.heap_calls.proofs.Cited.{place_lowers}
 use Rattle.heap_calls.specs.declared.search.Placement.TheVariants as see
 use Rattle.heap_calls.proofs.Room.Searching.{room-found, at_run}
 use Rattle.heap_calls.proofs.Sizes.Carrying.{settle-blocks}
@@ -60,7 +60,7 @@ returns-in-Free-clause-moves g c =
     let rest = g.S.BlockStore.rest c.args.store.now in
     let P : Placement → Type 0 = λ s. FindsPlacement c.args.bytes zone (Some s) in
     let found : P (see.Free _) = subst P c.in-Free.is c.requires.found in
-    packs-none rest rest (place_moves c.args.bytes zone) refl (at-free c.args.bytes _ zone found)
+    packs-none rest rest (place_lowers c.args.bytes zone) refl (at-free c.args.bytes _ zone found)
 
 pub returns-clause-moves : goal.returns-clause-moves
 returns-clause-moves g c =
@@ -72,5 +72,5 @@ returns-clause-moves g c =
     let packed = at_run c.in-Run.run' zone zone r (λ r. IsRest (with_moves (lowered_in_run r.run) rest) rest') refl
     placement.1.2
     c.settle.ensures.rest in
-    packs-run rest rest rest' (lowered_in_run r.run) (place_moves c.args.bytes zone) refl packed
+    packs-run rest rest rest' (lowered_in_run r.run) (place_lowers c.args.bytes zone) refl packed
     (at-packed c.args.bytes c.in-Run.run' zone placement)

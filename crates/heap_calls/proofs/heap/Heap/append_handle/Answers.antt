@@ -1,12 +1,12 @@
-use Rattle.heap_calls.proofs.Cited.{◌≡◌, Ok, Err, List, ℕ, ap, refl, ◌+◌, rules, ◌∙◌, err_from_is_err_and, is_relocatable, counted, spot}
-use Rattle.heap_calls.proofs.Cited.{spared, Two, Anchor, Hears, size_moves, hand_and_hand, doing_silently, purges_made, size_searches}
-use Rattle.heap_calls.proofs.Cited.{bytes_of, length_of, KeepsNames, state_of, Reaches, fitted_gone}
+use Rattle.heap_calls.proofs.Cited.{◌≡◌, Ok, Err, List, ap, refl, rules, ◌∙◌, err_from_is_err_and, is_relocatable, spot}
+use Rattle.heap_calls.proofs.Cited.{spared, Two, Anchor, Hears, hand_and_hand, doing_silently, purges_made}
+use Rattle.heap_calls.proofs.Cited.{bytes_of, KeepsNames, state_of, Reaches, seek_longer, told_along}
 use Rattle.heap_calls.specs.Rows.{refused}
 use Rattle.heap_calls.proofs.Hearing.{stops-halted, hears-none, hears-as}
 use Rattle.heap_calls.proofs.Numbering.Changing.{agrees-kept, heap-same}
 use Rattle.heap_calls.proofs.Numbering.Memories.{memory_as, reply-as}
 use Rattle.heap_calls.proofs.Numbering.Reserved.{fits-same}
-use Rattle.heap_calls.proofs.Sizes.Grown.{reached_in, hand-none, hand-nowhere, hand-call, appended-agrees, grown-answer}
+use Rattle.heap_calls.proofs.Sizes.Grown.{reached_in, hand-none, hand-nowhere, hand-call, grown-answer}
 use Rattle.heap_calls.proofs.Sizes.Grown.{grown-gone}
 use Rattle.heap_calls.proofs.Went.{unfound-is, unfound-gone}
 use Rattle.heap_calls.proofs.heap.Heap.append_handle.Given.{Over}
@@ -75,20 +75,12 @@ told g c from =
     let held = c.in_ok-held.held in
     let there = reached g c in
     let nd = Two one.slot held.slot in
-    let n = length_of held.slot zone in
-    let more = c.length_at-more.ensures.is in
     rw (c.account.ensures.reply, c.account.ensures.counted)
     (grown-answer zone rest a.names.items a.log c.args.self.now.memory (memory_as c.self.view_is)
     (hand_and_hand c.args.from c.args.to) _ nd _
-    (hand-call zone rest a.names.items c.self.invariant c.args.from c.args.to one held from there) _ _ _ _ (λ b. refl)
-    (appended-agrees zone rest a.names.items c.self.invariant c.args.to held there nd (λ b. refl)
-    (bytes_of (spot (is_relocatable one.slot) zone))) (g.S.BlockStore.zone c.append_block.new.store)
-    (g.S.BlockStore.rest c.append_block.new.store) c.in_ok-grown.grown.done c.in_ok-grown.grown.searches
-    c.in_ok-grown.ensures.rest c.in_ok-grown.ensures.zone c.in_ok-grown.ensures.full
-    (c.in_ok-grown.ensures.searches
-    ∙ ap (λ (k : ℕ). size_searches (is_relocatable held.slot) (spared nd) (n + k) zone) more)
-    (c.in_ok-grown.ensures.moves
-    ∙ ap (λ (k : ℕ). counted rest.moves (size_moves (is_relocatable held.slot) (spared nd) (n + k) zone)) more))
+    (hand-call zone rest a.names.items c.self.invariant c.args.from c.args.to one held from there)
+    (g.S.BlockStore.zone c.append_block.new.store) (g.S.BlockStore.rest c.append_block.new.store)
+    c.in_ok-grown.grown.done c.in_ok-grown.grown.searches c.in_ok-grown.ensures.rest c.in_ok-grown.ensures.went)
 
 pub returns-in_err-account-clause-answer : goal.returns-in_err-account-clause-answer
 returns-in_err-account-clause-answer g c =
@@ -143,15 +135,12 @@ heard g c from done =
     let held = c.in_ok-held.held in
     let there = reached g c in
     let nd = Two one.slot held.slot in
-    let same = ap (λ (e : List Anchor). fitted_gone e (is_relocatable held.slot) nd
-    (length_of held.slot zone + c.length_at-more.result) zone) c.deref-3.ensures.value
-    ∙ ap (λ (n : ℕ). fitted_gone a.names.items (is_relocatable held.slot) nd
-    (length_of held.slot zone + n) zone) c.length_at-more.ensures.is
+    let x = bytes_of (spot (is_relocatable one.slot) zone) in
+    let same = ap (λ (e : List Anchor). told_along e (spared nd) (seek_longer held.slot x (spared nd) zone) zone)
+    c.deref-3.ensures.value
     ∙ grown-gone zone rest a.names.items a.log c.args.self.now.memory (memory_as c.self.view_is)
     (hand_and_hand c.args.from c.args.to) _ nd _
-    (hand-call zone rest a.names.items c.self.invariant c.args.from c.args.to one held from there) _ _ _ _ (λ b. refl)
-    (appended-agrees zone rest a.names.items c.self.invariant c.args.to held there nd (λ b. refl)
-    (bytes_of (spot (is_relocatable one.slot) zone))) in
+    (hand-call zone rest a.names.items c.self.invariant c.args.from c.args.to one held from there) in
     hears-as g.K.PurgeSink.told g.K.PurgeSink.waits g.K.PurgeSink.listens _ _ _ _ _ _ (λ some. refl) same
     c.in_ok-grown.ensures.hears
 

@@ -1,12 +1,12 @@
-use Rattle.heap_calls.proofs.Cited.{◌≡◌, Ok, Err, List, ap, refl, ◌+◌, length, rules, ◌∙◌, err_from_is_err_and, is_relocatable, One, Anchor}
-use Rattle.heap_calls.proofs.Cited.{Hears, pointer_and_hand, doing_silently, purges_made, length_of, KeepsNames, state_of, Reaches}
-use Rattle.heap_calls.proofs.Cited.{fitted_gone}
+use Rattle.heap_calls.proofs.Cited.{◌≡◌, Ok, Err, List, ap, refl, rules, ◌∙◌, err_from_is_err_and, is_relocatable, One, Anchor}
+use Rattle.heap_calls.proofs.Cited.{Hears, pointer_and_hand, doing_silently, purges_made, KeepsNames, state_of, Reaches, seek_longer}
+use Rattle.heap_calls.proofs.Cited.{told_along}
 use Rattle.heap_calls.specs.Rows.{refused}
 use Rattle.heap_calls.proofs.Hearing.{stops-halted, hears-none, hears-as}
 use Rattle.heap_calls.proofs.Numbering.Changing.{agrees-kept, heap-same}
 use Rattle.heap_calls.proofs.Numbering.Memories.{memory_as, reply-as}
 use Rattle.heap_calls.proofs.Numbering.Reserved.{fits-same}
-use Rattle.heap_calls.proofs.Sizes.Grown.{reached_in, slice-none, slice-call, appended-agrees, grown-answer, grown-gone}
+use Rattle.heap_calls.proofs.Sizes.Grown.{reached_in, slice-none, slice-call, grown-answer, grown-gone}
 use Rattle.heap_calls.proofs.Went.{unfound-is, unfound-gone}
 use Rattle.heap_calls.proofs.heap.Heap.append_slice.Given.{Over}
 use Rattle.heap_calls.proofs.heap.Heap.append_slice.Goals.{In_err-held, After-account}
@@ -48,11 +48,9 @@ told g c =
     rw (c.account.ensures.reply, c.account.ensures.counted)
     (grown-answer zone rest a.names.items a.log c.args.self.now.memory (memory_as c.self.view_is)
     (pointer_and_hand c.args.handle c.args.bytes.now) (is_relocatable held.number) (One held.slot) _
-    (slice-call zone rest a.names.items c.self.invariant c.args.handle held there c.args.bytes.now) _ _ _ _ (λ b. refl)
-    (appended-agrees zone rest a.names.items c.self.invariant c.args.handle held there (One held.slot) (λ b. refl)
-    c.args.bytes.now) (g.S.BlockStore.zone c.append_bytes.new.store) (g.S.BlockStore.rest c.append_bytes.new.store)
-    c.in_ok-grown.grown.done c.in_ok-grown.grown.searches c.in_ok-grown.ensures.rest c.in_ok-grown.ensures.zone
-    c.in_ok-grown.ensures.full c.in_ok-grown.ensures.searches c.in_ok-grown.ensures.moves)
+    (slice-call zone rest a.names.items c.self.invariant c.args.handle held there c.args.bytes.now)
+    (g.S.BlockStore.zone c.append_bytes.new.store) (g.S.BlockStore.rest c.append_bytes.new.store)
+    c.in_ok-grown.grown.done c.in_ok-grown.grown.searches c.in_ok-grown.ensures.rest c.in_ok-grown.ensures.went)
 
 pub returns-in_err-account-clause-answer : goal.returns-in_err-account-clause-answer
 returns-in_err-account-clause-answer g c =
@@ -90,13 +88,12 @@ heard g c done =
     let rest = g.S.BlockStore.rest a.store in
     let held = c.in_ok-held.held in
     let there = reached g c in
-    let same = ap (λ (e : List Anchor). fitted_gone e (is_relocatable held.slot) (One held.slot)
-    (length_of held.slot zone + length c.args.bytes.now) zone) c.deref-2.ensures.value
+    let t = is_relocatable held.slot in
+    let same = ap (λ (e : List Anchor). told_along e t (seek_longer held.slot c.args.bytes.now t zone) zone)
+    c.deref-2.ensures.value
     ∙ grown-gone zone rest a.names.items a.log c.args.self.now.memory (memory_as c.self.view_is)
     (pointer_and_hand c.args.handle c.args.bytes.now) (is_relocatable held.number) (One held.slot) _
-    (slice-call zone rest a.names.items c.self.invariant c.args.handle held there c.args.bytes.now) _ _ _ _ (λ b. refl)
-    (appended-agrees zone rest a.names.items c.self.invariant c.args.handle held there (One held.slot) (λ b. refl)
-    c.args.bytes.now) in
+    (slice-call zone rest a.names.items c.self.invariant c.args.handle held there c.args.bytes.now) in
     hears-as g.K.PurgeSink.told g.K.PurgeSink.waits g.K.PurgeSink.listens _ _ _ _ _ _ (λ some. refl) same
     c.in_ok-grown.ensures.hears
 

@@ -1,12 +1,12 @@
 use Rattle.heap_calls.proofs.Cited.{◌≡◌, arith, Err, List, ap, refl, ◌∙◌, rules, err_from_is_err_and, is_nonrelocatable, Nothing, Anchor}
-use Rattle.heap_calls.proofs.Cited.{nothing, Hears, set_pointer_size, doing_silently, purges_made, KeepsMoves, state_of, fitted_gone}
+use Rattle.heap_calls.proofs.Cited.{nothing, Hears, set_pointer_size, doing_silently, purges_made, KeepsMoves, state_of, seek_sized, told_along}
 use Rattle.heap_calls.specs.Rows.{refused}
 use Rattle.heap_calls.proofs.Hearing.{stops-halted, hears-none, hears-as}
 use Rattle.heap_calls.proofs.Numbering.Changing.{agrees-placed, slots_kept, heap-same}
 use Rattle.heap_calls.proofs.Numbering.Memories.{memory_as, reply-as}
 use Rattle.heap_calls.proofs.Numbering.Pointing.{IsHeld, pointer-held, target_in, pointed_at-refused}
 use Rattle.heap_calls.proofs.Numbering.Reserved.{fits-same}
-use Rattle.heap_calls.proofs.Sizes.Grown.{pointer-none, pointer-call, pointer-agrees, pointer-packs, grown-answer, grown-gone}
+use Rattle.heap_calls.proofs.Sizes.Grown.{pointer-none, pointer-call, grown-answer, grown-gone}
 use Rattle.heap_calls.proofs.Went.{unfound-is, unfound-gone}
 use Rattle.heap_calls.proofs.heap.Heap.fit_pointer.Given.{Over}
 use Rattle.heap_calls.proofs.heap.Heap.fit_pointer.Goals.{In_err-target, In_ok-target, After-account}
@@ -76,12 +76,9 @@ told g c there =
     rw (c.account.ensures.reply, c.account.ensures.counted)
     (grown-answer zone rest a.names.items a.log c.args.self.now.memory (memory_as c.self.view_is)
     (set_pointer_size c.args.pointer c.args.size) nothing Nothing _
-    (pointer-call zone rest a.names.items c.args.pointer t there lone c.args.size (omega arith)) _ _ _ _ (λ b. refl)
-    (pointer-agrees zone rest a.names.items c.args.pointer t there lone c.args.size)
+    (pointer-call zone rest a.names.items c.args.pointer t there lone c.args.size (omega arith))
     (g.S.BlockStore.zone c.fit_nonrelocatable.new.store) rest' c.in_ok-grown.grown.done c.in_ok-grown.grown.searches
-    (slots_kept rest rest' c.fit_nonrelocatable.ensures.rest) c.in_ok-grown.ensures.zone c.in_ok-grown.ensures.full
-    c.in_ok-grown.ensures.searches (pointer-packs zone rest a.names.items c.args.pointer t there lone c.args.size rest'
-    c.fit_nonrelocatable.ensures.rest.moves))
+    (slots_kept rest rest' c.fit_nonrelocatable.ensures.rest) c.in_ok-grown.ensures.went)
 
 pub returns-in_err-account-clause-answer : goal.returns-in_err-account-clause-answer
 returns-in_err-account-clause-answer g c =
@@ -115,12 +112,11 @@ heard g c there done =
     let rest = g.S.BlockStore.rest a.store in
     let t = c.in_ok-target.target in
     let lone = c.self.invariant.lone in
-    let same = ap (λ (e : List Anchor). fitted_gone e (is_nonrelocatable t.place) Nothing c.args.size zone)
-    c.deref-2.ensures.value
+    let same = ap (λ (e : List Anchor). told_along e nothing (seek_sized (is_nonrelocatable t.place) c.args.size nothing
+    zone) zone) c.deref-2.ensures.value
     ∙ grown-gone zone rest a.names.items a.log c.args.self.now.memory (memory_as c.self.view_is)
     (set_pointer_size c.args.pointer c.args.size) nothing Nothing _
-    (pointer-call zone rest a.names.items c.args.pointer t there lone c.args.size (omega arith)) _ _ _ _ (λ b. refl)
-    (pointer-agrees zone rest a.names.items c.args.pointer t there lone c.args.size) in
+    (pointer-call zone rest a.names.items c.args.pointer t there lone c.args.size (omega arith)) in
     hears-as g.K.PurgeSink.told g.K.PurgeSink.waits g.K.PurgeSink.listens _ _ _ _ _ _ (λ some. refl) same
     c.in_ok-grown.ensures.hears
 

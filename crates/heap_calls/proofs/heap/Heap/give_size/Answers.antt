@@ -1,11 +1,12 @@
 use Rattle.heap_calls.proofs.Cited.{◌≡◌, Ok, Err, List, ap, refl, rules, ◌∙◌, err_from_is_err_and, is_relocatable, One, Anchor, Hears}
-use Rattle.heap_calls.proofs.Cited.{set_handle_size, doing_silently, purges_made, KeepsNames, state_of, Reaches, fitted_gone}
+use Rattle.heap_calls.proofs.Cited.{set_handle_size, doing_silently, purges_made, KeepsNames, state_of, Reaches, seek_sized}
+use Rattle.heap_calls.proofs.Cited.{told_along}
 use Rattle.heap_calls.specs.Rows.{refused}
 use Rattle.heap_calls.proofs.Hearing.{stops-halted, hears-none, hears-as}
 use Rattle.heap_calls.proofs.Numbering.Changing.{agrees-kept, heap-same}
 use Rattle.heap_calls.proofs.Numbering.Memories.{memory_as, reply-as}
 use Rattle.heap_calls.proofs.Numbering.Reserved.{fits-same}
-use Rattle.heap_calls.proofs.Sizes.Grown.{reached_in, resize-none, resize-call, sized-agrees, grown-answer, grown-gone}
+use Rattle.heap_calls.proofs.Sizes.Grown.{reached_in, resize-none, resize-call, grown-answer, grown-gone}
 use Rattle.heap_calls.proofs.Went.{unfound-is, unfound-gone}
 use Rattle.heap_calls.proofs.heap.Heap.give_size.Given.{Over}
 use Rattle.heap_calls.proofs.heap.Heap.give_size.Goals.{In_err-held, After-account}
@@ -44,11 +45,9 @@ told g c =
     rw (c.account.ensures.reply, c.account.ensures.counted)
     (grown-answer zone rest a.names.items a.log c.args.self.now.memory (memory_as c.self.view_is)
     (set_handle_size c.args.handle c.args.size) (is_relocatable held.number) (One held.slot) _
-    (resize-call zone rest a.names.items c.self.invariant c.args.handle held there c.args.size) _ _ _ _ (λ b. refl)
-    (sized-agrees zone rest a.names.items c.self.invariant c.args.handle held there (One held.slot) (λ b. refl) c.args.size)
+    (resize-call zone rest a.names.items c.self.invariant c.args.handle held there c.args.size)
     (g.S.BlockStore.zone c.fit_block.new.store) (g.S.BlockStore.rest c.fit_block.new.store) c.in_ok-grown.grown.done
-    c.in_ok-grown.grown.searches c.in_ok-grown.ensures.rest c.in_ok-grown.ensures.zone c.in_ok-grown.ensures.full
-    c.in_ok-grown.ensures.searches c.in_ok-grown.ensures.moves)
+    c.in_ok-grown.grown.searches c.in_ok-grown.ensures.rest c.in_ok-grown.ensures.went)
 
 pub returns-in_err-account-clause-answer : goal.returns-in_err-account-clause-answer
 returns-in_err-account-clause-answer g c =
@@ -88,13 +87,11 @@ heard g c done =
     let rest = g.S.BlockStore.rest a.store in
     let held = c.in_ok-held.held in
     let there = reached g c in
-    let same = ap (λ (e : List Anchor). fitted_gone e (is_relocatable held.slot) (One held.slot) c.args.size zone)
-    c.deref-2.ensures.value
+    let t = is_relocatable held.slot in
+    let same = ap (λ (e : List Anchor). told_along e t (seek_sized t c.args.size t zone) zone) c.deref-2.ensures.value
     ∙ grown-gone zone rest a.names.items a.log c.args.self.now.memory (memory_as c.self.view_is)
     (set_handle_size c.args.handle c.args.size) (is_relocatable held.number) (One held.slot) _
-    (resize-call zone rest a.names.items c.self.invariant c.args.handle held there c.args.size) _ _ _ _ (λ b. refl)
-    (sized-agrees zone rest a.names.items c.self.invariant c.args.handle held there (One held.slot) (λ b. refl)
-    c.args.size) in
+    (resize-call zone rest a.names.items c.self.invariant c.args.handle held there c.args.size) in
     hears-as g.K.PurgeSink.told g.K.PurgeSink.waits g.K.PurgeSink.listens _ _ _ _ _ _ (λ some. refl) same
     c.in_ok-grown.ensures.hears
 
