@@ -237,7 +237,7 @@ module _ (zone : List Block) (rest : Rest) (es : List Anchor) (log : Log) (value
         follows : (k : ℕ) (o : Option ℕ) → is_some (after k) ≡ is_some o → zone' ≡ unwrap_or (after k) zone
             → Went nothing zone (seek_it k zone) (is_some o) m zone' rest rest'
         follows k o finds leaves =
-            let a = agrees-if refl (is_some (phys n)) (room (put_at_base (new k)) nothing zone)
+            let a = agrees-if (is_some (phys n)) (room (put_at_base (new k)) nothing zone)
             (room_searches (put_at_base (new k)) nothing zone)
             0 (room_gone 0 (put_at_base (new k)) nothing zone) (seek (Base (new k)) nothing zone)
             (base-agrees 0 nothing (new k) zone) in
@@ -299,7 +299,7 @@ module _ (zone : List Block) (rest : Rest) (es : List Anchor) (log : Log) (value
         ap (λ l. cond (is_some (phys n)) l [])
         (ap (λ p. base_gone es p sparing.Nothing zone) (sym (fresh-size n (padded n) refl k))
         ∙ base_gone-any zone rest.slots es (new k))
-        ∙ (agrees-if refl (is_some (phys n)) (room (put_at_base (new k)) nothing s.zone)
+        ∙ (agrees-if (is_some (phys n)) (room (put_at_base (new k)) nothing s.zone)
         (room_searches (put_at_base (new k)) nothing s.zone) 0
         (room_gone k (put_at_base (new k)) nothing s.zone) (seek (Base (new k)) nothing s.zone)
         (base-agrees k nothing (new k) s.zone)).tells

@@ -8,26 +8,13 @@ use Rattle.heap_calls.proofs.Room.LeastSearches.{least-of, tries-of}
 -- What is said of a search without its path, and what its path does.
 
 -- the zone after a search, its searches, its moves and what it purges are those of the path
-pub record Agrees (tell : List Block → List Gone) (spared : Block → Bool) (zone : List Block)
+pub record Agrees (n : ℕ) (spared : Block → Bool) (zone : List Block)
     (after : Option (List Block)) (searches moves : ℕ) (purged : List Gone) (r : Sought) : Type 0 where
   pub finds : is_some after ≡ r.found
   pub leaves : unwrap_or after zone ≡ (did spared r.path zone).zone
   pub looks : searches ≡ (did spared r.path zone).searches
   pub lowers : moves ≡ (did spared r.path zone).lowered
-  pub tells : purged ≡ tell (did spared r.path zone).gone
-
--- the same of what is equal
-pub agrees-as : {tell : List Block → List Gone} {spared : Block → Bool} {zone : List Block} {r : Sought}
-    (after after' : Option (List Block)) (searches searches' moves moves' : ℕ) (purged purged' : List Gone)
-    → after' ≡ after → searches' ≡ searches → moves' ≡ moves → purged' ≡ purged → Agrees tell spared zone after searches moves purged r
-    → Agrees tell spared zone after' searches' moves' purged' r
-agrees-as {zone = zone} after after' searches searches' moves moves' purged purged' same s m p a = record {
-  finds = ap is_some same ∙ a.finds;
-  leaves = ap (λ o. unwrap_or o zone) same ∙ a.leaves;
-  looks = s ∙ a.looks;
-  lowers = m ∙ a.lowers;
-  tells = p ∙ a.tells;
-}
+  pub tells : purged ≡ told_blocks n (did spared r.path zone).gone
 
 -- what goes is told of
 pub gone-told : (n k : ℕ) (spared : Block → Bool) (bs : List Block)
@@ -67,7 +54,7 @@ module _ (try : List Block → Option (List Block)) (spared : Block → Bool) (b
     moves-is moves = let back : room_searches try spared blocks - 1 ≡ fewest = omega (arith, searches-is) in
         ap (λ (j : ℕ). moves (purge j spared blocks)) back
 
-    pub gone-is : (n : ℕ) → room_gone n try spared blocks
+    gone-is : (n : ℕ) → room_gone n try spared blocks
         ≡ cond (is_some (try ready)) (told_blocks n (lowest_gone fewest spared blocks)) []
     gone-is n =
         let back : room_searches try spared blocks - 1 ≡ fewest = omega (arith, searches-is) in
@@ -76,7 +63,7 @@ module _ (try : List Block → Option (List Block)) (spared : Block → Bool) (b
         ∙ ap (λ l. cond (is_some (try ready)) l []) (gone-told n fewest spared blocks)
 
 -- a search for the place of a move that itself neither searches nor purges
-module _ (tell : List Block → List Gone) (none : tell [] ≡ []) (spared : Block → Bool) (m : Move) (quiet : searches_by m ≡ 0)
+module _ (n : ℕ) (spared : Block → Bool) (m : Move) (quiet : searches_by m ≡ 0)
     (still : (z : List Block) → gone_by spared m z ≡ []) (moves : List Block → ℕ)
     (lowers : (z : List Block) → moves z ≡ lowered_by m z)
     (unmoved : (z : List Block) → moved spared m z ≡ None → moves z ≡ 0) (zone : List Block)
@@ -90,39 +77,37 @@ module _ (tell : List Block → List Gone) (none : tell [] ≡ []) (spared : Blo
     abbrev there : List Block
     there = purge k spared zone
 
-    abbrev told : List Gone
-    told = tell (lowest_gone k spared zone)
-
-    pub seek-agrees : (purged : List Gone) → purged ≡ cond (is_some (try there)) told []
-        → Agrees tell spared zone (room try spared zone) (room_searches try spared zone)
-        (room_moves try moves spared zone) purged (seek m spared zone)
-    seek-agrees purged goes =
-        agrees-as (try there) (room try spared zone) (k + 1) (room_searches try spared zone) (moves there)
-        (room_moves try moves spared zone) (cond (is_some (try there)) told []) purged (room-is try spared zone)
-        (searches-is try spared zone) (moves-is try spared zone moves) goes (cases (try there) refl)
+    pub seek-agrees : Agrees n spared zone (room try spared zone) (room_searches try spared zone)
+        (room_moves try moves spared zone) (room_gone n try spared zone) (seek m spared zone)
+    seek-agrees =
+        let a = cases (try there) refl in record {
+          finds = ap is_some (room-is try spared zone) ∙ a.finds;
+          leaves = ap (λ o. unwrap_or o zone) (room-is try spared zone) ∙ a.leaves;
+          looks = searches-is try spared zone ∙ a.looks;
+          lowers = moves-is try spared zone moves ∙ a.lowers;
+          tells = gone-is try spared zone n ∙ a.tells;
+        }
       where
-        cases : (o : Option (List Block)) → try there ≡ o → Agrees tell spared zone o (k + 1) (moves there)
-            (cond (is_some o) told []) (sought k (is_some o) (Purge k ∷ m ∷ []))
+        cases : (o : Option (List Block)) → try there ≡ o → Agrees n spared zone o (k + 1) (moves there)
+            (cond (is_some o) (told_blocks n (lowest_gone k spared zone)) []) (sought k (is_some o) (Purge k ∷ m ∷ []))
         cases None e =
-            record { finds = refl; leaves = refl; looks = omega arith; lowers = unmoved there e; tells = sym none }
+            record { finds = refl; leaves = refl; looks = omega arith; lowers = unmoved there e; tells = refl }
         cases (Some z) e = record {
           finds = refl;
           leaves = sym (ap (λ o. unwrap_or o there) e);
           looks = omega (arith, quiet);
           lowers = (let l = lowers there in omega arith);
-          tells = ap tell (sym (ap (λ l. lowest_gone k spared zone ++ (l ++ [])) (still there)
+          tells = ap (told_blocks n) (sym (ap (λ l. lowest_gone k spared zone ++ (l ++ [])) (still there)
               ∙ append-nil (lowest_gone k spared zone)));
         }
 
 -- a search that is made in one case
-pub agrees-if : {tell : List Block → List Gone} {spared : Block → Bool} {zone : List Block} → tell [] ≡ [] → (t : Bool)
-    (after : Option (List Block)) (searches moves : ℕ) (purged : List Gone) (r : Sought)
-    → Agrees tell spared zone after searches moves purged r
-    → Agrees tell spared zone (cond t after None) (cond t searches 0) (cond t moves 0) (cond t purged [])
-    (cond t r no_room)
-agrees-if none true after searches moves purged r a = a
-agrees-if none false after searches moves purged r a =
-    record { finds = refl; leaves = refl; looks = refl; lowers = refl; tells = sym none }
+pub agrees-if : {n : ℕ} {spared : Block → Bool} {zone : List Block} (t : Bool) (after : Option (List Block))
+    (searches moves : ℕ) (purged : List Gone) (r : Sought) → Agrees n spared zone after searches moves purged r
+    → Agrees n spared zone (cond t after None) (cond t searches 0) (cond t moves 0) (cond t purged []) (cond t r no_room)
+agrees-if true after searches moves purged r a = a
+agrees-if false after searches moves purged r a =
+    record { finds = refl; leaves = refl; looks = refl; lowers = refl; tells = refl }
 
 -- what is said of what there is
 abbrev pub on_some : {A : Type 0} → A → (List Block → A) → Option (List Block) → A
@@ -139,10 +124,10 @@ pub record BothAgree (n : ℕ) (spared : Block → Bool) (zone : List Block) (fi
   pub tells : purged ≡ told_blocks n (did spared r.path zone).gone
 
 module _ (n : ℕ) (spared : Block → Bool) (zone : List Block) (first : Option (List Block)) (searches moves : ℕ)
-    (purged : List Gone) (r : Sought) (a : Agrees (told_blocks n) spared zone first searches moves purged r)
+    (purged : List Gone) (r : Sought) (a : Agrees n spared zone first searches moves purged r)
     (next : List Block → Option (List Block)) (searches' moves' : List Block → ℕ) (purged' : List Block → List Gone)
     (r' : List Block → Sought)
-    (b : (z : List Block) → Agrees (told_blocks n) spared z (next z) (searches' z) (moves' z) (purged' z) (r' z))
+    (b : (z : List Block) → Agrees n spared z (next z) (searches' z) (moves' z) (purged' z) (r' z))
   where
     abbrev done : Did
     done = did spared r.path zone

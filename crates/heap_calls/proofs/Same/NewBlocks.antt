@@ -5,12 +5,12 @@ use Rattle.heap_calls.proofs.Cited.{filled, place, put_in_place, put_at_base, ro
 use Rattle.heap_calls.proofs.Cited.{Put, Base, place_lowers, Sought, no_room, seek, if_fits, seek_slot, then_seek, State, Plain}
 use Rattle.heap_calls.proofs.Cited.{Meaning, Handle, Answer, nothing, slotted, more_masters, room_searches, slot_searches, ready_searches}
 use Rattle.heap_calls.proofs.Cited.{block_searches, new_handle_searches, new_empty_handle_searches}
-use Rattle.heap_calls.proofs.Cited.{put_moves, new_handle_moves, Gone, room_gone, slot_gone, ready_gone, new_filled, new_empty, told_blocks}
+use Rattle.heap_calls.proofs.Cited.{put_moves, new_handle_moves, Gone, room_gone, slot_gone, ready_gone, new_filled, new_empty}
 use Rattle.heap_calls.proofs.Cited.{Done, work, heap_after, purged_by, is_unused}
 use Rattle.heap_calls.specs.Answer as today
 use Rattle.heap_calls.specs.Slots as slots
 use Rattle.heap_calls.specs.Rows as rows
-use Rattle.heap_calls.proofs.Same.Agreeing.{Agrees, BothAgree, seek-agrees, gone-is, agrees-if, then-agrees}
+use Rattle.heap_calls.proofs.Same.Agreeing.{Agrees, BothAgree, seek-agrees, agrees-if, then-agrees}
 use Rattle.heap_calls.proofs.Same.Agreeing.{on_some}
 use Rattle.heap_calls.proofs.Numbering.Looking.{tries-same}
 use Rattle.heap_calls.proofs.Room.MoveCounts.{no-place}
@@ -27,20 +27,16 @@ pub record Same {T : Type 0} (answer : Answer T) (searches moves : ℕ) (gone : 
 
 -- a block at the base of a run
 pub base-agrees : (n : ℕ) (spared : Block → Bool) (new : Block) (zone : List Block)
-    → Agrees (told_blocks n) spared zone (room (put_at_base new) spared zone) (room_searches (put_at_base new) spared zone) 0
+    → Agrees n spared zone (room (put_at_base new) spared zone) (room_searches (put_at_base new) spared zone) 0
     (room_gone n (put_at_base new) spared zone) (seek (Base new) spared zone)
-base-agrees n spared new zone =
-    seek-agrees (told_blocks n) refl spared (Base new) refl (λ z. refl) (λ z. 0) (λ z. refl) (λ z e. refl) zone
-    (room_gone n (put_at_base new) spared zone) (gone-is (put_at_base new) spared zone n)
+base-agrees n spared new = seek-agrees n spared (Base new) refl (λ z. refl) (λ z. 0) (λ z. refl) (λ z e. refl)
 
 -- a relocatable block
 pub put-agrees : (n : ℕ) (spared : Block → Bool) (new : Block) → 0 < size new → (zone : List Block)
-    → Agrees (told_blocks n) spared zone (room (put_in_place new) spared zone) (room_searches (put_in_place new) spared zone)
+    → Agrees n spared zone (room (put_in_place new) spared zone) (room_searches (put_in_place new) spared zone)
     (put_moves new spared zone) (room_gone n (put_in_place new) spared zone) (seek (Put new) spared zone)
-put-agrees n spared new pos zone =
-    seek-agrees (told_blocks n) refl spared (Put new) refl (λ z. refl) (place_lowers (size new)) (λ z. refl)
-    (λ z e. no-place (size new) z pos (map-none (filled new) (place (size new) z) e)) zone
-    (room_gone n (put_in_place new) spared zone) (gone-is (put_in_place new) spared zone n)
+put-agrees n spared new pos = seek-agrees n spared (Put new) refl (λ z. refl) (place_lowers (size new)) (λ z. refl)
+    (λ z e. no-place (size new) z pos (map-none (filled new) (place (size new) z) e))
 
 -- a master pointer, where one is unused or not
 abbrev pub slot_after : (Block → Bool) → Bool → List Block → Option (List Block)
@@ -53,7 +49,7 @@ abbrev pub slot_goes : ℕ → (Block → Bool) → Bool → List Block → List
 slot_goes n spared unused zone = cond unused [] (room_gone n (put_at_base Masters) spared zone)
 
 pub slot-agrees : (n : ℕ) (spared : Block → Bool) (unused : Bool) (zone : List Block)
-    → Agrees (told_blocks n) spared zone (slot_after spared unused zone) (slot_looks spared unused zone) 0
+    → Agrees n spared zone (slot_after spared unused zone) (slot_looks spared unused zone) 0
     (slot_goes n spared unused zone) (seek_slot unused spared zone)
 slot-agrees n spared true zone = record { finds = refl; leaves = refl; looks = refl; lowers = refl; tells = refl }
 slot-agrees n spared false zone = base-agrees n spared Masters zone
@@ -81,7 +77,7 @@ module _ (n : ℕ) (spared : Block → Bool) (unused : Bool) (new : Block) (pos 
         (slot_goes n spared unused zone) (seek_slot unused spared zone) (slot-agrees n spared unused zone) next
         (λ z. cond fits (room_searches (put_in_place new) spared z) 0) (λ z. cond fits (put_moves new spared z) 0)
         (λ z. cond fits (room_gone n (put_in_place new) spared z) []) block
-        (λ z. agrees-if refl fits (room (put_in_place new) spared z) (room_searches (put_in_place new) spared z)
+        (λ z. agrees-if fits (room (put_in_place new) spared z) (room_searches (put_in_place new) spared z)
         (put_moves new spared z) (room_gone n (put_in_place new) spared z) (seek (Put new) spared z)
         (put-agrees n spared new pos z))
 

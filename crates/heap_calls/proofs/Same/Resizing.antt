@@ -43,14 +43,14 @@ pointer-spot (Some p) s held e = cases (slice_get s.names p) e
 
 -- a new block for a handle whose old one is freed before
 module _ (n h : ℕ) (zone : List Block) (after : Option (List Block)) (searches moves : ℕ) (purged : List Gone)
-    (r : Sought) (a : Agrees (told_blocks n) nothing (freed (is_relocatable h) zone) after searches moves purged r)
+    (r : Sought) (a : Agrees n nothing (freed (is_relocatable h) zone) after searches moves purged r)
     (refuses : Refuses nothing r)
   where
-    freed-agrees : Agrees (told_blocks n) nothing zone after searches moves purged (around (Drop h ∷ []) [] r)
+    freed-agrees : Agrees n nothing zone after searches moves purged (around (Drop h ∷ []) [] r)
     freed-agrees = cases after refl
       where
         cases : (o : Option (List Block)) → after ≡ o
-            → Agrees (told_blocks n) nothing zone o searches moves purged (around (Drop h ∷ []) [] r)
+            → Agrees n nothing zone o searches moves purged (around (Drop h ∷ []) [] r)
         cases None e =
             let none : r.found ≡ false = sym a.finds ∙ ap is_some e in
             let only = refuses none in
@@ -81,7 +81,7 @@ module _ (n h : ℕ) (zone : List Block) (after : Option (List Block)) (searches
 abbrev pub again : ℕ → ℕ → List Block → Sought
 again h n zone = around (Drop h ∷ []) [] (if_fits n (seek (Put (fresh_block h n)) nothing (freed (is_relocatable h) zone)))
 
-pub renewed-agrees : (m h n : ℕ) (zone : List Block) → Agrees (told_blocks m) nothing zone (renewed h n zone)
+pub renewed-agrees : (m h n : ℕ) (zone : List Block) → Agrees m nothing zone (renewed h n zone)
     (renewed_searches h n zone) (renewed_moves h n zone) (cond (is_some (phys n)) (room_gone m
     (put_in_place (fresh_block h n)) nothing (freed (is_relocatable h) zone)) []) (again h n zone)
 renewed-agrees m h n zone =
@@ -93,6 +93,6 @@ renewed-agrees m h n zone =
     let told = room_gone m (put_in_place new) nothing open_zone in
     freed-agrees m h zone (renewed h n zone) (renewed_searches h n zone) (renewed_moves h n zone)
     (cond (is_some (phys n)) told [])
-    (if_fits n r) (agrees-if refl (is_some (phys n)) (reallocated h n zone) looks moves told r
+    (if_fits n r) (agrees-if (is_some (phys n)) (reallocated h n zone) looks moves told r
     (put-agrees m nothing new (omega arith) open_zone))
     (fits-refused nothing n r (seek-refused nothing (Put new) open_zone))
