@@ -1,17 +1,21 @@
 -- What `cut` and `join` make of a region's gaps.
-use Rattle.raw_region.proofs.Cited.{◌≡◌, ℕ, ◌+◌, ◌-◌, ◌<◌, ◌≤◌, List, [], ◌∷◌, ◌++◌, length, take, drop, get_or, replicate, sym, ap, ◌∙◌}
-use Rattle.raw_region.proofs.Cited.{subst, arith, zero, suc, vec_len, vec_capacity, length-map, length-drop, length-take-le}
-use Rattle.raw_region.proofs.Cited.{prefix_len-le-length, prefix_len, insert, prefix_len-map, Whole, window, IsApart, with_window, written}
+use Rattle.raw_region.proofs.Cited.{◌≡◌, ℕ, ◌+◌, ◌-◌, ◌<◌, ◌≤◌, List, [], ◌∷◌, ◌++◌, length, take, drop, get_or, replicate, refl, sym, ap}
+use Rattle.raw_region.proofs.Cited.{◌∙◌}
+use Rattle.raw_region.proofs.Cited.{subst, arith, zero, suc, vec_len, vec_capacity, length-map, length-append, length-drop, length-take-le}
+use Rattle.raw_region.proofs.Cited.{length-replicate}
+use Rattle.raw_region.proofs.Cited.{prefix_len-le-length, prefix_len, insert, prefix_len-map, MOST_BYTES, Whole, window, IsApart}
+use Rattle.raw_region.proofs.Cited.{with_window, written}
 use Rattle.raw_region.proofs.Cited.{bytes_of, windows_of, window_of, gap_ends_by, IsLaid, IsStart, Fits, front, middle, back, EndsFit}
-use Rattle.raw_region.proofs.Cited.{region_view, IsRegion, Inside, OwnBytes, Gap}
+use Rattle.raw_region.proofs.Cited.{room_of, asleep, region_view, IsRegion, Inside, OwnBytes, Gap}
 use denote.RawPtr.{null_ptr, InBlock}
 use Rattle.raw_region.proofs.GapBytes.{round, opened_laid, opened_length, opened_bytes, middle_bytes, middle_at}
 use Rattle.raw_region.proofs.GapBytes.{middle_home}
 use Rattle.raw_region.proofs.GapWindows.{opened_windows, fits_in, ends_fit}
+use Rattle.raw_region.proofs.Waking.{room_past, room_kept, written_before, read_before, longer}
 
 -- any gap
 abbrev pub none : Gap
-none = record { at = 0; len = 0; after = record { home = null_ptr; at = 0; items = [] } }
+none = record { at = 0; len = 0; after = record { home = null_ptr; at = 0; items = []; room = 0 } }
 
 pub start_some : (gs : List Gap) → IsStart gs → 0 < length gs
 start_some [] s = absurd s
@@ -23,8 +27,11 @@ long_windows [] s = absurd s
 long_windows (g ∷ gs) s = let e = length-map gs window_of in omega (arith, e)
 
 module _ (r : Inside) (I : IsRegion r) where
+  pub in_memory : length (bytes_of r.gaps.items) ≤ MOST_BYTES
+  in_memory = let w = I.whole in let t = I.rest in let l = I.long in let s = I.small in omega (arith, w, t, l, s)
+
   pub fit : EndsFit r.gaps.items
-  fit = let w = I.whole in let s = I.small in ends_fit r.home r.gaps.items I.laid (omega (arith, w, s))
+  fit = let f = in_memory in ends_fit r.home r.gaps.items I.laid (omega (arith, f))
 
 module _ (r : Inside) (I : IsRegion r) (at len : ℕ) (some : 16 ≤ len)
     (within : at + len ≤ length (bytes_of r.gaps.items)) (apart : IsApart at len (windows_of r.gaps.items)) (i : ℕ)
@@ -40,9 +47,9 @@ module _ (r : Inside) (I : IsRegion r) (at len : ℕ) (some : 16 ≤ len)
       (omega (arith, a, o), omega (arith, l, o, c, few))
 
   pub fits : (d : Gap) → Fits at len (get_or r.gaps.items i d)
-  fits d = let w = I.whole in let s = I.small in
+  fits d = let f = in_memory r I in
       subst (λ k. Fits at len (get_or r.gaps.items k d)) (sym is)
-      (fits_in r.home at len (omega (arith, within, w, s))
+      (fits_in r.home at len (omega (arith, within, f))
       (omega (arith, some)) r.gaps.items I.laid I.first within apart d)
 
   abbrev g : Gap
@@ -73,9 +80,13 @@ module _ (r : Inside) (I : IsRegion r) (at len : ℕ) (some : 16 ≤ len)
   pub cut_laid : IsLaid r.home 0 (pre ++ front at g ∷ back at len g ∷ post)
   cut_laid = opened_laid r.home pre g post at len laid (fits none)
 
-  pub cut_whole : length (bytes_of (pre ++ front at g ∷ back at len g ∷ post)) ≡ r.frame.len
+  pub cut_whole : length (bytes_of (pre ++ front at g ∷ back at len g ∷ post)) ≡ r.used
   cut_whole = opened_length r.home pre g post at len laid (fits none) ∙ ap (λ l. length (bytes_of l)) (sym whole_is)
       ∙ I.whole
+
+  pub cut_room : room_of (pre ++ front at g ∷ back at len g ∷ post) ≡ room_of r.gaps.items
+  cut_room = room_past pre (front at g) (back at len g ∷ post) ∙ room_kept (back at len g) g post refl
+      ∙ sym (room_past pre g post) ∙ ap room_of (sym whole_is)
 
   pub cut_first : IsStart (pre ++ front at g ∷ back at len g ∷ post)
   cut_first = starts r.gaps.items i low I.first
@@ -98,12 +109,14 @@ module _ (r : Inside) (I : IsRegion r) (at len : ℕ) (some : 16 ≤ len)
 
 -- with other gaps of as many bytes, in the same room, it is still a region
 pub still_region : (r : Inside) → IsRegion r → (gs : List Gap) → IsLaid r.home 0 gs → IsStart gs
-    → length (bytes_of gs) ≡ r.frame.len → (s : Inside) → s.frame ≡ r.frame → s.home ≡ r.home → s.len ≡ r.len
-    → s.gaps.items ≡ gs → vec_capacity s.gaps ≡ vec_capacity r.gaps → IsRegion s
-still_region r I gs laid first whole s p q l e k = record {
+    → length (bytes_of gs) ≡ r.used → room_of gs ≡ room_of r.gaps.items → (s : Inside) → s.frame ≡ r.frame
+    → s.home ≡ r.home → s.len ≡ r.len → s.used ≡ r.used → s.gaps.items ≡ gs
+    → vec_capacity s.gaps ≡ vec_capacity r.gaps → IsRegion s
+still_region r I gs laid first whole room s p q l u e k = record {
   start = ap (λ f. f.ptr) p ∙ I.start ∙ sym q;
   placed = subst InBlock (sym q) I.placed;
-  whole = ap (λ x. length (bytes_of x)) e ∙ whole ∙ sym (ap (λ f. f.len) p);
+  whole = ap (λ x. length (bytes_of x)) e ∙ whole ∙ sym u;
+  rest = (let a = ap room_of e ∙ room in let b = I.rest in omega (arith, a, b, u, l));
   small = (let a = ap (λ f. f.len) p in let b = I.small in omega (arith, a, b));
   long = l ∙ I.long ∙ sym (ap (λ f. f.len) p);
   laid = subst (λ x. IsLaid s.home 0 x) (sym e) (subst (λ x. IsLaid x 0 gs) (sym q) laid);
@@ -122,50 +135,63 @@ pub record CanPart (r : Inside) (w : Whole) (at len i : ℕ) : Type 0 where
   pub there : i < vec_len r.gaps
   pub room : vec_len r.gaps < vec_capacity r.gaps
   pub fits : (d : Gap) → Fits at len (get_or r.gaps.items i d)
-  pub bytes : bytes_of (parted r at len i) ≡ written at (replicate len 0) w.bytes
-  pub long : length (bytes_of (parted r at len i)) ≡ length w.bytes
+  pub bytes : bytes_of (parted r at len i) ++ asleep r ≡ written at (replicate len 0) w.bytes
+  pub long : length (bytes_of (parted r at len i) ++ asleep r) ≡ length w.bytes
   pub out : windows_of (parted r at len i) ≡ with_window at len w.out
-  pub region : (s : Inside) → s.frame ≡ r.frame → s.home ≡ r.home → s.len ≡ r.len → s.gaps.items ≡ parted r at len i
-      → vec_capacity s.gaps ≡ vec_capacity r.gaps → IsRegion s
+  pub region : (s : Inside) → s.frame ≡ r.frame → s.home ≡ r.home → s.len ≡ r.len → s.used ≡ r.used
+      → s.gaps.items ≡ parted r at len i → vec_capacity s.gaps ≡ vec_capacity r.gaps → IsRegion s
   pub run : (run : OwnBytes) → run ≡ middle at len (get_or r.gaps.items i none)
-      → (run.home ≡ w.home) × (run.at ≡ at) × (run.items ≡ take len (drop at w.bytes))
+      → (run.home ≡ w.home) × (run.at ≡ at) × (run.items ≡ take len (drop at w.bytes)) × (run.room ≡ 0)
   pub run_long : length (take len (drop at w.bytes)) ≡ len
 
 -- the same, from what `cut` has at hand
 module _ (r : Inside) (I : IsRegion r) (w : Whole) (v : region_view r ≡ w) (at len : ℕ) (some : 16 ≤ len)
-    (inside : at + len ≤ length w.bytes) (away : IsApart at len w.out) (few : length w.out < 64) (l : List Gap)
-    (same : l ≡ r.gaps.items) (n : ℕ) (counts : n ≡ 1 + prefix_len (gap_ends_by at) (drop 1 l)) where
-  place : n - 1 ≡ prefix_len (gap_ends_by at) (drop 1 r.gaps.items)
+    (awake : at + len ≤ length (bytes_of r.gaps.items)) (away : IsApart at len w.out) (few : length w.out < 64)
+    (l : List Gap) (same : l ≡ r.gaps.items) (n : ℕ) (counts : n ≡ 1 + prefix_len (gap_ends_by at) (drop 1 l)) where
+  abbrev gs : List Gap
+  gs = r.gaps.items
+
+  place : n - 1 ≡ prefix_len (gap_ends_by at) (drop 1 gs)
   place = let f = ap (λ gs. prefix_len (gap_ends_by at) (drop 1 gs)) same in omega (arith, counts, f)
 
-  fills : at + len ≤ length (bytes_of r.gaps.items)
-  fills = let e = ap (λ z. length z.bytes) v in omega (arith, e, inside)
-
-  clear : IsApart at len (windows_of r.gaps.items)
+  clear : IsApart at len (windows_of gs)
   clear = subst (λ z. IsApart at len z.out) (sym v) away
 
   space : (n - 1 < vec_len r.gaps) × (vec_len r.gaps < vec_capacity r.gaps)
   space = let e = ap (λ z. length z.out) v in
-      room_left r I at len some fills clear (n - 1) place (omega (arith, e, few))
+      room_left r I at len some awake clear (n - 1) place (omega (arith, e, few))
 
-  whole : length (bytes_of (parted r at len (n - 1))) ≡ r.frame.len
-  whole = cut_whole r I at len some fills clear (n - 1) place
+  whole : length (bytes_of (parted r at len (n - 1))) ≡ r.used
+  whole = cut_whole r I at len some awake clear (n - 1) place
+
+  zeros : at + length {A = ℕ} (replicate len 0) ≤ length (bytes_of gs)
+  zeros = let z = length-replicate {A = ℕ} len 0 in omega (arith, z, awake)
 
   pub parts : CanPart r w at len (n - 1)
   parts = record {
     there = space.0;
     room = space.1;
-    fits = fits r I at len some fills clear (n - 1) place;
-    bytes = cut_bytes r I at len some fills clear (n - 1) place ∙ ap (λ z. written at (replicate len 0) z.bytes) v;
-    long = whole ∙ sym I.whole ∙ ap (λ z. length z.bytes) v;
-    out = cut_windows r I at len some fills clear (n - 1) place ∙ ap (λ z. with_window at len z.out) v;
-    region = still_region r I (parted r at len (n - 1)) (cut_laid r I at len some fills clear (n - 1) place)
-        (cut_first r I at len some fills clear (n - 1) place) whole;
-    run = (λ run is. let m = middle_place r I at len some fills clear (n - 1) place in (
+    fits = fits r I at len some awake clear (n - 1) place;
+    bytes =
+        ap (λ b. b ++ asleep r) (cut_bytes r I at len some awake clear (n - 1) place)
+        ∙ sym (written_before at (bytes_of gs) (asleep r) (replicate len 0) zeros)
+        ∙ ap (λ z. written at (replicate len 0) z.bytes) v;
+    long = longer (bytes_of (parted r at len (n - 1))) (bytes_of gs) (asleep r) (whole ∙ sym I.whole)
+        ∙ ap (λ z. length z.bytes) v;
+    out = cut_windows r I at len some awake clear (n - 1) place ∙ ap (λ z. with_window at len z.out) v;
+    region = still_region r I (parted r at len (n - 1)) (cut_laid r I at len some awake clear (n - 1) place)
+        (cut_first r I at len some awake clear (n - 1) place) whole
+        (cut_room r I at len some awake clear (n - 1) place);
+    run = (λ run is. let m = middle_place r I at len some awake clear (n - 1) place in (
       ap (λ z. z.home) is ∙ m.0 ∙ ap (λ z. z.home) v,
       ap (λ z. z.at) is ∙ m.1,
-      ap (λ z. z.items) is
-          ∙ middle_is r I at len some fills clear (n - 1) place ∙ ap (λ z. take len (drop at z.bytes)) v,
+      ap (λ z. z.items) is ∙ middle_is r I at len some awake clear (n - 1) place
+          ∙ sym (read_before at (bytes_of gs) (asleep r) len awake) ∙ ap (λ z. take len (drop at z.bytes)) v,
+      ap (λ z. z.room) is,
     ));
-    run_long = (let d = length-drop at w.bytes in length-take-le len (drop at w.bytes) (omega (arith, d, inside)));
+    run_long =
+        (let d = length-drop at w.bytes in
+        let e = length-append (bytes_of gs) (asleep r) in
+        let f = ap (λ z. length z.bytes) v in
+        length-take-le len (drop at w.bytes) (omega (arith, d, e, f, awake)));
   }

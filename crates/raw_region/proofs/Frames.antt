@@ -1,30 +1,27 @@
--- A `Vec` of bytes is its elements and the frame that waits for them. Assumes `Logic`.
-use Rattle.raw_region.proofs.Cited.{◌≡◌, ℕ, ◌<◌, List, [], ◌∷◌, length, refl, sym, arith, Vec, with_items_is, with_items, vec_owns, Extent}
-use Rattle.raw_region.proofs.Cited.{run_owns}
+-- A `Vec` of bytes without elements is its room and the frame that waits for it. Assumes `Logic`.
+use Rattle.raw_region.proofs.Cited.{◌≡◌, ℕ, ◌<◌, [], ◌∷◌, refl, sym, ◌∙◌, nil_from_length, Vec, vec_owns, Extent, room_owns, run_owns}
 use Rattle.std.proofs.alloc.Global.TheLaws as global
 use Rattle.std.specs.contracts.alloc.Global as Global
 use Rattle.std.specs.contracts.impls.GlobalAllocator.TheImpl.{ghosts}
 use Rattle.std.specs.declared.alloc.Global as declared
 use Rattle.std_alloc.proofs.vec.Vec.TheLaws as vec
 use Rattle.std_alloc.specs.contracts.vec.Vec as V
-use base.Fml.{fsep, feq, fall, fwand}
-use base.Fraction.{full_share}
-use base.Logic.{ent, sep, wand}
-use denote.Array.{Array}
+use base.Fml.{fsep, feq, fwand}
+use base.Logic.{ent, sep}
 use denote.Builtin.{u8}
 use denote.Param.Laws.{Laws, of_field}
 use denote.Param.Shared.{copy_shared}
 use denote.RattleType.{RattleType}
-use denote.RawPtr.{lies_at}
 use denote.Struct.Field.{u8-field}
 use denote.Struct.Laws.{u8-laws, u8-copy}
 use mir.Val.{Val}
 use seplogic.Ra.Ura.{Ura}
-use types.Kit.{‵, ◌⊛◌, ◌$◌, ◌∵◌, !, qed, move, split, frame, each, assume, show, fsplit, fjoin, feq_l, feq_i, rewrite}
+use types.Kit.{‵, ◌⊛◌, ◌$◌, ◌∵◌, !, qed, move, split, frame, assume, show, fsplit, fjoin, feq_i, rewrite}
 use types.Kit.{use1, use2, done}
 use types.Logic.{Logic, sem}
 use Rattle.raw_region.specs.contracts.raw.Frame as Frame
-use Rattle.raw_region.proofs.Blocks.{spare, taken, given_back}
+use Rattle.raw_region.proofs.Blocks.{kept, emptied, refilled}
+use Rattle.raw_region.proofs.Runs.{roomed}
 use Rattle.raw_region.proofs.Steps.{alone, fields_of, alone_made}
 
 abbrev pub byte_laws : Laws u8
@@ -38,35 +35,27 @@ abbrev pub owned-laws : Laws Owned
 owned-laws = vec.the_row_laws u8 Global.the_row ghosts byte_laws global.the_row_laws
 
 abbrev pub extent_of : Vec ℕ declared.Global → Extent
-extent_of v = record { ptr = v.ptr; len = v.len }
+extent_of v = record { ptr = v.ptr; len = v.cap }
 
 module _ {M : Type 1} {𝓤 : Ura M} (𝓛 : Logic 𝓤) (v : Vec ℕ declared.Global) (u : Val) where
-  abbrev more : Type 0
-  more = 0 < v.cap
-
-  pub framed : 0 < v.len
+  pub framed : v.len ≡ 0 → 0 < v.cap
       → ent 𝓤 (sem 𝓛 (Owned.own_val v (u ∷ [])))
-      (sep 𝓤 (sem 𝓛 (run_owns v.ptr v.items)) (sem 𝓛 (Frame.the_own (extent_of v) (alone u ∷ []))))
-  framed some =
-      let room : 0 < v.cap = omega (arith, some, v.ok.1) in
+      (sep 𝓤 (sem 𝓛 (run_owns v.ptr [] v.cap)) (sem 𝓛 (Frame.the_own (extent_of v) (alone u ∷ []))))
+  framed empty some =
+      let nil : v.items ≡ [] = nil_from_length v.items (sym v.ok.0 ∙ empty) in
       let t = ghosts.dealloc_token v.alloc in
-      let Elements = λ (ys : List ℕ) (n : ℕ). lies_at (Array u8 n) full_share v.ptr ys in
-      let Back = λ (ys : List ℕ). fsep (feq ℕ (length ys) v.len) (run_owns v.ptr ys) in
-      let Whole = λ (ys : List ℕ). (fields_of (Owned ∷ [])).own_val (with_items v ys, tt) (alone u ∷ []) in
       qed 𝓛 (‵ (Owned.own_val v (u ∷ [])) ∷ []) ∵ fsplit ! $ move ! (1 ∷ []) $
-      use1 𝓛 (‵ (Elements v.items v.len) ⊛ ‵ (spare t v.len v.cap v.ptr)) (taken t v.len v.cap 𝓛 room v.ptr v.items) $
-      split ! $
-      rewrite ! 0 (λ n. ‵ (Elements v.items n)) v.ok.0 refl $ frame ! $
+      rewrite ! 0 (λ n. ‵ (vec_owns t u8 v.ptr n v.cap v.items)) empty refl $
+      rewrite ! 0 (λ xs. ‵ (vec_owns t u8 v.ptr 0 v.cap xs)) nil refl $
+      use1 𝓛 (‵ (room_owns v.ptr v.cap) ⊛ ‵ (kept t v.cap v.ptr)) (emptied t v.cap 𝓛 some v.ptr) $ split ! $
+      use1 𝓛 (‵ (run_owns v.ptr [] v.cap)) (roomed 𝓛 v.ptr v.cap) $ frame ! $
       -- [what the block has besides; the fields]
       show ! (λ i.
-      sem 𝓛 (fsep (feq ℕ i.vec.len v.len)
-      (fall (List ℕ) (λ ys.
-      fwand (Back ys) ((fields_of (Owned ∷ [])).own_val (with_items i.vec ys, tt) (alone u ∷ []))))))
+      sem 𝓛 (fsep (feq ℕ i.vec.len 0)
+      (fwand (room_owns v.ptr v.cap) ((fields_of (Owned ∷ [])).own_val (i.vec, tt) (alone u ∷ [])))))
       (record { vec = v }) $
-      feq_i ! ℕ v.len v.len refl $ frame ! $ each ! (λ ys. wand 𝓤 (sem 𝓛 (Back ys)) (sem 𝓛 (Whole ys))) (λ ys.
-      assume ! (‵ (Back ys)) $ fsplit ! $ feq_l ! (λ long.
-      let same : (with_items v ys).items ≡ ys = with_items_is v ys long in
-      rewrite ! 0 (λ n. ‵ (Elements ys n)) long refl $
-      use2 𝓛 (‵ (vec_owns t u8 v.ptr v.len v.cap ys)) (given_back t v.len v.cap 𝓛 room v.ptr ys) $
-      rewrite ! 0 (λ xs. ‵ (vec_owns t u8 v.ptr v.len v.cap xs)) (sym same) refl $
-      move ! (1 ∷ 0 ∷ []) $ fjoin ! $ alone_made ! Owned (with_items v ys) u $ done !))
+      feq_i ! ℕ v.len 0 empty $ frame ! $ assume ! (‵ (room_owns v.ptr v.cap)) $
+      use2 𝓛 (‵ (vec_owns t u8 v.ptr 0 v.cap [])) (refilled t v.cap 𝓛 some v.ptr) $
+      rewrite ! 0 (λ xs. ‵ (vec_owns t u8 v.ptr 0 v.cap xs)) (sym nil) refl $
+      rewrite ! 0 (λ n. ‵ (vec_owns t u8 v.ptr n v.cap v.items)) (sym empty) refl $
+      move ! (1 ∷ 0 ∷ []) $ fjoin ! $ alone_made ! Owned v u $ done !

@@ -1,12 +1,14 @@
 -- What `join` makes of a region's gaps.
-use Rattle.raw_region.proofs.Cited.{◌≡◌, ℕ, ◌+◌, ◌-◌, ◌<◌, List, [], ◌∷◌, ◌++◌, length, take, drop, get_or, refl, sym, ap, ◌∙◌, subst}
+use Rattle.raw_region.proofs.Cited.{◌≡◌, ℕ, ◌+◌, ◌-◌, ◌<◌, ◌≤◌, List, [], ◌∷◌, ◌++◌, length, take, drop, get_or, refl, sym, ap, ◌∙◌, subst}
 use Rattle.raw_region.proofs.Cited.{arith, zero, suc, vec_len, vec_capacity, length-drop, drop_more, get_or-drop, get_or_default}
 use Rattle.raw_region.proofs.Cited.{position_or_len, remove, Contains, prefix_len-map, Whole, Bytes, window, without_window, written}
-use Rattle.raw_region.proofs.Cited.{bytes_of, windows_of, window_of, gap_is, IsLaid, IsStart, joined, Beside, region_view, IsRegion, Inside}
+use Rattle.raw_region.proofs.Cited.{bytes_of, windows_of, window_of, gap_is, IsLaid, IsStart, joined, Beside, room_of, asleep, region_view}
+use Rattle.raw_region.proofs.Cited.{IsRegion, Inside}
 use Rattle.raw_region.proofs.Cited.{OwnBytes, Gap}
-use Rattle.raw_region.proofs.GapBytes.{round, is_beside, shut_bytes, shut_length, shut_laid}
+use Rattle.raw_region.proofs.GapBytes.{round, is_beside, ends_within, shut_bytes, shut_length, shut_laid}
 use Rattle.raw_region.proofs.GapWindows.{shut_windows, found, is_out}
 use Rattle.raw_region.proofs.Cutting.{none, still_region}
+use Rattle.raw_region.proofs.Waking.{room_past, room_kept, written_before, longer}
 
 -- what a run put back at n makes of r's gaps
 abbrev pub healed : Inside → OwnBytes → ℕ → List Gap
@@ -19,11 +21,11 @@ pub record Joins (r : Inside) (w : Whole) (p : Bytes) (run : OwnBytes) (n : ℕ)
   pub not_start : 0 < n
   pub there : n < vec_len r.gaps
   pub beside : (d : Gap) → Beside (get_or r.gaps.items (n - 1) d) run (get_or r.gaps.items n d)
-  pub bytes : bytes_of (healed r run n) ≡ written p.at p.bytes w.bytes
-  pub long : length (bytes_of (healed r run n)) ≡ length w.bytes
+  pub bytes : bytes_of (healed r run n) ++ asleep r ≡ written p.at p.bytes w.bytes
+  pub long : length (bytes_of (healed r run n) ++ asleep r) ≡ length w.bytes
   pub out : windows_of (healed r run n) ≡ without_window p.at (length p.bytes) w.out
-  pub region : (s : Inside) → s.frame ≡ r.frame → s.home ≡ r.home → s.len ≡ r.len → s.gaps.items ≡ healed r run n
-      → vec_capacity s.gaps ≡ vec_capacity r.gaps → IsRegion s
+  pub region : (s : Inside) → s.frame ≡ r.frame → s.home ≡ r.home → s.len ≡ r.len → s.used ≡ r.used
+      → s.gaps.items ≡ healed r run n → vec_capacity s.gaps ≡ vec_capacity r.gaps → IsRegion s
 
 module _ (r : Inside) (I : IsRegion r) (w : Whole) (v : region_view r ≡ w) (p : Bytes) (home : p.home ≡ w.home)
     (out : Contains w.out (window p.at (length p.bytes)))
@@ -94,15 +96,24 @@ module _ (r : Inside) (I : IsRegion r) (w : Whole) (v : region_view r ≡ w) (p 
       subst (λ g. Beside g run (get_or gs n d)) (get_or_default gs (n - 1) none d (omega (arith, i)))
       (subst (λ g. Beside a run g) (get_or_default gs n none d i) beside_it)
 
-  new_bytes : bytes_of (healed r run n) ≡ written p.at p.bytes w.bytes
+  -- the window that is out lies below the end
+  under : p.at + len ≤ length (bytes_of gs)
+  under = let i = inside in let e = ends_within r.home 0 gs I.laid n none i in let f = b_is in
+      omega (arith, e, f.0, f.1)
+
+  new_bytes : bytes_of (healed r run n) ++ asleep r ≡ written p.at p.bytes w.bytes
   new_bytes =
       let back : pre ++ a ∷ b ∷ post ≡ gs = sym whole_is in
-      shut_bytes r.home pre a run b post laid long ∙ (λ j. written (b_is.0 j) (ri j) (bytes_of (back j)))
-      ∙ ap (λ z. written p.at p.bytes z.bytes) v
+      ap (λ x. x ++ asleep r) (shut_bytes r.home pre a run b post laid long
+      ∙ (λ j. written (b_is.0 j) (ri j) (bytes_of (back j))))
+      ∙ sym (written_before p.at (bytes_of gs) (asleep r) p.bytes under) ∙ ap (λ z. written p.at p.bytes z.bytes) v
 
-  new_length : length (bytes_of (healed r run n)) ≡ length w.bytes
+  new_length : length (bytes_of (healed r run n)) ≡ length (bytes_of gs)
   new_length = shut_length r.home pre a run b post laid long ∙ ap (λ y. length (bytes_of y)) (sym whole_is)
-      ∙ ap (λ z. length z.bytes) v
+
+  new_room : room_of (healed r run n) ≡ room_of gs
+  new_room = room_past pre (joined a run b) post ∙ room_kept (joined a run b) b post refl
+      ∙ sym (room_past pre a (b ∷ post)) ∙ ap room_of (sym whole_is)
 
   new_out : windows_of (healed r run n) ≡ without_window p.at len w.out
   new_out =
@@ -137,9 +148,9 @@ module _ (r : Inside) (I : IsRegion r) (w : Whole) (v : region_view r ≡ w) (p 
     there = (let i = inside in let o = r.gaps.ok.0 in omega (arith, i, o));
     beside = glue;
     bytes = new_bytes;
-    long = new_length;
+    long = longer (bytes_of (healed r run n)) (bytes_of gs) (asleep r) new_length ∙ ap (λ z. length z.bytes) v;
     out = new_out;
     region = still_region r I (healed r run n) (shut_laid r.home pre a run b post laid long)
         (starts gs n none behind_start I.first)
-        (shut_length r.home pre a run b post laid long ∙ ap (λ y. length (bytes_of y)) (sym whole_is) ∙ I.whole);
+        (new_length ∙ I.whole) new_room;
   }

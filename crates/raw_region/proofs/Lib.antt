@@ -11,4 +11,5 @@ pub mod Moving
 pub mod Opening
 pub mod Runs
 pub mod Steps
+pub mod Waking
 pub mod WholeWindow

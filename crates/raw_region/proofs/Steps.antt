@@ -42,7 +42,7 @@ fields_of Rs = Struct (record { name = []; args = []; types = []; fields = Rs })
 module _ {M : Type 1} {𝓤 : Ura M} {𝓛 : Logic 𝓤} {K : Type 0} {Γ : List (Item 𝓤)} {G : Goal 𝓤 𝓛.H} where
   -- the bytes become the run's
   pub run_made : K → (r : OwnBytes)
-      → Step K 𝓛 (‵ (R.the_row.own_val r (bare ∷ [])) ∷ Γ) G (‵ (run_owns (r.home +ₚ r.at) r.items) ∷ Γ) G
+      → Step K 𝓛 (‵ (R.the_row.own_val r (bare ∷ [])) ∷ Γ) G (‵ (run_owns (r.home +ₚ r.at) r.items r.room) ∷ Γ) G
   run_made t r = step (λ s.
       nothing t $ feq_i t (List Val) (bare ∷ []) (bare ∷ []) refl $ fjoin t $
       fpack t (Valss []) (within (record { name = []; args = []; types = []; fields = [] }) tt (bare ∷ [])) tt $
@@ -50,7 +50,7 @@ module _ {M : Type 1} {𝓤 : Ura M} {𝓛 : Logic 𝓤} {K : Type 0} {Γ : List
 
   -- the run's bytes are taken out
   pub run_had : K → (r : OwnBytes) (vs : List Val)
-      → (vs ≡ bare ∷ [] → Seq K 𝓛 (‵ (run_owns (r.home +ₚ r.at) r.items) ∷ Γ) G)
+      → (vs ≡ bare ∷ [] → Seq K 𝓛 (‵ (run_owns (r.home +ₚ r.at) r.items r.room) ∷ Γ) G)
       → Seq K 𝓛 (‵ (R.the_row.own_val r vs) ∷ Γ) G
   run_had t r vs k = fsplit t $ fpick t (λ none. fsplit t $ feq_l t (λ is. drop t $ k is))
 

@@ -1,5 +1,5 @@
 -- A window that is all of a region, cut out and joined again.
-use Rattle.raw_region.proofs.Cited.{◌≡◌, ◌∙◌, ◌+◌, ℕ, List, [], length, nil_from_length, ap, subst, sym, arith, Contains, Window, window}
+use Rattle.raw_region.proofs.Cited.{◌≡◌, ◌∙◌, ℕ, List, [], nil_from_length, ap, subst, sym, arith, Contains, Window, window}
 use Rattle.raw_region.proofs.Cited.{with_window, without_window, put_in, taken_out, contains-counted, length-taken_out, one-itself}
 
 alone_out : (w : Window) → taken_out w (put_in w []) ≡ []

@@ -37,7 +37,7 @@ abbrev pub front : ℕ → Gap → Gap
 front at g = record {
   at = g.at;
   len = g.len;
-  after = record { home = g.after.home; at = g.after.at; items = take (before at g) g.after.items };
+  after = record { home = g.after.home; at = g.after.at; items = take (before at g) g.after.items; room = 0 };
 }
 
 -- The bytes of a new window of `len` bytes at `at`.
@@ -46,6 +46,7 @@ middle at len g = record {
   home = g.after.home;
   at = g.after.at + before at g;
   items = take len (drop (before at g) g.after.items);
+  room = 0;
 }
 
 -- The entry of a new window of `len` bytes at `at`, followed by the free bytes above it.
@@ -58,6 +59,7 @@ back at len g =
         home = g.after.home;
         at = g.after.at + before at g + len;
         items = drop len (drop (before at g) g.after.items);
+        room = g.after.room;
       };
     }
 
@@ -71,19 +73,24 @@ abbrev pub joined : Gap → OwnBytes → Gap → Gap
 joined a r b = record {
   at = a.at;
   len = a.len;
-  after = record { home = a.after.home; at = a.after.at; items = a.after.items ++ r.items ++ b.after.items };
+  after = record {
+    home = a.after.home;
+    at = a.after.at;
+    items = a.after.items ++ r.items ++ b.after.items;
+    room = b.after.room;
+  };
 }
 
--- The runs `f` and `s` are the first `n` bytes of the run `r` and its other bytes.
+-- The runs `f` and `s` are the first `n` bytes of the run `r` and its other bytes, with its room.
 abbrev pub IsCut : OwnBytes → ℕ → OwnBytes → OwnBytes → Type 0
-IsCut r n f s = ((f.home ≡ r.home) × (f.at ≡ r.at) × (f.items ≡ take n r.items))
-    × ((s.home ≡ r.home) × (s.at ≡ r.at + n) × (s.items ≡ drop n r.items))
+IsCut r n f s = ((f.home ≡ r.home) × (f.at ≡ r.at) × (f.items ≡ take n r.items) × (f.room ≡ 0))
+    × ((s.home ≡ r.home) × (s.at ≡ r.at + n) × (s.items ≡ drop n r.items) × (s.room ≡ r.room))
 
--- The run `t` is the run `r` followed by the run `s`.
+-- The run `t` is the run `r` followed by the run `s`, with the room of `s`.
 abbrev pub IsGlued : OwnBytes → OwnBytes → OwnBytes → Type 0
-IsGlued r s t = (t.home ≡ r.home) × (t.at ≡ r.at) × (t.items ≡ r.items ++ s.items)
+IsGlued r s t = (t.home ≡ r.home) × (t.at ≡ r.at) × (t.items ≡ r.items ++ s.items) × (t.room ≡ s.room)
 
--- The bytes of the region, in which each byte of a window in use is 0.
+-- The bytes of the region that were woken, in which each byte of a window in use is 0.
 abbrev pub bytes_of : List Gap → List ℕ
 bytes_of [] = []
 bytes_of (g ∷ gs) = replicate g.len 0 ++ (g.after.items ++ bytes_of gs)
@@ -102,3 +109,28 @@ IsLaid h o (g ∷ gs) = (g.at ≡ o) × (g.after.home ≡ h) × (g.after.at ≡ 
 abbrev pub IsStart : List Gap → Type 0
 IsStart [] = ⊥
 IsStart (g ∷ gs) = g.len ≡ 0
+
+-- The number of bytes of the room after the last entry.
+abbrev pub room_of : List Gap → ℕ
+room_of [] = 0
+room_of (g ∷ []) = g.after.room
+room_of (g ∷ h ∷ gs) = room_of (h ∷ gs)
+
+-- The entry `g`, whose bytes are followed by `n` bytes of its room, each 0.
+abbrev pub woken : ℕ → Gap → Gap
+woken n g = record {
+  at = g.at;
+  len = g.len;
+  after = record {
+    home = g.after.home;
+    at = g.after.at;
+    items = g.after.items ++ replicate n 0;
+    room = g.after.room - n;
+  };
+}
+
+-- The entries, once `n` bytes are woken of the room after the last of them.
+abbrev pub awake : ℕ → List Gap → List Gap
+awake n [] = []
+awake n (g ∷ []) = woken n g ∷ []
+awake n (g ∷ h ∷ gs) = g ∷ awake n (h ∷ gs)

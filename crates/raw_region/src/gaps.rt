@@ -2,15 +2,18 @@
 //! window. The first entry stands for the start of the region and has a window of no bytes.
 ghost use Rattle.std.specs.Prelude.{◌≡◌, ℕ, ◌+◌, ◌-◌, ◌^◌, ◌<◌, ◌≤◌, List, [], ◌∷◌, ◌++◌, length};
 ghost use Rattle.std.specs.Prelude.{take, drop, slice_index_or, nat_le, nat_eq, ◌&&◌, not, vec_len};
-ghost use Rattle.std.specs.Prelude.{vec_capacity};
+ghost use Rattle.std.specs.Prelude.{vec_capacity, replicate, max};
 ghost use Rattle.std.specs.List.{prefix_len, position_or_len};
-ghost use denote.RawPtr.{Ptr};
+ghost use Rattle.std.specs.Vec.{vec_ptr};
+ghost use denote.RawPtr.{InBlock};
 ghost use Rattle.raw_region.specs.Gaps.{gap_ends_by, gap_is, EndsFit, Fits, front, middle, back};
-ghost use Rattle.raw_region.specs.Gaps.{Beside, joined};
+ghost use Rattle.raw_region.specs.Gaps.{Beside, joined, IsLaid, IsStart, bytes_of, room_of};
+ghost use Rattle.raw_region.specs.Gaps.{awake};
 ghost use Rattle.raw_region.specs.declared.gaps.Gap.{Gap};
 
-use crate::raw::OwnBytes;
+use crate::raw::{OwnBytes, house, vacate};
 use std::mem::replace;
+use std_alloc::vec::Lodged;
 
 #[derive(Drop)]
 pub(crate) struct Gap {
@@ -94,4 +97,48 @@ pub(crate) fn shut(gaps: &mut Vec<Gap>, i: usize, run: OwnBytes)
     let gap = &mut gaps[i - 1];
     let front = replace(&mut gap.after, OwnBytes::empty());
     gap.after = front.glue(run).glue(after);
+}
+
+// Appends `count` bytes of 0 to a `Vec` that has room for them.
+fn filled(mut vec: Vec<u8, Lodged>, count: usize) -> Vec<u8, Lodged>
+    requires room { vec_len vec + count ≤ vec_capacity vec }
+    ensures items { result.items ≡ vec.items ++ replicate count 0 }
+    ensures count { vec_len result ≡ vec_len vec + count }
+    ensures capacity { vec_capacity result ≡ vec_capacity vec }
+    ensures there { vec_ptr result ≡ vec_ptr vec }
+{
+    let mut i = 0;
+    while i < count {
+        vec.push_reserved(0);
+        i += 1;
+    }
+    vec
+}
+
+// Wakes the bytes of a region of `len` bytes at `home` up to the place `end`: zeros are written
+// from the place `used` on, into the room after the last entry, whose bytes they then are. Returns
+// the place up to which bytes are awake.
+pub(crate) fn wake(gaps: &mut Vec<Gap>, home: *mut u8, used: usize, len: usize, end: usize) -> usize
+    requires first { IsStart gaps.old.items }
+    requires placed { InBlock home }
+    requires laid { IsLaid home 0 gaps.old.items }
+    requires whole { length (bytes_of gaps.old.items) ≡ used }
+    requires rest { used + room_of gaps.old.items ≡ len }
+    requires small { len < 2 ^ 63 }
+    requires inside { end ≤ len }
+    ensures reaches { result ≡ max used end }
+    ensures items { gaps.new.items ≡ awake (end - used) gaps.old.items }
+    ensures capacity { vec_capacity gaps.new ≡ vec_capacity gaps.old }
+{
+    if end <= used {
+        return used;
+    }
+    let last = gaps.len() - 1;
+    let gap = &mut gaps[last];
+    let at = gap.at + gap.len;
+    let run = replace(&mut gap.after, OwnBytes::empty());
+    let ptr = unsafe { home.byte_add(at) };
+    let vec = house(ptr, used - at, len - at, run);
+    gap.after = vacate(filled(vec, end - used), home, at);
+    end
 }

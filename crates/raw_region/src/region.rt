@@ -5,7 +5,7 @@ ghost use Rattle.std.specs.List.{Contains};
 ghost use Rattle.memory_windows.specs.Windows.{window, InOrder, IsApart, with_window, without_window};
 ghost use Rattle.memory_windows.specs.Writes.{written};
 
-use crate::gaps::{Gap, index_after, index_of, open, shut};
+use crate::gaps::{Gap, index_after, index_of, open, shut, wake};
 use crate::part::Part;
 use crate::raw::{Frame, attach, detach, house, vacate};
 use memory_windows::GREATEST_MEMORY;
@@ -22,12 +22,14 @@ pub const MOST_BYTES: usize = GREATEST_MEMORY as usize;
 pub const MOST_OUT: usize = 64;
 
 /// One block of host memory, from which parts are cut, and to which they are returned in any order.
-/// The region begins at place 0. The bytes of a window in use read as 0.
+/// The region begins at place 0. The bytes of a window in use read as 0. No byte is written before
+/// a part is cut that has it, or that lies above it: up to the place `used` bytes are awake.
 pub struct Region {
     frame: Frame,
     home: *mut u8,
     gaps: Vec<Gap>,
     len: usize,
+    used: usize,
 }
 
 impl Model for Region {
@@ -43,8 +45,8 @@ impl Model for Region {
 }
 
 impl Region {
-    /// Makes a region of `len` bytes, all 0. The memory for the list of windows is taken here too,
-    /// so no other call takes host memory.
+    /// Makes a region of `len` bytes, all 0. All its memory is taken here, and that for the list of
+    /// windows too, so no other call takes host memory; but none of it is written yet.
     ///
     /// # Errors
     ///
@@ -57,7 +59,7 @@ impl Region {
         ensures out { IfOk result (λ r. r.out ≡ []) }
     {
         let mut gaps = Vec::with_capacity(alloc, MOST_OUT + 1)?;
-        let mut vec = Vec::from_elem(alloc, 0u8, len)?;
+        let mut vec = Vec::with_capacity(alloc, len)?;
         let home = vec.as_mut_ptr();
         let (after, frame) = detach(vec);
         let start = Gap {
@@ -71,6 +73,7 @@ impl Region {
                 home,
                 gaps,
                 len,
+                used: 0,
             }),
             Err(_) => unreachable!(),
         }
@@ -84,7 +87,7 @@ impl Region {
     }
 
     /// Cuts a part of `len` bytes at `at` from the region. After this, no byte belongs to two of
-    /// the windows in use.
+    /// the windows in use. Bytes below the part's end that nobody wrote yet are written with 0.
     pub fn cut(&mut self, at: usize, len: usize) -> Part
         requires place { at % UNIT ≡ 0 }
         requires multiple { len % UNIT ≡ 0 }
@@ -102,11 +105,13 @@ impl Region {
         ensures out { self.new.out ≡ with_window at len self.old.out }
         ensures in_order { InOrder 0 self.new.out (length self.new.bytes) }
     {
+        let used = wake(&mut self.gaps, self.home, self.used, self.len, at + len);
+        self.used = used;
         let i = index_after(self.gaps.as_slice(), at) - 1;
         let home = self.home;
         let run = open(&mut self.gaps, i, at, len);
         let ptr = unsafe { home.byte_add(at) };
-        let bytes = house(ptr, len, run);
+        let bytes = house(ptr, len, len, run);
         Part { bytes, home, at }
     }
 
@@ -138,6 +143,7 @@ impl Region {
             home: _,
             mut gaps,
             len: _,
+            used: _,
         } = self;
         match gaps.pop() {
             Some(

@@ -1,7 +1,6 @@
--- The elements go out as a run, and the frame is the `Vec` without them. Assumes `Logic`.
+-- The memory goes out as a run, and the frame is the `Vec` without it. Assumes `Logic`.
 use Rattle.raw_region.proofs.Cited.{◌≡◌, ◌<◌, List, [], ◌∷◌, ◌++◌, refl, sym, subst, Goes-blank, proved_at, run_owns, OwnBytes}
 use base.Fml.{ftrue}
-use base.Logic.{id⊢, never}
 use contract.Monad.{fact}
 use contract.Running.{tables}
 use denote.Exit.{yes}
@@ -27,7 +26,7 @@ use Rattle.raw_region.specs.contracts.raw.OwnBytes as R
 use Rattle.raw_region.specs.contracts.raw.detach as f
 use Rattle.raw_region.proofs.Frames.{Owned, owned-laws, extent_of, framed}
 use Rattle.raw_region.proofs.Leaving.{all_gone, shown}
-use Rattle.raw_region.proofs.Runs.{here}
+use Rattle.raw_region.proofs.Runs.{here, nowhere}
 use Rattle.raw_region.proofs.Steps.{bare, alone, beside, seen, run_made, pair_made}
 use Rattle.raw_region.proofs.raw.detach.Code as code
 use Rattle.raw_region.proofs.raw.detach.Statement.{statement}
@@ -38,17 +37,18 @@ detach_spec 𝓤 𝓛 𝓜 𝓡 wired =
     let c = f.clauses 𝓛 𝓜.mem 𝓡.returns in let 𝓣 = tables 𝓤 𝓛.H 𝓜 𝓡 𝓡.env in
     let gone = Goes-blank 𝓛 0 (plain (λ _. Owned)) yes (λ κs x f. tt) in
     proved_at 𝓛 f.ended stayed c 𝓜 𝓡 (gone, tt) f.Key.name code.function (code.unfolded 𝓤 𝓛.H 𝓜 𝓡 wired) (λ y are.
-    let v = y.0.3.0 in let vss = y.0.4 in let Some = 0 < v.len in let Post = (walk_of 𝓛 f.ended stayed c).post y in
-    let run : OwnBytes = record { home = v.ptr; at = 0; items = v.items } in
+    let v = y.0.3.0 in let vss = y.0.4 in let Empty = v.len ≡ 0 in let Some = 0 < v.cap in let Post = (walk_of 𝓛 f.ended stayed c).post y in
+    let run : OwnBytes = record { home = v.ptr; at = 0; items = []; room = v.cap } in
     qed 𝓛 ((raw (alive 𝓛 f.signature y.0.0 y.0.1) ⊛ ‵ (owns (types_at f.signature.params y.0.0) y.0.3 vss))
-    ∷ raw (fact 𝓤 Some) ∷ []) ∵
-    move ! (1 ∷ []) $ heard ! Some (λ some. split ! $ move ! (1 ∷ []) $
+    ∷ (raw (fact 𝓤 Empty) ⊛ raw (fact 𝓤 Some)) ∷ []) ∵
+    move ! (1 ∷ []) $ split ! $ heard ! Empty (λ empty. heard ! Some (λ some. split ! $ move ! (1 ∷ []) $
     fsplit ! $ seen ! Owned owned-laws v vss.0 (λ u is fits. move ! (1 ∷ []) $ drop ! $
     let inner = as_fields (layout Owned ∷ []) (u ∷ []) (fits, tt) in
-    use1 𝓛 (‵ (run_owns v.ptr v.items) ⊛ ‵ (F.the_own (extent_of v) (alone u ∷ []))) (framed 𝓛 v u some) $ split ! $
-    in_a_block ! v.ptr (λ p. run_owns p v.items) (id⊢ 𝓤 (never 𝓤)) (λ b o placed.
-    rewrite ! 0 (λ p. ‵ (run_owns p v.items)) (sym placed) refl $
-    rewrite ! 0 (λ p. ‵ (run_owns p v.items)) (here v.ptr) refl $ run_made ! run $
+    use1 𝓛 (‵ (run_owns v.ptr [] v.cap) ⊛ ‵ (F.the_own (extent_of v) (alone u ∷ []))) (framed 𝓛 v u empty some) $
+    split ! $
+    in_a_block ! v.ptr (λ p. run_owns p [] v.cap) (nowhere 𝓛 [] v.cap) (λ b o placed.
+    rewrite ! 0 (λ p. ‵ (run_owns p [] v.cap)) (sym placed) refl $
+    rewrite ! 0 (λ p. ‵ (run_owns p [] v.cap)) (here v.ptr) refl $ run_made ! run $
     -- [the run; what the frame owns; the tokens]
     move ! (1 ∷ []) $ nothing ! $ fpack ! (Typed F.the_row.mir (alone u ∷ [])) (λ _. ftrue) (inner, tt) $ fjoin ! $
     move ! (1 ∷ 0 ∷ []) $ pair_made ! R.the_row F.the_row run (extent_of v) bare (alone u) $
@@ -62,7 +62,7 @@ detach_spec 𝓤 𝓛 𝓜 𝓡 wired =
     returns ! (look_at ! 0 refl) $ free_all ! refl $
     suffices ! _ (ends_at 𝓛 f.ended stayed c y (beside bare (alone u)) (run, extent_of v) (tt, tt) (tt, tt)) $
     nothing ! $ nothing ! $ fjoin ! $ move ! (2 ∷ 0 ∷ 1 ∷ []) $ group ! 3 $
-    shown 𝓛 (InBlock v.ptr) (subst InBlock (sym placed) tt) $ shown 𝓛 ((extent_of v).len ≡ v.len) refl $
-    shown 𝓛 ((extent_of v).ptr ≡ v.ptr) refl $ shown 𝓛 (run.items ≡ v.items) refl $
+    shown 𝓛 (InBlock v.ptr) (subst InBlock (sym placed) tt) $ shown 𝓛 ((extent_of v).len ≡ v.cap) refl $
+    shown 𝓛 ((extent_of v).ptr ≡ v.ptr) refl $ shown 𝓛 (run.room ≡ v.cap) refl $ shown 𝓛 (run.items ≡ []) refl $
     shown 𝓛 (run.at ≡ 0) refl $ shown 𝓛 (run.home ≡ v.ptr) refl $
-    move ! (6 ∷ []) $ done !)))))
+    move ! (7 ∷ []) $ done !))))))

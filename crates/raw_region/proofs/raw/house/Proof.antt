@@ -1,11 +1,11 @@
--- The bytes of a run are lent to a `Vec` over them. Assumes `Logic`.
-use Rattle.raw_region.proofs.Cited.{◌≡◌, ℕ, ◌^◌, ◌<◌, ◌≤◌, List, [], ◌∷◌, ◌++◌, length, refl, sym, ap, ◌∙◌, subst, arith, Vec, after}
+-- The bytes of a run, and the room past them, are lent to a `Vec` over them. Assumes `Logic`.
+use Rattle.raw_region.proofs.Cited.{◌≡◌, ℕ, ◌+◌, ◌^◌, ◌<◌, ◌≤◌, List, [], ◌∷◌, ◌++◌, length, refl, sym, ap, ◌∙◌, subst, arith, Vec, after}
 use Rattle.raw_region.proofs.Cited.{Goes-blank, proved_at, lodged, Lodged, run_owns}
 use Rattle.std_alloc.proofs.vec.lodge.Met as lodge
 use Rattle.std_alloc.specs.contracts.vec.lodge as g
 use base.Fml.{ftrue, fsep, flft}
 use base.Fraction.{full_share}
-use base.Logic.{emp, id⊢, never}
+use base.Logic.{emp, id⊢}
 use contract.BorrowLft.{◌⊑◌, ⊑_refl}
 use contract.Monad.{fact, fact_i}
 use contract.Running.{tables}
@@ -33,6 +33,7 @@ use Rattle.raw_region.specs.contracts.raw.house as f
 use Rattle.raw_region.proofs.Blocks.{housed}
 use Rattle.raw_region.proofs.Frames.{byte_laws}
 use Rattle.raw_region.proofs.Leaving.{all_gone, shown}
+use Rattle.raw_region.proofs.Runs.{nowhere}
 use Rattle.raw_region.proofs.Lodged.{Lent, lent-laws}
 use Rattle.raw_region.proofs.Steps.{Fits, seen, run_had}
 use Rattle.raw_region.proofs.raw.house.Code as code
@@ -46,44 +47,52 @@ house_spec 𝓤 𝓛 𝓜 𝓡 wired =
     let len_gone = Goes-blank 𝓛 0 (plain (λ _. usize)) yes (λ κs x f. tt) in
     let run_gone = Goes-blank 𝓛 0 (plain (λ _. R.the_row)) yes (λ κs x f. tt) in
     let G = triple_of 𝓛 (g.signature u8) (g.spec u8 𝓛 𝓜.mem 𝓡.returns) in
-    proved_at 𝓛 f.ended stayed c 𝓜 𝓡 (ptr_gone, (len_gone, (run_gone, tt))) f.Key.name code.function
+    proved_at 𝓛 f.ended stayed c 𝓜 𝓡 (ptr_gone, (len_gone, (len_gone, (run_gone, tt)))) f.Key.name code.function
     (code.unfolded 𝓤 𝓛.H 𝓜 𝓡 wired) (λ y are.
-    let p = y.0.3.0 in let n = y.0.3.1.0 in let r = y.0.3.1.1.0 in let vss = y.0.4 in let xs = r.items in
-    let There = r.home +ₚ r.at ≡ p in let Whole = length xs ≡ n in let Some = 0 < n in let Small = n < 2 ^ 63 in
+    let p = y.0.3.0 in let n = y.0.3.1.0 in let k = y.0.3.1.1.0 in let r = y.0.3.1.1.1.0 in let vss = y.0.4 in
+    let xs = r.items in
+    let There = r.home +ₚ r.at ≡ p in let Whole = length xs ≡ n in let Room = n + r.room ≡ k in let Some = 0 < k in
+    let Small = k < 2 ^ 63 in
     let Post = (walk_of 𝓛 f.ended stayed c).post y in
     qed 𝓛 ((raw (alive 𝓛 f.signature y.0.0 y.0.1) ⊛ ‵ (owns (types_at f.signature.params y.0.0) y.0.3 vss))
-    ∷ (raw (fact 𝓤 There) ⊛ raw (fact 𝓤 Whole) ⊛ raw (fact 𝓤 Some) ⊛ raw (fact 𝓤 Small)) ∷ []) ∵
+    ∷ (raw (fact 𝓤 There) ⊛ raw (fact 𝓤 Whole) ⊛ raw (fact 𝓤 Room) ⊛ raw (fact 𝓤 Some) ⊛ raw (fact 𝓤 Small)) ∷ []) ∵
     move ! (1 ∷ []) $ split3 ! $
-    heard ! There (λ there. heard ! Whole (λ long. split ! $
-    heard ! Some (λ some. heard ! Small (λ small. split ! $ move ! (1 ∷ []) $
+    heard ! There (λ there. heard ! Whole (λ long. split3 ! $
+    heard ! Room (λ full. heard ! Some (λ some. heard ! Small (λ small. split ! $ move ! (1 ∷ []) $
     fsplit ! $
     feq_l ! (λ is. fsplit ! $ fsplit ! $
-    feq_l ! (λ is'. flt_l ! (λ fits. fsplit ! $ run_had ! r vss.1.1.0 (λ is''. move ! (1 ∷ []) $ drop ! $
-    rewrite ! 0 (λ q. ‵ (run_owns q xs)) there refl $ in_a_block ! p (λ q. run_owns q xs) (id⊢ 𝓤 (never 𝓤)) (λ b o at.
-    regoal ! (λ (us : List Val). prop (WpFn 𝓤 𝓛.H 𝓣.C 𝓣.Λ code.function (us ++ (vss.1.0 ++ (vss.1.1.0 ++ []))) Post))
+    feq_l ! (λ is'. flt_l ! (λ fits. fsplit ! $ fsplit ! $
+    feq_l ! (λ is₂. flt_l ! (λ fits₂. fsplit ! $ run_had ! r vss.1.1.1.0 (λ is''. move ! (1 ∷ []) $ drop ! $
+    rewrite ! 0 (λ q. ‵ (run_owns q xs r.room)) there refl $
+    in_a_block ! p (λ q. run_owns q xs r.room) (nowhere 𝓛 xs r.room) (λ b o at.
+    regoal ! (λ (us : List Val).
+    prop (WpFn 𝓤 𝓛.H 𝓣.C 𝓣.Λ code.function (us ++ (vss.1.0 ++ (vss.1.1.0 ++ (vss.1.1.1.0 ++ [])))) Post))
     (is ∙ ap (λ q. ptr_val q ∷ []) at) refl $
     regoal ! (λ (us : List Val).
-    prop (WpFn 𝓤 𝓛.H 𝓣.C 𝓣.Λ code.function ((vptr b o ∷ []) ++ (us ++ (vss.1.1.0 ++ []))) Post)) is' refl $
-    regoal ! (λ (us : List Val).
-    prop (WpFn 𝓤 𝓛.H 𝓣.C 𝓣.Λ code.function ((vptr b o ∷ []) ++ ((vint w64 n ∷ []) ++ (us ++ []))) Post)) is'' refl $
-    enter ! _ _ _ _ _ $ alloc_all ! (λ l. pass_all ! refl ((tt, tt), ((tt, record { fits = fits }), ((tt, tt), tt))) $
+    prop (WpFn 𝓤 𝓛.H 𝓣.C 𝓣.Λ code.function ((vptr b o ∷ []) ++ (us ++ (vss.1.1.0 ++ (vss.1.1.1.0 ++ [])))) Post)) is' refl $
+    let Given = λ (us ws : List Val). (vptr b o ∷ []) ++ ((vint w64 n ∷ []) ++ (us ++ (ws ++ []))) in
+    regoal ! (λ (us : List Val). prop (WpFn 𝓤 𝓛.H 𝓣.C 𝓣.Λ code.function (Given us vss.1.1.1.0) Post)) is₂ refl $
+    regoal ! (λ (us : List Val). prop (WpFn 𝓤 𝓛.H 𝓣.C 𝓣.Λ code.function (Given (vint w64 k ∷ []) us) Post)) is'' refl $
+    enter ! _ _ _ _ _ $ alloc_all ! (λ l.
+    pass_all ! refl ((tt, tt), ((tt, record { fits = fits }), ((tt, record { fits = fits₂ }), ((tt, tt), tt)))) $
     first ! $ blocks ! $
     -- what `lodge` asks for: the bytes, two facts, its arguments and a token
-    let Lodges : Type 0 = (n ≡ length xs) × (n ≤ n) × (n < 2 ^ 63) in
+    let Lodges : Type 0 = (n ≡ length xs) × (n ≤ k) × (k < 2 ^ 63) in
     let z : G.Ghost = (
       (
         ([], tt),
         (full_share, tt),
         tt,
-        (block_ptr b o, (n, (n, tt))),
-        (vptr b o ∷ [], (vint w64 n ∷ [], (vint w64 n ∷ [], tt))),
+        (block_ptr b o, (n, (k, tt))),
+        (vptr b o ∷ [], (vint w64 n ∷ [], (vint w64 k ∷ [], tt))),
       ),
       xs,
     ) in
-    use1 𝓛 (‵ (lodged u8 (block_ptr b o) n n xs)) (housed 𝓛 (block_ptr b o) xs n long some small) $
-    use0 𝓛 (raw (fact 𝓤 Lodges)) (fact_i 𝓤 Lodges (emp 𝓤) (sym long, omega arith, small)) $ join ! $
+    use1 𝓛 (‵ (lodged u8 (block_ptr b o) n k xs))
+    (housed 𝓛 (block_ptr b o) xs n k r.room long full some small) $
+    use0 𝓛 (raw (fact 𝓤 Lodges)) (fact_i 𝓤 Lodges (emp 𝓤) (sym long, omega (arith, full), small)) $ join ! $
     use0 𝓛 (raw (fact 𝓤 ([] ⊑ []))) (fact_i 𝓤 ([] ⊑ []) (emp 𝓤) (⊑_refl [])) $ join ! $
-    nothing ! $ flt_i ! n (2 ^ 64) fits $ feq_i ! (List Val) (vint w64 n ∷ []) (vint w64 n ∷ []) refl $ fjoin ! $
+    nothing ! $ flt_i ! k (2 ^ 64) fits₂ $ feq_i ! (List Val) (vint w64 k ∷ []) (vint w64 k ∷ []) refl $ fjoin ! $
     fjoin ! $
     flt_i ! n (2 ^ 64) fits $ feq_i ! (List Val) (vint w64 n ∷ []) (vint w64 n ∷ []) refl $ fjoin ! $ fjoin ! $
     feq_i ! (List Val) (vptr b o ∷ []) (vptr b o ∷ []) refl $ fjoin ! $
@@ -92,7 +101,7 @@ house_spec 𝓤 𝓛 𝓜 𝓡 wired =
     calls_at_last ! (framed 𝓤 𝓛.H 𝓜 𝓣) G
     (lodge.met 𝓤 𝓛 𝓜 𝓡 (code.calls-std_alloc::vec::lodge 𝓡.env wired) u8 byte_laws) z
     (and_then ! (get ! refl) (and_then ! (get ! refl) (and_then ! (get ! refl) (no_more !)))) (λ v.
-    let Is = λ (d : Vec ℕ Lodged). (d.items ≡ xs) × (d.len ≡ n) × (d.cap ≡ n) × (d.ptr ≡ block_ptr b o) in
+    let Is = λ (d : Vec ℕ Lodged). (d.items ≡ xs) × (d.len ≡ n) × (d.cap ≡ k) × (d.ptr ≡ block_ptr b o) in
     use1 𝓛 (later (exists (λ (d : Vec ℕ Lodged). ((‵ (flft [] full_share) ⊛ ‵ ftrue) ⊛ ‵ (Lent.own_val d (v ∷ [])))
     ⊛ exists (λ (ws : Unit {0} × (Unit {0} × (Unit {0} × Unit {0}))).
     ‵ (fsep ftrue (fsep ftrue (fsep ftrue ftrue))) ⊛ raw (fact 𝓤 (Is d)))))) (id⊢ 𝓤 _) $
@@ -106,8 +115,9 @@ house_spec 𝓤 𝓛 𝓜 𝓡 wired =
     (at_ret (env code.function.locals l) Post) $
     sets ! (of_opd ! (get ! refl)) refl good $
     returns ! (look_at ! 0 refl) $ free_all ! refl $
-    suffices ! _ (ends_at 𝓛 f.ended stayed c y v d (tt, (tt, (tt, tt))) (tt, (tt, (tt, tt)))) $
-    nothing ! $ nothing ! $ fjoin ! $ nothing ! $ fjoin ! $ nothing ! $ fjoin ! $ move ! (2 ∷ 0 ∷ 1 ∷ []) $ group ! 3 $
-    shown 𝓛 (d.ptr ≡ p) (made.3 ∙ sym at) $ shown 𝓛 (d.cap ≡ n) (made.2) $ shown 𝓛 (d.len ≡ n) (made.1) $
+    suffices ! _ (ends_at 𝓛 f.ended stayed c y v d (tt, (tt, (tt, (tt, tt)))) (tt, (tt, (tt, (tt, tt))))) $
+    nothing ! $ nothing ! $ fjoin ! $ nothing ! $ fjoin ! $ nothing ! $ fjoin ! $ nothing ! $ fjoin ! $
+    move ! (2 ∷ 0 ∷ 1 ∷ []) $ group ! 3 $
+    shown 𝓛 (d.ptr ≡ p) (made.3 ∙ sym at) $ shown 𝓛 (d.cap ≡ k) (made.2) $ shown 𝓛 (d.len ≡ n) (made.1) $
     shown 𝓛 (d.items ≡ xs) (made.0) $
-    move ! (4 ∷ []) $ done !))))))))))))))))
+    move ! (4 ∷ []) $ done !)))))))))))))))))))

@@ -1,5 +1,5 @@
--- The bytes of a `Vec` over a run are the run's again. Assumes `Logic`.
-use Rattle.raw_region.proofs.Cited.{◌≡◌, ℕ, ◌<◌, List, [], ◌∷◌, ◌++◌, refl, ap, arith, Goes-blank, proved_at, lodged, ghosts, run_owns}
+-- The bytes of a `Vec` over a run, and the room past them, are the run's again. Assumes `Logic`.
+use Rattle.raw_region.proofs.Cited.{◌≡◌, ℕ, ◌-◌, ◌<◌, List, [], ◌∷◌, ◌++◌, refl, ap, arith, Goes-blank, proved_at, lodged, ghosts, run_owns}
 use Rattle.raw_region.proofs.Cited.{OwnBytes}
 use Rattle.std_alloc.proofs.vec.lodged.Vec+T+Lodged.dislodge.Met as dislodge
 use Rattle.std_alloc.specs.contracts.vec.Vec as V
@@ -51,7 +51,7 @@ vacate_spec 𝓤 𝓛 𝓜 𝓡 wired =
     (code.unfolded 𝓤 𝓛.H 𝓜 𝓡 wired) (λ y are.
     let d = y.0.3.0 in let p = y.0.3.1.0 in let n = y.0.3.1.1.0 in let vss = y.0.4 in
     let Some = 0 < d.len in let There = d.ptr ≡ p +ₚ n in let Post = (walk_of 𝓛 f.ended stayed c).post y in
-    let made : OwnBytes = record { home = p; at = n; items = d.items } in
+    let made : OwnBytes = record { home = p; at = n; items = d.items; room = d.cap - d.len } in
     qed 𝓛 ((raw (alive 𝓛 f.signature y.0.0 y.0.1) ⊛ ‵ (owns (types_at f.signature.params y.0.0) y.0.3 vss))
     ∷ (raw (fact 𝓤 Some) ⊛ raw (fact 𝓤 There)) ∷ []) ∵
     move ! (1 ∷ []) $ split ! $ heard ! Some (λ full. heard ! There (λ there. split ! $ move ! (1 ∷ []) $
@@ -90,10 +90,12 @@ vacate_spec 𝓤 𝓛 𝓜 𝓡 wired =
     lands_as ! (ap only says_k) refl (tt, record { fits = fits_k }) $
     sets ! (agg ! (no_more !)) refl (tt, tt) $
     let room = d.ok.1 in
-    use1 𝓛 (‵ (run_owns d.ptr d.items)) (vacated 𝓛 d.ptr d.items d.len d.cap d.ok.0 (omega (arith, full, room))) $
-    rewrite ! 0 (λ q. ‵ (run_owns q d.items)) there refl $ run_made ! made $
+    use1 𝓛 (‵ (run_owns d.ptr d.items (d.cap - d.len)))
+    (vacated 𝓛 d.ptr d.items d.len d.cap d.ok.0 (omega (arith, full, room))) $
+    rewrite ! 0 (λ q. ‵ (run_owns q d.items (d.cap - d.len))) there refl $ run_made ! made $
     returns ! (look_at ! 0 refl) $ free_all ! refl $
     suffices ! _ (ends_at 𝓛 f.ended stayed c y bare made (tt, (tt, (tt, tt))) (tt, (tt, (tt, tt)))) $
     nothing ! $ nothing ! $ fjoin ! $ nothing ! $ fjoin ! $ nothing ! $ fjoin ! $ move ! (2 ∷ 0 ∷ 1 ∷ []) $ group ! 3 $
-    shown 𝓛 (made.items ≡ d.items) refl $ shown 𝓛 (made.at ≡ n) refl $ shown 𝓛 (made.home ≡ p) refl $
-    move ! (3 ∷ []) $ done !)))))))))))))
+    shown 𝓛 (made.room ≡ d.cap - d.len) refl $ shown 𝓛 (made.items ≡ d.items) refl $
+    shown 𝓛 (made.at ≡ n) refl $ shown 𝓛 (made.home ≡ p) refl $
+    move ! (4 ∷ []) $ done !)))))))))))))

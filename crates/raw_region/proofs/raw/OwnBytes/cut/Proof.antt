@@ -1,4 +1,4 @@
--- The bytes of a run are parted in two. Assumes `Logic`.
+-- The bytes of a run are parted in two, the second with the room. Assumes `Logic`.
 use Rattle.raw_region.proofs.Cited.{◌≡◌, ◌+◌, ◌≤◌, List, [], ◌∷◌, ◌++◌, length, take, refl, proved_at, Goes-blank, run_owns, OwnBytes}
 use Rattle.std.proofs.Common.{drop as after}
 use denote.RawPtr.{◌+ₚ◌}
@@ -37,8 +37,8 @@ cut_spec 𝓤 𝓛 𝓜 𝓡 wired =
     (λ y are.
     let r = y.0.3.0 in let n = y.0.3.1.0 in let vss = y.0.4 in let p = r.home +ₚ r.at in
     let Within = n ≤ length r.items in
-    let front : OwnBytes = record { home = r.home; at = r.at; items = take n r.items } in
-    let back : OwnBytes = record { home = r.home; at = r.at + n; items = after n r.items } in
+    let front : OwnBytes = record { home = r.home; at = r.at; items = take n r.items; room = 0 } in
+    let back : OwnBytes = record { home = r.home; at = r.at + n; items = after n r.items; room = r.room } in
     let Post = (walk_of 𝓛 f.ended stayed c).post y in
     qed 𝓛 ((raw (alive 𝓛 f.signature y.0.0 y.0.1) ⊛ ‵ (owns (types_at f.signature.params y.0.0) y.0.3 vss))
     ∷ raw (fact 𝓤 Within) ∷ []) ∵
@@ -50,15 +50,16 @@ cut_spec 𝓤 𝓛 𝓜 𝓡 wired =
     enter ! _ _ _ _ _ $ alloc_all ! (λ l. pass_all ! refl ((tt, tt), ((tt, record { fits = fits }), tt)) $
     sets ! (agg ! (no_more !)) refl (tt, tt) $ sets ! (agg ! (no_more !)) refl (tt, tt) $
     sets ! (agg ! (and_then ! (get ! refl) (and_then ! (get ! refl) (no_more !)))) refl (tt, (tt, (tt, tt))) $
-    use1 𝓛 (‵ (run_owns p (take n r.items)) ⊛ ‵ (run_owns (p +ₚ n) (after n r.items))) (cut_at 𝓛 p n r.items within) $
+    use1 𝓛 (‵ (run_owns p (take n r.items) 0) ⊛ ‵ (run_owns (p +ₚ n) (after n r.items) r.room))
+    (cut_at 𝓛 p n r.items r.room within) $
     split ! $
     run_made ! front $ move ! (1 ∷ []) $
-    rewrite ! 0 (λ q. ‵ (run_owns q (after n r.items))) (further r.home r.at n) refl $ run_made ! back $
+    rewrite ! 0 (λ q. ‵ (run_owns q (after n r.items) r.room)) (further r.home r.at n) refl $ run_made ! back $
     move ! (1 ∷ 0 ∷ []) $ pair_made ! R.the_row R.the_row front back bare bare $
     returns ! (look_at ! 0 refl) $ free_all ! refl $
     suffices ! _ (ends_at 𝓛 f.ended stayed c y (beside bare bare) (front, back) (tt, (tt, tt)) (tt, (tt, tt))) $
     nothing ! $ nothing ! $ fjoin ! $ nothing ! $ fjoin ! $ move ! (2 ∷ 0 ∷ 1 ∷ []) $ group ! 3 $
-    shown 𝓛 (back.items ≡ after n r.items) refl $ shown 𝓛 (back.at ≡ r.at + n) refl $
-    shown 𝓛 (back.home ≡ r.home) refl $ shown 𝓛 (front.items ≡ take n r.items) refl $
+    shown 𝓛 (back.room ≡ r.room) refl $ shown 𝓛 (back.items ≡ after n r.items) refl $ shown 𝓛 (back.at ≡ r.at + n) refl $
+    shown 𝓛 (back.home ≡ r.home) refl $ shown 𝓛 (front.room ≡ 0) refl $ shown 𝓛 (front.items ≡ take n r.items) refl $
     shown 𝓛 (front.at ≡ r.at) refl $ shown 𝓛 (front.home ≡ r.home) refl $
-    move ! (6 ∷ []) $ done !))))))
+    move ! (8 ∷ []) $ done !))))))

@@ -1,4 +1,4 @@
--- No bytes are made of nothing. Assumes `Logic`.
+-- No bytes, and no room after them, are made of nothing. Assumes `Logic`.
 use Rattle.raw_region.proofs.Cited.{[], ◌∷◌, refl, proved_at, run_owns, OwnBytes}
 use denote.RawPtr.{block_ptr}
 use denote.Triple.Entry.{alive}
@@ -19,12 +19,12 @@ pub empty_spec : {M : Type 1} → statement M
 empty_spec 𝓤 𝓛 𝓜 𝓡 wired =
     let stayed = all_gone f.ended in
     let c = f.clauses 𝓛 𝓜.mem 𝓡.returns in
-    let made : OwnBytes = record { home = block_ptr 0 0; at = 0; items = [] } in
+    let made : OwnBytes = record { home = block_ptr 0 0; at = 0; items = []; room = 0 } in
     proved_at 𝓛 f.ended stayed c 𝓜 𝓡 tt f.Key.name code.function (code.unfolded 𝓤 𝓛.H 𝓜 𝓡 wired) (λ y are.
     qed 𝓛 ((raw (alive 𝓛 f.signature y.0.0 y.0.1) ⊛ ‵ ftrue) ∷ ‵ ftrue ∷ []) ∵ move ! (1 ∷ []) $ drop ! $ split ! $
     enter ! _ _ _ _ _ $ alloc_all ! (λ l. pass_all ! refl tt $
     sets ! (agg ! (no_more !)) refl (tt, tt) $
-    use0 𝓛 (‵ (run_owns (block_ptr 0 0) [])) (Runs.none 𝓛 0 0) $ run_made ! made $
+    use0 𝓛 (‵ (run_owns (block_ptr 0 0) [] 0)) (Runs.no_run 𝓛 0 0) $ run_made ! made $
     returns ! (look_at ! 0 refl) $ free_all ! refl $
     suffices ! _ (ends_at 𝓛 f.ended stayed c y bare made tt tt) $ says ! refl $
     -- [the run; the tokens; no parameter]

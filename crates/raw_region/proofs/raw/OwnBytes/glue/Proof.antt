@@ -1,4 +1,4 @@
--- The bytes of two runs, the second right behind the first, are one run's. Assumes `Logic`.
+-- The bytes of two runs, the second right behind the first, are one run's, with the room of the second. Assumes `Logic`.
 use Rattle.raw_region.proofs.Cited.{◌≡◌, ◌+◌, List, [], ◌∷◌, ◌++◌, length, refl, sym, ◌∙◌, proved_at, Goes-blank, run_owns, OwnBytes}
 use denote.RawPtr.{◌+ₚ◌}
 use contract.Monad.{fact}
@@ -34,7 +34,7 @@ glue_spec 𝓤 𝓛 𝓜 𝓡 wired =
     (λ y are.
     let r = y.0.3.0 in let s = y.0.3.1.0 in let vss = y.0.4 in
     let Home = s.home ≡ r.home in let Behind = s.at ≡ r.at + length r.items in
-    let made : OwnBytes = record { home = r.home; at = r.at; items = r.items ++ s.items } in
+    let made : OwnBytes = record { home = r.home; at = r.at; items = r.items ++ s.items; room = s.room } in
     let Post = (walk_of 𝓛 f.ended stayed c).post y in
     qed 𝓛 ((raw (alive 𝓛 f.signature y.0.0 y.0.1) ⊛ ‵ (owns (types_at f.signature.params y.0.0) y.0.3 vss))
     ∷ (raw (fact 𝓤 Home) ⊛ raw (fact 𝓤 Behind)) ∷ []) ∵
@@ -48,12 +48,13 @@ glue_spec 𝓤 𝓛 𝓜 𝓡 wired =
     -- [the second's bytes; the first's; the tokens]
     let there : s.home +ₚ s.at ≡ (r.home +ₚ r.at) +ₚ length r.items = (λ j. home j +ₚ behind j)
     ∙ sym (further r.home r.at (length r.items)) in
-    rewrite ! 0 (λ p. ‵ (run_owns p s.items)) there refl $ move ! (1 ∷ 0 ∷ []) $
-    use2 𝓛 (‵ (run_owns (r.home +ₚ r.at) (r.items ++ s.items))) (glue_at 𝓛 (r.home +ₚ r.at) r.items s.items) $
+    rewrite ! 0 (λ p. ‵ (run_owns p s.items s.room)) there refl $ move ! (1 ∷ 0 ∷ []) $
+    use2 𝓛 (‵ (run_owns (r.home +ₚ r.at) (r.items ++ s.items) s.room))
+    (glue_at 𝓛 (r.home +ₚ r.at) r.items s.items r.room s.room) $
     run_made ! made $
     returns ! (look_at ! 0 refl) $ free_all ! refl $
     suffices ! _ (ends_at 𝓛 f.ended stayed c y bare made (tt, (tt, tt)) (tt, (tt, tt))) $
     nothing ! $ nothing ! $ fjoin ! $ nothing ! $ fjoin ! $ move ! (2 ∷ 0 ∷ 1 ∷ []) $ group ! 3 $
-    shown 𝓛 (made.items ≡ r.items ++ s.items) refl $ shown 𝓛 (made.at ≡ r.at) refl $
+    shown 𝓛 (made.room ≡ s.room) refl $ shown 𝓛 (made.items ≡ r.items ++ s.items) refl $ shown 𝓛 (made.at ≡ r.at) refl $
     shown 𝓛 (made.home ≡ r.home) refl $
-    move ! (3 ∷ []) $ done !))))))
+    move ! (4 ∷ []) $ done !))))))

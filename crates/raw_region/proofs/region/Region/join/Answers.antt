@@ -1,6 +1,7 @@
-use Rattle.raw_region.proofs.Cited.{◌≡◌, ℕ, ◌+◌, List, length, drop, refl, ap, ◌∙◌, position_or_len, subst, InOrder, bytes_of, windows_of}
-use Rattle.raw_region.proofs.Cited.{gap_is, IsRegion, Gap}
-use Rattle.raw_region.proofs.GapWindows.{windows_in_order}
+use Rattle.raw_region.proofs.Cited.{◌≡◌, ℕ, ◌+◌, List, ◌++◌, length, drop, refl, ap, ◌∙◌, position_or_len, subst, InOrder, bytes_of}
+use Rattle.raw_region.proofs.Cited.{windows_of}
+use Rattle.raw_region.proofs.Cited.{gap_is, asleep, IsRegion, Inside, Gap}
+use Rattle.raw_region.proofs.Waking.{whole_order}
 use Rattle.raw_region.proofs.Cutting.{none}
 use Rattle.raw_region.proofs.Joining.{Joins, joins}
 use Rattle.raw_region.proofs.region.Region.join.Goals.{After-index_of-i, After-shut}
@@ -23,12 +24,19 @@ facts c =
     (counts c.as_slice.result.now c.index_of-i.result c.part.inside.at c.len-len.result c.args.part.at
     (length c.args.part.bytes) c.index_of-i.ensures at len)
 
-region_is : (c : After-shut)
-    → IsRegion (record { frame = c.self.inside.frame; home = c.self.inside.home; gaps = c.shut.new.gaps; len = c.self.inside.len })
-region_is c =
-    (facts c.before.before).region
-    (record { frame = c.self.inside.frame; home = c.self.inside.home; gaps = c.shut.new.gaps; len = c.self.inside.len }) refl refl refl
-    (c.shut.ensures.items none) c.shut.ensures.capacity
+-- the region once the part is joined
+abbrev left : After-shut → Inside
+left c = record {
+  frame = c.self.inside.frame;
+  home = c.self.inside.home;
+  gaps = c.shut.new.gaps;
+  len = c.self.inside.len;
+  used = c.self.inside.used;
+}
+
+region_is : (c : After-shut) → IsRegion (left c)
+region_is c = (facts c.before.before).region (left c) refl refl refl refl (c.shut.ensures.items none)
+    c.shut.ensures.capacity
 
 pub shut-requires-clause-not_start : goal.shut-requires-clause-not_start
 shut-requires-clause-not_start c = (facts (goal.at.shut-requires-clause-not_start c).After-index_of-i).not_start
@@ -44,7 +52,8 @@ invariant_of-self c = region_is (goal.at.invariant_of-self c).After-shut
 
 pub returns-clause-bytes : goal.returns-clause-bytes
 returns-clause-bytes c =
-    ap bytes_of (c.shut.ensures.items none) ∙ (facts (goal.at.returns-clause-bytes c).After-index_of-i).bytes
+    ap (λ gs. bytes_of gs ++ asleep c.self.inside) (c.shut.ensures.items none)
+    ∙ (facts (goal.at.returns-clause-bytes c).After-index_of-i).bytes
 
 pub returns-clause-out : goal.returns-clause-out
 returns-clause-out c =
@@ -52,14 +61,14 @@ returns-clause-out c =
 
 pub returns-clause-same_length : goal.returns-clause-same_length
 returns-clause-same_length c =
-    ap (λ gs. length (bytes_of gs)) (c.shut.ensures.items none)
+    ap (λ gs. length (bytes_of gs ++ asleep c.self.inside)) (c.shut.ensures.items none)
     ∙ (facts (goal.at.returns-clause-same_length c).After-index_of-i).long
 
 pub returns-clause-in_order : goal.returns-clause-in_order
 returns-clause-in_order c =
     let new = region_is (goal.at.returns-clause-in_order c).After-shut in
-    windows_in_order c.self.inside.home c.shut.new.gaps.items new.laid new.first
+    whole_order c.self.inside.home c.shut.new.gaps.items (asleep c.self.inside) new.laid new.first
 
 pub returns-clause-was_in_order : goal.returns-clause-was_in_order
 returns-clause-was_in_order c = subst (λ w. InOrder 0 w.out (length w.bytes)) c.self.view_is
-    (windows_in_order c.self.inside.home c.self.inside.gaps.items c.self.invariant.laid c.self.invariant.first)
+    (whole_order c.self.inside.home c.self.inside.gaps.items (asleep c.self.inside) c.self.invariant.laid c.self.invariant.first)
