@@ -8,6 +8,7 @@ pub mod Fresh
 pub mod Pointing
 pub mod Raising
 pub mod Lawful
+pub mod OneLayout
 pub mod Stepping
 pub mod Wander
 pub mod Placing

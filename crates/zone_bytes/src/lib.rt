@@ -19,6 +19,7 @@ mod raw_walk;
 mod resizing;
 mod settling;
 mod slots;
+mod sound_part;
 mod words;
 mod writing;
 
@@ -39,5 +40,6 @@ pub use raw_walk::{RawWalk, seen_of, step_at, walk_from};
 pub use resizing::{ResizedBlock, free_above, resize_block};
 pub use settling::{PackedRun, settle_run};
 pub use slots::{give_slot, take_slot};
+pub use sound_part::SoundPart;
 pub use words::{read_header, read_slot, read_word, write_header, write_slot, write_word};
 pub use writing::{get_bytes, put_bytes};
