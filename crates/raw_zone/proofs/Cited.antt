@@ -70,12 +70,13 @@ pub use Rattle.zone_bytes.specs.Edges.{AreEdges}
 pub use Rattle.zone_bytes.specs.Fresh.{fresh_slots}
 pub use Rattle.zone_bytes.specs.Lawful.{IsSound}
 pub use Rattle.zone_bytes.specs.Laying.{new_header}
+pub use Rattle.zone_bytes.specs.Layout.{Each, IsSlot}
 pub use Rattle.zone_bytes.specs.Mastering.{slots_at, with_slots}
 pub use Rattle.zone_bytes.specs.Placing.{hoist_at, lay_at}
 pub use Rattle.zone_bytes.specs.PurgeableBytes.{purgeable_at, purgeable_of, purgeable_sum}
 pub use Rattle.zone_bytes.specs.Raising.{lifted}
 pub use Rattle.zone_bytes.specs.Stepping.{IsOnWay}
-pub use Rattle.zone_bytes.specs.Table.{Lays, slot_in}
+pub use Rattle.zone_bytes.specs.Table.{Lays, first_of, slot_in}
 pub use Rattle.zone_marks.proofs.Bounds.Space.{stands-still}
 pub use Rattle.zone_marks.proofs.Joined.PurgeStarts.{above-gained, may-purge, purge-gained, spot-at}
 pub use Rattle.zone_marks.proofs.Marks.Owed.{filled-replaced, replaced-as, with-marks, with-same, with-written}

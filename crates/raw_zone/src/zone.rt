@@ -1,6 +1,5 @@
 //! A zone in the bytes of a part.
 
-ghost use Rattle.zone_bytes.specs.Lawful.{IsLawful};
 ghost use Rattle.std.specs.Prelude.{◌≡◌, true, List};
 ghost use Rattle.block_store.specs.Block.{Block, tidy};
 ghost use Rattle.block_store.specs.Sparing.{purged};
@@ -14,10 +13,10 @@ use raw_region::Part;
 use std::alloc::{AllocError, Global};
 use std::marker::Model;
 use zone_bytes::{
-    Edges, PackedRun, SlotBlock, add_masters, block_of_slot, carve, carve_nonrelocatable,
-    content_at, flag_at, hoist_block, kept_flags, make_fresh, mark_slot, move_bytes, padded_size,
-    put_bytes, raise_run, read_word, resize_block, settle_run, size_at, slot_place, slot_resource,
-    walk_above, walk_from,
+    Edges, PackedRun, SlotBlock, SoundPart, add_masters, block_of_slot, carve,
+    carve_nonrelocatable, content_at, flag_at, hoist_block, kept_flags, make_fresh, mark_slot,
+    move_bytes, padded_size, put_bytes, raise_run, read_word, resize_block, settle_run, size_at,
+    slot_place, slot_resource, walk_above, walk_from,
 };
 use zone_marks::{
     Landmarks, count_purgeable, falls_short, free_block, free_slot, frees_one, given_at,
@@ -26,22 +25,19 @@ use zone_marks::{
 };
 
 /// A zone in the bytes of a part: each block begins with its header, and the slots lie in the
-/// master pointer blocks. The slots of no handle are one list, threaded through their words. Beside
-/// the part stand the first slot of that list, the number of its slots, the number of free bytes,
-/// and the number of bytes that purges would free.
+/// master pointer blocks. The slots of no handle are one list, threaded through their words, whose
+/// first slot and number of slots stand with the part. Beside it stand the number of free bytes and
+/// the number of bytes that purges would free.
 ///
 /// *Inside Macintosh: Memory*, chapter 2, "Organization of Memory".
 pub struct RawZone {
-    part: Part,
-    first: u32,
-    unused: u32,
+    sound: SoundPart,
     free: u32,
     purgeable: u32,
     moves: u64,
     placings: u64,
     marks: Landmarks,
     edges: Edges,
-    ghost lawful: { ∥ IsLawful part.bytes ∥₁ },
 }
 
 impl Model for RawZone {
@@ -110,12 +106,15 @@ impl RawZone {
     {
         let end = part.len() as u32;
         make_fresh(&mut part, end);
-        let marks = Landmarks::of(alloc, &part);
-        let edges = Edges::new(alloc, landmarks_of(&part));
-        RawZone {
+        let sound = SoundPart {
             part,
             first: HEADER_SIZE,
             unused: SLOTS_A_BLOCK as u32,
+        };
+        let marks = Landmarks::of(alloc, &sound);
+        let edges = Edges::new(alloc, landmarks_of(&sound.part));
+        RawZone {
+            sound,
             free: end - MASTERS_SIZE,
             purgeable: 0,
             moves: 0,
@@ -135,9 +134,11 @@ impl RawZone {
             (⟦<RawZone as BlockStore>⟧.rest self).slots }
     {
         let RawZone {
-            part,
-            first: _first,
-            unused: _unused,
+            sound: SoundPart {
+                part,
+                first: _first,
+                unused: _unused,
+            },
             free: _free,
             purgeable: _purgeable,
             moves: _moves,
@@ -155,7 +156,7 @@ impl RawZone {
         ensures { LaysOut result.now (⟦<RawZone as BlockStore>⟧.zone self.now)
             (⟦<RawZone as BlockStore>⟧.rest self.now).slots }
     {
-        self.part.bytes()
+        self.sound.part.bytes()
     }
 
     /// Packs the run at a place, without counting the moves.
@@ -171,11 +172,11 @@ impl RawZone {
         ensures stop { IfSome (run_at run (zone_of self.old)) (λ r. result.stop
             ≡ run + sizes r.run) }
     {
-        self.marks.await_edges(&self.part, &mut self.edges, run);
+        self.marks.await_edges(&self.sound, &mut self.edges, run);
         let lowest = self.marks.lowest_packed(run, self.free);
-        let packed = settle_run(&mut self.part, &mut self.edges, run);
+        let packed = settle_run(&mut self.sound.part, &mut self.edges, run);
         self.marks
-            .note_settled(&self.part, &self.edges, run, packed, lowest);
+            .note_settled(&self.sound, &self.edges, run, packed, lowest);
         packed
     }
 
@@ -186,11 +187,11 @@ impl RawZone {
         ensures zone { zone_of self.new ≡ purged purges sparing (zone_of self.old) }
         ensures rest { IsRest (rest_of self.old) (rest_of self.new) }
     {
-        let freed = purge_lowest(&mut self.part, &self.marks, purges, sparing);
+        let freed = purge_lowest(&mut self.sound, &self.marks, purges, sparing);
         self.free += freed.bytes;
-        self.purgeable = purgeable_left(&self.part, self.purgeable, freed.bytes, sparing);
-        self.marks.note(&self.part, freed.from, freed.to);
-        self.marks.seek(&self.part);
+        self.purgeable = purgeable_left(&self.sound, self.purgeable, freed.bytes, sparing);
+        self.marks.note(&self.sound, freed.from, freed.to);
+        self.marks.seek(&self.sound);
     }
 
     /// Reports whether a run has at least `bytes` free bytes without any purge.
@@ -200,7 +201,7 @@ impl RawZone {
         if is_as_it_stands(0, sparing) {
             return self.find_run(bytes).is_some();
         }
-        find_run_in(&mut walk_from(&self.part, 0), bytes, 0, sparing).is_some()
+        find_run_in(&mut walk_from(&self.sound.part, 0), bytes, 0, sparing).is_some()
     }
 
     /// Returns the block of a handle.
@@ -210,7 +211,7 @@ impl RawZone {
         ensures block { IfSome (spot (is_relocatable number) (zone_of self.now)) (λ s.
             seen s.here ≡ see.Relocatable number result.flags result.length) }
     {
-        block_of_slot(&self.part, number)
+        block_of_slot(&self.sound.part, number)
     }
 
     /// Returns the bytes that a handle's block would free if it were purged; 0 if the handle is
@@ -220,7 +221,7 @@ impl RawZone {
         ensures { result ≡ purgeable_at (spot (is_relocatable number) (zone_of self.now)) }
     {
         match self.place_of(number) {
-            Some(place) => purgeable_at(&self.part, place),
+            Some(place) => purgeable_at(&self.sound.part, place),
             None => 0,
         }
     }
@@ -235,9 +236,9 @@ impl RawZone {
             zone_of self.new ≡ s.below ++ Relocatable number flags (content_of s.here) ∷ s.above) }
         ensures rest { IsRest (rest_of self.old) (rest_of self.new) }
     {
-        zone_bytes::adopt(&mut self.part, place, number, flags);
-        self.marks.note_block(&self.part, place);
-        self.purgeable = purgeable_with(&self.part, place, self.purgeable, 0);
+        zone_bytes::adopt(&mut self.sound.part, place, number, flags);
+        self.marks.note_block(&self.sound, place);
+        self.purgeable = purgeable_with(&self.sound, place, self.purgeable, 0);
     }
 }
 
@@ -255,7 +256,7 @@ impl BlockStore for RawZone {
     ghost rest = { rest_of };
 
     fn len(&self) -> u32 {
-        self.part.len() as u32
+        self.sound.part.len() as u32
     }
 
     fn free_bytes(&self) -> u32 {
@@ -263,11 +264,11 @@ impl BlockStore for RawZone {
     }
 
     fn largest_free(&self) -> u32 {
-        self.marks.largest_free(&self.part)
+        self.marks.largest_free(&self.sound)
     }
 
     fn largest_run(&self) -> u32 {
-        self.marks.largest_run(&self.part)
+        self.marks.largest_run(&self.sound)
     }
 
     fn moves(&self) -> u64 {
@@ -279,25 +280,25 @@ impl BlockStore for RawZone {
     }
 
     fn block_at(&self, place: u32) -> Option<Seen> {
-        walk_from(&self.part, place).next_block()
+        walk_from(&self.sound.part, place).next_block()
     }
 
     fn place_of(&self, number: u32) -> Option<u32> {
-        slot_place(&self.part, number)
+        slot_place(&self.sound.part, number)
     }
 
     fn find_free(&self, bytes: u32) -> Option<u32> {
         if self.free < bytes {
             return None;
         }
-        self.marks.find(&self.part, bytes)
+        self.marks.find(&self.sound, bytes)
     }
 
     fn find_run(&self, bytes: u32) -> Option<u32> {
         if self.free < bytes {
             return None;
         }
-        self.marks.find_run(&self.part, bytes)
+        self.marks.find_run(&self.sound, bytes)
     }
 
     fn fewest_purges(&self, bytes: u32, sparing: Sparing) -> Option<u32> {
@@ -307,18 +308,18 @@ impl BlockStore for RawZone {
         if falls_short(self.free_if_purged(), bytes, sparing) {
             return None;
         }
-        self.marks.fewest_purges(&self.part, bytes, sparing)
+        self.marks.fewest_purges(&self.sound, bytes, sparing)
     }
 
     fn next_run(&self, run: u32) -> Option<u32> {
-        match next_run_in(&mut walk_from(&self.part, run)) {
+        match next_run_in(&mut walk_from(&self.sound.part, run)) {
             Some(bytes) => Some(run + bytes),
             None => None,
         }
     }
 
     fn packed_runs(&self) -> Option<u32> {
-        packed_runs_in(&mut walk_from(&self.part, 0))
+        packed_runs_in(&mut walk_from(&self.sound.part, 0))
     }
 
     fn next_purgeable(&self, sparing: Sparing) -> Option<u32> {
@@ -326,9 +327,9 @@ impl BlockStore for RawZone {
             return None;
         }
         if frees_one(sparing) {
-            return next_purgeable_in(&mut walk_from(&self.part, 0), 0, sparing);
+            return next_purgeable_in(&mut walk_from(&self.sound.part, 0), 0, sparing);
         }
-        next_purgeable(&self.part, self.marks.start(), 0, sparing)
+        next_purgeable(&self.sound, self.marks.start(), 0, sparing)
     }
 
     fn purgeable(&self, sparing: Sparing) -> u32 {
@@ -336,20 +337,20 @@ impl BlockStore for RawZone {
             return 0;
         }
         if frees_one(sparing) {
-            return purgeable_in(&mut walk_from(&self.part, 0), sparing);
+            return purgeable_in(&mut walk_from(&self.sound.part, 0), sparing);
         }
-        count_purgeable(&self.part, self.marks.start(), sparing)
+        count_purgeable(&self.sound, self.marks.start(), sparing)
     }
 
     fn room_above(&self, number: u32, bytes: u32) -> bool {
-        has_room_above(&self.part, &self.marks, number, bytes)
+        has_room_above(&self.sound, &self.marks, number, bytes)
     }
 
     fn run_of(&self, number: u32, bytes: u32) -> Option<u32> {
         if self.free < bytes {
             return None;
         }
-        self.marks.run_of(&self.part, number, bytes)
+        self.marks.run_of(&self.sound, number, bytes)
     }
 
     fn fewest_for_block(&self, number: u32, bytes: u32, sparing: Sparing) -> Option<u32> {
@@ -357,7 +358,7 @@ impl BlockStore for RawZone {
             return None;
         }
         self.marks
-            .fewest_for_block(&self.part, number, bytes, sparing)
+            .fewest_for_block(&self.sound, number, bytes, sparing)
     }
 
     fn free_if_purged(&self) -> u32 {
@@ -366,9 +367,9 @@ impl BlockStore for RawZone {
 
     fn largest_after(&self, purges: u32) -> u32 {
         if self.purgeable == 0 {
-            return self.marks.largest_free(&self.part);
+            return self.marks.largest_free(&self.sound);
         }
-        self.marks.largest_after(&self.part, purges)
+        self.marks.largest_after(&self.sound, purges)
     }
 
     fn purge(&mut self, purges: u32, sparing: Sparing) {
@@ -378,18 +379,23 @@ impl BlockStore for RawZone {
     }
 
     fn run_after(&self, place: u32, bytes: u32, purges: u32, sparing: Sparing) -> bool {
-        run_has_free_in(&mut walk_above(&self.part, place), bytes, purges, sparing)
+        run_has_free_in(
+            &mut walk_above(&self.sound.part, place),
+            bytes,
+            purges,
+            sparing,
+        )
     }
 
     fn purgeable_after(&self, place: u32, sparing: Sparing) -> u32 {
-        purgeable_in_run_in(&mut walk_above(&self.part, place), sparing)
+        purgeable_in_run_in(&mut walk_above(&self.sound.part, place), sparing)
     }
 
     fn purge_after(&mut self, place: u32, purges: u32, sparing: Sparing) {
-        let freed = purge_above(&mut self.part, place, purges, sparing);
+        let freed = purge_above(&mut self.sound.part, place, purges, sparing);
         self.free += freed.bytes;
         self.purgeable -= freed.bytes;
-        self.marks.note(&self.part, freed.from, freed.to);
+        self.marks.note(&self.sound, freed.from, freed.to);
     }
 
     fn settle(&mut self, run: u32) {
@@ -398,72 +404,80 @@ impl BlockStore for RawZone {
     }
 
     fn raise(&mut self, run: u32, bytes: u32) -> Result<(), AllocError> {
-        self.marks.await_edges(&self.part, &mut self.edges, run);
+        self.marks.await_edges(&self.sound, &mut self.edges, run);
         let lowest = self.marks.lowest_under(run);
-        let stop = raise_run(&mut self.part, &mut self.edges, run, bytes);
+        let stop = raise_run(&mut self.sound.part, &mut self.edges, run, bytes);
         self.marks
-            .note_packed(&self.part, &self.edges, run + bytes, run, stop, lowest);
+            .note_packed(&self.sound, &self.edges, run + bytes, run, stop, lowest);
         self.placings = self.placings.saturating_add(1);
         Ok(())
     }
 
     fn hoist(&mut self, run: u32, number: u32) {
         let packed = self.pack(run);
-        let place = read_word(&self.part, number);
-        hoist_block(&mut self.part, place, packed.stop);
-        self.marks.note(&self.part, run, packed.stop);
+        let place = read_word(&self.sound.part, number);
+        hoist_block(&mut self.sound.part, place, packed.stop);
+        self.marks.note(&self.sound, run, packed.stop);
         self.placings = self.placings.saturating_add(1);
     }
 
     fn carve(&mut self, place: u32, number: u32, size: u32) -> Result<(), AllocError> {
-        let free = size_at(&self.part, place);
-        let flags = kept_flags(&self.part, number);
-        carve(&mut self.part, place, place + free, number, size, flags);
+        let free = size_at(&self.sound.part, place);
+        let flags = kept_flags(&self.sound.part, number);
+        carve(
+            &mut self.sound.part,
+            place,
+            place + free,
+            number,
+            size,
+            flags,
+        );
         self.free -= padded_size(size);
-        self.marks.note(&self.part, place, place + free);
+        self.marks.note(&self.sound, place, place + free);
         self.placings = self.placings.saturating_add(1);
         Ok(())
     }
 
     fn carve_nonrelocatable(&mut self, place: u32, size: u32) -> Result<(), AllocError> {
-        let free = size_at(&self.part, place);
-        carve_nonrelocatable(&mut self.part, place, size);
+        let free = size_at(&self.sound.part, place);
+        carve_nonrelocatable(&mut self.sound.part, place, size);
         self.free -= padded_size(size);
-        self.marks.note(&self.part, place, place + free);
+        self.marks.note(&self.sound, place, place + free);
         Ok(())
     }
 
     fn add_masters(&mut self, place: u32) -> Result<(), AllocError> {
-        let free = size_at(&self.part, place);
-        add_masters(&mut self.part, place, self.first);
-        self.first = place + HEADER_SIZE;
-        self.unused += SLOTS_A_BLOCK as u32;
+        let free = size_at(&self.sound.part, place);
+        let sound = &mut self.sound;
+        add_masters(&mut sound.part, place, sound.first);
+        sound.first = place + HEADER_SIZE;
+        sound.unused += SLOTS_A_BLOCK as u32;
         self.free -= MASTERS_SIZE;
-        self.marks.note(&self.part, place, place + free);
+        self.marks.note(&self.sound, place, place + free);
         Ok(())
     }
 
     fn free_at(&mut self, place: u32) {
-        let freed = free_block(&mut self.part, &self.marks, place);
+        let freed = free_block(&mut self.sound.part, &self.marks, place);
         self.free += freed.bytes;
-        self.marks.note(&self.part, freed.from, freed.to);
+        self.marks.note(&self.sound, freed.from, freed.to);
     }
 
     fn release(&mut self, number: u32) {
         let given = self.purgeable_of(number);
-        let freed = free_slot(&mut self.part, &self.marks, number);
+        let freed = free_slot(&mut self.sound.part, &self.marks, number);
         self.free += freed.bytes;
         self.purgeable -= given;
-        self.marks.note(&self.part, freed.from, freed.to);
+        self.marks.note(&self.sound, freed.from, freed.to);
     }
 
     fn resize(&mut self, place: u32, bytes: u32) -> Result<(), AllocError> {
-        let given = purgeable_at(&self.part, place);
+        let given = purgeable_at(&self.sound.part, place);
         let gives = given_at(given, bytes);
-        let resized = resize_block(&mut self.part, place, bytes, self.free);
+        let resized = resize_block(&mut self.sound.part, place, bytes, self.free);
         self.free = resized.free;
         self.purgeable = self.purgeable - given + gives;
-        self.marks.note(&self.part, place, resized.top);
+        self.marks.note(&self.sound, place, resized.top);
         Ok(())
     }
 
@@ -478,48 +492,49 @@ impl BlockStore for RawZone {
     }
 
     fn set_flags(&mut self, place: u32, flags: Flags) {
-        let given = purgeable_at(&self.part, place);
-        flag_at(&mut self.part, place, flags);
-        self.marks.note_flags(&self.part, place, flags);
-        self.purgeable = purgeable_with(&self.part, place, self.purgeable, given);
+        let given = purgeable_at(&self.sound.part, place);
+        flag_at(&mut self.sound.part, place, flags);
+        self.marks.note_flags(&self.sound, place, flags);
+        self.purgeable = purgeable_with(&self.sound, place, self.purgeable, given);
     }
 
     fn take_slot(&mut self) -> Option<u32> {
-        if self.unused == 0 {
+        if self.sound.unused == 0 {
             return None;
         }
-        let slot = self.first;
-        self.first = zone_bytes::take_slot(&mut self.part, slot);
-        self.unused -= 1;
+        let sound = &mut self.sound;
+        let slot = sound.first;
+        sound.first = zone_bytes::take_slot(&mut sound.part, slot);
+        sound.unused -= 1;
         Some(slot)
     }
 
     fn give_slot(&mut self, number: u32) {
-        let first = self.first;
-        zone_bytes::give_slot(&mut self.part, number, first);
-        self.first = number;
-        self.unused += 1;
+        let sound = &mut self.sound;
+        zone_bytes::give_slot(&mut sound.part, number, sound.first);
+        sound.first = number;
+        sound.unused += 1;
     }
 
     fn is_resource(&self, number: u32) -> bool {
-        slot_resource(&self.part, number)
+        slot_resource(&self.sound.part, number)
     }
 
     fn set_resource(&mut self, number: u32, resource: bool) {
-        mark_slot(&mut self.part, number, resource);
+        mark_slot(&mut self.sound.part, number, resource);
     }
 
     fn bytes(&self, place: u32) -> &[u8] {
-        content_at(&self.part, place)
+        content_at(&self.sound.part, place)
     }
 
     fn write(&mut self, place: u32, from: u32, bytes: &[u8]) {
-        put_bytes(&mut self.part, place + HEADER_SIZE + from, bytes);
+        put_bytes(&mut self.sound.part, place + HEADER_SIZE + from, bytes);
     }
 
     fn copy(&mut self, source: u32, start: u32, bytes: u32, place: u32, from: u32) {
         move_bytes(
-            &mut self.part,
+            &mut self.sound.part,
             source + HEADER_SIZE + start,
             place + HEADER_SIZE + from,
             bytes,

@@ -92,7 +92,7 @@ unfoldable pub use Rattle.zone_bytes.specs.Fresh.{all_slots}
 pub use Rattle.zone_bytes.specs.Hoisting.{Hoist, Hoisted, MayHoist, hoisted_run, unhoisted}
 pub use Rattle.zone_bytes.specs.Joining.{Freeing, HasHandle, Joining, LeadsUp, MayFree, MayJoin, MayRelease}
 pub use Rattle.zone_bytes.specs.Laid.{LaysOut, LiesThere}
-pub use Rattle.zone_bytes.specs.Lawful.{IsKept, IsLawful, IsSound}
+pub use Rattle.zone_bytes.specs.Lawful.{IsLawful, IsSound}
 pub use Rattle.zone_bytes.specs.Laying.{MayLay, free_first, headed, laid, new_header, past_free}
 pub use Rattle.zone_bytes.specs.Layout.{Apart, ArePlaced, Each, IsPlaced, IsSlot, IsSlotOf, Leads, LeadsTo, Pairs, Tile, Tiles, flag_word}
 pub use Rattle.zone_bytes.specs.Layout.{kind, names, names_of}

@@ -1,6 +1,6 @@
 -- The laws of a store, said of the zone that bytes spell.
 use Rattle.std.specs.Prelude.{◌≡◌, ℕ, ◌≤◌, false, List, length}
-use Rattle.block_store.specs.Block.{sizes, free_sum, count, is_relocatable, tidy}
+use Rattle.block_store.specs.Block.{sizes, count, is_relocatable, tidy}
 use Rattle.block_store.specs.Run.{has}
 use Rattle.block_store.specs.Slot.{is_used}
 use Rattle.block_store.specs.Compact.{Aligned, Placed}
@@ -24,8 +24,3 @@ pub record IsSound (xs : List ℕ) (first count : ℕ) : Type 0 where
   pub begins : first ≡ first_of unused
   pub counted : count ≡ length unused
   pub tidied : tidy (zone_in xs) ≡ zone_in xs
-
--- The bytes are sound, and `free` of them are free.
-pub record IsKept (xs : List ℕ) (first unused free : ℕ) : Type 0 where
-  pub sound : IsSound xs first unused
-  pub free_is : free ≡ free_sum (zone_in xs)

@@ -78,7 +78,7 @@ pub use Rattle.zone_bytes.specs.Changes.{AtEach, Became, Begins, Replaced}
 pub use Rattle.zone_bytes.specs.Decode.{zone_in}
 pub use Rattle.zone_bytes.specs.Edges.{AreEdges, ByEdges, IsMover, Starts}
 pub use Rattle.zone_bytes.specs.Joining.{Freeing, Joining, LeadsUp, MayFree, MayJoin, MayRelease}
-pub use Rattle.zone_bytes.specs.Lawful.{IsKept, IsSound}
+pub use Rattle.zone_bytes.specs.Lawful.{IsSound}
 pub use Rattle.zone_bytes.specs.Laying.{free_first}
 pub use Rattle.zone_bytes.specs.Layout.{Each, kind}
 pub use Rattle.zone_bytes.specs.PurgeableBytes.{purgeable_of, purgeable_sum}

@@ -9,7 +9,6 @@ use Rattle.block_store.specs.Sparing.{opened, spared}
 use Rattle.block_store.specs.declared.run_search.RunScan.{RunScan}
 use Rattle.block_store.specs.declared.sparing.Sparing.{Sparing}
 use Rattle.zone_bytes.specs.Decode.{zone_in}
-use Rattle.zone_bytes.specs.Lawful.{IsSound}
 use Rattle.zone_bytes.specs.Changes.{Begins}
 use Rattle.zone_marks.specs.Marks.{AreGroups, AreMarks, IsTally, above_all, next_of}
 use Rattle.zone_bytes.specs.Stepping.{left_in}
@@ -21,9 +20,8 @@ use Rattle.zone_summary.specs.Searches.{begun_in}
 use Rattle.zone_summary.specs.Stretches.{best, is_ended, stretch_of, suffix}
 use Rattle.zone_summary.specs.declared.stretch.Counting.{Counting}
 
--- Bytes spell a sound zone, and the landmarks and their groups are those of the zone.
+-- The landmarks and their groups are those of the zone that bytes spell.
 pub record HasMarks (xs : List ℕ) (all : List Landmark) (in_groups : List Group) : Type 0 where
-  pub sound : (first : ℕ) × (unused : ℕ) × IsSound xs first unused
   pub marks : AreMarks above_all (zone_in xs) all
   pub groups : AreGroups in_groups all
 

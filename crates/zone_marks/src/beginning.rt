@@ -5,7 +5,6 @@
 ghost use Rattle.std.specs.Prelude.{◌≡◌, ◌≤◌, ◌<◌, ℕ, List, length, IfSome};
 ghost use Rattle.block_store.specs.Block.{Block};
 ghost use Rattle.zone_bytes.specs.Decode.{zone_in};
-ghost use Rattle.zone_bytes.specs.Lawful.{IsSound};
 ghost use Rattle.zone_bytes.specs.Changes.{Begins};
 ghost use Rattle.zone_marks.specs.Searching.{HasCome, HasMarks, IsKnown, IsPassed, IsPiece};
 ghost use Rattle.zone_marks.specs.Searching.{IsStretch, begun, place_at};
@@ -18,8 +17,7 @@ use crate::landmark::{Group, Landmark, Tally};
 use crate::largest::{edge_of, told_from};
 use crate::marking::index_above;
 use block_store::{RunScan, is_in_run};
-use raw_region::Part;
-use zone_bytes::step_at;
+use zone_bytes::{SoundPart, step_at};
 use zone_summary::{Counting, Stretch};
 
 /// What is known of the blocks below the place `at`, which were passed: their summary in runs. From
@@ -49,21 +47,20 @@ const NOTHING: Passed = Passed {
 /// free bytes with them.
 pub fn pass_up_to(
     marks: &[Landmark],
-    part: &Part,
+    sound: &SoundPart,
     passed: Passed,
     tally: Tally,
     above: usize,
     bytes: u32,
 ) -> Option<Passed>
-    requires sound { (first : ℕ) × (unused : ℕ) × IsSound part.now.bytes first unused }
     requires inside { above ≤ length marks.now }
-    requires come { HasCome bytes marks.now part.now.bytes passed }
+    requires come { HasCome bytes marks.now sound.now.part.bytes passed }
     requires stretch { IsStretch counting.Runs tally passed.at
-        (place_at above marks.now part.now.bytes) part.now.bytes }
+        (place_at above marks.now sound.now.part.bytes) sound.now.part.bytes }
     ensures above { IfSome result (λ p. p.index ≡ above) }
-    ensures come { IfSome result (λ p. HasCome bytes marks.now part.now.bytes p) }
+    ensures come { IfSome result (λ p. HasCome bytes marks.now sound.now.part.bytes p) }
 {
-    let next = edge_of(marks, part, above);
+    let next = edge_of(marks, sound, above);
     let Tally::Known(stretch) = tally else {
         return None;
     };
@@ -107,28 +104,28 @@ pub fn begun_at(place: u32, purges: u32) -> RunScan
 fn pass_far(
     marks: &[Landmark],
     groups: &[Group],
-    part: &Part,
+    sound: &SoundPart,
     passed: Passed,
     last: usize,
     bytes: u32,
 ) -> Option<Passed>
-    requires marked { HasMarks part.now.bytes marks.now groups.now }
+    requires marked { HasMarks sound.now.part.bytes marks.now groups.now }
     requires last { last ≤ length marks.now }
     requires inside { passed.index < last }
-    requires come { HasCome bytes marks.now part.now.bytes passed }
+    requires come { HasCome bytes marks.now sound.now.part.bytes passed }
     ensures further { IfSome result (λ p. passed.index < p.index) }
     ensures within { IfSome result (λ p. p.index ≤ last) }
-    ensures come { IfSome result (λ p. HasCome bytes marks.now part.now.bytes p) }
+    ensures come { IfSome result (λ p. HasCome bytes marks.now sound.now.part.bytes p) }
 {
-    let told = told_from(marks, groups, part, passed.index, Counting::Runs);
+    let told = told_from(marks, groups, sound, passed.index, Counting::Runs);
     if told.above <= last {
-        let farther = pass_up_to(marks, part, passed, told.tally, told.above, bytes);
+        let farther = pass_up_to(marks, sound, passed, told.tally, told.above, bytes);
         if farther.is_some() {
             return farther;
         }
     }
     let tally = marks[passed.index].tally.runs;
-    pass_up_to(marks, part, passed, tally, passed.index + 1, bytes)
+    pass_up_to(marks, sound, passed, tally, passed.index + 1, bytes)
 }
 
 /// Returns what is known of the blocks from the bottom on, as far as no run of them has `bytes`
@@ -136,20 +133,20 @@ fn pass_far(
 pub fn passed_below(
     marks: &[Landmark],
     groups: &[Group],
-    part: &Part,
+    sound: &SoundPart,
     last: usize,
     bytes: u32,
 ) -> Passed
-    requires marked { HasMarks part.now.bytes marks.now groups.now }
+    requires marked { HasMarks sound.now.part.bytes marks.now groups.now }
     requires last { last ≤ length marks.now }
-    requires bottom { place_at 0 marks.now part.now.bytes ≡ 0 }
+    requires bottom { place_at 0 marks.now sound.now.part.bytes ≡ 0 }
     requires some { 0 < bytes }
     ensures within { result.index ≤ last }
-    ensures come { HasCome bytes marks.now part.now.bytes result }
+    ensures come { HasCome bytes marks.now sound.now.part.bytes result }
 {
     let mut passed = NOTHING;
     while passed.index < last {
-        let Some(farther) = pass_far(marks, groups, part, passed, last, bytes) else {
+        let Some(farther) = pass_far(marks, groups, sound, passed, last, bytes) else {
             return passed;
         };
         passed = farther;
@@ -159,17 +156,16 @@ pub fn passed_below(
 
 /// Returns the bottom of the run that goes on at the place `to`; returns `from` if the run has
 /// blocks below `from`.
-fn run_start(part: &Part, from: u32, to: u32) -> u32
-    requires sound { (first : ℕ) × (unused : ℕ) × IsSound part.now.bytes first unused }
-    requires begins { Begins from 0 (zone_in part.now.bytes) }
-    requires to { Begins to from (left_in from part.now.bytes) }
-    ensures { (here : List Block) → IsPiece from to part.now.bytes here
+fn run_start(sound: &SoundPart, from: u32, to: u32) -> u32
+    requires begins { Begins from 0 (zone_in sound.now.part.bytes) }
+    requires to { Begins to from (left_in from sound.now.part.bytes) }
+    ensures { (here : List Block) → IsPiece from to sound.now.part.bytes here
         → result ≡ begun_in from from here }
 {
     let mut place = from;
     let mut start = from;
     while place < to {
-        let step = step_at(part, place);
+        let step = step_at(&sound.part, place);
         place = step.end;
         if !is_in_run(step.block) {
             start = place;
@@ -180,15 +176,14 @@ fn run_start(part: &Part, from: u32, to: u32) -> u32
 
 /// Returns the state of a search from the bottom on, with no purges, after the blocks that it
 /// passed.
-fn after_passed(part: &Part, passed: Passed) -> RunScan
-    requires sound { (first : ℕ) × (unused : ℕ) × IsSound part.now.bytes first unused }
-    requires passed { IsPassed part.now.bytes passed }
+fn after_passed(sound: &SoundPart, passed: Passed) -> RunScan
+    requires { IsPassed sound.now.part.bytes passed }
     ensures { (bytes to : ℕ) → best passed.runs < bytes → passed.at ≤ to
-        → IsKnown bytes to part.now.bytes result }
+        → IsKnown bytes to sound.now.part.bytes result }
 {
     RunScan {
         left: 0,
-        start: run_start(part, passed.barred, passed.end),
+        start: run_start(sound, passed.barred, passed.end),
         free: passed.runs.highest(),
         met: true,
         place: passed.at,
@@ -201,17 +196,17 @@ fn after_passed(part: &Part, passed: Passed) -> RunScan
 pub fn run_below(
     marks: &[Landmark],
     groups: &[Group],
-    part: &Part,
+    sound: &SoundPart,
     from: u32,
     bytes: u32,
 ) -> RunScan
-    requires marked { HasMarks part.now.bytes marks.now groups.now }
-    ensures { IsKnown bytes from part.now.bytes result }
+    requires marked { HasMarks sound.now.part.bytes marks.now groups.now }
+    ensures { IsKnown bytes from sound.now.part.bytes result }
 {
     let above = index_above(marks, from.saturating_add(1), 0);
-    if above == 0 || edge_of(marks, part, 0) != 0 || bytes == 0 {
+    if above == 0 || edge_of(marks, sound, 0) != 0 || bytes == 0 {
         return begun_at(0, 0);
     }
-    let passed = passed_below(marks, groups, part, above - 1, bytes);
-    after_passed(part, passed)
+    let passed = passed_below(marks, groups, sound, above - 1, bytes);
+    after_passed(sound, passed)
 }

@@ -6,17 +6,13 @@
 ghost use Rattle.std.specs.Prelude.{◌≡◌, ◌≤◌, ◌<◌, ◌+◌, ◌^◌, ◌++◌, ℕ, List, Some, IfSome};
 ghost use Rattle.std.specs.Prelude.{MatchOption, true, false};
 ghost use Rattle.block_store.specs.Block.{Block, count, is_relocatable, sizes};
-ghost use Rattle.block_store.specs.Find.{FindsLowestRun};
-ghost use Rattle.block_store.specs.Run.{has_free};
 ghost use Rattle.block_store.specs.Room.{count_of};
 ghost use Rattle.block_store.specs.Sparing.{opened, spared};
 ghost use Rattle.zone_bytes.specs.Decode.{zone_in};
-ghost use Rattle.zone_bytes.specs.Lawful.{IsSound};
 ghost use Rattle.zone_bytes.specs.Changes.{Begins};
 ghost use Rattle.zone_marks.specs.Marked.{AreOf};
 ghost use Rattle.zone_marks.specs.Purgeable.{NoneGoes};
 ghost use Rattle.zone_bytes.specs.Stepping.{left_in};
-ghost use Rattle.zone_summary.specs.Emptied.{all_purged};
 ghost use Rattle.zone_summary.specs.Fewest.{count_within, purges_for, run_purges_for};
 ghost use Rattle.zone_summary.specs.Stretches.{prefix, stretch_of};
 ghost use Rattle.block_store.specs.Fewest.{serves, serves_block, IsFewest};
@@ -31,7 +27,7 @@ use crate::purgeable::frees_one;
 use block_store::{
     Sparing, Walk, is_counted_free, is_in_run, may_purge, may_purge_now, size_of_seen,
 };
-use raw_region::Part;
+use zone_bytes::SoundPart;
 use zone_summary::Counting;
 
 /// Returns the number of blocks that may be purged, of those of a walk that begin in the first
@@ -115,50 +111,54 @@ fn free_of_run<W: Walk>(walk: &mut W, sparing: Sparing) -> u32
 }
 
 /// Returns the free bytes of the run at `run`, as a search sees it first.
-fn free_at(marks: &[Landmark], groups: &[Group], part: &Part, run: u32, sparing: Sparing) -> u32
-    requires marked { HasMarks part.now.bytes marks.now groups.now }
-    requires begins { Begins run 0 (zone_in part.now.bytes) }
-    ensures { result ≡ prefix (stretch_of (opened sparing (left_in run part.now.bytes))) }
+fn free_at(
+    marks: &[Landmark],
+    groups: &[Group],
+    sound: &SoundPart,
+    run: u32,
+    sparing: Sparing,
+) -> u32
+    requires marked { HasMarks sound.now.part.bytes marks.now groups.now }
+    requires begins { Begins run 0 (zone_in sound.now.part.bytes) }
+    ensures { result ≡ prefix (stretch_of (opened sparing (left_in run sound.now.part.bytes))) }
 {
     if frees_one(sparing) {
-        free_of_run(&mut walk_at(part, run), sparing)
+        free_of_run(&mut walk_at(sound, run), sparing)
     } else {
-        stretch_above(marks, groups, part, run, Counting::Runs, true).lowest()
+        stretch_above(marks, groups, sound, run, Counting::Runs, true).lowest()
     }
 }
 
 /// Returns the number of blocks below the run at `run` that may be purged, where no block below
 /// `from` may be.
-fn count_below(part: &Part, from: u32, run: u32, sparing: Sparing) -> u32
-    requires sound { (first : ℕ) × (unused : ℕ) × IsSound part.now.bytes first unused }
-    requires begins { Begins from 0 (zone_in part.now.bytes) }
-    requires none { NoneGoes from (zone_in part.now.bytes) }
-    requires run { Begins run 0 (zone_in part.now.bytes) }
-    ensures is { (low rest : List Block) → zone_in part.now.bytes ≡ low ++ rest → sizes low ≡ run
-        → result ≡ count_of (spared sparing) (opened sparing low) }
+fn count_below(sound: &SoundPart, from: u32, run: u32, sparing: Sparing) -> u32
+    requires begins { Begins from 0 (zone_in sound.now.part.bytes) }
+    requires none { NoneGoes from (zone_in sound.now.part.bytes) }
+    requires run { Begins run 0 (zone_in sound.now.part.bytes) }
+    ensures is { (low rest : List Block) → zone_in sound.now.part.bytes ≡ low ++ rest
+        → sizes low ≡ run → result ≡ count_of (spared sparing) (opened sparing low) }
     ensures few { result ≤ run }
 {
     let first = from.min(run);
-    count_in(&mut walk_at(part, first), run - first, sparing)
+    count_in(&mut walk_at(sound, first), run - first, sparing)
 }
 
 impl Landmarks {
     /// Returns the least number of purges after which a run has at least `bytes` free bytes, where
     /// no run has them before any purge; `None` where no purges serve.
     #[tactic(auto, using(crate::proofs::Searches::RunStarting::first_begins))]
-    pub fn fewest_purges(&self, part: &Part, bytes: u32, sparing: Sparing) -> Option<u32>
-        requires sound { (first : ℕ) × (unused : ℕ) × IsSound part.now.bytes first unused }
-        requires marks { AreOf self.now (zone_in part.now.bytes) }
-        requires unserved { serves bytes sparing (zone_in part.now.bytes) 0 ≡ false }
+    pub fn fewest_purges(&self, sound: &SoundPart, bytes: u32, sparing: Sparing) -> Option<u32>
+        requires marks { AreOf self.now (zone_in sound.now.part.bytes) }
+        requires unserved { serves bytes sparing (zone_in sound.now.part.bytes) 0 ≡ false }
         ensures { MatchOption result
-            ((purges : ℕ) → serves bytes sparing (zone_in part.now.bytes) purges ≡ false)
-            (λ fewest. IsFewest (serves bytes sparing (zone_in part.now.bytes)) fewest) }
+            ((purges : ℕ) → serves bytes sparing (zone_in sound.now.part.bytes) purges ≡ false)
+            (λ fewest. IsFewest (serves bytes sparing (zone_in sound.now.part.bytes)) fewest) }
     {
         let (marks, groups) = (&self.marks, &self.groups);
-        let run = find_run_purged(marks, groups, part, self.under(), bytes, sparing)?;
-        let below = count_below(part, self.start(), run, sparing);
-        let lacks = bytes.saturating_sub(free_at(marks, groups, part, run, sparing));
-        Some(below + count_for(&mut walk_at(part, run), lacks, sparing))
+        let run = find_run_purged(marks, groups, sound, self.under(), bytes, sparing)?;
+        let below = count_below(sound, self.start(), run, sparing);
+        let lacks = bytes.saturating_sub(free_at(marks, groups, sound, run, sparing));
+        Some(below + count_for(&mut walk_at(sound, run), lacks, sparing))
     }
 
     /// Returns the least number of purges after which the run of a master pointer's block has at
@@ -166,26 +166,26 @@ impl Landmarks {
     /// block itself may not be purged.
     pub fn fewest_for_block(
         &self,
-        part: &Part,
+        sound: &SoundPart,
         number: u32,
         bytes: u32,
         sparing: Sparing,
     ) -> Option<u32>
-        requires sound { (first : ℕ) × (unused : ℕ) × IsSound part.now.bytes first unused }
-        requires marks { AreOf self.now (zone_in part.now.bytes) }
-        requires once { count (is_relocatable number) (zone_in part.now.bytes) ≤ 1 }
+        requires marks { AreOf self.now (zone_in sound.now.part.bytes) }
+        requires once { count (is_relocatable number) (zone_in sound.now.part.bytes) ≤ 1 }
         requires spared { (b : Block) → is_relocatable number b ≡ true → spared sparing b ≡ true }
         requires whole { (blocks : List Block) → opened sparing blocks ≡ blocks }
         ensures { MatchOption result ((purges : ℕ)
-            → serves_block number bytes sparing (zone_in part.now.bytes) purges ≡ false) (λ fewest.
-            IsFewest (serves_block number bytes sparing (zone_in part.now.bytes)) fewest) }
+            → serves_block number bytes sparing (zone_in sound.now.part.bytes) purges ≡ false)
+            (λ fewest. IsFewest
+            (serves_block number bytes sparing (zone_in sound.now.part.bytes)) fewest) }
     {
-        let run = self.run_of(part, number, 0)?;
-        let free = free_at(&self.marks, &self.groups, part, run, sparing);
+        let run = self.run_of(sound, number, 0)?;
+        let free = free_at(&self.marks, &self.groups, sound, run, sparing);
         if bytes <= free {
             return Some(0);
         }
-        let own = count_in_run(&mut walk_at(part, run), bytes - free, sparing)?;
-        Some(count_below(part, self.start(), run, sparing) + own)
+        let own = count_in_run(&mut walk_at(sound, run), bytes - free, sparing)?;
+        Some(count_below(sound, self.start(), run, sparing) + own)
     }
 }

@@ -1,11 +1,10 @@
 //! The largest free block of a zone, as the zone stands and after purges.
 
-ghost use Rattle.std.specs.Prelude.{◌≡◌, ◌+◌, ◌*◌, ◌≤◌, ◌<◌, ℕ, length};
+ghost use Rattle.std.specs.Prelude.{◌≡◌, ◌+◌, ◌*◌, ◌≤◌, ◌<◌, length};
 ghost use Rattle.block_store.specs.Compact.{largest_free};
 ghost use Rattle.block_store.specs.Sparing.{purged};
 ghost use Rattle.block_store.specs.declared.sparing.Sparing.TheVariants.{Nothing};
 ghost use Rattle.zone_bytes.specs.Decode.{zone_in};
-ghost use Rattle.zone_bytes.specs.Lawful.{IsSound};
 ghost use Rattle.zone_marks.specs.Marked.{AreOf};
 ghost use Rattle.zone_marks.specs.Marks.{NoneBelow};
 ghost use Rattle.zone_marks.specs.declared.landmark.TheConstants.{GROUP};
@@ -17,7 +16,7 @@ use crate::largest::stretch_above;
 use crate::marking::place_of_mark;
 use crate::measuring::{measure_up_to, walk_at};
 use block_store::{GREATEST_ZONE, Sparing, largest_after_in};
-use raw_region::Part;
+use zone_bytes::SoundPart;
 use zone_summary::Counting;
 
 /// Returns the size of the largest free block in the stretches of a group's landmarks, or `most` if
@@ -27,16 +26,17 @@ use zone_summary::Counting;
 fn larger_in_group(
     marks: &[Landmark],
     groups: &[Group],
-    part: &Part,
+    sound: &SoundPart,
     group: usize,
     most: u32,
 ) -> u32
-    requires marked { HasMarks part.now.bytes marks.now groups.now }
+    requires marked { HasMarks sound.now.part.bytes marks.now groups.now }
     requires inside { group < length groups.now }
-    requires below { NoneBelow (most + 1) (zone_in part.now.bytes) marks.now (GROUP * group) }
-    requires reached { most ≤ largest_free (zone_in part.now.bytes) }
-    ensures none { NoneBelow (result + 1) (zone_in part.now.bytes) marks.now (GROUP * (group + 1)) }
-    ensures reached { result ≤ largest_free (zone_in part.now.bytes) }
+    requires below { NoneBelow (most + 1) (zone_in sound.now.part.bytes) marks.now (GROUP * group) }
+    requires reached { most ≤ largest_free (zone_in sound.now.part.bytes) }
+    ensures none { NoneBelow (result + 1) (zone_in sound.now.part.bytes) marks.now
+        (GROUP * (group + 1)) }
+    ensures reached { result ≤ largest_free (zone_in sound.now.part.bytes) }
 {
     if groups[group].most <= most {
         return most;
@@ -48,20 +48,20 @@ fn larger_in_group(
         if mark.most <= largest {
             continue;
         }
-        let stretch = measure_up_to(part, mark.at, place_of_mark(marks, index + 1));
+        let stretch = measure_up_to(&sound.part, mark.at, place_of_mark(marks, index + 1));
         largest = largest.max(stretch.most);
     }
     largest
 }
 
 /// Returns the size of the largest free block.
-pub fn largest_free_by_marks(marks: &[Landmark], groups: &[Group], part: &Part) -> u32
-    requires marked { HasMarks part.now.bytes marks.now groups.now }
-    ensures { result ≡ largest_free (zone_in part.now.bytes) }
+pub fn largest_free_by_marks(marks: &[Landmark], groups: &[Group], sound: &SoundPart) -> u32
+    requires marked { HasMarks sound.now.part.bytes marks.now groups.now }
+    ensures { result ≡ largest_free (zone_in sound.now.part.bytes) }
 {
-    let mut largest = measure_up_to(part, 0, place_of_mark(marks, 0)).most;
+    let mut largest = measure_up_to(&sound.part, 0, place_of_mark(marks, 0)).most;
     for group in 0..groups.len() {
-        largest = larger_in_group(marks, groups, part, group, largest);
+        largest = larger_in_group(marks, groups, sound, group, largest);
     }
     largest
 }
@@ -70,17 +70,16 @@ impl Landmarks {
     /// Returns the size of the largest free block after the given number of purges. If all blocks
     /// that may be purged are purged, the landmarks' tallies give it; else the blocks below the
     /// first of them are those of the zone as it stands, and those above are walked over.
-    pub fn largest_after(&self, part: &Part, purges: u32) -> u32
-        requires sound { (first : ℕ) × (unused : ℕ) × IsSound part.now.bytes first unused }
-        requires marks { AreOf self.now (zone_in part.now.bytes) }
-        ensures { result ≡ largest_free (purged purges Nothing (zone_in part.now.bytes)) }
+    pub fn largest_after(&self, sound: &SoundPart, purges: u32) -> u32
+        requires { AreOf self.now (zone_in sound.now.part.bytes) }
+        ensures { result ≡ largest_free (purged purges Nothing (zone_in sound.now.part.bytes)) }
     {
         let (marks, groups) = (&self.marks, &self.groups);
         if GREATEST_ZONE <= purges {
-            return stretch_above(marks, groups, part, 0, Counting::Spaces, false).best();
+            return stretch_above(marks, groups, sound, 0, Counting::Spaces, false).best();
         }
-        let stands = largest_free_by_marks(marks, groups, part);
-        let above = largest_after_in(&mut walk_at(part, self.under()), purges, Sparing::Nothing);
+        let stands = largest_free_by_marks(marks, groups, sound);
+        let above = largest_after_in(&mut walk_at(sound, self.under()), purges, Sparing::Nothing);
         stands.max(above)
     }
 }

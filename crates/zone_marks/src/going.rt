@@ -1,13 +1,12 @@
 //! The lowest blocks that may be purged. A zone keeps a place below which no block may be purged,
 //! from which they are sought.
 
-ghost use Rattle.std.specs.Prelude.{◌≡◌, ◌≤◌, ◌<◌, ℕ, List};
+ghost use Rattle.std.specs.Prelude.{◌≡◌, ◌<◌, List};
 ghost use Rattle.block_store.specs.Block.{Block};
 ghost use Rattle.block_store.specs.Find.{FindsLowest};
 ghost use Rattle.block_store.specs.Room.{may_be_purged};
 ghost use Rattle.block_store.specs.Sparing.{most_purges, opened, purged, spared};
 ghost use Rattle.zone_bytes.specs.Decode.{zone_in};
-ghost use Rattle.zone_bytes.specs.Lawful.{IsSound};
 ghost use Rattle.zone_bytes.specs.Changes.{AtEach, Begins, Replaced};
 ghost use Rattle.zone_marks.specs.Purgeable.{NoneGoes, Stays};
 ghost use Rattle.zone_bytes.specs.Stepping.{left_in, IsOnWay};
@@ -15,7 +14,7 @@ ghost use Rattle.zone_bytes.specs.Stepping.{left_in, IsOnWay};
 use crate::measuring::walk_at;
 use block_store::{Sparing, may_purge_now, next_purgeable_in, purgeable_in};
 use raw_region::Part;
-use zone_bytes::step_at;
+use zone_bytes::{SoundPart, step_at};
 
 /// Returns the place of the lowest block that may be purged, of those that begin from `from` up to
 /// `to`; if there is none, where the walk over them ends.
@@ -37,17 +36,16 @@ pub fn first_going(part: &Part, from: u32, to: u32) -> u32
 
 /// Returns a place below which no block may be purged after the blocks from `lo` to `hi` became
 /// others, where before that none below `lowest` might be.
-pub fn lowest_after(part: &Part, lowest: u32, lo: u32, hi: u32) -> u32
-    requires sound { (first : ℕ) × (unused : ℕ) × IsSound part.now.bytes first unused }
-    requires replaced { (old : List Block) × Replaced lo hi old (zone_in part.now.bytes) }
-    ensures { (old : List Block) → Replaced lo hi old (zone_in part.now.bytes)
+pub fn lowest_after(sound: &SoundPart, lowest: u32, lo: u32, hi: u32) -> u32
+    requires { (old : List Block) × Replaced lo hi old (zone_in sound.now.part.bytes) }
+    ensures { (old : List Block) → Replaced lo hi old (zone_in sound.now.part.bytes)
         → NoneGoes lowest old →
-        NoneGoes result (zone_in part.now.bytes) }
+        NoneGoes result (zone_in sound.now.part.bytes) }
 {
     if lowest <= lo {
         return lowest;
     }
-    let found = first_going(part, lo, hi);
+    let found = first_going(&sound.part, lo, hi);
     if hi <= found {
         return lowest;
     }
@@ -56,27 +54,25 @@ pub fn lowest_after(part: &Part, lowest: u32, lo: u32, hi: u32) -> u32
 
 /// Returns the place of the block that is purged next after `purges` purges, where no block below
 /// `from` may be purged.
-pub fn next_purgeable(part: &Part, from: u32, purges: u32, sparing: Sparing) -> Option<u32>
-    requires sound { (first : ℕ) × (unused : ℕ) × IsSound part.now.bytes first unused }
-    requires begins { Begins from 0 (zone_in part.now.bytes) }
-    requires none { NoneGoes from (zone_in part.now.bytes) }
+pub fn next_purgeable(sound: &SoundPart, from: u32, purges: u32, sparing: Sparing) -> Option<u32>
+    requires begins { Begins from 0 (zone_in sound.now.part.bytes) }
+    requires none { NoneGoes from (zone_in sound.now.part.bytes) }
     requires plain { (zone : List Block) → opened sparing zone ≡ zone }
     ensures { FindsLowest (may_be_purged (spared sparing))
-        (purged purges sparing (zone_in part.now.bytes)) result }
+        (purged purges sparing (zone_in sound.now.part.bytes)) result }
 {
-    let Some(above) = next_purgeable_in(&mut walk_at(part, from), purges, sparing) else {
+    let Some(above) = next_purgeable_in(&mut walk_at(sound, from), purges, sparing) else {
         return None;
     };
     Some(from + above)
 }
 
 /// Returns the number of blocks that may be purged, where none below `from` may be.
-pub fn count_purgeable(part: &Part, from: u32, sparing: Sparing) -> u32
-    requires sound { (first : ℕ) × (unused : ℕ) × IsSound part.now.bytes first unused }
-    requires begins { Begins from 0 (zone_in part.now.bytes) }
-    requires none { NoneGoes from (zone_in part.now.bytes) }
+pub fn count_purgeable(sound: &SoundPart, from: u32, sparing: Sparing) -> u32
+    requires begins { Begins from 0 (zone_in sound.now.part.bytes) }
+    requires none { NoneGoes from (zone_in sound.now.part.bytes) }
     requires plain { (zone : List Block) → opened sparing zone ≡ zone }
-    ensures { result ≡ most_purges sparing (zone_in part.now.bytes) }
+    ensures { result ≡ most_purges sparing (zone_in sound.now.part.bytes) }
 {
-    purgeable_in(&mut walk_at(part, from), sparing)
+    purgeable_in(&mut walk_at(sound, from), sparing)
 }

@@ -1,18 +1,15 @@
 //! The landmarks that a zone keeps.
 
-ghost use Rattle.std.specs.Prelude.{◌≡◌, ◌≤◌, ◌<◌, ◌⊎◌, ◌++◌, ℕ, List, [], Some, true, false, IfOk};
-ghost use Rattle.std.specs.Prelude.{MatchOption};
-ghost use Rattle.block_store.specs.Block.{Block, count, free_sum, is_relocatable, is_room, sizes};
-ghost use Rattle.block_store.specs.Compact.{largest_free, largest_run};
-ghost use Rattle.block_store.specs.Fewest.{serves, serves_block, IsFewest};
-ghost use Rattle.block_store.specs.Find.{FindsLowest, FindsLowestRun};
-ghost use Rattle.block_store.specs.Run.{RunSpot, has_free, run_at, settle};
-ghost use Rattle.block_store.specs.Sparing.{opened, purged, spared};
+ghost use Rattle.std.specs.Prelude.{◌≡◌, ◌<◌, ◌⊎◌, ◌++◌, ℕ, List, [], Some, IfOk};
+ghost use Rattle.block_store.specs.Block.{Block, count, free_sum, is_room};
+ghost use Rattle.block_store.specs.Compact.{largest_free};
+ghost use Rattle.block_store.specs.Find.{FindsLowest};
+ghost use Rattle.block_store.specs.Run.{RunSpot, run_at, settle};
+ghost use Rattle.block_store.specs.Sparing.{purged};
 ghost use Rattle.block_store.specs.declared.sparing.Sparing.TheVariants.{Nothing};
 ghost use Rattle.zone_bytes.specs.Decode.{zone_in};
 ghost use Rattle.zone_bytes.specs.Edges.{AreEdges, ByEdges};
 ghost use Rattle.zone_marks.specs.LaidMarks.{AreLaid};
-ghost use Rattle.zone_bytes.specs.Lawful.{IsSound};
 ghost use Rattle.zone_marks.specs.Marked.{AreMarked, AreOf};
 ghost use Rattle.zone_marks.specs.Marks.{AreGroups};
 ghost use Rattle.zone_bytes.specs.Changes.{Became, Begins, Replaced};
@@ -27,9 +24,8 @@ use crate::marking::{
 };
 use crate::paging::{groups_of, page_bytes, page_end};
 use block_store::{Flags, Sparing};
-use raw_region::Part;
 use std::alloc::{AllocError, Global};
-use zone_bytes::{Edges, PackedRun, size_at};
+use zone_bytes::{Edges, PackedRun, SoundPart, size_at};
 
 /// Landmarks of a zone: places at which blocks begin, one for each page of the zone's bytes. Each
 /// has a bound on the size of each free block up to the next landmark, and tallies of the blocks
@@ -51,22 +47,21 @@ impl Landmarks {
     /// from the host here. If the host is out of memory, there are none: each search then begins at
     /// the bottom, and finds the same.
     #[tactic(auto, using(crate::proofs::Bounds::Going::lowest_places))]
-    pub fn of(alloc: Global, part: &Part) -> Landmarks
-        requires sound { (first : ℕ) × (unused : ℕ) × IsSound part.now.bytes first unused }
-        ensures { AreOf result (zone_in part.now.bytes) }
+    pub fn of(alloc: Global, sound: &SoundPart) -> Landmarks
+        ensures { AreOf result (zone_in sound.now.part.bytes) }
     {
-        let mut landmarks = match Landmarks::unlaid(alloc, part) {
+        let mut landmarks = match Landmarks::unlaid(alloc, sound) {
             Ok(landmarks) => landmarks,
             Err(_) => Landmarks {
                 marks: Vec::new(alloc),
                 groups: Vec::new(alloc),
-                page: page_bytes(part),
+                page: page_bytes(sound),
                 lowest: 0,
                 kept: Kept::Runs,
             },
         };
-        landmarks.renew(part, 0, part.len() as u32);
-        landmarks.seek(part);
+        landmarks.renew(sound, 0, sound.part.len() as u32);
+        landmarks.seek(sound);
         landmarks
     }
 
@@ -75,17 +70,16 @@ impl Landmarks {
     /// # Errors
     ///
     /// The host is out of memory.
-    fn unlaid(alloc: Global, part: &Part) -> Result<Landmarks, AllocError>
-        requires sound { (first : ℕ) × (unused : ℕ) × IsSound part.now.bytes first unused }
-        ensures { IfOk result (λ landmarks. AreOf landmarks (zone_in part.now.bytes)) }
+    fn unlaid(alloc: Global, sound: &SoundPart) -> Result<Landmarks, AllocError>
+        ensures { IfOk result (λ landmarks. AreOf landmarks (zone_in sound.now.part.bytes)) }
     {
-        let count = groups_of(part);
+        let count = groups_of(&sound.part);
         let marks = Vec::from_elem(alloc, UNKNOWN, count * GROUP)?;
         let groups = Vec::from_elem(alloc, UNKNOWN_GROUP, count)?;
         Ok(Landmarks {
             marks,
             groups,
-            page: page_bytes(part),
+            page: page_bytes(sound),
             lowest: 0,
             kept: Kept::Runs,
         })
@@ -122,12 +116,11 @@ impl Landmarks {
     }
 
     /// Moves the place below which no block may be purged up to the lowest block that may be.
-    pub fn seek(&mut self, part: &Part)
-        requires sound { (first : ℕ) × (unused : ℕ) × IsSound part.now.bytes first unused }
-        requires marks { AreOf self.old (zone_in part.now.bytes) }
-        ensures { AreOf self.new (zone_in part.now.bytes) }
+    pub fn seek(&mut self, sound: &SoundPart)
+        requires { AreOf self.old (zone_in sound.now.part.bytes) }
+        ensures { AreOf self.new (zone_in sound.now.part.bytes) }
     {
-        self.lowest = first_going(part, self.start(), u32::MAX);
+        self.lowest = first_going(&sound.part, self.start(), u32::MAX);
     }
 
     /// Returns a place below which no block may be purged after the run at `run` is packed.
@@ -154,38 +147,35 @@ impl Landmarks {
     }
 
     /// Returns the place of the lowest free block of at least `bytes` bytes.
-    pub fn find(&self, part: &Part, bytes: u32) -> Option<u32>
-        requires sound { (first : ℕ) × (unused : ℕ) × IsSound part.now.bytes first unused }
-        requires marks { AreOf self.now (zone_in part.now.bytes) }
-        ensures { FindsLowest (is_room bytes) (zone_in part.now.bytes) result }
+    pub fn find(&self, sound: &SoundPart, bytes: u32) -> Option<u32>
+        requires { AreOf self.now (zone_in sound.now.part.bytes) }
+        ensures { FindsLowest (is_room bytes) (zone_in sound.now.part.bytes) result }
     {
-        find_by_marks(&self.marks, &self.groups, part, bytes)
+        find_by_marks(&self.marks, &self.groups, sound, bytes)
     }
 
     /// Returns the size of the largest free block.
-    pub fn largest_free(&self, part: &Part) -> u32
-        requires sound { (first : ℕ) × (unused : ℕ) × IsSound part.now.bytes first unused }
-        requires marks { AreOf self.now (zone_in part.now.bytes) }
-        ensures { result ≡ largest_free (zone_in part.now.bytes) }
+    pub fn largest_free(&self, sound: &SoundPart) -> u32
+        requires { AreOf self.now (zone_in sound.now.part.bytes) }
+        ensures { result ≡ largest_free (zone_in sound.now.part.bytes) }
     {
-        largest_free_by_marks(&self.marks, &self.groups, part)
+        largest_free_by_marks(&self.marks, &self.groups, sound)
     }
 
     /// Renews the landmarks after the blocks from `lo` to `hi` became others.
-    pub fn note(&mut self, part: &Part, lo: u32, hi: u32)
-        requires sound { (first : ℕ) × (unused : ℕ) × IsSound part.now.bytes first unused }
-        requires marks { (old : List Block) × Replaced lo hi old (zone_in part.now.bytes)
+    pub fn note(&mut self, sound: &SoundPart, lo: u32, hi: u32)
+        requires { (old : List Block) × Replaced lo hi old (zone_in sound.now.part.bytes)
             × AreOf self.old old }
-        ensures { AreOf self.new (zone_in part.now.bytes) }
+        ensures { AreOf self.new (zone_in sound.now.part.bytes) }
     {
-        self.lowest = lowest_after(part, self.lowest, lo, hi);
+        self.lowest = lowest_after(sound, self.lowest, lo, hi);
         let page = self.page_of(lo);
         if page == self.page_of(hi) {
-            let first = self.change(part, lo, hi, self.kept);
+            let first = self.change(sound, lo, hi, self.kept);
             renew_groups(&self.marks, &mut self.groups, first, page.saturating_add(1));
         } else {
-            self.change(part, lo, hi, Kept::Nothing);
-            self.renew(part, lo, hi);
+            self.change(sound, lo, hi, Kept::Nothing);
+            self.renew(sound, lo, hi);
         }
     }
 
@@ -193,38 +183,35 @@ impl Landmarks {
     /// to `hi` became others. If nothing is to be known of these blocks, they are not walked over,
     /// and no landmark stands strictly between `lo` and `hi` until `renew` is called. Returns the
     /// index of the first landmark that changed.
-    fn change(&mut self, part: &Part, lo: u32, hi: u32, kept: Kept) -> usize
-        requires sound { (first : ℕ) × (unused : ℕ) × IsSound part.now.bytes first unused }
-        requires marks { (old : List Block) × Replaced lo hi old (zone_in part.now.bytes)
+    fn change(&mut self, sound: &SoundPart, lo: u32, hi: u32, kept: Kept) -> usize
+        requires { (old : List Block) × Replaced lo hi old (zone_in sound.now.part.bytes)
             × AreMarked self.old old }
-        ensures marks { AreMarked self.new (zone_in part.now.bytes) }
+        ensures marks { AreMarked self.new (zone_in sound.now.part.bytes) }
         ensures lowest { self.new.lowest ≡ self.old.lowest }
     {
         let likely = self.page_of(hi);
         let (marks, groups) = (&mut self.marks, &mut self.groups);
-        change_marks(marks, groups, part, lo, hi, kept, likely)
+        change_marks(marks, groups, sound, lo, hi, kept, likely)
     }
 
     /// Renews the landmarks after the block at `place` became another of the same size.
-    pub fn note_block(&mut self, part: &Part, place: u32)
-        requires sound { (first : ℕ) × (unused : ℕ) × IsSound part.now.bytes first unused }
-        requires marks { (old : List Block) × Became place old (zone_in part.now.bytes)
+    pub fn note_block(&mut self, sound: &SoundPart, place: u32)
+        requires { (old : List Block) × Became place old (zone_in sound.now.part.bytes)
             × AreOf self.old old }
-        ensures { AreOf self.new (zone_in part.now.bytes) }
+        ensures { AreOf self.new (zone_in sound.now.part.bytes) }
     {
-        let size = size_at(part, place);
-        self.note(part, place, place + size);
+        let size = size_at(&sound.part, place);
+        self.note(sound, place, place + size);
     }
 
     /// Renews the landmarks after the flags of the block at `place` became others. From the first
     /// purgeable block on, summaries in spaces are kept.
-    pub fn note_flags(&mut self, part: &Part, place: u32, flags: Flags)
-        requires sound { (first : ℕ) × (unused : ℕ) × IsSound part.now.bytes first unused }
-        requires marks { (old : List Block) × Became place old (zone_in part.now.bytes)
+    pub fn note_flags(&mut self, sound: &SoundPart, place: u32, flags: Flags)
+        requires { (old : List Block) × Became place old (zone_in sound.now.part.bytes)
             × AreOf self.old old }
-        ensures { AreOf self.new (zone_in part.now.bytes) }
+        ensures { AreOf self.new (zone_in sound.now.part.bytes) }
     {
-        self.note_block(part, place);
+        self.note_block(sound, place);
         if !flags.purgeable {
             return;
         }
@@ -232,19 +219,18 @@ impl Landmarks {
             return;
         }
         self.kept = Kept::Both;
-        self.renew(part, 0, u32::MAX);
+        self.renew(sound, 0, u32::MAX);
     }
 
     /// Moves the landmarks of the pages from `lo` to `hi` to where their blocks are, by one walk
     /// over these blocks.
-    fn renew(&mut self, part: &Part, lo: u32, hi: u32)
-        requires sound { (first : ℕ) × (unused : ℕ) × IsSound part.now.bytes first unused }
-        requires marks { AreMarked self.old (zone_in part.now.bytes) }
-        ensures marks { AreMarked self.new (zone_in part.now.bytes) }
+    fn renew(&mut self, sound: &SoundPart, lo: u32, hi: u32)
+        requires { AreMarked self.old (zone_in sound.now.part.bytes) }
+        ensures marks { AreMarked self.new (zone_in sound.now.part.bytes) }
         ensures lowest { self.new.lowest ≡ self.old.lowest }
     {
         let next = self.next_at(self.page_of(lo));
-        self.lay(part, next, next.index, hi);
+        self.lay(sound, next, next.index, hi);
     }
 
     /// Returns the next landmark to be laid anew, which is to stand where it stands.
@@ -262,25 +248,24 @@ impl Landmarks {
     /// Lays the landmarks from the next one on anew, up to the first one at or above `hi` that
     /// stands where it is to stand. The landmarks from the index `first` up to the next one were
     /// laid before.
-    fn lay(&mut self, part: &Part, next: NextMark, first: usize, hi: u32)
-        requires sound { (first : ℕ) × (unused : ℕ) × IsSound part.now.bytes first unused }
-        requires laid { AreLaid next.index next.at (zone_in part.now.bytes) self.old.marks.items }
+    fn lay(&mut self, sound: &SoundPart, next: NextMark, first: usize, hi: u32)
+        requires laid { AreLaid next.index next.at (zone_in sound.now.part.bytes)
+            self.old.marks.items }
         requires groups { AreGroups self.old.groups.items self.old.marks.items }
-        ensures marks { AreMarked self.new (zone_in part.now.bytes) }
+        ensures marks { AreMarked self.new (zone_in sound.now.part.bytes) }
         ensures lowest { self.new.lowest ≡ self.old.lowest }
     {
         let (marks, groups) = (&mut self.marks, &mut self.groups);
-        let end = lay_marks(marks, groups, part, next, self.page, hi, self.kept);
+        let end = lay_marks(marks, groups, sound, next, self.page, hi, self.kept);
         renew_groups(&self.marks, &mut self.groups, first, end);
     }
 
     /// Makes `edges` ready to note the edges of blocks that are to be packed from `lo` on: those of
     /// the pages above the page of `lo`.
-    pub fn await_edges(&self, part: &Part, edges: &mut Edges, lo: u32)
-        requires sound { (first : ℕ) × (unused : ℕ) × IsSound part.now.bytes first unused }
+    pub fn await_edges(&self, sound: &SoundPart, edges: &mut Edges, lo: u32)
         ensures { (base : ℕ) → AreEdges edges.new base [] }
     {
-        let page = page_bytes(part);
+        let page = page_bytes(sound);
         edges.restart(page_end((lo / page) as usize, page), page);
     }
 
@@ -290,48 +275,46 @@ impl Landmarks {
     /// stretches above the last edge are. No block below `lowest` may be purged now.
     pub fn note_packed(
         &mut self,
-        part: &Part,
+        sound: &SoundPart,
         edges: &Edges,
         base: u32,
         lo: u32,
         hi: u32,
         lowest: u32,
     )
-        requires sound { (first : ℕ) × (unused : ℕ) × IsSound part.now.bytes first unused }
-        requires marks { (old : List Block) × Replaced lo hi old (zone_in part.now.bytes)
+        requires marks { (old : List Block) × Replaced lo hi old (zone_in sound.now.part.bytes)
             × AreOf self.old old }
-        requires edges { ByEdges edges.now base (zone_in part.now.bytes) }
-        requires lowest { NoneGoes lowest (zone_in part.now.bytes) }
-        ensures { AreOf self.new (zone_in part.now.bytes) }
+        requires edges { ByEdges edges.now base (zone_in sound.now.part.bytes) }
+        requires lowest { NoneGoes lowest (zone_in sound.now.part.bytes) }
+        ensures { AreOf self.new (zone_in sound.now.part.bytes) }
     {
         self.lowest = lowest;
-        self.change(part, lo, hi, Kept::Nothing);
+        self.change(sound, lo, hi, Kept::Nothing);
         let from = self.next_at(self.page_of(lo));
         let (marks, groups) = (&mut self.marks, &mut self.groups);
-        let next = lay_edges(marks, groups, part, edges, base, from, self.kept);
-        self.lay(part, next, from.index, hi);
+        let next = lay_edges(marks, groups, sound, edges, base, from, self.kept);
+        self.lay(sound, next, from.index, hi);
     }
 
     /// Renews the landmarks after the run at `run` was packed. Where no block moved down, the zone
     /// is as it was, and so are the landmarks.
     pub fn note_settled(
         &mut self,
-        part: &Part,
+        sound: &SoundPart,
         edges: &Edges,
         run: u32,
         packed: PackedRun,
         lowest: u32,
     )
-        requires sound { (first : ℕ) × (unused : ℕ) × IsSound part.now.bytes first unused }
-        requires marks { (old : List Block) × Replaced run packed.stop old (zone_in part.now.bytes)
-            × AreOf self.old old }
-        requires still { packed.lowered ≡ 0 → AreOf self.old (zone_in part.now.bytes) }
-        requires edges { ByEdges edges.now run (zone_in part.now.bytes) }
-        requires lowest { NoneGoes lowest (zone_in part.now.bytes) }
-        ensures { AreOf self.new (zone_in part.now.bytes) }
+        requires marks { (old : List Block)
+            × Replaced run packed.stop old (zone_in sound.now.part.bytes) × AreOf self.old old }
+        requires still { packed.lowered ≡ 0 → AreOf self.old (zone_in sound.now.part.bytes) }
+        requires edges { ByEdges edges.now run (zone_in sound.now.part.bytes) }
+        requires lowest { NoneGoes lowest (zone_in sound.now.part.bytes) }
+        ensures { AreOf self.new (zone_in sound.now.part.bytes) }
     {
         if packed.lowered > 0 {
-            self.note_packed(part, edges, run, run, packed.stop, lowest);
+            self.note_packed(sound, edges, run, run, packed.stop, lowest);
         }
     }
 }

@@ -3,10 +3,9 @@
 //! free bytes in one run is found, and the largest free block after all blocks that may be purged
 //! were purged.
 
-ghost use Rattle.std.specs.Prelude.{◌≡◌, ◌≤◌, ◌<◌, ℕ, false, length};
+ghost use Rattle.std.specs.Prelude.{◌≡◌, ◌≤◌, ◌<◌, false, length};
 ghost use Rattle.block_store.specs.Compact.{largest_run};
 ghost use Rattle.zone_bytes.specs.Decode.{zone_in};
-ghost use Rattle.zone_bytes.specs.Lawful.{IsSound};
 ghost use Rattle.zone_bytes.specs.Changes.{Begins};
 ghost use Rattle.zone_marks.specs.Marked.{AreOf};
 ghost use Rattle.zone_marks.specs.Searching.{HasMarks, IsStretch, place_at};
@@ -18,30 +17,28 @@ use crate::keeping::Landmarks;
 use crate::landmark::{GROUP, Group, Landmark, Tally};
 use crate::marking::index_above;
 use crate::measuring::{measure_up_to, spaces_up_to};
-use raw_region::Part;
+use zone_bytes::SoundPart;
 use zone_summary::{Counting, Stretch};
 
 /// Returns the summary of the blocks from one place up to another, by a walk over them.
-fn walked_between(part: &Part, from: u32, to: u32, counting: Counting) -> Stretch
-    requires sound { (first : ℕ) × (unused : ℕ) × IsSound part.now.bytes first unused }
-    requires begins { Begins from 0 (zone_in part.now.bytes) }
-    requires stretch { IsStretch counting tally.Unknown from to part.now.bytes }
-    ensures { IsStretch counting (tally.Known result) from to part.now.bytes }
+fn walked_between(sound: &SoundPart, from: u32, to: u32, counting: Counting) -> Stretch
+    requires begins { Begins from 0 (zone_in sound.now.part.bytes) }
+    requires stretch { IsStretch counting tally.Unknown from to sound.now.part.bytes }
+    ensures { IsStretch counting (tally.Known result) from to sound.now.part.bytes }
 {
     match counting {
-        Counting::Runs => measure_up_to(part, from, to).runs,
-        Counting::Spaces => spaces_up_to(part, from, to),
+        Counting::Runs => measure_up_to(&sound.part, from, to).runs,
+        Counting::Spaces => spaces_up_to(&sound.part, from, to),
     }
 }
 
 /// Returns the place of the landmark at an index, or the zone's end if there is none.
-pub fn edge_of(marks: &[Landmark], part: &Part, index: usize) -> u32
-    requires sound { (first : ℕ) × (unused : ℕ) × IsSound part.now.bytes first unused }
-    requires index { index ≤ length marks.now }
-    ensures { result ≡ place_at index marks.now part.now.bytes }
+pub fn edge_of(marks: &[Landmark], sound: &SoundPart, index: usize) -> u32
+    requires { index ≤ length marks.now }
+    ensures { result ≡ place_at index marks.now sound.now.part.bytes }
 {
     if index == marks.len() {
-        return part.len() as u32;
+        return sound.part.len() as u32;
     }
     marks[index].at
 }
@@ -59,16 +56,17 @@ pub struct Told {
 pub fn told_from(
     marks: &[Landmark],
     groups: &[Group],
-    part: &Part,
+    sound: &SoundPart,
     index: usize,
     counting: Counting,
 ) -> Told
-    requires marked { HasMarks part.now.bytes marks.now groups.now }
+    requires marked { HasMarks sound.now.part.bytes marks.now groups.now }
     requires inside { index < length marks.now }
     ensures further { index < result.above }
     ensures inside { result.above ≤ length marks.now }
-    ensures stretch { IsStretch counting result.tally (place_at index marks.now part.now.bytes)
-        (place_at result.above marks.now part.now.bytes) part.now.bytes }
+    ensures stretch { IsStretch counting result.tally
+        (place_at index marks.now sound.now.part.bytes)
+        (place_at result.above marks.now sound.now.part.bytes) sound.now.part.bytes }
 {
     if index % GROUP == 0 {
         let tally = groups[index / GROUP].tally.told(counting);
@@ -90,29 +88,30 @@ pub fn told_from(
 pub fn stretch_above(
     marks: &[Landmark],
     groups: &[Group],
-    part: &Part,
+    sound: &SoundPart,
     from: u32,
     counting: Counting,
     lowest: bool,
 ) -> Stretch
-    requires marked { HasMarks part.now.bytes marks.now groups.now }
-    requires begins { Begins from 0 (zone_in part.now.bytes) }
-    ensures low { prefix result ≡ prefix (stretch_by counting (left_in from part.now.bytes)) }
-    ensures all { lowest ≡ false → result ≡ stretch_by counting (left_in from part.now.bytes) }
+    requires marked { HasMarks sound.now.part.bytes marks.now groups.now }
+    requires begins { Begins from 0 (zone_in sound.now.part.bytes) }
+    ensures low { prefix result ≡ prefix (stretch_by counting (left_in from sound.now.part.bytes)) }
+    ensures all { lowest ≡ false
+        → result ≡ stretch_by counting (left_in from sound.now.part.bytes) }
 {
     let mut index = index_above(marks, from, 0);
-    let mut stretch = walked_between(part, from, edge_of(marks, part, index), counting);
+    let mut stretch = walked_between(sound, from, edge_of(marks, sound, index), counting);
     while index < marks.len() {
         if lowest && matches!(stretch, Stretch::Ended(_, _, _)) {
             return stretch;
         }
-        let told = told_from(marks, groups, part, index, counting);
+        let told = told_from(marks, groups, sound, index, counting);
         let next = match told.tally {
             Tally::Known(next) => next,
             Tally::Unknown => {
-                let at = edge_of(marks, part, index);
-                let to = edge_of(marks, part, told.above);
-                walked_between(part, at, to, counting)
+                let at = edge_of(marks, sound, index);
+                let to = edge_of(marks, sound, told.above);
+                walked_between(sound, at, to, counting)
             }
         };
         stretch = stretch.join(next);
@@ -123,11 +122,10 @@ pub fn stretch_above(
 
 impl Landmarks {
     /// Returns the greatest number of free bytes in one run.
-    pub fn largest_run(&self, part: &Part) -> u32
-        requires sound { (first : ℕ) × (unused : ℕ) × IsSound part.now.bytes first unused }
-        requires marks { AreOf self.now (zone_in part.now.bytes) }
-        ensures { result ≡ largest_run (zone_in part.now.bytes) }
+    pub fn largest_run(&self, sound: &SoundPart) -> u32
+        requires { AreOf self.now (zone_in sound.now.part.bytes) }
+        ensures { result ≡ largest_run (zone_in sound.now.part.bytes) }
     {
-        stretch_above(&self.marks, &self.groups, part, 0, Counting::Runs, false).best()
+        stretch_above(&self.marks, &self.groups, sound, 0, Counting::Runs, false).best()
     }
 }

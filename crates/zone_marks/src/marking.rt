@@ -1,13 +1,12 @@
 //! Searches by landmarks, and changes of the landmarks of a zone.
 
-ghost use Rattle.std.specs.Prelude.{◌≡◌, ◌≤◌, ◌<◌, ◌+◌, ◌-◌, ◌*◌, ◌⊎◌, ℕ, List, Some, IsTrue};
+ghost use Rattle.std.specs.Prelude.{◌≡◌, ◌≤◌, ◌<◌, ◌+◌, ◌-◌, ◌*◌, ◌⊎◌, List, Some};
 ghost use Rattle.std.specs.Prelude.{MatchOption, IfSome, false, true, length, drop, get_or};
 ghost use Rattle.block_store.specs.Block.{Block, is_room};
 ghost use Rattle.block_store.specs.Find.{FindsLowest};
 ghost use Rattle.zone_bytes.specs.Decode.{zone_in};
 ghost use Rattle.zone_marks.specs.LaidMarks.{AreLaid, IsBare};
 ghost use Rattle.zone_bytes.specs.Edges.{ByEdges};
-ghost use Rattle.zone_bytes.specs.Lawful.{IsSound};
 ghost use Rattle.zone_bytes.specs.Changes.{AtEach, Begins, Replaced};
 ghost use Rattle.zone_marks.specs.Marks.{NoRoom, NoneBelow, IsMark, AreMarks, AreGroups, no_mark};
 ghost use Rattle.zone_summary.specs.declared.stretch.Counting.TheVariants.{Spaces};
@@ -20,7 +19,7 @@ use crate::landmark::{GROUP, Group, Kept, Landmark, Tallies, Tally, UNKNOWN};
 use crate::measuring::{Measured, measure_up_to, room_between, spaces_up_to};
 use crate::paging::page_end;
 use raw_region::Part;
-use zone_bytes::Edges;
+use zone_bytes::{Edges, SoundPart};
 use zone_summary::Stretch;
 
 /// Returns the landmark to be compared next, of those from `low` up to `high`: the likely one, or
@@ -90,41 +89,39 @@ pub fn place_of_mark(marks: &[Landmark], index: usize) -> u32
 
 /// Returns the place of the lowest free block of at least `bytes` bytes in the stretch of a
 /// landmark, below which there is none.
-fn room_in_stretch(part: &Part, mark: Landmark, to: u32, bytes: u32) -> Option<u32>
-    requires sound { (first : ℕ) × (unused : ℕ) × IsSound part.now.bytes first unused }
-    requires begins { Begins mark.at 0 (zone_in part.now.bytes) }
-    requires below { AtEach (NoRoom bytes 0 mark.at) 0 (zone_in part.now.bytes) }
+fn room_in_stretch(sound: &SoundPart, mark: Landmark, to: u32, bytes: u32) -> Option<u32>
+    requires begins { Begins mark.at 0 (zone_in sound.now.part.bytes) }
+    requires below { AtEach (NoRoom bytes 0 mark.at) 0 (zone_in sound.now.part.bytes) }
     requires bound { mark.most < bytes
-        → AtEach (NoRoom bytes mark.at to) 0 (zone_in part.now.bytes) }
-    ensures none { MatchOption result (AtEach (NoRoom bytes 0 to) 0 (zone_in part.now.bytes))
+        → AtEach (NoRoom bytes mark.at to) 0 (zone_in sound.now.part.bytes) }
+    ensures none { MatchOption result (AtEach (NoRoom bytes 0 to) 0 (zone_in sound.now.part.bytes))
         (λ _. Unit {0}) }
     ensures found { IfSome result (λ place.
-        FindsLowest (is_room bytes) (zone_in part.now.bytes) (Some place)) }
+        FindsLowest (is_room bytes) (zone_in sound.now.part.bytes) (Some place)) }
 {
     if mark.most < bytes {
         None
     } else {
-        room_between(part, mark.at, to, bytes)
+        room_between(&sound.part, mark.at, to, bytes)
     }
 }
 
 /// Returns the place of the lowest free block of at least `bytes` bytes in the stretches of a
 /// group's landmarks, below which there is none.
 #[tactic(auto, using(crate::proofs::Marks::Rooms::room_steps))]
-fn room_in_group(marks: &[Landmark], part: &Part, group: usize, bytes: u32) -> Option<u32>
-    requires sound { (first : ℕ) × (unused : ℕ) × IsSound part.now.bytes first unused }
-    requires marks { AreMarks above_all (zone_in part.now.bytes) marks.now }
+fn room_in_group(marks: &[Landmark], sound: &SoundPart, group: usize, bytes: u32) -> Option<u32>
+    requires marks { AreMarks above_all (zone_in sound.now.part.bytes) marks.now }
     requires within { GROUP * group + GROUP ≤ length marks.now }
-    requires below { NoneBelow bytes (zone_in part.now.bytes) marks.now (GROUP * group) }
-    ensures none { MatchOption result (NoneBelow bytes (zone_in part.now.bytes) marks.now
+    requires below { NoneBelow bytes (zone_in sound.now.part.bytes) marks.now (GROUP * group) }
+    ensures none { MatchOption result (NoneBelow bytes (zone_in sound.now.part.bytes) marks.now
         (GROUP * group + GROUP)) (λ _. Unit {0}) }
     ensures found { IfSome result (λ place.
-        FindsLowest (is_room bytes) (zone_in part.now.bytes) (Some place)) }
+        FindsLowest (is_room bytes) (zone_in sound.now.part.bytes) (Some place)) }
 {
     let low = group * GROUP;
     for index in low..low + GROUP {
         let to = place_of_mark(marks, index + 1);
-        if let Some(place) = room_in_stretch(part, marks[index], to, bytes) {
+        if let Some(place) = room_in_stretch(sound, marks[index], to, bytes) {
             return Some(place);
         }
     }
@@ -132,18 +129,22 @@ fn room_in_group(marks: &[Landmark], part: &Part, group: usize, bytes: u32) -> O
 }
 
 /// Returns the place of the lowest free block of at least `bytes` bytes.
-pub fn find_by_marks(marks: &[Landmark], groups: &[Group], part: &Part, bytes: u32) -> Option<u32>
-    requires sound { (first : ℕ) × (unused : ℕ) × IsSound part.now.bytes first unused }
-    requires marks { AreMarks above_all (zone_in part.now.bytes) marks.now }
+pub fn find_by_marks(
+    marks: &[Landmark],
+    groups: &[Group],
+    sound: &SoundPart,
+    bytes: u32,
+) -> Option<u32>
+    requires marks { AreMarks above_all (zone_in sound.now.part.bytes) marks.now }
     requires groups { AreGroups groups.now marks.now }
-    ensures { FindsLowest (is_room bytes) (zone_in part.now.bytes) result }
+    ensures { FindsLowest (is_room bytes) (zone_in sound.now.part.bytes) result }
 {
-    if let Some(place) = room_in_stretch(part, UNKNOWN, place_of_mark(marks, 0), bytes) {
+    if let Some(place) = room_in_stretch(sound, UNKNOWN, place_of_mark(marks, 0), bytes) {
         return Some(place);
     }
     for group in 0..groups.len() {
         if bytes <= groups[group].most {
-            if let Some(place) = room_in_group(marks, part, group, bytes) {
+            if let Some(place) = room_in_group(marks, sound, group, bytes) {
                 return Some(place);
             }
         }
@@ -171,20 +172,19 @@ fn spaces_told(part: &Part, at: u32, above: u32, kept: Kept) -> Tally
 
 /// Makes a landmark at `at`, with what is to be known of the blocks up to `above`, by walks over
 /// them.
-fn measured_mark(part: &Part, at: u32, above: u32, kept: Kept) -> Landmark
-    requires sound { (first : ℕ) × (unused : ℕ) × IsSound part.now.bytes first unused }
-    requires begins { Begins at 0 (zone_in part.now.bytes) }
+fn measured_mark(sound: &SoundPart, at: u32, above: u32, kept: Kept) -> Landmark
+    requires begins { Begins at 0 (zone_in sound.now.part.bytes) }
     requires order { at ≤ above }
     ensures at { result.at ≡ at }
-    ensures mark { IsMark above (zone_in part.now.bytes) result }
+    ensures mark { IsMark above (zone_in sound.now.part.bytes) result }
 {
-    let stretch = measure_up_to(part, at, above);
+    let stretch = measure_up_to(&sound.part, at, above);
     Landmark {
         at,
         most: stretch.most,
         tally: Tallies {
             runs: Tally::Known(stretch.runs),
-            spaces: spaces_told(part, at, above, kept),
+            spaces: spaces_told(&sound.part, at, above, kept),
         },
     }
 }
@@ -196,19 +196,18 @@ fn changed_mark(
     mark: &mut Landmark,
     next: u32,
     above: u32,
-    part: &Part,
+    sound: &SoundPart,
     lo: u32,
     hi: u32,
     kept: Kept,
 )
-    requires sound { (first : ℕ) × (unused : ℕ) × IsSound part.now.bytes first unused }
-    requires mark { (old : List Block) × Replaced lo hi old (zone_in part.now.bytes)
+    requires mark { (old : List Block) × Replaced lo hi old (zone_in sound.now.part.bytes)
         × IsMark next old mark.old }
     requires lowered { Lowered lo hi next above }
     ensures at { Lowered lo hi mark.old.at mark.new.at }
-    ensures mark { (old : List Block) → Replaced lo hi old (zone_in part.now.bytes)
+    ensures mark { (old : List Block) → Replaced lo hi old (zone_in sound.now.part.bytes)
         → IsMark next old mark.old
-        → IsMark above (zone_in part.now.bytes) mark.new }
+        → IsMark above (zone_in sound.now.part.bytes) mark.new }
 {
     if hi <= mark.at || next <= lo {
         return;
@@ -219,7 +218,7 @@ fn changed_mark(
             mark.most = mark.most.max(hi - lo);
             mark.tally = Tallies::UNKNOWN;
         }
-        _ => *mark = measured_mark(part, mark.at, above, kept),
+        _ => *mark = measured_mark(sound, mark.at, above, kept),
     }
 }
 
@@ -230,17 +229,16 @@ fn changed_mark(
 pub fn change_marks(
     marks: &mut [Landmark],
     groups: &mut [Group],
-    part: &Part,
+    sound: &SoundPart,
     lo: u32,
     hi: u32,
     kept: Kept,
     likely: usize,
 ) -> usize
-    requires sound { (first : ℕ) × (unused : ℕ) × IsSound part.now.bytes first unused }
-    requires marks { (old : List Block) × Replaced lo hi old (zone_in part.now.bytes)
+    requires marks { (old : List Block) × Replaced lo hi old (zone_in sound.now.part.bytes)
         × AreMarks above_all old marks.old }
     requires groups { AreGroups groups.old marks.old }
-    ensures marks { AreMarks above_all (zone_in part.now.bytes) marks.new }
+    ensures marks { AreMarks above_all (zone_in sound.now.part.bytes) marks.new }
     ensures groups { AreGroups groups.new marks.new }
     ensures long { length marks.new ≡ length marks.old }
 {
@@ -252,7 +250,7 @@ pub fn change_marks(
         first -= 1;
         let mark = &mut marks[first];
         let old = mark.at;
-        changed_mark(mark, next, above, part, lo, hi, kept);
+        changed_mark(mark, next, above, sound, lo, hi, kept);
         raise_group(groups, first, mark.most);
         above = mark.at;
         next = old;
@@ -288,16 +286,15 @@ pub struct NextMark {
 /// Lays a landmark anew at `at`, with what is known of the blocks up to `edge`: from `base` on
 /// these are relocatable blocks that lie packed, whose summary in spaces isn't known, and below
 /// `base` they are measured by a walk.
-fn packed_mark(mark: &mut Landmark, part: &Part, at: u32, edge: u32, base: u32, kept: Kept)
-    requires sound { (first : ℕ) × (unused : ℕ) × IsSound part.now.bytes first unused }
-    requires begins { Begins at 0 (zone_in part.now.bytes) }
+fn packed_mark(mark: &mut Landmark, sound: &SoundPart, at: u32, edge: u32, base: u32, kept: Kept)
+    requires begins { Begins at 0 (zone_in sound.now.part.bytes) }
     requires order { at ≤ edge }
-    requires bare { base ≤ at → IsBare at edge (zone_in part.now.bytes) }
+    requires bare { base ≤ at → IsBare at edge (zone_in sound.now.part.bytes) }
     ensures at { mark.new.at ≡ at }
-    ensures mark { IsMark edge (zone_in part.now.bytes) mark.new }
+    ensures mark { IsMark edge (zone_in sound.now.part.bytes) mark.new }
 {
     if at < base {
-        *mark = measured_mark(part, at, edge, kept);
+        *mark = measured_mark(sound, at, edge, kept);
         return;
     }
     mark.at = at;
@@ -312,17 +309,16 @@ fn packed_mark(mark: &mut Landmark, part: &Part, at: u32, edge: u32, base: u32, 
 pub fn lay_edges(
     marks: &mut [Landmark],
     groups: &mut [Group],
-    part: &Part,
+    sound: &SoundPart,
     edges: &Edges,
     base: u32,
     from: NextMark,
     kept: Kept,
 ) -> NextMark
-    requires sound { (first : ℕ) × (unused : ℕ) × IsSound part.now.bytes first unused }
-    requires laid { AreLaid from.index from.at (zone_in part.now.bytes) marks.old }
-    requires edges { ByEdges edges.now base (zone_in part.now.bytes) }
+    requires laid { AreLaid from.index from.at (zone_in sound.now.part.bytes) marks.old }
+    requires edges { ByEdges edges.now base (zone_in sound.now.part.bytes) }
     requires groups { AreGroups groups.old marks.old }
-    ensures laid { AreLaid result.index result.at (zone_in part.now.bytes) marks.new }
+    ensures laid { AreLaid result.index result.at (zone_in sound.now.part.bytes) marks.new }
     ensures groups { AreGroups groups.new marks.new }
     ensures long { length marks.new ≡ length marks.old }
 {
@@ -334,7 +330,7 @@ pub fn lay_edges(
         };
         let edge = next.at.max(place);
         let mark = &mut marks[next.index];
-        packed_mark(mark, part, next.at, edge, base, kept);
+        packed_mark(mark, sound, next.at, edge, base, kept);
         raise_group(groups, next.index, mark.most);
         next = NextMark {
             index: next.index + 1,
@@ -350,16 +346,15 @@ pub fn lay_edges(
 pub fn lay_marks(
     marks: &mut [Landmark],
     groups: &mut [Group],
-    part: &Part,
+    sound: &SoundPart,
     next: NextMark,
     page: u32,
     hi: u32,
     kept: Kept,
 ) -> usize
-    requires sound { (first : ℕ) × (unused : ℕ) × IsSound part.now.bytes first unused }
-    requires laid { AreLaid next.index next.at (zone_in part.now.bytes) marks.old }
+    requires laid { AreLaid next.index next.at (zone_in sound.now.part.bytes) marks.old }
     requires groups { AreGroups groups.old marks.old }
-    ensures marks { AreMarks above_all (zone_in part.now.bytes) marks.new }
+    ensures marks { AreMarks above_all (zone_in sound.now.part.bytes) marks.new }
     ensures groups { AreGroups groups.new marks.new }
     ensures long { length marks.new ≡ length marks.old }
 {
@@ -369,13 +364,13 @@ pub fn lay_marks(
         if hi <= at && marks[index].at == at {
             return index;
         }
-        let stretch = stretch_from(part, at, end, index + 1 == marks.len());
+        let stretch = stretch_from(&sound.part, at, end, index + 1 == marks.len());
         marks[index] = Landmark {
             at,
             most: stretch.most,
             tally: Tallies {
                 runs: Tally::Known(stretch.runs),
-                spaces: spaces_told(part, at, stretch.edge, kept),
+                spaces: spaces_told(&sound.part, at, stretch.edge, kept),
             },
         };
         raise_group(groups, index, stretch.most);

@@ -1,13 +1,12 @@
 //! Walks over a stretch of a zone.
 
-ghost use Rattle.std.specs.Prelude.{◌≡◌, ◌+◌, ◌%◌, ◌==◌, ◌<◌, ◌≤◌, ◌^◌, not, if◌then◌else◌, ℕ};
+ghost use Rattle.std.specs.Prelude.{◌≡◌, ◌+◌, ◌%◌, ◌==◌, ◌<◌, ◌≤◌, ◌^◌, not, if◌then◌else◌};
 ghost use Rattle.std.specs.Prelude.{length, MatchOption, IfSome};
 ghost use Rattle.block_store.specs.Block.{Block, size, sizes};
 ghost use Rattle.block_store.specs.Compact.{largest_free};
 ghost use Rattle.block_store.specs.Seen.{seen};
 ghost use Rattle.block_headers.specs.Words.{word_at};
 ghost use Rattle.zone_bytes.specs.Decode.{zone_in};
-ghost use Rattle.zone_bytes.specs.Lawful.{IsSound};
 ghost use Rattle.zone_bytes.specs.Changes.{AtEach, Begins};
 ghost use Rattle.zone_marks.specs.Marks.{NoRoom, Spans, RoomAt, Measures, between};
 ghost use Rattle.zone_bytes.specs.Settling.{runs_on};
@@ -17,17 +16,16 @@ ghost use Rattle.zone_summary.specs.Stretches.{counted, space, spaces_of};
 use block_headers::LOCKED;
 use block_store::{Seen, UNIT};
 use raw_region::Part;
-use zone_bytes::{RawWalk, read_word, step_at, walk_from};
+use zone_bytes::{RawWalk, SoundPart, read_word, step_at, walk_from};
 use zone_summary::Stretch;
 
 /// Returns a walk over the blocks of a zone from a place on.
-pub fn walk_at<'a>(part: &'a Part, at: u32) -> RawWalk<'a>
-    requires sound { (first : ℕ) × (unused : ℕ) × IsSound part.now.bytes first unused }
-    requires begins { Begins at 0 (zone_in part.now.bytes) }
-    ensures is { result ≡ left_in at part.now.bytes }
+pub fn walk_at<'a>(sound: &'a SoundPart, at: u32) -> RawWalk<'a>
+    requires { Begins at 0 (zone_in sound.now.part.bytes) }
+    ensures is { result ≡ left_in at sound.now.part.bytes }
     ensures fits { at + sizes result < 2 ^ 32 }
 {
-    walk_from(part, at)
+    walk_from(&sound.part, at)
 }
 
 /// The end of a block, its free bytes, and whether it ends a run.

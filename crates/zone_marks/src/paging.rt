@@ -1,10 +1,10 @@
 //! The pages of a zone. A zone has a landmark for each of its pages.
 
-ghost use Rattle.std.specs.Prelude.{◌≡◌, ◌≤◌, ◌<◌, ℕ};
-ghost use Rattle.zone_bytes.specs.Lawful.{IsSound};
+ghost use Rattle.std.specs.Prelude.{◌≤◌, ◌<◌};
 
 use crate::landmark::GROUP;
 use raw_region::Part;
+use zone_bytes::SoundPart;
 
 /// The greatest number of landmarks of a zone, one for each of its pages. Each change walks over
 /// the blocks of a page.
@@ -17,11 +17,10 @@ const GROUPS: usize = LANDMARKS / GROUP;
 pub const LEAST_PAGE: u32 = 256;
 
 /// Returns the size of a page in bytes. A zone has no more pages than landmarks.
-pub fn page_bytes(part: &Part) -> u32
-    requires sound { (first : ℕ) × (unused : ℕ) × IsSound part.now.bytes first unused }
+pub fn page_bytes(sound: &SoundPart) -> u32
     ensures { 0 < result }
 {
-    LEAST_PAGE.max((part.len() as u32) / LANDMARKS as u32 + 1)
+    LEAST_PAGE.max((sound.part.len() as u32) / LANDMARKS as u32 + 1)
 }
 
 /// Returns the number of groups in which the landmarks of a zone are.

@@ -1,11 +1,10 @@
 //! The bytes that blocks would free if they were purged.
 
-ghost use Rattle.std.specs.Prelude.{true, false, ◌≡◌, ◌≤◌, ◌<◌, ◌+◌, ◌^◌, ◌∷◌, ℕ, List, length};
+ghost use Rattle.std.specs.Prelude.{true, false, ◌≡◌, ◌<◌, ◌+◌, ◌^◌, ◌∷◌, ℕ, List, length};
 ghost use Rattle.block_store.specs.Block.{Block, size, sizes, free_sum, resized};
-ghost use Rattle.block_store.specs.Seen.{seen, with_flags};
+ghost use Rattle.block_store.specs.Seen.{seen};
 ghost use Rattle.block_store.specs.Sparing.{opened, purged};
 ghost use Rattle.zone_bytes.specs.Decode.{zone_in};
-ghost use Rattle.zone_bytes.specs.Lawful.{IsSound};
 ghost use Rattle.zone_bytes.specs.Changes.{Became};
 ghost use Rattle.zone_bytes.specs.PurgeableBytes.{purgeable_of, purgeable_sum};
 ghost use Rattle.zone_bytes.specs.Stepping.{left_in, IsOnWay};
@@ -13,7 +12,7 @@ ghost use Rattle.zone_bytes.specs.Stepping.{left_in, IsOnWay};
 use crate::measuring::walk_at;
 use block_store::{Flags, Seen, Sparing, Walk, may_purge_now, size_of_seen};
 use raw_region::Part;
-use zone_bytes::{padded_size, step_at};
+use zone_bytes::{SoundPart, padded_size, step_at};
 
 /// Returns the bytes that a block of `bytes` bytes would free if it were purged.
 fn purgeable_of_seen(block: Seen, bytes: u32) -> u32
@@ -40,15 +39,14 @@ pub fn purgeable_at(part: &Part, place: u32) -> u32
 
 /// Returns the bytes that the blocks of a zone would free, where the block at `place` became
 /// another: before that the blocks would have freed `before` bytes, and the block `given` of them.
-pub fn purgeable_with(part: &Part, place: u32, before: u32, given: u32) -> u32
-    requires sound { (first : ℕ) × (unused : ℕ) × IsSound part.now.bytes first unused }
-    requires became { (old : List Block) × (b : Became place old (zone_in part.now.bytes))
+pub fn purgeable_with(sound: &SoundPart, place: u32, before: u32, given: u32) -> u32
+    requires { (old : List Block) × (b : Became place old (zone_in sound.now.part.bytes))
         × (given ≡ purgeable_of b.here) × (before ≡ purgeable_sum old) }
-    ensures { (old : List Block) (b : Became place old (zone_in part.now.bytes))
+    ensures { (old : List Block) (b : Became place old (zone_in sound.now.part.bytes))
         → given ≡ purgeable_of b.here
-        → before ≡ purgeable_sum old → result ≡ purgeable_sum (zone_in part.now.bytes) }
+        → before ≡ purgeable_sum old → result ≡ purgeable_sum (zone_in sound.now.part.bytes) }
 {
-    before - given + purgeable_at(part, place)
+    before - given + purgeable_at(&sound.part, place)
 }
 
 /// Returns the bytes that a block would free at another size, if it would free `before` bytes now.
@@ -84,14 +82,13 @@ pub fn frees_one(sparing: Sparing) -> bool
 /// Returns the bytes that the blocks of a zone would free, where purges made `freed` bytes free and
 /// the blocks would have freed `before` bytes.
 #[tactic(auto, using(crate::proofs::Marks::Owed::given_steps))]
-pub fn purgeable_left(part: &Part, before: u32, freed: u32, sparing: Sparing) -> u32
-    requires { (first : ℕ) × (unused : ℕ) × IsSound part.now.bytes first unused }
-    ensures { (k : ℕ) (zone : List Block) → zone_in part.now.bytes ≡ purged k sparing zone
-        → free_sum (zone_in part.now.bytes) ≡ free_sum zone + freed → before ≡ purgeable_sum zone
-        → result ≡ purgeable_sum (zone_in part.now.bytes) }
+pub fn purgeable_left(sound: &SoundPart, before: u32, freed: u32, sparing: Sparing) -> u32
+    ensures { (k : ℕ) (zone : List Block) → zone_in sound.now.part.bytes ≡ purged k sparing zone
+        → free_sum (zone_in sound.now.part.bytes) ≡ free_sum zone + freed
+        → before ≡ purgeable_sum zone → result ≡ purgeable_sum (zone_in sound.now.part.bytes) }
 {
     if frees_one(sparing) {
-        purgeable_bytes_in(&mut walk_at(part, 0))
+        purgeable_bytes_in(&mut walk_at(sound, 0))
     } else {
         before.saturating_sub(freed)
     }

@@ -1,6 +1,6 @@
 //! The lowest purgeable blocks are purged.
 
-ghost use Rattle.std.specs.Prelude.{◌≡◌, ◌<◌, ◌≤◌, ℕ, List, Some, IsSome, IfSome, length, false};
+ghost use Rattle.std.specs.Prelude.{◌≡◌, ◌<◌, ◌≤◌, List, Some, IsSome, IfSome, length, false};
 ghost use Rattle.block_store.specs.Block.{Block};
 ghost use Rattle.block_store.specs.Find.{FindsLowest};
 ghost use Rattle.block_store.specs.Room.{may_be_purged};
@@ -9,7 +9,6 @@ ghost use Rattle.block_store.specs.Sparing.{spared, opened};
 ghost use Rattle.block_store.specs.Inner.Stretch.{opened_block};
 ghost use Rattle.block_store.specs.Inner.Purging.{left_past};
 ghost use Rattle.zone_bytes.specs.Decode.{zone_in};
-ghost use Rattle.zone_bytes.specs.Lawful.{IsSound};
 ghost use Rattle.zone_marks.specs.Marked.{AreOf};
 ghost use Rattle.zone_marks.specs.Purging.{Purge, Purging, Purged, MayPurge, purge_above};
 ghost use Rattle.zone_marks.specs.Purging.{purge_zone};
@@ -22,7 +21,7 @@ use crate::keeping::Landmarks;
 use crate::purgeable::frees_one;
 use block_store::{Seen, Sparing, free_of_seen, is_counted_free, may_purge};
 use raw_region::Part;
-use zone_bytes::{last_free_below, step_at};
+use zone_bytes::{SoundPart, last_free_below, step_at};
 
 /// The state of a pass over a zone: the free bytes from `start` to `at` are one block, `left`
 /// purges are left, and `freed` bytes became free.
@@ -117,36 +116,39 @@ pub fn purge_from(part: &mut Part, start: u32, at: u32, purges: u32, sparing: Sp
 
 /// Returns the place of the lowest block that may be purged, if there is one and no block counts as
 /// free that is not free.
-fn first_to_go(part: &Part, marks: &Landmarks, sparing: Sparing) -> Option<u32>
-    requires sound { (first : ℕ) × (unused : ℕ) × IsSound part.now.bytes first unused }
-    requires marks { AreOf marks.now (zone_in part.now.bytes) }
+fn first_to_go(sound: &SoundPart, marks: &Landmarks, sparing: Sparing) -> Option<u32>
+    requires { AreOf marks.now (zone_in sound.now.part.bytes) }
     ensures plain { IsSome result → (blocks : List Block) → opened sparing blocks ≡ blocks }
     ensures lowest { IfSome result (λ place.
-        FindsLowest (may_be_purged (spared sparing)) (zone_in part.now.bytes) (Some place)) }
+        FindsLowest (may_be_purged (spared sparing)) (zone_in sound.now.part.bytes) (Some place)) }
 {
     if frees_one(sparing) {
         return None;
     }
-    next_purgeable(part, marks.start(), 0, sparing)
+    next_purgeable(sound, marks.start(), 0, sparing)
 }
 
 /// Purges the lowest blocks that may be purged, `purges` of them, and frees a block that counts as
 /// free. The pass begins at the free bytes below the lowest block that may be purged; where a block
 /// counts as free, at the bottom.
-pub fn purge_lowest(part: &mut Part, marks: &Landmarks, purges: u32, sparing: Sparing) -> Freed
-    requires sound { (first : ℕ) × (unused : ℕ) × IsSound part.old.bytes first unused }
-    requires marks { AreOf marks.now (zone_in part.old.bytes) }
-    ensures same { KeepsPlace part.old part.new }
-    ensures purged { (first unused : ℕ) (i : IsSound part.old.bytes first unused) →
-        Purged (purge_zone result.from part.old.bytes i.unused purges sparing) result.to
-        result.bytes part.new.bytes }
+pub fn purge_lowest(
+    sound: &mut SoundPart,
+    marks: &Landmarks,
+    purges: u32,
+    sparing: Sparing,
+) -> Freed
+    requires { AreOf marks.now (zone_in sound.old.part.bytes) }
+    ensures same { KeepsPlace sound.old.part sound.new.part }
+    ensures slots { (sound.new.first ≡ sound.old.first) × (sound.new.unused ≡ sound.old.unused) }
+    ensures purged { Purged (purge_zone result.from sound.old.part.bytes
+        sound.old.sound.unused purges sparing) result.to result.bytes sound.new.part.bytes }
 {
-    let Some(place) = first_to_go(part, marks, sparing) else {
-        return purge_from(part, 0, 0, purges, sparing);
+    let Some(place) = first_to_go(sound, marks, sparing) else {
+        return purge_from(&mut sound.part, 0, 0, purges, sparing);
     };
     let from = marks.below(place);
-    let start = last_free_below(part, from, place);
-    purge_from(part, start, place, purges, sparing)
+    let start = last_free_below(&sound.part, from, place);
+    purge_from(&mut sound.part, start, place, purges, sparing)
 }
 
 /// Returns what spares the same blocks and counts no block as free that is not free.

@@ -1,7 +1,7 @@
 -- The zone that bytes spell, where the block of a handle's slot is made Free.
 use Rattle.zone_bytes.proofs.Cited.{◌≡◌, ℕ, IsTrue, ◌+◌, ◌≤◌, List, sym, ap, ◌∙◌, arith, rules, Bytes, Block, tidy, count, free_sum}
 use Rattle.zone_bytes.proofs.Cited.{is_masters, is_relocatable, freed, Slot, is_used, IsRest, tidy-tidy, masters-released, KeepsPlace}
-use Rattle.zone_bytes.proofs.Cited.{rest_in, zone_in, HasHandle, IsSound, IsKept, Table, Lays, slot_in, GREATEST_ZONE}
+use Rattle.zone_bytes.proofs.Cited.{rest_in, zone_in, HasHandle, IsSound, Table, Lays, slot_in, GREATEST_ZONE}
 use Rattle.zone_bytes.proofs.Laws.Lawful.{Made, made, sizes-length, kept-made}
 use Rattle.zone_bytes.proofs.Places.Walks.{free_span-le}
 
@@ -28,7 +28,7 @@ module _ (xs new : List ℕ) (first number more : ℕ) (blocks : List Block) (g 
       pub gained-fits : free + more ≤ GREATEST_ZONE
       gained-fits = omega arith
 
-      pub gained-kept : IsKept new first number (free + more)
+      pub gained-kept : free + more ≡ free_sum (zone_in new)
       gained-kept = kept-made _ _ _ _ _ (slot_in xs) g.made (ap (λ n. n + more) e ∙ sym g.sum)
 
 pub gained-rest : (old new : Bytes) (first number more : ℕ) (blocks : List Block)

@@ -2,7 +2,7 @@
 use Rattle.zone_bytes.proofs.Cited.{◌≡◌, ℕ, cond, eqb, ◌+◌, ◌≤◌, inl, inr, List, [], ◌∷◌, length, drop, sym, refl, ap, ◌∙◌, subst, arith}
 use Rattle.zone_bytes.proofs.Cited.{eqb_tells, padded, Block, Free, Nonrelocatable, Relocatable, size, sizes, free_sum, count, is_masters}
 use Rattle.zone_bytes.proofs.Cited.{is_relocatable, tidy, Slot, Aligned, Placed, head_of, Tiles, names, Apart, Each, Pairs, ArePlaced}
-use Rattle.zone_bytes.proofs.Cited.{zone_in, Lays, slot_in, first_of, IsLawful, IsSound, IsKept, Rest, IsRest, with_placed, counted, Bytes}
+use Rattle.zone_bytes.proofs.Cited.{zone_in, Lays, slot_in, first_of, IsLawful, IsSound, Rest, IsRest, with_placed, counted, Bytes}
 use Rattle.zone_bytes.proofs.Cited.{rest_in, count-none}
 use Rattle.zone_bytes.proofs.Tiles.Tiling.{length-tiles}
 use Rattle.zone_bytes.proofs.Tiles.Spelling.{zone-of, slots-of}
@@ -33,10 +33,22 @@ placed-of o [] p = tt
 placed-of o (Nonrelocatable id content ∷ blocks) p = (p.0, placed-of (o + padded (length content)) blocks p.1)
 placed-of o (b ∷ blocks) p = placed-of (o + size b) blocks p.1
 
+-- a zone that is laid out lawfully keeps the laws of a store
+pub lawful-bytes : (xs : List ℕ) (first count : ℕ) → IsSound xs first count → IsLawful xs
+lawful-bytes xs first count i =
+    let g = i.lays in
+    record {
+      small = omega (arith, length-tiles);
+      no_block = λ number e. none-other number (zone_in xs) (grind (arith, each-map, g));
+      once = λ number. counted-once number (zone_in xs) g.has_slots.apart;
+      tidied = i.tidied;
+      aligned = aligned-tiles (head_of _) xs (zone_in xs) g.lies.tiles;
+      placed = placed-of 0 (zone_in xs) g.placed;
+    }
+
 -- the bytes are those of a RawZone, with these blocks and slots
 pub record Made (xs : List ℕ) (first count : ℕ) (blocks : List Block) (table : ℕ → Slot) : Type 0 where
   pub sound : IsSound xs first count
-  pub lawful : ∥ IsLawful xs ∥₁
   pub zone : zone_in xs ≡ blocks
   pub slots : (s : ℕ) → slot_in xs s ≡ table s
 
@@ -57,15 +69,6 @@ module _ (xs : List ℕ) (blocks : List Block) (slots : ℕ → Slot) (unused : 
           counted = k;
           tidied = ap tidy z ∙ t ∙ sym z;
         };
-        lawful = ∣ (let g = respelled xs blocks slots unused h in
-            record {
-              small = omega (arith, length-tiles);
-              no_block = λ number e. none-other number (zone_in xs) (grind (arith, each-map, g));
-              once = λ number. counted-once number (zone_in xs) g.has_slots.apart;
-              tidied = ap tidy z ∙ t ∙ sym z;
-              aligned = aligned-tiles (head_of _) xs (zone_in xs) g.lies.tiles;
-              placed = placed-of 0 (zone_in xs) g.placed;
-            }) ∣₁;
         zone = z;
         slots = slots-of xs blocks slots unused h;
       }
@@ -83,7 +86,7 @@ pub rest-placed : (before : Rest) (part : Bytes) (unused moves placed more : ℕ
     → IsRest (with_placed 1 before) (rest_in part unused moves more)
 rest-placed before part unused moves placed more r e = grind arith
 
--- the invariant of a zone in bytes, whose Free bytes are counted beside it
+-- the Free bytes that are counted beside a zone in bytes
 pub kept-made : (xs : List ℕ) (first unused free : ℕ) (blocks : List Block) (table : ℕ → Slot)
-    → Made xs first unused blocks table → free ≡ free_sum blocks → IsKept xs first unused free
-kept-made xs first unused free blocks table m e = grind arith
+    → Made xs first unused blocks table → free ≡ free_sum blocks → free ≡ free_sum (zone_in xs)
+kept-made xs first unused free blocks table m e = e ∙ sym (ap free_sum m.zone)

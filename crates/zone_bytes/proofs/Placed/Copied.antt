@@ -1,7 +1,7 @@
 -- Bytes of one block written into another.
 use Rattle.zone_bytes.proofs.Cited.{◌≡◌, ℕ, ◌+◌, ◌-◌, ◌≤◌, Some, List, ◌∷◌, ◌++◌, length, take, drop, sym, ap, ◌∙◌, arith, length-take-le}
 use Rattle.zone_bytes.proofs.Cited.{length-drop, drop-take, drop-drop, take-take, written, free_sum, count, is_masters, content_of}
-use Rattle.zone_bytes.proofs.Cited.{with_content, Spot, spot_at, zone_in, slot_in, IsSound, IsKept}
+use Rattle.zone_bytes.proofs.Cited.{with_content, Spot, spot_at, zone_in, slot_in, IsSound}
 use Rattle.zone_bytes.proofs.Blocks.Writes.{content-room, written-in, masters-kept, free-kept}
 use Rattle.zone_bytes.proofs.Laws.Lawful.{Made, kept-made}
 use Rattle.zone_bytes.proofs.Placed.Standing.{Standing, standing, held-piece}
@@ -42,7 +42,7 @@ module _ (xs : List ℕ) (first unused source start n place from : ℕ) (i : IsS
       rw e (written-in _ _ _ i _ _ x _ _ _ a.whole a.low
       (omega (arith, length-take-le n (drop start (content_of t.here)) (omega arith))))
 
-  pub copied-kept : (free : ℕ) → free ≡ free_sum (zone_in xs) → IsKept new first unused free
+  pub copied-kept : (free : ℕ) → free ≡ free_sum (zone_in xs) → free ≡ free_sum (zone_in new)
   copied-kept free f =
       kept-made _ _ _ _ _ (slot_in xs) copied (f ∙ ap free_sum (standing xs first unused place i s to).whole ∙ sym
       (free-kept _ _ _ _))

@@ -2,7 +2,7 @@
 use Rattle.zone_bytes.proofs.Cited.{◌≡◌, ℕ, ◌+◌, Some, List, ◌++◌, cond, refl, sym, ap, ◌∙◌, arith, append_assoc, IfSome, IsSomeAnd, Bytes}
 use Rattle.zone_bytes.proofs.Cited.{Block, is_masters, free_sum, sizes, tidy, total, RunSpot, run_at, movers, settle, with_run, Rest}
 use Rattle.zone_bytes.proofs.Cited.{IsRest, Slot, Loose, settled-tidy, settle-total, Adds, total-changed, run_at-parts, zone_in, Replaced}
-use Rattle.zone_bytes.proofs.Cited.{purgeable_of, purgeable_sum, slot_in, IsSound, IsKept, KeepsPlace, rest_in, run_at-bottom}
+use Rattle.zone_bytes.proofs.Cited.{purgeable_of, purgeable_sum, slot_in, IsSound, KeepsPlace, rest_in, run_at-bottom}
 use Rattle.zone_bytes.proofs.Laws.Lawful.{rest-made}
 use Rattle.zone_bytes.proofs.Places.Options.{the-spot, the-if}
 use Rattle.zone_bytes.proofs.Runs.Changed.{ChangedRun}
@@ -54,7 +54,7 @@ module _ {xs : List ℕ} {first unused place top stop : ℕ} {old : List Block}
 
   -- after another change of the run
   pub kept-changed : (change : List Block → List Block) (new : List ℕ) (table : ℕ → Slot) (n : ℕ)
-      → ChangedRun change old r new first unused table → n ≡ free_sum (zone_in xs) → IsKept new first unused n
+      → ChangedRun change old r new first unused table → n ≡ free_sum (zone_in xs) → n ≡ free_sum (zone_in new)
   kept-changed change new table n d e = grind (arith, total-packed)
 
   pub purgeable-changed : (change : List Block → List Block) (new : List ℕ) (table : ℕ → Slot)

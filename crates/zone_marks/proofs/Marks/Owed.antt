@@ -1,8 +1,8 @@
 -- What each change of a zone owes of its landmarks.
 use Rattle.zone_marks.proofs.Marks.Passing.{begins-here, at-other}
 use Rattle.zone_marks.proofs.Cited.{left-zone, free-given, ◌≡◌, ℕ, ◌+◌, ◌-◌, ◌≤◌, false, List, ◌∷◌, ◌++◌, length, refl, sym, ap, ◌∙◌, subst}
-use Rattle.zone_marks.proofs.Cited.{[], arith, written, length-written, Block, Free, Relocatable, size, free, free_of, content_of}
-use Rattle.zone_marks.proofs.Cited.{is_purgeable, with_content, is_free, filled, size-content, total-append, zone_in, IsKept, AreOf}
+use Rattle.zone_marks.proofs.Cited.{[], arith, written, length-written, Block, Free, Relocatable, size, free, free_of, free_sum, content_of}
+use Rattle.zone_marks.proofs.Cited.{is_purgeable, with_content, is_free, filled, size-content, total-append, zone_in, AreOf}
 use Rattle.zone_marks.proofs.Cited.{IsMarked, Replaced, ends_run, purgeable_of, purgeable_sum, Landmarks, Stays, one, space, Roomy}
 use Rattle.zone_marks.proofs.Cited.{filled-is, free-content, span-free}
 use Rattle.zone_marks.proofs.Marks.Keeping.{marks-same}
@@ -15,22 +15,22 @@ content-same x (Relocatable id flags content) e = grind arith
 content-same x (Free n) e = (refl, refl, refl, refl)
 content-same x _ e = (refl, refl, refl, refl)
 
-module _ (xs : List ℕ) (first unused free purgeable : ℕ) (l : Landmarks) where
-  pub with-marks : IsKept xs first unused free → AreOf l (zone_in xs) → purgeable ≡ purgeable_sum (zone_in xs)
-      → IsMarked xs first unused free purgeable l
-  with-marks k a m = record { sound = k.sound; free_is = k.free_is; purgeable_is = m; marked = a }
+module _ (xs : List ℕ) (free purgeable : ℕ) (l : Landmarks) where
+  pub with-marks : free ≡ free_sum (zone_in xs) → AreOf l (zone_in xs) → purgeable ≡ purgeable_sum (zone_in xs)
+      → IsMarked xs free purgeable l
+  with-marks k a m = record { free_is = k; purgeable_is = m; marked = a }
 
   -- the same zone
-  pub with-same : (zone : List Block) → IsKept xs first unused free → zone_in xs ≡ zone → AreOf l zone
-      → purgeable ≡ purgeable_sum zone → IsMarked xs first unused free purgeable l
+  pub with-same : (zone : List Block) → free ≡ free_sum (zone_in xs) → zone_in xs ≡ zone → AreOf l zone
+      → purgeable ≡ purgeable_sum zone → IsMarked xs free purgeable l
   with-same zone k e a m = with-marks k (subst (AreOf l) (sym e) a) (subst (λ z. purgeable ≡ purgeable_sum z) (sym e) m)
 
   -- a block that takes as many bytes, of which as many are Free, that comes to the same in runs and in spaces, and may be
   -- purged if the other may
-  pub with-block : (below above : List Block) (b c : Block) (zone : List Block) → IsKept xs first unused free
+  pub with-block : (below above : List Block) (b c : Block) (zone : List Block) → free ≡ free_sum (zone_in xs)
       → zone_in xs ≡ below ++ c ∷ above → zone ≡ below ++ b ∷ above → size c ≡ size b → free_of c ≡ free_of b
       → one c ≡ one b → space c ≡ space b → is_purgeable c ≡ is_purgeable b → AreOf l zone
-      → purgeable ≡ purgeable_sum (below ++ c ∷ above) → IsMarked xs first unused free purgeable l
+      → purgeable ≡ purgeable_sum (below ++ c ∷ above) → IsMarked xs free purgeable l
   with-block below above b c zone k e was s f r h g a m =
       let w = subst (AreOf l) was a in
       let n = at-other (Stays l.lowest) 0 below above b c s (λ p t q. g ∙ t q) w.1 in
@@ -38,9 +38,9 @@ module _ (xs : List ℕ) (first unused free purgeable : ℕ) (l : Landmarks) whe
 
   -- bytes were written over some of a block's content
   pub with-written : (below above : List Block) (b : Block) (from : ℕ) (x : List ℕ) (zone : List Block)
-      → IsKept xs first unused free → zone_in xs ≡ below ++ with_content (written from x (content_of b)) b ∷ above
+      → free ≡ free_sum (zone_in xs) → zone_in xs ≡ below ++ with_content (written from x (content_of b)) b ∷ above
       → zone ≡ below ++ b ∷ above → from + length x ≤ length (content_of b) → AreOf l zone
-      → purgeable ≡ purgeable_sum zone → IsMarked xs first unused free purgeable l
+      → purgeable ≡ purgeable_sum zone → IsMarked xs free purgeable l
   with-written below above b from x zone k e was w a m =
       let long = length-written from x (content_of b) w in
       let same = content-same (written from x (content_of b)) b long in

@@ -4,9 +4,9 @@ use Rattle.zone_marks.proofs.above.has_room_above.Goals as goal
 
 pub returns : goal.returns
 returns c =
-    let i = c.requires.sound.2 in
-    sought _ _ _ i _ (c.below-from.ensures.begins _ c.requires.marks) (is_relocatable c.args.slot) _
+    let i = c.args.sound.now.sound in
+    sought _ _ _ i _ (c.below-from.ensures.begins _ c.requires) (is_relocatable c.args.slot) _
     (if-spot _ (λ s. c.below-from.result ≤ sizes s.below) (λ s e.
     let l = led-slot _ _ _ i c.args.slot s e in
-    omega (arith, led-place c.args.part.now.bytes _ _ i c.args.slot s e)))
+    omega (arith, led-place c.args.sound.now.part.bytes _ _ i c.args.slot s e)))
     (rw c.walk_at.ensures.is at c.room_above_in.ensures)

@@ -8,6 +8,6 @@ run_start-requires-clause-to c = grind (arith, begins-right, begins-here)
 
 pub returns : goal.returns
 returns c bytes to short l =
-    let q = c.requires.passed in
+    let q = c.requires in
     let s = c.run_start.ensures q.mid q.piece in
     passed-known _ _ q bytes to _ (grind arith) short l

@@ -7,4 +7,4 @@ pass_up_to-farther-requires-clause-stretch c = rw c.requires.come.at c.told_from
 
 pub pass_up_to-requires-clause-stretch : goal.pass_up_to-requires-clause-stretch
 pass_up_to-requires-clause-stretch c = let m = c.requires.marked in
-    rw c.requires.come.at (next-stretch _ _ _ m.sound.2 Runs _ m.marks _ (omega arith))
+    rw c.requires.come.at (next-stretch _ _ _ c.args.sound.now.sound Runs _ m.marks _ (omega arith))

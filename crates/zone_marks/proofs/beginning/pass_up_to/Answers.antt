@@ -4,7 +4,7 @@ use Rattle.zone_marks.proofs.beginning.pass_up_to.Goals as goal
 
 pub join-runs-requires : goal.join-runs-requires
 join-runs-requires c =
-    passed-fits _ _ c.requires.come.passed _ _ _ _ c.requires.sound.2 (rw c.in-Known.is at c.requires.stretch)
+    passed-fits _ _ c.requires.come.passed _ _ _ _ c.args.sound.now.sound (rw c.in-Known.is at c.requires.stretch)
 
 pub returns-in-Whole-clause-come : goal.returns-in-Whole-clause-come
 returns-in-Whole-clause-come c =

@@ -3,7 +3,7 @@ use Rattle.zone_marks.proofs.beginning.passed_below.Given as goal
 
 abbrev pub invariant-loop-passed : goal.invariant-loop-passed
 invariant-loop-passed l = record {
-  come : HasCome l.bytes l.marks l.part.bytes l.passed;
+  come : HasCome l.bytes l.marks l.sound.part.bytes l.passed;
   low : l.passed.index ≤ l.last;
 }
 

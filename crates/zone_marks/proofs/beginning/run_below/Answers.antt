@@ -16,7 +16,7 @@ returns c =
       arith,
       c.saturating_add.ensures,
       p.ensures.come.at,
-      mark-first (length c.args.part.now.bytes) marks i no_mark (omega (arith, a.ensures.index, p.ensures.within)),
+      mark-first (length c.args.sound.now.part.bytes) marks i no_mark (omega (arith, a.ensures.index, p.ensures.within)),
       mark-order _ _ marks i (a.result - 1) no_mark p.ensures.within (omega (arith, a.ensures.index)) c.requires.marked.marks,
       a.ensures.below (omega arith),
     ))

@@ -8,7 +8,7 @@ use Rattle.zone_marks.proofs.beginning.run_start.Goals as goal
 pub step_at-step-requires : goal.step_at-step-requires
 step_at-step-requires c =
     let v = c.loop-place.invariant in
-    let i = c.requires.sound.2 in
+    let i = c.args.sound.now.sound in
     let w = begins-within _ _ _ v.to in
     record {
       way = begins-way _ _ _ i _ v.done.1.edge;
@@ -20,7 +20,7 @@ loop-place-preserved-then-not-is_in_run c =
     let s = c.step_at-step.ensures in
     let h = c.is_in_run.ensures s.here s.told in
     record {
-      done = start-further _ _ _ _ s _ _ c.requires.sound.2 _ _ _ c.loop-place.invariant.done (grind arith);
+      done = start-further _ _ _ _ s _ _ c.args.sound.now.sound _ _ _ c.loop-place.invariant.done (grind arith);
       to = edge-further _ _ _ _ s _ c.loop-place-test.true c.loop-place.invariant.to;
     }
 
@@ -29,7 +29,7 @@ loop-place-preserved c =
     let s = c.step_at-step.ensures in
     let h = c.is_in_run.ensures s.here s.told in
     record {
-      done = start-further _ _ _ _ s _ _ c.requires.sound.2 _ _ _ c.loop-place.invariant.done (grind arith);
+      done = start-further _ _ _ _ s _ _ c.args.sound.now.sound _ _ _ c.loop-place.invariant.done (grind arith);
       to = edge-further _ _ _ _ s _ c.loop-place-test.true c.loop-place.invariant.to;
     }
 

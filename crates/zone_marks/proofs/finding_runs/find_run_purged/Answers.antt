@@ -11,12 +11,12 @@ pub returns-then-frees_one : goal.returns-then-frees_one
 returns-then-frees_one c =
     let n = c.args.sparing in
     found-lowest c.args.bytes GREATEST_ZONE n _ _ _
-    (purged-most _ n (zone_in c.args.part.now.bytes) (most-fits _ _ _ c.requires.marked.sound.2 n))
+    (purged-most _ n (zone_in c.args.sound.now.part.bytes) (most-fits _ _ _ c.args.sound.now.sound n))
     (rw c.begun_at.ensures at c.search_on.ensures)
 
 pub returns : goal.returns
-returns c = reached-lowest c.args.part.now.bytes c.args.from c.requires.from c.args.bytes GREATEST_ZONE
-    c.args.sparing (most-fits _ _ _ c.requires.marked.sound.2 _) (c.frees_one.ensures c.if-frees_one.false) _
+returns c = reached-lowest c.args.sound.now.part.bytes c.args.from c.requires.from c.args.bytes GREATEST_ZONE
+    c.args.sparing (most-fits _ _ _ c.args.sound.now.sound _) (c.frees_one.ensures c.if-frees_one.false) _
     c.run_below.ensures _ c.search_on-2.ensures
 
 pub search_on-requires-2-clause-begins : goal.search_on-requires-2-clause-begins

@@ -5,7 +5,7 @@ use Rattle.zone_marks.proofs.finding_runs.search_on.Given as goal
 abbrev pub invariant-loop-scan : goal.invariant-loop-scan
 invariant-loop-scan l = record {
   above : scan_from l.number l.bytes (spared l.sparing) l.scan (opened l.sparing l.walk)
-      ≡ scan_from l.number l.bytes (spared l.sparing) l.fn.scan (opened l.sparing (left_in l.fn.scan.place l.part.bytes));
+      ≡ scan_from l.number l.bytes (spared l.sparing) l.fn.scan (opened l.sparing (left_in l.fn.scan.place l.sound.part.bytes));
   bytes : l.scan.place + sizes l.walk < 2 ^ 32;
   free : l.scan.free ≤ l.scan.place;
 }

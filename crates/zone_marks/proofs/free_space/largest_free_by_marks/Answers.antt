@@ -4,7 +4,7 @@ use Rattle.zone_marks.proofs.Marks.Rooms.{bound-room, none-past}
 use Rattle.zone_marks.proofs.free_space.largest_free_by_marks.Goals as goal
 
 pub measure_up_to-largest-requires : goal.measure_up_to-largest-requires
-measure_up_to-largest-requires c = on-way _ _ _ c.requires.marked.sound.2
+measure_up_to-largest-requires c = on-way _ _ _ c.args.sound.now.sound
 
 pub loop-group-init : goal.loop-group-init
 loop-group-init c = record {
@@ -13,4 +13,4 @@ loop-group-init c = record {
 }
 
 pub returns : goal.returns
-returns c = zone-largest _ _ _ c.requires.marked.sound.2 _ (grind (arith, none-past)) c.loop-group.invariant.reached
+returns c = zone-largest _ _ _ c.args.sound.now.sound _ (grind (arith, none-past)) c.loop-group.invariant.reached

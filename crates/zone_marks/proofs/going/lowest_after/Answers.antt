@@ -12,10 +12,10 @@ first_going-found-requires c = search (rules, way-above)
 
 -- the blocks up to the one that was found stay
 stays : (c : After-first_going-found) (old : List Block) (r : Replaced c.args.lo c.args.hi old
-    (zone_in c.args.part.now.bytes))
+    (zone_in c.args.sound.now.part.bytes))
     → AtEach (Stays c.first_going-found.result) c.args.lo r.there
 stays c old r = at-left (Stays c.first_going-found.result) _ _ _
-    (rw (left-above _ _ _ c.requires.sound.2 _ _ _ r.is r.low) at c.first_going-found.ensures)
+    (rw (left-above _ _ _ c.args.sound.now.sound _ _ _ r.is r.low) at c.first_going-found.ensures)
 
 pub returns-then-hi-found : goal.returns-then-hi-found
 returns-then-hi-found c = λ old r n. stays-replaced _ _ _ _ r _ n _ (omega arith) (stays-whole _ _ _ _ (omega arith)

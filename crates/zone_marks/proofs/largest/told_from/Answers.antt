@@ -4,8 +4,8 @@ use Rattle.zone_marks.proofs.largest.told_from.Goals as goal
 
 pub returns-in-Known-clause-stretch : goal.returns-in-Known-clause-stretch
 returns-in-Known-clause-stretch c = let m = c.requires.marked in
-    rw c.in-Known.is (group-stretch _ _ _ m.sound.2 _ _ m.marks _ _ c.requires.inside (grind arith))
+    rw c.in-Known.is (group-stretch _ _ _ c.args.sound.now.sound _ _ m.marks _ _ c.requires.inside (grind arith))
 
 pub returns-clause-stretch : goal.returns-clause-stretch
 returns-clause-stretch c = let m = c.requires.marked in
-    rw c.told.ensures (next-stretch _ _ _ m.sound.2 _ _ m.marks _ c.requires.inside)
+    rw c.told.ensures (next-stretch _ _ _ c.args.sound.now.sound _ _ m.marks _ c.requires.inside)

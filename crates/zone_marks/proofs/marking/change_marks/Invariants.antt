@@ -5,7 +5,7 @@ use Rattle.zone_marks.proofs.marking.change_marks.Given as goal
 abbrev pub invariant-loop-first : goal.invariant-loop-first
 invariant-loop-first l = record {
   groups : AreGroups l.groups l.marks;
-  changing : Changing l.lo l.hi l.next l.above l.first (zone_in l.part.bytes) l.marks;
+  changing : Changing l.lo l.hi l.next l.above l.first (zone_in l.sound.part.bytes) l.marks;
 }
 
 abbrev pub decreases-loop-first : goal.decreases-loop-first

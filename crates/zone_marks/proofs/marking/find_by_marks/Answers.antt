@@ -14,12 +14,12 @@ pub loop-group-preserved : goal.loop-group-preserved
 loop-group-preserved c =
     let group = c.loop-group.group in
     elim c.if-bytes-groups.branch [
-      | then-bytes-groups+in_default-room_in_group w ↦ subst (NoneBelow c.args.bytes (zone_in c.args.part.now.bytes)
+      | then-bytes-groups+in_default-room_in_group w ↦ subst (NoneBelow c.args.bytes (zone_in c.args.sound.now.part.bytes)
           c.args.marks.now)
           (let e : GROUP * group + GROUP ≡ GROUP * (group + 1) = omega arith in e) w.in_default-room_in_group.ensures.none
-      | else-bytes-groups w ↦ none-group _ _ _ c.requires.sound.2 _ _
+      | else-bytes-groups w ↦ none-group _ _ _ c.args.sound.now.sound _ _
           c.requires.marks _ c.requires.groups _ c.loop-group-test.true w.if-bytes-groups.false c.loop-group.invariant
     ]
 
 pub returns : goal.returns
-returns c = none-found _ _ _ c.requires.sound.2 _ (grind (arith, none-past))
+returns c = none-found _ _ _ c.args.sound.now.sound _ (grind (arith, none-past))

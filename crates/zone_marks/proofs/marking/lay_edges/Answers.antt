@@ -8,7 +8,7 @@ packed_mark-requires-clause-bare c = edge-bare _ _ _
 
 pub loop-next-preserved : goal.loop-next-preserved
 loop-next-preserved c =
-    let zone = zone_in c.args.part.now.bytes in
+    let zone = zone_in c.args.sound.now.part.bytes in
     let v = c.loop-next.invariant in
     let inside : c.loop-next.next.index + 1 < length c.loop-next.marks = omega arith in
     let m = c.packed_mark.new.mark in

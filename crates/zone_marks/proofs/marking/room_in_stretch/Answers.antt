@@ -8,7 +8,7 @@ room_between-requires c = search (rules, begins-way)
 
 pub returns-then-mark-bytes-clause-none : goal.returns-then-mark-bytes-clause-none
 returns-then-mark-bytes-clause-none c =
-    none-whole _ _ _ c.requires.sound.2 _ _ _ c.requires.below (c.requires.bound c.if-mark-bytes.true)
+    none-whole _ _ _ c.args.sound.now.sound _ _ _ c.requires.below (c.requires.bound c.if-mark-bytes.true)
 
 pub returns-else-mark-bytes-clause-none : goal.returns-else-mark-bytes-clause-none
 returns-else-mark-bytes-clause-none c = search (rules, if-none, none-further)

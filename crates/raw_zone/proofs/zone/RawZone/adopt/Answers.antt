@@ -29,7 +29,7 @@ adopt-requires-clause-way c =
     let q = c.requires in
     let asks = asked (held i) c.args.self.now c.args.place c.args.number c.self.view_is q.block q.used q.no_block in
     let a = asks.nonrelocatable in
-    way-at i.part.bytes i.first i.unused c.self.invariant.sound c.args.place a.s a.is
+    way-at _ _ _ c.self.inside.sound.sound c.args.place a.s a.is
 
 pub adopt-requires-clause-some : goal.adopt-requires-clause-some
 adopt-requires-clause-some c =
@@ -37,8 +37,8 @@ adopt-requires-clause-some c =
     let q = c.requires in
     let asks = asked (held i) c.args.self.now c.args.place c.args.number c.self.view_is q.block q.used q.no_block in
     let a = asks.nonrelocatable in
-    let n = inside i.part.bytes i.first i.unused c.self.invariant.sound c.args.place a.s a.is in
-    let m = some-here i.part.bytes i.first i.unused c.self.invariant.sound c.args.place a.s a.is in
+    let n = inside _ _ _ c.self.inside.sound.sound c.args.place a.s a.is in
+    let m = some-here _ _ _ c.self.inside.sound.sound c.args.place a.s a.is in
     omega (arith, n, m)
 
 pub adopt-requires-clause-slot : goal.adopt-requires-clause-slot
@@ -46,34 +46,31 @@ adopt-requires-clause-slot c =
     let i = c.self.inside in
     let q = c.requires in
     let a = asked (held i) c.args.self.now c.args.place c.args.number c.self.view_is q.block q.used q.no_block in
-    adopt-reads-in i.part.bytes i.first i.unused c.self.invariant.sound c.args.place a.nonrelocatable c.args.number c.args.flags
-    a.used a.no_block
+    adopt-reads-in _ _ _ c.self.inside.sound.sound c.args.place a.nonrelocatable c.args.number c.args.flags a.used a.no_block
 
 pub invariant_of-self-inside : goal.invariant_of-self-inside
 invariant_of-self-inside c =
     let i = c.self.inside in
     let q = c.requires in
-    let a = asked (held i) c.args.self.now c.args.place c.args.number c.self.view_is q.block q.used q.no_block in (
-      (adopted-at i.part.bytes i.first i.unused c.self.invariant.sound c.args.place a.nonrelocatable c.args.number c.args.flags
-          a.used a.no_block c.adopt.new.part.bytes c.adopt.ensures.bytes).lawful,
-      tt,
-    )
+    let a = asked (held i) c.args.self.now c.args.place c.args.number c.self.view_is q.block q.used q.no_block in
+    let m = adopted-at _ _ _ c.self.inside.sound.sound c.args.place a.nonrelocatable c.args.number c.args.flags a.used
+    a.no_block c.adopt.new.part.bytes c.adopt.ensures.bytes in
+    record { sound = m.sound }
 
-done : (c : After-adopt) → (a : NonrelocatableAt c.self.inside.part.bytes c.args.place)
-    × Made c.adopt.new.part.bytes c.self.inside.first c.self.inside.unused
-    (a.s.below ++ Relocatable c.args.number c.args.flags a.content ∷ a.s.above) (slot_in c.self.inside.part.bytes)
+done : (c : After-adopt) → (a : NonrelocatableAt c.self.inside.sound.part.bytes c.args.place)
+    × Made c.adopt.new.part.bytes c.self.inside.sound.first c.self.inside.sound.unused
+    (a.s.below ++ Relocatable c.args.number c.args.flags a.content ∷ a.s.above) (slot_in c.self.inside.sound.part.bytes)
 done c =
     let i = c.self.inside in
     let q = c.requires in
     let a = asked (held i) c.args.self.now c.args.place c.args.number c.self.view_is q.block q.used q.no_block in (
       a.nonrelocatable,
-      adopted-at i.part.bytes i.first i.unused c.self.invariant.sound c.args.place a.nonrelocatable c.args.number c.args.flags
+      adopted-at _ _ _ c.self.inside.sound.sound c.args.place a.nonrelocatable c.args.number c.args.flags
           a.used a.no_block c.adopt.new.part.bytes c.adopt.ensures.bytes,
     )
 
-abbrev became : (c : After-adopt) → Became c.args.place (zone_in c.self.inside.part.bytes) (zone_in c.adopt.new.part.bytes)
+abbrev became : (c : After-adopt) → Became c.args.place (zone_in c.self.inside.sound.part.bytes) (zone_in c.adopt.new.part.bytes)
 became c =
-    let i = c.self.inside in
     let d = done c in
     let a = d.0 in record {
       below = a.s.below;
@@ -82,35 +79,21 @@ became c =
       above = a.s.above;
       was = a.whole;
       is = d.1.zone;
-      low = low i.part.bytes i.first i.unused c.self.invariant.sound c.args.place a.s a.is;
+      low = low _ _ _ c.self.inside.sound.sound c.args.place a.s a.is;
       span = refl;
     }
 
-pub note_block-requires-clause-sound : goal.note_block-requires-clause-sound
-note_block-requires-clause-sound c = (
-  c.self.inside.first,
-  c.self.inside.unused,
-  (done (goal.at.note_block-requires-clause-sound c).After-adopt).1.sound,
-)
-
-pub note_block-requires-clause-marks : goal.note_block-requires-clause-marks
-note_block-requires-clause-marks c = (
-  zone_in c.self.inside.part.bytes,
-  became (goal.at.note_block-requires-clause-marks c).After-adopt,
+pub note_block-requires : goal.note_block-requires
+note_block-requires c = (
+  zone_in c.self.inside.sound.part.bytes,
+  became (goal.at.note_block-requires c).After-adopt,
   c.self.invariant.marked,
 )
 
-pub purgeable_with-self-inside-requires-clause-sound : goal.purgeable_with-self-inside-requires-clause-sound
-purgeable_with-self-inside-requires-clause-sound c = (
-  c.self.inside.first,
-  c.self.inside.unused,
-  (done (goal.at.purgeable_with-self-inside-requires-clause-sound c).After-adopt).1.sound,
-)
-
-pub purgeable_with-self-inside-requires-clause-became : goal.purgeable_with-self-inside-requires-clause-became
-purgeable_with-self-inside-requires-clause-became c = (
-  zone_in c.self.inside.part.bytes,
-  became (goal.at.purgeable_with-self-inside-requires-clause-became c).After-adopt,
+pub purgeable_with-self-inside-requires : goal.purgeable_with-self-inside-requires
+purgeable_with-self-inside-requires c = (
+  zone_in c.self.inside.sound.part.bytes,
+  became (goal.at.purgeable_with-self-inside-requires c).After-adopt,
   refl,
   c.self.invariant.purgeable_is,
 )
@@ -119,13 +102,13 @@ pub invariant_of-self : goal.invariant_of-self
 invariant_of-self c =
     let d = (goal.at.invariant_of-self c).After-adopt in
     let a = (done d).0 in
-    with-marks _ _ _ _ _ _ (kept-made _ _ _ _ _ _ (done d).1 (c.self.invariant.free_is ∙ ap free_sum a.whole
+    with-marks _ _ _ _ (kept-made _ _ _ _ _ _ (done d).1 (c.self.invariant.free_is ∙ ap free_sum a.whole
     ∙ sym (free-adopted a.s.below a.id c.args.number c.args.flags a.content a.s.above))) c.note_block.ensures
-    (c.purgeable_with-self-inside.ensures (zone_in c.self.inside.part.bytes) (became d) refl c.self.invariant.purgeable_is)
+    (c.purgeable_with-self-inside.ensures (zone_in c.self.inside.sound.part.bytes) (became d) refl c.self.invariant.purgeable_is)
 
 pub returns-clause-zone : goal.returns-clause-zone
 returns-clause-zone c =
-    let xs = c.self.inside.part.bytes in
+    let xs = c.self.inside.sound.part.bytes in
     let d = done (goal.at.returns-clause-zone c).After-adopt in
     let a = d.0 in
     subst (λ v. IfSome (spot_at c.args.place (zone_of v)) (λ s. zone_in c.adopt.new.part.bytes
@@ -142,7 +125,7 @@ returns-clause-rest c =
     let i = c.self.inside in
     let d = done (goal.at.returns-clause-rest c).After-adopt in
     let a = d.0 in
-    subst (λ v. IsRest (rest_of v) (rest_in c.adopt.new.part i.unused i.moves i.placings)) c.self.view_is
-    (rest-made i.part c.adopt.new.part (slot_in i.part.bytes) i.unused i.moves i.placings d.1.slots
+    subst (λ v. IsRest (rest_of v) (rest_in c.adopt.new.part i.sound.unused i.moves i.placings)) c.self.view_is
+    (rest-made i.sound.part c.adopt.new.part (slot_in i.sound.part.bytes) i.sound.unused i.moves i.placings d.1.slots
     (ap (count is_masters) d.1.zone ∙ masters-adopted a.s.below a.id c.args.number c.args.flags a.content a.s.above
     ∙ ap (count is_masters) (sym a.whole)) c.adopt.ensures.same)

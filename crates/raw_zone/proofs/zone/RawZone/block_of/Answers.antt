@@ -13,21 +13,20 @@ pub block_of_slot-requires-clause-slot : goal.block_of_slot-requires-clause-slot
 block_of_slot-requires-clause-slot c =
     let i = c.self.inside in
     let a = led (held i) c.args.self.now c.args.number c.self.view_is c.requires in
-    led-slot i.part.bytes i.first i.unused c.self.invariant.sound c.args.number a.0 a.1
+    led-slot _ _ _ c.self.inside.sound.sound c.args.number a.0 a.1
 
 pub block_of_slot-requires-clause-leads : goal.block_of_slot-requires-clause-leads
 block_of_slot-requires-clause-leads c =
     let i = c.self.inside in
     let a = led (held i) c.args.self.now c.args.number c.self.view_is c.requires in
-    leads-here i.part.bytes i.first i.unused c.self.invariant.sound c.args.number a.0 a.1
+    leads-here _ _ _ c.self.inside.sound.sound c.args.number a.0 a.1
 
 pub returns-clause-place : goal.returns-clause-place
 returns-clause-place c =
     let i = c.self.inside in
     let a = led (held i) c.args.self.now c.args.number c.self.view_is c.requires in
     subst (λ v. FindsLowest (is_relocatable c.args.number) (zone_of v) (Some c.block_of_slot.result.place))
-    c.self.view_is (led-found i.part.bytes i.first i.unused c.self.invariant.sound c.args.number a.0 a.1
-    c.block_of_slot.result.place
+    c.self.view_is (led-found _ _ _ c.self.inside.sound.sound c.args.number a.0 a.1 c.block_of_slot.result.place
     c.block_of_slot.ensures.place)
 
 pub returns-clause-block : goal.returns-clause-block
@@ -36,7 +35,6 @@ returns-clause-block c =
     let r = c.block_of_slot.result in
     subst (λ v. IfSome (spot (is_relocatable c.args.number) (zone_of v)) (λ s.
     seen s.here ≡ see.Relocatable c.args.number r.flags r.length)) c.self.view_is
-    (if-spot (spot (is_relocatable c.args.number) (zone_in i.part.bytes))
+    (if-spot (spot (is_relocatable c.args.number) (zone_in i.sound.part.bytes))
     (λ s. seen s.here ≡ see.Relocatable c.args.number r.flags r.length) (λ s e.
-    led-told i.part.bytes i.first i.unused c.self.invariant.sound c.args.number s e r.flags r.length
-    c.block_of_slot.ensures.block))
+    led-told _ _ _ c.self.inside.sound.sound c.args.number s e r.flags r.length c.block_of_slot.ensures.block))

@@ -16,17 +16,15 @@ returns-then-is_as_it_stands c =
     (sym (c.is_as_it_stands.ensures c.if-is_as_it_stands.true zone (zone-tidied c.args.self.now)))
 
 pub walk_from-requires : goal.walk_from-requires
-walk_from-requires c = let z = c.self.inside in on-way z.part.bytes z.first z.unused c.self.invariant.sound
+walk_from-requires c = let z = c.self.inside in on-way _ _ _ c.self.inside.sound.sound
 
 pub find_run_in-requires : goal.find_run_in-requires
 find_run_in-requires c =
-    let z = c.self.inside in
-    subst (λ l. sizes l < 2 ^ 32) (sym c.walk_from.ensures)
-    (sizes-fit z.part.bytes z.first z.unused c.self.invariant.sound)
+    subst (λ l. sizes l < 2 ^ 32) (sym c.walk_from.ensures) (sizes-fit _ _ _ c.self.inside.sound.sound)
 
 pub returns : goal.returns
 returns c =
     c.is_some-2.ensures
     ∙ found c.args.bytes (purged 0 c.args.sparing (zone_of c.args.self.now)) c.find_run_in.result
     (subst (λ z. FindsLowestRun (has_free c.args.bytes) (purged 0 c.args.sparing z) c.find_run_in.result)
-    (c.walk_from.ensures ∙ left-zone c.self.inside.part.bytes ∙ ap zone_of c.self.view_is) c.find_run_in.ensures)
+    (c.walk_from.ensures ∙ left-zone c.self.inside.sound.part.bytes ∙ ap zone_of c.self.view_is) c.find_run_in.ensures)

@@ -6,10 +6,10 @@ use Rattle.raw_zone.proofs.zone.RawZoneBlockStore.carve_nonrelocatable.Goals as 
 use Rattle.raw_zone.proofs.zone.RawZoneBlockStore.carve_nonrelocatable.Goals.{After-self, After-carve_nonrelocatable}
 
 -- the Free block at the place
-here : (c : After-self) → Roomy c.self.inside.part.bytes c.args.place (padded c.args.size)
+here : (c : After-self) → Roomy c.self.inside.sound.part.bytes c.args.place (padded c.args.size)
 here c =
-    roomy c.self.inside.part.bytes c.self.inside.first c.self.inside.unused c.args.place (padded c.args.size)
-    c.self.invariant.sound
+    roomy c.self.inside.sound.part.bytes c.self.inside.sound.first c.self.inside.sound.unused c.args.place (padded c.args.size)
+    c.self.inside.sound.sound
     (subst (λ v. IsSomeAnd (spot_at c.args.place (zone_of v)) (λ s. IsTrue (is_room (padded c.args.size) s.here)))
     (sym c.self.view_is) c.requires)
 
@@ -23,29 +23,30 @@ size_at-free-requires-clause-some c =
     let g = r.at.some in
     omega (arith, i, g)
 
-there : (c : After-carve_nonrelocatable) → Roomy c.self.inside.part.bytes c.args.place (padded c.args.size)
+there : (c : After-carve_nonrelocatable) → Roomy c.self.inside.sound.part.bytes c.args.place (padded c.args.size)
 there c =
-    roomy c.self.inside.part.bytes c.self.inside.first c.self.inside.unused c.args.place (padded c.args.size)
-    c.self.invariant.sound
+    roomy c.self.inside.sound.part.bytes c.self.inside.sound.first c.self.inside.sound.unused c.args.place (padded c.args.size)
+    c.self.inside.sound.sound
     (subst (λ v. IsSomeAnd (spot_at c.args.place (zone_of v)) (λ s. IsTrue (is_room (padded c.args.size) s.here)))
     (sym c.self.view_is) c.requires)
 
 abbrev new : After-carve_nonrelocatable → Block
 new c = Nonrelocatable c.args.place (replicate c.args.size 0)
 
-done : (c : After-carve_nonrelocatable) → Made c.carve_nonrelocatable.new.part.bytes c.self.inside.first c.self.inside.unused
-    (filled (new c) (there c).s) (slot_in c.self.inside.part.bytes)
+done : (c : After-carve_nonrelocatable) → Made c.carve_nonrelocatable.new.part.bytes c.self.inside.sound.first c.self.inside.sound.unused
+    (filled (new c) (there c).s) (slot_in c.self.inside.sound.part.bytes)
 done c =
     let r = there c in
-    tidy-made _ _ _ _ c.self.invariant.sound (r.s.below ++ new c ∷ Free (size r.s.here - size (new c)) ∷ r.s.above)
-    (the-if _ _ r.s r.is (c.carve_nonrelocatable.ensures.lays c.self.inside.first c.self.inside.unused c.self.invariant.sound))
+    tidy-made _ _ _ _ c.self.inside.sound.sound (r.s.below ++ new c ∷ Free (size r.s.here - size (new c)) ∷ r.s.above)
+    (the-if _ _ r.s r.is (c.carve_nonrelocatable.ensures.lays c.self.inside.sound.first c.self.inside.sound.unused
+    c.self.inside.sound.sound))
 
 new-size : (c : After-carve_nonrelocatable) → size (new c) ≡ padded c.args.size
 new-size c = ap padded (length-replicate {A = ℕ} c.args.size 0)
 
 pub padded_size-requires : goal.padded_size-requires
 padded_size-requires c =
-    let r = there c in
+    let r = there (goal.at.padded_size-requires c).After-carve_nonrelocatable in
     let l = ap size r.here in
     let f = r.room in
     let i = r.at.inside in
@@ -55,13 +56,13 @@ padded_size-requires c =
 pub overflow_sub-self : goal.overflow_sub-self
 overflow_sub-self c =
     let r = there (goal.at.overflow_sub-self c).After-carve_nonrelocatable in
-    let q = free-roomy c.self.inside.part.bytes c.args.place (padded c.args.size) r in
+    let q = free-roomy c.self.inside.sound.part.bytes c.args.place (padded c.args.size) r in
     let f = c.self.invariant.free_is in
     let p = c.padded_size.ensures in
     omega (arith, q, f, p)
 
 pub invariant_of-self-inside : goal.invariant_of-self-inside
-invariant_of-self-inside c = ((done (goal.at.invariant_of-self-inside c).After-carve_nonrelocatable).lawful, tt)
+invariant_of-self-inside c = record { sound = (done (goal.at.invariant_of-self-inside c).After-carve_nonrelocatable).sound }
 
 pub invariant_of-self : goal.invariant_of-self
 invariant_of-self c =
@@ -71,7 +72,7 @@ invariant_of-self c =
     let l = new-size a in
     let q = carved-free _ _ _ r _ (new a) refl (omega (arith, l)) m.zone in
     let g = given-put (new a) refl r.s _ r.at.whole r.bytes r.here in
-    with-marks _ _ _ _ _ _
+    with-marks _ _ _ _
     (kept-made _ _ _ _ _ _ m (omega (arith, q, ap free_sum m.zone, c.self.invariant.free_is, c.padded_size.ensures, l)))
     c.note.ensures (omega (arith, g, ap purgeable_sum m.zone, c.self.invariant.purgeable_is))
 
@@ -86,9 +87,9 @@ returns-clause-rest c =
     let m = done a in
     let l = new-size a in
     let k = carved-masters _ _ _ (there a) _ (new a) refl (omega (arith, l)) m.zone in
-    rw (← c.self.view_is) (rest-made c.self.inside.part c.carve_nonrelocatable.new.part
-    (slot_in c.self.inside.part.bytes)
-    c.self.inside.unused c.self.inside.moves c.self.inside.placings m.slots (omega (arith, k)) c.carve_nonrelocatable.ensures.same)
+    rw (← c.self.view_is) (rest-made c.self.inside.sound.part c.carve_nonrelocatable.new.part
+    (slot_in c.self.inside.sound.part.bytes)
+    c.self.inside.sound.unused c.self.inside.moves c.self.inside.placings m.slots (omega (arith, k)) c.carve_nonrelocatable.ensures.same)
 
 pub overflow_add-place : goal.overflow_add-place
 overflow_add-place c =
@@ -98,19 +99,12 @@ overflow_add-place c =
     let m = r.at.small in
     omega (arith, n, i, m)
 
-pub note-requires-clause-sound : goal.note-requires-clause-sound
-note-requires-clause-sound c = (
-  c.self.inside.first,
-  c.self.inside.unused,
-  (done (goal.at.note-requires-clause-sound c).After-carve_nonrelocatable).sound,
-)
-
-pub note-requires-clause-marks : goal.note-requires-clause-marks
-note-requires-clause-marks c =
-    let a = (goal.at.note-requires-clause-marks c).After-carve_nonrelocatable in
+pub note-requires : goal.note-requires
+note-requires c =
+    let a = (goal.at.note-requires c).After-carve_nonrelocatable in
     let r = there a in
     let l = new-size a in (
-      zone_in c.self.inside.part.bytes,
+      zone_in c.self.inside.sound.part.bytes,
       filled-replaced _ _ _ r (new a) refl (omega (arith, l)) c.size_at-free.result
           (c.size_at-free.ensures r.s.here r.s.above r.at.left) _ (done a).zone,
       c.self.invariant.marked,

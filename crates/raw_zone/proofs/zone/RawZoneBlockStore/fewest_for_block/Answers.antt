@@ -12,9 +12,6 @@ returns-then-falls_short c = λ k.
     (purged k c.args.sparing zone)
     (c.falls_short.ensures c.if-falls_short.true zone k (c.free_if_purged.ensures ∙ all-given zone)))
 
-pub fewest_for_block-requires-clause-sound : goal.fewest_for_block-requires-clause-sound
-fewest_for_block-requires-clause-sound c = (c.self.inside.first, c.self.inside.unused, c.self.invariant.sound)
-
 pub fewest_for_block-requires-clause-once : goal.fewest_for_block-requires-clause-once
 fewest_for_block-requires-clause-once c =
     subst (λ v. count (is_relocatable c.args.number) (zone_of v) ≤ 1) (sym c.self.view_is)

@@ -15,9 +15,6 @@ returns-then-falls_short c = λ k.
     (purged k c.args.sparing zone)
     (c.falls_short.ensures c.if-falls_short.true zone k (c.free_if_purged.ensures ∙ all-given zone)))
 
-pub fewest_purges-requires-clause-sound : goal.fewest_purges-requires-clause-sound
-fewest_purges-requires-clause-sound c = (c.self.inside.first, c.self.inside.unused, c.self.invariant.sound)
-
 pub fewest_purges-requires-clause-unserved : goal.fewest_purges-requires-clause-unserved
 fewest_purges-requires-clause-unserved c =
     subst (λ v. serves c.args.bytes c.args.sparing (zone_of v) 0 ≡ false) (sym c.self.view_is)

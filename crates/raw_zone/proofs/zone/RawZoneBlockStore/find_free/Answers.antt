@@ -6,4 +6,4 @@ returns-then-self-bytes c =
     let f = c.self.invariant.free_is in
     let l = c.if-self-bytes.true in
     subst (λ v. spot (is_room c.args.bytes) (zone_of v) ≡ None) c.self.view_is
-    (no-room c.args.bytes (zone_in c.self.inside.part.bytes) (omega (arith, f, l)))
+    (no-room c.args.bytes (zone_in c.self.inside.sound.part.bytes) (omega (arith, f, l)))

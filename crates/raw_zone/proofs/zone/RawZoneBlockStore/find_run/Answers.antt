@@ -7,4 +7,4 @@ returns-then-self-bytes c =
     let l = c.if-self-bytes.true in
     subst (λ v. run_spot (has_free c.args.bytes) (zone_of v) ≡ None) c.self.view_is
     (no-run (has_free c.args.bytes) c.args.bytes (λ run k. le-back c.args.bytes (free_sum run) k)
-    (zone_in c.self.inside.part.bytes) (omega (arith, f, l)))
+    (zone_in c.self.inside.sound.part.bytes) (omega (arith, f, l)))

@@ -6,7 +6,7 @@ use Rattle.raw_zone.proofs.zone.RawZoneBlockStore.hoist.Goals as goal
 use Rattle.raw_zone.proofs.zone.RawZoneBlockStore.hoist.Goals.{After-self, After-note-arg-2-1}
 
 abbrev Found : After-self → Type 0
-Found c = IsPacked c.self.inside.part.bytes c.self.inside.first c.self.inside.unused c.args.run
+Found c = IsPacked c.self.inside.sound.part.bytes c.self.inside.sound.first c.self.inside.sound.unused c.args.run
     c.pack-packed.result.top c.pack-packed.result.stop (zone_of c.args.self.now)
 
 found : (c : After-self) → (k : Found c) × (has (is_relocatable c.args.number) k.spot.run ≡ true)
@@ -14,10 +14,9 @@ found c =
     let o = run_at c.args.run (zone_of c.args.self.now) in
     let z = subst (λ v. IfSome o (λ r. zone_of v ≡ tidy (with_run settle r))) (sym c.self.view_is)
     c.pack-packed.ensures.zone in
-    is-packed c.self.inside.part.bytes c.self.inside.first c.self.inside.unused c.args.run c.pack-packed.result.top
+    is-packed c.self.inside.sound.part.bytes c.self.inside.sound.first c.self.inside.sound.unused c.args.run c.pack-packed.result.top
     c.pack-packed.result.stop (zone_of c.args.self.now) (λ r. IsTrue (has (is_relocatable c.args.number) r.run))
-    c.self.invariant.sound (zone-tidied c.args.self.now) c.requires z c.pack-packed.ensures.top
-    c.pack-packed.ensures.stop
+    c.self.inside.sound.sound (zone-tidied c.args.self.now) c.requires z c.pack-packed.ensures.top c.pack-packed.ensures.stop
 
 pub read_word-place-requires : goal.read_word-place-requires
 read_word-place-requires c =
@@ -31,40 +30,39 @@ hoist_block-requires c =
       may-hoist a.0 c.args.number a.1 c.read_word-place.result c.read_word-place.ensures,
     )
 
-done : (c : After-note-arg-2-1) → (k : Found (goal.at.note-requires-clause-sound c).After-self)
+done : (c : After-note-arg-2-1) → (k : Found (goal.at.note-requires c).After-self)
     × ChangedRun (high (is_relocatable c.args.number)) (zone_of c.args.self.now) k.spot c.hoist_block.new.part.bytes
-    c.self.inside.first c.self.inside.unused (slot_in c.self.inside.part.bytes)
+    c.self.inside.sound.first c.self.inside.sound.unused (slot_in c.self.inside.sound.part.bytes)
 done c =
-    let a = found (goal.at.note-requires-clause-sound c).After-self in (
+    let a = found (goal.at.note-requires c).After-self in (
       a.0,
       hoist-changed a.0 c.args.number a.1 c.read_word-place.result c.read_word-place.ensures
           (zone-once c.args.self.now) c.hoist_block.new.part.bytes c.hoist_block.ensures.hoisted,
     )
 
-pub note-requires-clause-sound : goal.note-requires-clause-sound
-note-requires-clause-sound c =
-    let d = done (goal.at.note-requires-clause-sound c).After-note-arg-2-1 in
-    (c.self.inside.first, c.self.inside.unused, d.1.made.sound)
-
-pub note-requires-clause-marks : goal.note-requires-clause-marks
-note-requires-clause-marks c =
-    let d = done (goal.at.note-requires-clause-marks c).After-note-arg-2-1 in (
-      zone_in c.self.inside.part.bytes,
+pub note-requires : goal.note-requires
+note-requires c =
+    let d = done (goal.at.note-requires c).After-note-arg-2-1 in (
+      zone_in c.self.inside.sound.part.bytes,
       replaced-changed d.0 (high (is_relocatable c.args.number)) c.hoist_block.new.part.bytes
-          (slot_in c.self.inside.part.bytes) d.1,
+          (slot_in c.self.inside.sound.part.bytes) d.1,
       c.self.invariant.marked,
     )
 
 pub invariant_of-self-inside : goal.invariant_of-self-inside
-invariant_of-self-inside c = ((done (goal.at.invariant_of-self-inside c).After-note-arg-2-1).1.made.lawful, tt)
+invariant_of-self-inside c =
+    let a = found (goal.at.invariant_of-self-inside c).After-self in
+    let d = hoist-changed a.0 c.args.number a.1 c.read_word-place.result c.read_word-place.ensures
+    (zone-once c.args.self.now) c.hoist_block.new.part.bytes c.hoist_block.ensures.hoisted in
+    record { sound = d.made.sound }
 
 pub invariant_of-self : goal.invariant_of-self
 invariant_of-self c =
     let d = done (goal.at.invariant_of-self c).After-note-arg-2-1 in
-    with-marks _ _ _ _ _ _ (kept-changed d.0 (high (is_relocatable c.args.number)) c.hoist_block.new.part.bytes
-    (slot_in c.self.inside.part.bytes) c.self.inside.free d.1 c.self.invariant.free_is) c.note.ensures
+    with-marks _ _ _ _ (kept-changed d.0 (high (is_relocatable c.args.number)) c.hoist_block.new.part.bytes
+    (slot_in c.self.inside.sound.part.bytes) c.self.inside.free d.1 c.self.invariant.free_is) c.note.ensures
     (c.self.invariant.purgeable_is ∙ purgeable-changed d.0 (high (is_relocatable c.args.number))
-    c.hoist_block.new.part.bytes (slot_in c.self.inside.part.bytes) d.1)
+    c.hoist_block.new.part.bytes (slot_in c.self.inside.sound.part.bytes) d.1)
 
 pub returns-clause-zone : goal.returns-clause-zone
 returns-clause-zone c =
@@ -76,8 +74,8 @@ returns-clause-zone c =
 pub returns-clause-rest : goal.returns-clause-rest
 returns-clause-rest c =
     let d = done (goal.at.returns-clause-rest c).After-note-arg-2-1 in
-    rest-placed _ c.hoist_block.new.part c.self.inside.unused c.self.inside.moves c.self.inside.placings
-    c.saturating_add-self-inside.result (rest-changed c.self.inside.part c.hoist_block.new.part d.0 (high (is_relocatable c.args.number))
-    (rest_of c.args.self.now) c.self.inside.moves c.self.inside.placings d.1
+    rest-placed _ c.hoist_block.new.part c.self.inside.sound.unused c.self.inside.moves c.self.inside.placings
+    c.saturating_add-self-inside.result (rest-changed c.self.inside.sound.part c.hoist_block.new.part d.0 (high (is_relocatable
+    c.args.number)) (rest_of c.args.self.now) c.self.inside.moves c.self.inside.placings d.1
     (subst (λ v. IsRest (rest_of c.args.self.now) (rest_of v)) (sym c.self.view_is) c.pack-packed.ensures.rest)
     c.hoist_block.ensures.same) (omega (arith, c.saturating_add-self-inside.ensures))

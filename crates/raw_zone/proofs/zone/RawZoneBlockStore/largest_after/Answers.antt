@@ -2,20 +2,14 @@ use Rattle.raw_zone.proofs.Cited.{◌∙◌, ap, sym, arith, largest_free, purge
 use Rattle.block_store.specs.declared.sparing.Sparing.TheVariants as sparing
 use Rattle.raw_zone.proofs.zone.RawZoneBlockStore.largest_after.Goals as goal
 
-pub largest_free-requires-clause-sound : goal.largest_free-requires-clause-sound
-largest_free-requires-clause-sound c = (c.self.inside.first, c.self.inside.unused, c.self.invariant.sound)
-
 pub returns-then-self-eq0 : goal.returns-then-self-eq0
 returns-then-self-eq0 c =
     let b = c.self.invariant.purgeable_is in
     let z = c.if-self-eq0.true in
     c.largest_free.ensures
-    ∙ sym (ap largest_free (stands-still c.args.purges (zone_in c.self.inside.part.bytes) c.self.invariant.sound.tidied
+    ∙ sym (ap largest_free (stands-still c.args.purges (zone_in c.self.inside.sound.part.bytes) c.self.inside.sound.sound.tidied
     (omega (arith, b, z))))
     ∙ ap (λ v. largest_free (purged c.args.purges sparing.Nothing (zone_of v))) c.self.view_is
-
-pub largest_after-requires-clause-sound : goal.largest_after-requires-clause-sound
-largest_after-requires-clause-sound c = (c.self.inside.first, c.self.inside.unused, c.self.invariant.sound)
 
 pub returns : goal.returns
 returns c = c.largest_after.ensures

@@ -1,8 +1,5 @@
 use Rattle.raw_zone.proofs.Cited.{◌∙◌, ap, largest_free, zone_of}
 use Rattle.raw_zone.proofs.zone.RawZoneBlockStore.largest_free.Goals as goal
 
-pub largest_free-requires-clause-sound : goal.largest_free-requires-clause-sound
-largest_free-requires-clause-sound c = (c.self.inside.first, c.self.inside.unused, c.self.invariant.sound)
-
 pub returns : goal.returns
 returns c = c.largest_free.ensures ∙ ap (λ v. largest_free (zone_of v)) c.self.view_is

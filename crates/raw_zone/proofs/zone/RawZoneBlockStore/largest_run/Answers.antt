@@ -1,8 +1,5 @@
 use Rattle.raw_zone.proofs.Cited.{◌∙◌, ap, largest_run, zone_of}
 use Rattle.raw_zone.proofs.zone.RawZoneBlockStore.largest_run.Goals as goal
 
-pub largest_run-requires-clause-sound : goal.largest_run-requires-clause-sound
-largest_run-requires-clause-sound c = (c.self.inside.first, c.self.inside.unused, c.self.invariant.sound)
-
 pub returns : goal.returns
 returns c = c.largest_run.ensures ∙ ap (λ v. largest_run (zone_of v)) c.self.view_is

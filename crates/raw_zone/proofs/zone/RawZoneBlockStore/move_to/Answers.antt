@@ -65,5 +65,5 @@ returns-clause-ok c =
     moved a.number a.place a.bytes (zone_of a.self.now) (room a.self.now a.place a.bytes c.requires.room)
     (zone_of c.carve_nonrelocatable.new.self) c.in_ok-carve_nonrelocatable.ensures.ok old.place old.length old.flags
     c.block_of-old.ensures.place c.block_of-old.ensures.block c.min.result c.min.ensures (zone_of c.copy.new.self)
-    c.copy.ensures.zone (zone_of c.release.new.self) c.release.ensures.zone (zone_in c.self.inside.part.bytes)
+    c.copy.ensures.zone (zone_of c.release.new.self) c.release.ensures.zone (zone_in c.self.inside.sound.part.bytes)
     (rw (← c.self.view_is) at c.adopt.ensures.zone)

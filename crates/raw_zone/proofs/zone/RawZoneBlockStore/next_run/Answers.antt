@@ -5,25 +5,25 @@ use Rattle.raw_zone.proofs.zone.RawZoneBlockStore.next_run.Goals as goal
 pub walk_from-requires : goal.walk_from-requires
 walk_from-requires c =
     let z = c.self.inside in
-    let a = a-spot (run_at c.args.run (zone_in z.part.bytes))
+    let a = a-spot (run_at c.args.run (zone_in z.sound.part.bytes))
     (subst (λ v. IsSome (run_at c.args.run (zone_of v))) (sym c.self.view_is) c.requires) in
-    run-way z.part.bytes z.first z.unused c.self.invariant.sound c.args.run a.0 a.1
+    run-way _ _ _ c.self.inside.sound.sound c.args.run a.0 a.1
 
 pub next_run_in-requires : goal.next_run_in-requires
 next_run_in-requires c =
     let z = c.self.inside in
-    let a = a-spot (run_at c.args.run (zone_in z.part.bytes))
+    let a = a-spot (run_at c.args.run (zone_in z.sound.part.bytes))
     (subst (λ v. IsSome (run_at c.args.run (zone_of v))) (sym c.self.view_is) c.requires) in
-    let f = left-fits z.part.bytes z.first z.unused c.self.invariant.sound c.args.run a.0 a.1 in
+    let f = left-fits _ _ _ c.self.inside.sound.sound c.args.run a.0 a.1 in
     let e = ap sizes c.walk_from.ensures in
     omega (arith, f, e)
 
 pub overflow_add-result : goal.overflow_add-result
 overflow_add-result c =
     let z = c.self.inside in
-    let a = a-spot (run_at c.args.run (zone_in z.part.bytes))
+    let a = a-spot (run_at c.args.run (zone_in z.sound.part.bytes))
     (subst (λ v. IsSome (run_at c.args.run (zone_of v))) (sym c.self.view_is) c.requires) in
-    let f = next-fits z.part.bytes z.first z.unused c.self.invariant.sound c.args.run a.0 a.1 c.walk_from.result
+    let f = next-fits _ _ _ c.self.inside.sound.sound c.args.run a.0 a.1 c.walk_from.result
     c.walk_from.ensures c.in-Some.bytes c.in-Some.ensures in
     omega (arith, f)
 
@@ -32,8 +32,8 @@ returns-in-Some c =
     let z = c.self.inside in
     let is = λ (r : RunSpot). Some (c.args.run + c.in-Some.bytes) ≡ next_run r in
     subst (λ v. IfSome (run_at c.args.run (zone_of v)) is) c.self.view_is
-    (if-spot (run_at c.args.run (zone_in z.part.bytes)) is (λ r e.
-    next-some z.part.bytes z.first z.unused c.self.invariant.sound c.args.run r e c.walk_from.result
+    (if-spot (run_at c.args.run (zone_in z.sound.part.bytes)) is (λ r e.
+    next-some _ _ _ c.self.inside.sound.sound c.args.run r e c.walk_from.result
     c.walk_from.ensures c.in-Some.bytes c.in-Some.ensures))
 
 pub returns-in-None : goal.returns-in-None
@@ -41,6 +41,5 @@ returns-in-None c =
     let z = c.self.inside in
     let is = λ (r : RunSpot). None ≡ next_run r in
     subst (λ v. IfSome (run_at c.args.run (zone_of v)) is) c.self.view_is
-    (if-spot (run_at c.args.run (zone_in z.part.bytes)) is (λ r e.
-    next-none z.part.bytes z.first z.unused c.self.invariant.sound c.args.run r e c.walk_from.result
-    c.walk_from.ensures c.in-None.ensures))
+    (if-spot (run_at c.args.run (zone_in z.sound.part.bytes)) is (λ r e.
+    next-none _ _ _ c.self.inside.sound.sound c.args.run r e c.walk_from.result c.walk_from.ensures c.in-None.ensures))

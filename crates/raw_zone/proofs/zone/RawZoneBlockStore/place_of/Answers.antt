@@ -3,14 +3,12 @@ use Rattle.raw_zone.proofs.zone.RawZoneBlockStore.place_of.Goals as goal
 
 pub slot_place-requires : goal.slot_place-requires
 slot_place-requires c =
-    let z = c.self.inside in
-    a-handle z.part.bytes z.first z.unused c.self.invariant.sound c.args.number
+    a-handle _ _ _ c.self.inside.sound.sound c.args.number
     (subst (λ v. IsTrue (is_used ((rest_of v).slots c.args.number))) (sym c.self.view_is) c.requires)
 
 pub returns : goal.returns
 returns c =
-    let z = c.self.inside in
     subst (λ v. FindsLowest (is_relocatable c.args.number) (zone_of v) c.slot_place.result) c.self.view_is
-    (place-found z.part.bytes z.first z.unused c.self.invariant.sound c.args.number
+    (place-found _ _ _ c.self.inside.sound.sound c.args.number
     (subst (λ v. IsTrue (is_used ((rest_of v).slots c.args.number))) (sym c.self.view_is) c.requires)
     c.slot_place.result c.slot_place.ensures)

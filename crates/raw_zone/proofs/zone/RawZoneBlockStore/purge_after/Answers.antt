@@ -6,31 +6,29 @@ use Rattle.raw_zone.proofs.zone.RawZoneBlockStore.purge_after.Goals as goal
 use Rattle.raw_zone.proofs.zone.RawZoneBlockStore.purge_after.Goals.{After-self, After-purge_above-freed}
 
 -- the block at the place
-here : (c : goal.After-self) → (s : Spot) × (spot_at c.args.place (zone_in c.self.inside.part.bytes) ≡ Some s)
-here c = a-spot (spot_at c.args.place (zone_in c.self.inside.part.bytes))
+here : (c : goal.After-self) → (s : Spot) × (spot_at c.args.place (zone_in c.self.inside.sound.part.bytes) ≡ Some s)
+here c = a-spot (spot_at c.args.place (zone_in c.self.inside.sound.part.bytes))
     (subst (λ v. IsSome (spot_at c.args.place (zone_of v))) (sym c.self.view_is) c.requires)
 
 pub purge_above-freed-requires : goal.purge_above-freed-requires
 purge_above-freed-requires c =
-    let n = c.self.inside in
-    let s = c.self.invariant.sound in
+    let s = c.self.inside.sound.sound in
     let a = here (goal.at.purge_above-freed-requires c).After-self in (
-      spot-at n.part.bytes n.first n.unused s c.args.purges c.args.sparing c.args.place a.0 a.1,
-      may-purge n.part.bytes n.first n.unused s c.args.purges c.args.sparing c.args.place a.0 a.1,
+      spot-at _ _ _ s c.args.purges c.args.sparing c.args.place a.0 a.1,
+      may-purge _ _ _ s c.args.purges c.args.sparing c.args.place a.0 a.1,
     )
 
-gained-at : (c : goal.After-purge_above-freed) (s : Spot) → spot_at c.args.place (zone_in c.self.inside.part.bytes) ≡ Some s
-    → Gained c.self.inside.part.bytes c.purge_above-freed.new.part.bytes c.self.inside.first c.self.inside.unused
+gained-at : (c : goal.After-purge_above-freed) (s : Spot) → spot_at c.args.place (zone_in c.self.inside.sound.part.bytes) ≡ Some s
+    → Gained c.self.inside.sound.part.bytes c.purge_above-freed.new.part.bytes c.self.inside.sound.first c.self.inside.sound.unused
     c.purge_above-freed.result.bytes (tidy (s.below ++ s.here ∷ lowest_purged c.args.purges (spared c.args.sparing) s.above))
 gained-at c s e =
-    let n = c.self.inside in
     let f = c.purge_above-freed in
-    above-gained n.part.bytes n.first n.unused c.self.invariant.sound c.args.purges c.args.sparing c.args.place s e
+    above-gained _ _ _ c.self.inside.sound.sound c.args.purges c.args.sparing c.args.place s e
     f.result.from f.result.to f.new.part.bytes f.result.bytes f.ensures.purged
 
 done : (c : goal.After-purge_above-freed)
-    → (a : (s : Spot) × (spot_at c.args.place (zone_in c.self.inside.part.bytes) ≡ Some s))
-    → Gained c.self.inside.part.bytes c.purge_above-freed.new.part.bytes c.self.inside.first c.self.inside.unused
+    → (a : (s : Spot) × (spot_at c.args.place (zone_in c.self.inside.sound.part.bytes) ≡ Some s))
+    → Gained c.self.inside.sound.part.bytes c.purge_above-freed.new.part.bytes c.self.inside.sound.first c.self.inside.sound.unused
     c.purge_above-freed.result.bytes
     (tidy (a.0.below ++ a.0.here ∷ lowest_purged c.args.purges (spared c.args.sparing) a.0.above))
 done c a = gained-at c a.0 a.1
@@ -40,45 +38,38 @@ overflow_add-self c = let f = gained-fits _ _ _ _ _ _ (done (goal.at.overflow_ad
     (here (goal.at.overflow_add-self c).After-self)) c.self.inside.free c.self.invariant.free_is in
     omega (arith, f)
 
-pub note-requires-clause-sound : goal.note-requires-clause-sound
-note-requires-clause-sound c = (
-  c.self.inside.first,
-  c.self.inside.unused,
-  (done (goal.at.note-requires-clause-sound c).After-purge_above-freed (here (goal.at.note-requires-clause-sound c).After-self)).made.sound,
-)
-
-pub note-requires-clause-marks : goal.note-requires-clause-marks
-note-requires-clause-marks c =
+pub note-requires : goal.note-requires
+note-requires c =
     let n = c.self.inside in
-    let i = c.self.invariant.sound in
+    let i = c.self.inside.sound.sound in
     let f = c.purge_above-freed in
-    let a = here (goal.at.note-requires-clause-marks c).After-self in (
-      zone_in n.part.bytes,
-      replaced-as _ _ _ _ _ _ (whole n.part.bytes n.first n.unused i c.args.place a.0 a.1)
-          (done (goal.at.note-requires-clause-marks c).After-purge_above-freed
-          (here (goal.at.note-requires-clause-marks c).After-self)).made.zone
-          (f.ensures.purged (spot-at n.part.bytes n.first n.unused i c.args.purges c.args.sparing c.args.place a.0 a.1)
-          (may-purge n.part.bytes n.first n.unused i c.args.purges c.args.sparing c.args.place a.0 a.1)).replaced,
+    let a = here (goal.at.note-requires c).After-self in (
+      zone_in n.sound.part.bytes,
+      replaced-as _ _ _ _ _ _ (whole _ _ _ i c.args.place a.0 a.1)
+          (done (goal.at.note-requires c).After-purge_above-freed
+          (here (goal.at.note-requires c).After-self)).made.zone
+          (f.ensures.purged (spot-at _ _ _ i c.args.purges c.args.sparing c.args.place a.0 a.1)
+          (may-purge _ _ _ i c.args.purges c.args.sparing c.args.place a.0 a.1)).replaced,
       c.self.invariant.marked,
     )
 
 pub invariant_of-self-inside : goal.invariant_of-self-inside
-invariant_of-self-inside c = (
-  (done (goal.at.invariant_of-self-inside c).After-purge_above-freed (here (goal.at.invariant_of-self-inside c).After-self)).made.lawful,
-  tt,
-)
+invariant_of-self-inside c =
+    let d = done (goal.at.invariant_of-self-inside c).After-purge_above-freed
+    (here (goal.at.invariant_of-self-inside c).After-self) in
+    record { sound = d.made.sound }
 
 -- what the blocks would free, before and afterwards
 given : (c : After-purge_above-freed)
-    → (s : Spot) × (spot_at c.args.place (zone_in c.self.inside.part.bytes) ≡ Some s)
+    → (s : Spot) × (spot_at c.args.place (zone_in c.self.inside.sound.part.bytes) ≡ Some s)
     → purgeable_sum (zone_in c.purge_above-freed.new.part.bytes) + c.purge_above-freed.result.bytes
-    ≡ purgeable_sum (zone_in c.self.inside.part.bytes)
+    ≡ purgeable_sum (zone_in c.self.inside.sound.part.bytes)
 given c a =
     let n = c.self.inside in
     let d = done c a in
     ap (λ z. purgeable_sum z + c.purge_above-freed.result.bytes) d.made.zone
-    ∙ given-purged a.0.below a.0.here c.args.purges (spared c.args.sparing) a.0.above (zone_in n.part.bytes)
-    (whole n.part.bytes n.first n.unused c.self.invariant.sound c.args.place a.0 a.1) c.purge_above-freed.result.bytes d.sum
+    ∙ given-purged a.0.below a.0.here c.args.purges (spared c.args.sparing) a.0.above (zone_in n.sound.part.bytes)
+    (whole _ _ _ c.self.inside.sound.sound c.args.place a.0 a.1) c.purge_above-freed.result.bytes d.sum
 
 pub overflow_sub-self : goal.overflow_sub-self
 overflow_sub-self c =
@@ -92,8 +83,7 @@ invariant_of-self c =
     let d = done (goal.at.invariant_of-self c).After-purge_above-freed a in
     let g = given (goal.at.invariant_of-self c).After-purge_above-freed a in
     let p = c.self.invariant.purgeable_is in
-    with-marks _ _ _ _ _ _ (gained-kept _ _ _ _ _ _ d c.self.inside.free c.self.invariant.free_is) c.note.ensures
-    (omega (arith, g, p))
+    with-marks _ _ _ _ (gained-kept _ _ _ _ _ _ d c.self.inside.free c.self.invariant.free_is) c.note.ensures (omega (arith, g, p))
 
 pub returns-clause-zone : goal.returns-clause-zone
 returns-clause-zone c =
@@ -102,13 +92,12 @@ returns-clause-zone c =
     → Type 0 = λ s. zone_in ys ≡ tidy (s.below ++ s.here ∷ lowest_purged c.args.purges (spared c.args.sparing)
     s.above) in
     subst (λ v. IfSome (spot_at c.args.place (zone_of v)) goal-of) c.self.view_is
-    (if-spot (spot_at c.args.place (zone_in c.self.inside.part.bytes)) goal-of
+    (if-spot (spot_at c.args.place (zone_in c.self.inside.sound.part.bytes)) goal-of
     (λ s e. (gained-at (goal.at.returns-clause-zone c).After-purge_above-freed s e).made.zone))
 
 pub returns-clause-rest : goal.returns-clause-rest
 returns-clause-rest c =
-    subst (λ v. IsRest (rest_of v) (rest_in c.purge_above-freed.new.part c.self.inside.unused c.self.inside.moves c.self.inside.placings))
-    c.self.view_is
-    (gained-rest c.self.inside.part c.purge_above-freed.new.part _ _ _ _
+    subst (λ v. IsRest (rest_of v) (rest_in c.purge_above-freed.new.part c.self.inside.sound.unused c.self.inside.moves
+    c.self.inside.placings)) c.self.view_is (gained-rest c.self.inside.sound.part c.purge_above-freed.new.part _ _ _ _
     (done (goal.at.returns-clause-rest c).After-purge_above-freed (here (goal.at.returns-clause-rest c).After-self))
     c.purge_above-freed.ensures.same c.self.inside.moves c.self.inside.placings)

@@ -6,20 +6,18 @@ use Rattle.raw_zone.proofs.zone.RawZoneBlockStore.release.Goals.{After-free_slot
 
 pub free_slot-freed-requires : goal.free_slot-freed-requires
 free_slot-freed-requires c =
-    let n = c.self.inside in
-    let s = c.self.invariant.sound in (
-      table-of n.part.bytes n.first n.unused s,
-      has-handle n.part.bytes n.first n.unused s c.args.number
+    let s = c.self.inside.sound.sound in (
+      table-of _ _ _ s,
+      has-handle _ _ _ s c.args.number
           (subst (λ z. IsTrue (is_used ((rest_of z).slots c.args.number))) (sym c.self.view_is) c.requires),
       c.self.invariant.marked,
     )
 
 done : (c : goal.After-free_slot-freed)
-    → Gained c.self.inside.part.bytes c.free_slot-freed.new.part.bytes c.self.inside.first c.self.inside.unused
-    c.free_slot-freed.result.bytes (tidy (freed (is_relocatable c.args.number) (zone_in c.self.inside.part.bytes)))
+    → Gained c.self.inside.sound.part.bytes c.free_slot-freed.new.part.bytes c.self.inside.sound.first c.self.inside.sound.unused
+    c.free_slot-freed.result.bytes (tidy (freed (is_relocatable c.args.number) (zone_in c.self.inside.sound.part.bytes)))
 done c =
-    let n = c.self.inside in
-    released-gained n.part.bytes n.first n.unused c.self.invariant.sound c.args.number
+    released-gained _ _ _ c.self.inside.sound.sound c.args.number
     (subst (λ z. IsTrue (is_used ((rest_of z).slots c.args.number))) (sym c.self.view_is) c.requires)
     c.free_slot-freed.new.part.bytes c.free_slot-freed.result.bytes c.free_slot-freed.ensures.lays c.free_slot-freed.ensures.bytes
 
@@ -30,10 +28,10 @@ overflow_add-self c =
     omega (arith, f)
 
 pub invariant_of-self-inside : goal.invariant_of-self-inside
-invariant_of-self-inside c = ((done (goal.at.invariant_of-self-inside c).After-free_slot-freed).made.lawful, tt)
+invariant_of-self-inside c = record { sound = (done (goal.at.invariant_of-self-inside c).After-free_slot-freed).made.sound }
 
 given : (c : After-free_slot-freed) → purgeable_sum (zone_in c.free_slot-freed.new.part.bytes) + c.purgeable_of-given.result
-    ≡ purgeable_sum (zone_in c.self.inside.part.bytes)
+    ≡ purgeable_sum (zone_in c.self.inside.sound.part.bytes)
 given c =
     let zone = zone_of c.args.self.now in
     let test = is_relocatable c.args.number in
@@ -54,7 +52,7 @@ invariant_of-self c =
     let a = (goal.at.invariant_of-self c).After-free_slot-freed in
     let g = given a in
     let p = c.self.invariant.purgeable_is in
-    with-marks _ _ _ _ _ _ (gained-kept _ _ _ _ _ _ (done a) c.self.inside.free c.self.invariant.free_is) c.note.ensures
+    with-marks _ _ _ _ (gained-kept _ _ _ _ _ _ (done a) c.self.inside.free c.self.invariant.free_is) c.note.ensures
     (omega (arith, g, p))
 
 pub returns-clause-zone : goal.returns-clause-zone
@@ -63,26 +61,17 @@ returns-clause-zone c = (done (goal.at.returns-clause-zone c).After-free_slot-fr
 
 pub returns-clause-rest : goal.returns-clause-rest
 returns-clause-rest c =
-    subst (λ v. IsRest (rest_of v) (rest_in c.free_slot-freed.new.part c.self.inside.unused c.self.inside.moves c.self.inside.placings))
-    c.self.view_is
-    (gained-rest c.self.inside.part c.free_slot-freed.new.part _ _ _ _
+    subst (λ v. IsRest (rest_of v) (rest_in c.free_slot-freed.new.part c.self.inside.sound.unused c.self.inside.moves
+    c.self.inside.placings)) c.self.view_is (gained-rest c.self.inside.sound.part c.free_slot-freed.new.part _ _ _ _
     (done (goal.at.returns-clause-rest c).After-free_slot-freed) c.free_slot-freed.ensures.same c.self.inside.moves c.self.inside.placings)
 
-pub note-requires-clause-sound : goal.note-requires-clause-sound
-note-requires-clause-sound c = (
-  c.self.inside.first,
-  c.self.inside.unused,
-  (done (goal.at.note-requires-clause-sound c).After-free_slot-freed).made.sound,
-)
-
-pub note-requires-clause-marks : goal.note-requires-clause-marks
-note-requires-clause-marks c =
+pub note-requires : goal.note-requires
+note-requires c =
     let n = c.self.inside in
-    let s = c.self.invariant.sound in (
-      zone_in n.part.bytes,
-      replaced-as _ _ _ _ _ _ refl (done (goal.at.note-requires-clause-marks c).After-free_slot-freed).made.zone
-          (c.free_slot-freed.ensures.replaced (table-of n.part.bytes n.first n.unused s)
-          (has-handle n.part.bytes n.first n.unused s c.args.number
+    let s = c.self.inside.sound.sound in (
+      zone_in n.sound.part.bytes,
+      replaced-as _ _ _ _ _ _ refl (done (goal.at.note-requires c).After-free_slot-freed).made.zone
+          (c.free_slot-freed.ensures.replaced (table-of _ _ _ s) (has-handle _ _ _ s c.args.number
           (subst (λ z. IsTrue (is_used ((rest_of z).slots c.args.number))) (sym c.self.view_is) c.requires))),
       c.self.invariant.marked,
     )

@@ -2,9 +2,6 @@ use Rattle.raw_zone.proofs.Cited.{◌≡◌, ◌&&◌, None, arith, subst, and_p
 use Rattle.raw_zone.proofs.Cited.{run_spot, zone_of, zone_in, no-run, le-back}
 use Rattle.raw_zone.proofs.zone.RawZoneBlockStore.run_of.Goals as goal
 
-pub run_of-requires-clause-sound : goal.run_of-requires-clause-sound
-run_of-requires-clause-sound c = (c.self.inside.first, c.self.inside.unused, c.self.invariant.sound)
-
 pub returns-then-self-bytes : goal.returns-then-self-bytes
 returns-then-self-bytes c =
     let f = c.self.invariant.free_is in
@@ -14,7 +11,7 @@ returns-then-self-bytes c =
     (no-run (λ run. has (is_relocatable c.args.number) run && has_free c.args.bytes run) c.args.bytes
     (λ run f. le-back c.args.bytes (free_sum run)
     (and_parts (has (is_relocatable c.args.number) run) (has_free c.args.bytes run) f).1)
-    (zone_in c.self.inside.part.bytes) (omega (arith, f, l)))
+    (zone_in c.self.inside.sound.part.bytes) (omega (arith, f, l)))
 
 pub returns : goal.returns
 returns c = subst (λ v. FindsLowestRun (λ run. has (is_relocatable c.args.number) run && has_free c.args.bytes run)

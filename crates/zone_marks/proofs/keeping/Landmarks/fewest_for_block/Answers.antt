@@ -6,19 +6,19 @@ use Rattle.zone_marks.proofs.keeping.Landmarks.fewest_for_block.Goals.{In_ok-run
 use Rattle.zone_marks.proofs.keeping.Landmarks.fewest_for_block.Goals as goal
 
 pub returns-in_err-run : goal.returns-in_err-run
-returns-in_err-run c = let t = c.requires.sound.2.tidied in rw c.from_residual.ensures
+returns-in_err-run c = let t = c.args.sound.now.sound.tidied in rw c.from_residual.ensures
     (no-run-of _ _ _ _ (grind arith) c.requires.spared (grind arith))
 
 -- the run of the block, and where it begins
-found : (c : In_ok-run) → IsRunOf c.args.number c.args.bytes c.args.sparing (zone_in c.args.part.now.bytes) c.in_ok-run.run'
-found c = let r = rw c.in_ok-run.was at c.run_of.ensures in let t = c.requires.sound.2.tidied in grind (arith, run-of)
+found : (c : In_ok-run) → IsRunOf c.args.number c.args.bytes c.args.sparing (zone_in c.args.sound.now.part.bytes) c.in_ok-run.run'
+found c = let r = rw c.in_ok-run.was at c.run_of.ensures in let t = c.args.sound.now.sound.tidied in grind (arith, run-of)
 
-begins : (c : In_ok-run) → Begins c.in_ok-run.run' 0 (zone_in c.args.part.now.bytes)
+begins : (c : In_ok-run) → Begins c.in_ok-run.run' 0 (zone_in c.args.sound.now.part.bytes)
 begins c = let r = found c in
     let e = begins-end 0 r.low in grind (arith, begins-left)
 
-left : (c : In_ok-run) → left_in c.in_ok-run.run' c.args.part.now.bytes ≡ (found c).rest
-left c = let r = found c in left-above _ _ _ c.requires.sound.2 r.low r.rest _ r.is r.at
+left : (c : In_ok-run) → left_in c.in_ok-run.run' c.args.sound.now.part.bytes ≡ (found c).rest
+left c = let r = found c in left-above _ _ _ c.args.sound.now.sound r.low r.rest _ r.is r.at
 
 pub free_at-free-requires-clause-begins : goal.free_at-free-requires-clause-begins
 free_at-free-requires-clause-begins c = begins (goal.at.free_at-free-requires-clause-begins c).In_ok-run
@@ -32,8 +32,8 @@ returns-then-bytes-free c =
     let d = (goal.at.returns-then-bytes-free c).After-free_at-free in
     enough-now _ _ _ _ _ (found d.before.before.before) (omega (arith, now d))
 
-pub walk_at-requires-clause-begins : goal.walk_at-requires-clause-begins
-walk_at-requires-clause-begins c = begins (goal.at.walk_at-requires-clause-begins c).In_ok-run
+pub walk_at-requires : goal.walk_at-requires
+walk_at-requires c = begins (goal.at.walk_at-requires c).In_ok-run
 
 pub returns-in_err-own : goal.returns-in_err-own
 returns-in_err-own c =

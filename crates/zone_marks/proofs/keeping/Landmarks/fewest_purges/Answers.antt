@@ -6,11 +6,11 @@ returns-in_err-run c = rw c.from_residual.ensures (never-serves _ _ _ (rw c.in_e
 
 pub returns : goal.returns
 returns c =
-    let i = c.requires.sound in
+    let i = c.args.sound.now.sound in
     let n = c.args.sparing in
-    let f = first-is c.args.bytes c.in_ok-run.run' n (zone_in c.args.part.now.bytes)
+    let f = first-is c.args.bytes c.in_ok-run.run' n (zone_in c.args.sound.now.part.bytes)
     (rw c.in_ok-run.was at c.find_run_purged.ensures) c.requires.unserved in
-    let left = left-above c.args.part.now.bytes i.0 i.1 i.2 f.low f.rest c.in_ok-run.run' f.is f.at in
+    let left = left-above _ _ _ i f.low f.rest c.in_ok-run.run' f.is f.at in
     let lacks = c.saturating_sub-lacks.ensures ∙ ap (λ k. c.args.bytes - k) (grind arith) in
     let own = c.count_for.ensures.is
     ∙ ap (λ l. purges_for (spared n) c.saturating_sub-lacks.result (opened n l)) (c.walk_at.ensures.is ∙ left)

@@ -7,5 +7,5 @@ pub search_on-requires-clause-begins : goal.search_on-requires-clause-begins
 search_on-requires-clause-begins c = c.run_below-scan.ensures.piece.edge
 
 pub returns : goal.returns
-returns c = found-lowest _ 0 sparing.Nothing _ _ _ c.requires.sound.2.tidied
+returns c = found-lowest _ 0 sparing.Nothing _ _ _ c.args.sound.now.sound.tidied
     (c.search_on.ensures ∙ sym (known-finds _ _ _ _ c.run_below-scan.ensures))

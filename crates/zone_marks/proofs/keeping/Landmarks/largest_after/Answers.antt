@@ -7,8 +7,8 @@ use Rattle.zone_marks.proofs.keeping.Landmarks.largest_after.Goals as goal
 
 pub returns : goal.returns
 returns c =
-    let i = c.requires.sound in
-    let f = largest-from c.args.part.now.bytes i.0 i.1 i.2 c.args.purges c.under.result (c.under.ensures _ c.requires.marks) in
+    let i = c.args.sound.now.sound in
+    let f = largest-from _ _ _ i c.args.purges c.under.result (c.under.ensures _ c.requires) in
     grind arith
 
 pub stretch_above-requires-clause-begins : goal.stretch_above-requires-clause-begins
@@ -17,7 +17,7 @@ stretch_above-requires-clause-begins c = begins-here 0 _
 -- as many purges as a zone can have blocks
 pub returns-then-purges-ge-GREATEST_ZONE : goal.returns-then-purges-ge-GREATEST_ZONE
 returns-then-purges-ge-GREATEST_ZONE c =
-    let zone = zone_in c.args.part.now.bytes in
+    let zone = zone_in c.args.sound.now.part.bytes in
     c.best.ensures.space zone (c.stretch_above.ensures.all refl ∙ ap spaces_of (left-zone _))
     ∙ sym (ap largest_free (purged-most _ sparing.Nothing zone
-    (omega (arith, most-fits _ _ c.requires.sound.1 c.requires.sound.2 sparing.Nothing))))
+    (omega (arith, most-fits _ _ c.args.sound.now.unused c.args.sound.now.sound sparing.Nothing))))

@@ -10,16 +10,16 @@ size_at-size-requires-clause-some c = search (rules, became-inside)
 
 pub overflow_add-place : goal.overflow_add-place
 overflow_add-place c =
-    let i = c.requires.sound in
-    let b = c.requires.marks.1 in
+    let i = c.args.sound.now.sound in
+    let b = c.requires.1 in
     omega (
       arith,
-      became-fits c.args.part.now.bytes i.0 i.1 i.2 c.args.place c.requires.marks.0 b,
-      (c.size_at-size.ensures b.there b.above (became-left _ _ _ i.2 _ _ b)),
+      became-fits _ _ _ i c.args.place c.requires.0 b,
+      (c.size_at-size.ensures b.there b.above (became-left _ _ _ i _ _ b)),
     )
 
-pub note-requires-clause-marks : goal.note-requires-clause-marks
-note-requires-clause-marks c =
-    let b = c.requires.marks.1 in
-    let s = c.size_at-size.ensures b.there b.above (became-left _ _ _ c.requires.sound.2 _ _ b) in search
+pub note-requires : goal.note-requires
+note-requires c =
+    let b = c.requires.1 in
+    let s = c.size_at-size.ensures b.there b.above (became-left _ _ _ c.args.sound.now.sound _ _ b) in search
     (rules, became-replaced)

@@ -8,8 +8,8 @@ search_on-requires-clause-begins c = c.run_below-scan.ensures.piece.edge
 
 pub returns : goal.returns
 returns c =
-    let xs = c.args.part.now.bytes in
-    let i = c.requires.sound.2 in
+    let xs = c.args.sound.now.part.bytes in
+    let i = c.args.sound.now.sound in
     let k = c.run_below-scan.ensures in
     let zone = sym (left-zone xs) ∙ k.piece.is in
     let none = none-there (is_relocatable c.args.slot) k.done _ (subst Apart zone (apart-tidied _ i.tidied))

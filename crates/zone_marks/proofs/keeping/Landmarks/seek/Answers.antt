@@ -5,13 +5,13 @@ use Rattle.zone_marks.proofs.Marks.Lowering.{begins-way, seen-from}
 use Rattle.zone_marks.proofs.keeping.Landmarks.seek.Goals as goal
 
 pub first_going-self-requires : goal.first_going-self-requires
-first_going-self-requires c = begins-way _ _ _ c.requires.sound.2 _ (grind arith)
+first_going-self-requires c = begins-way _ _ _ c.args.sound.now.sound _ (grind arith)
 
 pub returns : goal.returns
 returns c =
-    let xs = c.args.part.now.bytes in
-    let m = c.requires.marks in (
+    let xs = c.args.sound.now.part.bytes in
+    let m = c.requires in (
       m.0,
-      (subst (NoneGoes _) (sym (seen-from _ _ _ c.requires.sound.2 _ (c.start.ensures.begins (zone_in xs) m)).is) (grind
+      (subst (NoneGoes _) (sym (seen-from _ _ _ c.args.sound.now.sound _ (c.start.ensures.begins (zone_in xs) m)).is) (grind
           (arith, at-append, stays-whole, at-left))),
     )

@@ -7,7 +7,7 @@ use Rattle.zone_marks.proofs.keeping.Landmarks.unlaid.Goals as goal
 
 pub returns : goal.returns
 returns c =
-    let xs = c.args.part.now.bytes in
+    let xs = c.args.sound.now.part.bytes in
     let count = c.groups_of-count.result in
     let blank : Landmark = record { at = 0; most = above_all; tally = unknown } in
     let marks = c.in_ok-marks.marks.items in
