@@ -91,41 +91,9 @@ impl<'j, S: BlockStore> Live<'j, S> {
         Ok(code)
     }
 
-    /// Takes the next call of the application, that of `line`, and ends the application if it ends
-    /// with the call. Where the host is out of memory, the transcript may have the lines of the
-    /// call.
-    fn follow(&mut self, script: &'j Script, line: &Line) -> Result<Option<OsErr>, AllocError>
-        requires few { self.old.steps + 1 < 2 ^ 64 }
-        ensures came { IfOk result (λ end. HasCome false (called (step script.now.blocks line.now
-            (live_seen self.old).state) (live_seen self.old)) end self.new) }
-        ensures front { OnErr result (Extends self.old.text.items self.new.text.items) }
-        ensures files { OnErr result (self.new.application.resources.files
-            ≡ self.old.application.resources.files) }
-        ensures lies { self.new.application.memory.window ≡ self.old.application.memory.window }
-        ensures window { self.new.partition ≡ self.old.partition }
-    {
-        self.steps += 1;
-        match self.application.step(script, line, &mut self.text)? {
-            Some(exit) => Ok(Some(self.end(Some(exit))?)),
-            None => Ok(None),
-        }
-    }
-
-    /// Quits the application, which has no call left. The quit counts as a step.
-    fn run_out(&mut self, script: &'j Script) -> Result<Option<OsErr>, AllocError>
-        ensures came { IfOk result (λ end.
-            HasCome false (run_out script.now (live_seen self.old)) end self.new) }
-        ensures front { OnErr result (Extends self.old.text.items self.new.text.items) }
-        ensures files { OnErr result (self.new.application.resources.files
-            ≡ self.old.application.resources.files) }
-        ensures lies { self.new.application.memory.window ≡ self.old.application.memory.window }
-        ensures window { self.new.partition ≡ self.old.partition }
-    {
-        self.steps = script.steps().len() + 1;
-        Ok(Some(self.end(None)?))
-    }
-
-    /// Takes the next call, or quits if no call is left.
+    /// Takes the next call, or quits if no call is left; the quit counts as a step. If the
+    /// application ends with the call, its end is part of the step. Where the host is out of memory,
+    /// the transcript may have the lines of the call.
     fn take_step(&mut self, script: &'j Script) -> Result<Option<OsErr>, AllocError>
         ensures came { IfOk result (λ end.
             HasCome false (stepped script.now (live_seen self.old)) end self.new) }
@@ -135,9 +103,14 @@ impl<'j, S: BlockStore> Live<'j, S> {
         ensures lies { self.new.application.memory.window ≡ self.old.application.memory.window }
         ensures window { self.new.partition ≡ self.old.partition }
     {
-        match script.steps().get(self.steps) {
-            Some(line) => self.follow(script, line),
-            None => self.run_out(script),
+        let Some(line) = script.steps().get(self.steps) else {
+            self.steps = script.steps().len() + 1;
+            return Ok(Some(self.end(None)?));
+        };
+        self.steps += 1;
+        match self.application.step(script, line, &mut self.text)? {
+            Some(exit) => Ok(Some(self.end(Some(exit))?)),
+            None => Ok(None),
         }
     }
 
@@ -178,17 +151,6 @@ impl<'j, S: BlockStore> Live<'j, S> {
         self.step(script)
     }
 
-    /// Quits the application, which is asked to quit.
-    fn quit(&mut self) -> Result<Option<OsErr>, AllocError>
-        ensures came { IfOk result (λ end.
-            HasCome true (quitted (live_seen self.old)) end self.new) }
-        ensures stays { OnErr result (LeavesAs (live_seen self.old) self.new) }
-        ensures lies { self.new.application.memory.window ≡ self.old.application.memory.window }
-        ensures window { self.new.partition ≡ self.old.partition }
-    {
-        Ok(Some(self.end(None)?))
-    }
-
     /// Performs an act. Returns the result code of the end if the application ends.
     ///
     /// # Errors
@@ -206,7 +168,7 @@ impl<'j, S: BlockStore> Live<'j, S> {
         match act {
             Act::Step => self.step(script),
             Act::Turn => self.turn(script),
-            Act::Quit => self.quit(),
+            Act::Quit => Ok(Some(self.end(None)?)),
         }
     }
 
