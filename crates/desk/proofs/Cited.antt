@@ -17,7 +17,6 @@ pub use Rattle.applications.specs.declared.quitting.Exit.TheVariants.{Quits, Sto
 pub use Rattle.block_store.specs.Block.{Block, fresh, sizes}
 pub use Rattle.block_store.specs.Rest.{Site}
 pub use Rattle.block_store.specs.Slot.{Slot}
-pub use Rattle.raw_region.proofs.WholeWindow.{whole_home, whole_there}
 pub use Rattle.desk.specs.Alone.{IsAsAlone, IsPlaceOf, LeftAsAlone, RunsAsAlone, launched_alone}
 pub use Rattle.desk.specs.Desk.{Place, State, acted_at, acted_in, after_event, after_events, any_runs, begun_if, begun_in, begun_with}
 pub use Rattle.desk.specs.Desk.{coming, each_turned, end_told, launch_answer, launch_reply, launched_at, launched_by, launched_in, left_by}
@@ -35,7 +34,6 @@ pub use Rattle.desk.specs.Phase.{Coming, Ended, Ends, GoesOn, Left, Live, Next, 
 pub use Rattle.desk.specs.Phase.{and_then, begun, called, come_by, ends, leaves, quitted, run_out, runs, step_of, stepped, told_of}
 pub use Rattle.desk.specs.Phase.{turn_through, turned, waits, window_of}
 pub use Rattle.desk.specs.Ready.{IsReady, sizes_seen}
-pub use Rattle.desk.specs.Seated.{Placed}
 pub use Rattle.desk.specs.Sizes.{Sizes, sizes_asked}
 pub use Rattle.desk.specs.View.{DeskSeen, is_waiting, left_of, lot_of, lots, outcome_seen, phase_seen, place_seen, seen, told_seen}
 pub use Rattle.desk.specs.Whole.{EachLaunched, InItsSteps, IsAlone, Law, OfEach, OfEachApp, OfLaunched, start_with, system_of}
@@ -45,6 +43,7 @@ pub use Rattle.desk.specs.declared.job.App.{App}
 pub use Rattle.desk.specs.declared.job.Job.{Job}
 pub use Rattle.desk.specs.declared.outcome.AppOutcome.{AppOutcome}
 pub use Rattle.desk.specs.declared.partition.OpenZone.{OpenZone}
+pub use Rattle.desk.specs.declared.seat.Seat.{Seat}
 pub use Rattle.fork_format.proofs.Codes.{refused}
 pub use Rattle.fork_format.specs.Content.{Content}
 pub use Rattle.fork_format.specs.View.{view}
@@ -65,6 +64,7 @@ pub use Rattle.memory_windows.specs.declared.Window.{Window}
 pub use Rattle.partitions.proofs.Order.{given_back}
 pub use Rattle.partitions.specs.Grant.{grant}
 pub use Rattle.partitions.specs.Granted.{granted-order}
+pub use Rattle.raw_region.proofs.WholeWindow.{whole_home, whole_there}
 pub use Rattle.raw_region.specs.Memory.{Whole}
 pub use Rattle.raw_zone.specs.Making.{LiesIn}
 pub use Rattle.raw_zone.specs.Parted.{zone_of}

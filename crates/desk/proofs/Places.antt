@@ -3,8 +3,8 @@ use Rattle.desk.proofs.Cited.{None, option_map, slice_get, slice_set, slice_inde
 use Rattle.desk.proofs.Cited.{get_or, map-set, map-append, map_more, map-set_same, slice_get-map, slice_get_read, slice_get_past}
 use Rattle.desk.proofs.Cited.{get_or_from_slice_get, IfOk-weaker, Act, Phase, Left, Coming, window_of, waits, phase_seen, is_waiting, OsErr}
 use Rattle.desk.proofs.Cited.{Resources, Place, coming, place_come, places_acted, left_by, Fewer, holders, Lot}
-use Rattle.desk.specs.declared.phase.Phase as declared
-use Rattle.desk.specs.declared.phase.Phase.TheVariants as seen
+use Rattle.desk.specs.declared.seat.Phase as declared
+use Rattle.desk.specs.declared.seat.Phase.TheVariants as seen
 
 -- One place of a list changes: what is seen of the list, and of the lots.
 

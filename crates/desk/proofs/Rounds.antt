@@ -1,5 +1,5 @@
 use Rattle.desk.proofs.Cited.{◌≡◌, ℕ, ◌+◌, ◌-◌, ◌<◌, Bool, true, false, List, length, drop, slice_index_or, suc, max, ◌∙◌, ap, cond, arith}
-use Rattle.desk.proofs.Cited.{at_drop_more, Event, Turn, Placed, seen, State, acted_at, each_turned, round, rounds, any_runs, longest_or}
+use Rattle.desk.proofs.Cited.{at_drop_more, Event, Turn, Seat, seen, State, acted_at, each_turned, round, rounds, any_runs, longest_or}
 use Rattle.desk.proofs.Cited.{after_event, after_events}
 
 -- Loops over applications, rounds and events: what is done so far, followed by the rest, is the whole.
@@ -28,8 +28,8 @@ pub events_next : (events : List Event) (i : ℕ) (e : Event) (s : State) → i 
 events_next events i e s less = at_drop_more (λ (es : List Event). after_events es s) events i e less
 
 -- one more script
-pub longest_next : {S : Type 0} (seats : List (Placed S)) (i : ℕ) (seat : Placed S) (most : ℕ) → i < length seats
+pub longest_next : {S : Type 0} (seats : List (Seat S)) (i : ℕ) (seat : Seat S) (most : ℕ) → i < length seats
     → longest_or most (seen (drop i seats))
     ≡ longest_or (max most (length (slice_index_or seats i seat).app.now.script.steps)) (seen (drop (i + 1) seats))
 longest_next {S} seats i seat most less =
-    at_drop_more (λ (xs : List (Placed S)). longest_or most (seen xs)) seats i seat less
+    at_drop_more (λ (xs : List (Seat S)). longest_or most (seen xs)) seats i seat less

@@ -6,7 +6,6 @@ pub mod Job
 pub mod Alone
 pub mod Held
 pub mod Live
-pub mod Seated
 pub mod View
 pub mod Ready
 pub mod Halting

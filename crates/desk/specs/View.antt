@@ -3,16 +3,16 @@ use Rattle.mac_words.specs.declared.code.OsErr.{OsErr}
 use Rattle.fork_format.specs.View.{view}
 use Rattle.res_calls.specs.Files.{Resources}
 use Rattle.desk.specs.declared.departure.Departure.{Departure}
-use Rattle.desk.specs.declared.phase.Phase as declared_phase
-use Rattle.desk.specs.declared.phase.Phase.TheVariants as phase
 use Rattle.desk.specs.declared.outcome.AppOutcome.{AppOutcome}
 use Rattle.desk.specs.declared.outcome.Outcome as declared
+use Rattle.desk.specs.declared.seat.Phase as declared_phase
+use Rattle.desk.specs.declared.seat.Phase.TheVariants as phase
+use Rattle.desk.specs.declared.seat.Seat.{Seat}
 use Rattle.desk.specs.Phase.{Phase, Waiting, Running, Ended, Left}
 use Rattle.desk.specs.Desk.{Place, State}
 use Rattle.desk.specs.Job.{start_of}
 use Rattle.desk.specs.Outcome.{AppResult, Outcome}
 use Rattle.desk.specs.Live.{Lot, lot_of_live, live_seen, leaves_seen}
-use Rattle.desk.specs.Seated.{Placed}
 
 -- What the desk's fields stand for.
 
@@ -27,15 +27,15 @@ is_waiting phase.Waiting = true
 is_waiting (phase.Running live) = false
 is_waiting (phase.Ended l) = false
 
-abbrev pub place_seen : {S : Type 0} → Placed S → Place
+abbrev pub place_seen : {S : Type 0} → Seat S → Place
 place_seen seat = record {
   name = seat.app.now.name.0.items;
   size = seat.app.now.size;
   script = seat.app.now.script;
-  phase = phase_seen (start_of (view seat.system.now) seat.app.now) seat.phase;
+  phase = phase_seen (start_of (view seat.system.content.now) seat.app.now) seat.phase;
 }
 
-abbrev pub seen : {S : Type 0} → List (Placed S) → List Place
+abbrev pub seen : {S : Type 0} → List (Seat S) → List Place
 seen seats = map place_seen seats
 
 -- The windows of applications, and where the stores of their zones lie.
@@ -44,7 +44,7 @@ lot_of phase.Waiting = None
 lot_of (phase.Running live) = Some (lot_of_live live)
 lot_of (phase.Ended l) = None
 
-abbrev pub lots : {S : Type 0} → List (Placed S) → List (Option Lot)
+abbrev pub lots : {S : Type 0} → List (Seat S) → List (Option Lot)
 lots seats = map (λ seat. lot_of seat.phase) seats
 
 -- A desk: its state, and the maker of its zones.

@@ -26,14 +26,6 @@ pub struct LiveParts<S: BlockStore> {
     pub(crate) zone: OpenZone<S>,
 }
 
-/// What an application leaves that waits, runs or has ended.
-pub struct PhaseParts<S: BlockStore> {
-    /// What the application leaves to be told, if it was launched.
-    pub(crate) launched: Option<Launched>,
-    /// The application's zone, if it is open.
-    pub(crate) zone: Option<OpenZone<S>>,
-}
-
 /// What an application leaves at its place, as the desk is finished.
 pub struct SeatParts<S: BlockStore> {
     /// What the application leaves to be told.

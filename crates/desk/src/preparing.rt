@@ -16,8 +16,7 @@ ghost use Rattle.desk.specs.View.{place_seen};
 
 use crate::job::{App, AppFile, Job};
 use crate::outcome::RunFault;
-use crate::phase::Phase;
-use crate::seat::Seat;
+use crate::seat::{Phase, Seat};
 use crate::sizes::PartitionSizes;
 use crate::system::read_system;
 use block_store::BlockStore;
@@ -125,7 +124,7 @@ pub(crate) fn prepared<S: BlockStore>(alloc: Global, seat: &Seat<'_, S>) -> Resu
         ≡ sizes_asked (place_seen seat.now).size r.resources) }
 {
     match seat.phase {
-        Phase::Waiting => launched_with(alloc, seat.app, seat.system),
+        Phase::Waiting => launched_with(alloc, seat.app, seat.system.content),
         Phase::Running(_) => Err(Refusal::Code(OsErr::PROFILE)),
         Phase::Ended(_) => Err(Refusal::Code(OsErr::PROFILE)),
     }

@@ -1,5 +1,5 @@
 use Rattle.desk.proofs.Cited.{◌≡◌, ◌≤◌, ◌+◌, ◌∙◌, arith, Option, Some, IfSome, length, slice_get, refl, sym, ap, subst, vec_len}
-use Rattle.desk.proofs.Cited.{vec_capacity, on_ok_weaker, APP_ROOM, Place, Placed, place_seen, seen}
+use Rattle.desk.proofs.Cited.{vec_capacity, on_ok_weaker, APP_ROOM, Place, place_seen, seen}
 use Rattle.desk.proofs.Changes.{seen-some, seen-none}
 use Rattle.desk.proofs.desk.take_end_room.Goals as goal
 
@@ -8,7 +8,7 @@ returns-in-Some-clause-room g c =
     let here : slice_get (seen c.args.seats.now) c.args.i ≡ Some (place_seen c.in-Some.seat.now) =
     seen-some place_seen c.args.seats.now c.args.seats.now c.args.i c.in-Some.seat.now refl c.in-Some.ensures.lookup.3.0
     c.in-Some.ensures.lookup.1 in
-    let name = c.len.ensures.value ∙ ap (λ (x : Placed g.row.S.Denot). length x.app.now.name.0.items) c.seat.view_is in
+    let name = c.len.ensures.value in
     on_ok_weaker c.reserve.result
     (λ room. subst (λ (o : Option Place). IfSome o (λ p. vec_len c.reserve.new.self + length p.name + APP_ROOM
     ≤ vec_capacity c.reserve.new.self)) (sym here) (omega (arith, room, name)))

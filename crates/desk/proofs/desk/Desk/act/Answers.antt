@@ -1,5 +1,5 @@
 use Rattle.desk.proofs.Cited.{rules, ◌≡◌, ℕ, List, Option, option_map, IfSome, slice_get, Some, refl, subst, sym, ◌∙◌, ap, on_ok_weaker}
-use Rattle.desk.proofs.Cited.{◌+◌, ◌≤◌, length, vec_len, vec_capacity, APP_ROOM, Placed, State, acted_at, left_by, IsFree, DeskSeen, seen}
+use Rattle.desk.proofs.Cited.{◌+◌, ◌≤◌, length, vec_len, vec_capacity, APP_ROOM, Seat, State, acted_at, left_by, IsFree, DeskSeen, seen}
 use Rattle.desk.proofs.Cited.{lots, left_of, IsOutsideAll}
 use Rattle.desk.proofs.Halting.{halts_begun, halts_at, no_error, room_named, acted_on, acted_out}
 use Rattle.desk.proofs.Holding.{acted_in, left-ended, windows-ended, windows-stay}
@@ -128,7 +128,7 @@ returns-in_err-ended-clause-within g c =
 
 pub returns-in-Some-clause-within : goal.returns-in-Some-clause-within
 returns-in-Some-clause-within g c =
-    let room = subst (λ (xs : List (Placed g.row.Z-Store.Denot)). IfSome (slice_get (seen xs) c.args.i)
+    let room = subst (λ (xs : List (Seat g.row.Z-Store.Denot)). IfSome (slice_get (seen xs) c.args.i)
     (λ p. vec_len c.take_end_room.new.log + length p.name + APP_ROOM ≤ vec_capacity c.take_end_room.new.log))
     c.deref.ensures.value c.in_ok-take_end_room.ensures.room in
     no_error c.write_app_end.result _

@@ -1,7 +1,7 @@
 use Rattle.desk.proofs.Cited.{arith, rules, None, ◌≡◌, ◌∙◌, ◌++◌, List, ℕ, Option, Some, Err, IfSome, option_map, slice_get, true}
 use Rattle.desk.proofs.Cited.{slice_set, refl, sym, ap, subst, length-map, on_ok_weaker, on_err_weaker, IfOk-weaker, MEM_FULL, on_err}
 use Rattle.desk.proofs.Cited.{launch_of, refusal_of, Live, Running, begun, waits, live_seen, Place, State, ready, launched_at, launch_reply}
-use Rattle.desk.proofs.Cited.{reply_at, IsFree, sizes_seen, Placed, DeskSeen, place_seen, seen, lots}
+use Rattle.desk.proofs.Cited.{reply_at, IsFree, sizes_seen, DeskSeen, place_seen, seen, lots}
 use Rattle.desk.proofs.Holding.{few_out, not-opened, is-opened}
 use Rattle.desk.proofs.Halting.{failed_so, stays_so, no_error}
 use Rattle.desk.proofs.Leaving.{housed_kept, housed_started}
@@ -28,14 +28,12 @@ returns-in-Err-Code-clause-ok g c =
     let here : slice_get (seen c.self.inside.seats.items) c.args.i ≡ Some p = seen-some place_seen c.self.inside.seats.items
     c.deref.result.now c.args.i c.in-Some.seat.now c.deref.ensures.value c.in-Some.ensures.lookup.3.0
     c.in-Some.ensures.lookup.1 in
-    let name = ap (λ (x : Placed g.row.Z-Store.Denot). x.app.now.name.0.items) c.seat.view_is in
     let refused : ready p.phase ≡ Err c.in-Err-Code.code = refused-ready (ready p.phase)
     c.in-Err-Code.field-0 c.in-Err-Code.code c.in-Err-Code.field-0-is c.in-Err-Code.ensures.answer in
     through c.once_written.result c.write_app_refusal.result _ c.once_written.ensures.written (on_ok_weaker c.write_app_refusal.result
     (λ h. launched-refused c.args.i s p here c.in-Err-Code.code s.memory s.windows s.places
     c.write_app_refusal.new.text.items refused refl refl refl
-    (h ∙ ap (λ (t : List ℕ). t ++ refusal_of c.seat.inside.app.now.name.0.items c.in-Err-Code.code.0) c.reserve.ensures.items
-    ∙ ap (λ (n : List ℕ). s.log ++ refusal_of n c.in-Err-Code.code.0) name)
+    (h ∙ ap (λ (t : List ℕ). t ++ refusal_of c.in-Some.seat.now.app.now.name.0.items c.in-Err-Code.code.0) c.reserve.ensures.items)
     ∙ ap (λ (d : DeskSeen _). launched_at c.args.i d.state) c.self.view_is)
     c.write_app_refusal.ensures.line)
 
@@ -88,7 +86,6 @@ returns-in_default-begun-clause-ok g c =
     let here : slice_get (seen c.self.inside.seats.items) c.args.i ≡ Some p = seen-some place_seen c.self.inside.seats.items
     c.deref.result.now c.args.i c.in-Some.seat.now c.deref.ensures.value c.in-Some.ensures.lookup.3.0
     c.in-Some.ensures.lookup.1 in
-    let name = ap (λ (x : Placed g.row.Z-Store.Denot). x.app.now.name.0.items) c.seat.view_is in
     through c.once_written-in_default-begun.result c.write_app_refusal-in_default-begun.result _
     c.once_written-in_default-begun.ensures.written (on_ok_weaker c.write_app_refusal-in_default-begun.result
     (λ h. launched-full c.args.i s p here c.in-Ok.ready.resources (sizes_seen c.in-Ok.ready.sizes) c.begin.new.grants.memory
@@ -96,8 +93,7 @@ returns-in_default-begun-clause-ok g c =
     (sym (ap (option_map (λ l. l.partition.window)) c.in_default-begun.is) ∙ c.in_ok-begun.ensures.answer) c.begin.ensures.size
     (not-opened (λ l. l.partition.window) c.in_ok-begun.begun c.self.inside.grants.windows c.begin.new.grants.windows
     c.in_default-begun.is c.in_ok-begun.ensures.windows) refl MEM_FULL refl (h
-    ∙ ap (λ (t : List ℕ). t ++ refusal_of c.seat.inside.app.now.name.0.items MEM_FULL.0) c.reserve.ensures.items
-    ∙ ap (λ (n : List ℕ). s.log ++ refusal_of n MEM_FULL.0) name)
+    ∙ ap (λ (t : List ℕ). t ++ refusal_of c.in-Some.seat.now.app.now.name.0.items MEM_FULL.0) c.reserve.ensures.items)
     ∙ ap (λ (d : DeskSeen _). launched_at c.args.i d.state) c.self.view_is)
     c.write_app_refusal-in_default-begun.ensures.line)
 
@@ -148,7 +144,6 @@ returns-clause-ok g c =
     let here : slice_get (seen c.self.inside.seats.items) c.args.i ≡ Some p = seen-some place_seen c.self.inside.seats.items
     c.deref.result.now c.args.i c.in-Some.seat.now c.deref.ensures.value c.in-Some.ensures.lookup.3.0
     c.in-Some.ensures.lookup.1 in
-    let name = ap (λ (x : Placed g.row.Z-Store.Denot). x.app.now.name.0.items) c.seat.view_is in
     let first : live_seen live ≡ begun c.in-Ok.ready.resources live.partition.window = at-some c.in_ok-begun.begun live
     (λ l. live_seen l ≡ begun c.in-Ok.ready.resources l.partition.window) c.in-Some-begun.is c.in_ok-begun.ensures.live in
     through c.once_written-2.result c.write_app_launch.result _ c.once_written-2.ensures.written (on_ok_weaker c.write_app_launch.result
@@ -161,8 +156,7 @@ returns-clause-ok g c =
     c.in-Some-begun.is c.in_ok-begun.ensures.windows)
     (at-some (slice_get (seen c.self.inside.seats.items) c.args.i) p _ here c.start_at.ensures.places
     ∙ ap (λ (l : Live). slice_set s.places c.args.i (record p { phase = Running l })) first)
-    (h ∙ ap (λ (t : List ℕ). t ++ launch_of c.seat.inside.app.now.name.0.items live.partition.window.len) c.reserve.ensures.items
-    ∙ ap (λ (n : List ℕ). s.log ++ launch_of n live.partition.window.len) name)
+    (h ∙ ap (λ (t : List ℕ). t ++ launch_of c.in-Some.seat.now.app.now.name.0.items live.partition.window.len) c.reserve.ensures.items)
     ∙ ap (λ (d : DeskSeen _). launched_at c.args.i d.state) c.self.view_is)
     c.write_app_launch.ensures.line)
 
