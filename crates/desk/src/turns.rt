@@ -84,24 +84,6 @@ impl<'j, Z: ZoneMaker> Desk<'j, Z> {
         Ok(())
     }
 
-    /// Launches application `i`, whatever the reply is.
-    fn begin_if(&mut self, i: usize) -> Result<(), AllocError>
-        ensures ok { OnOk result (self.new.state ≡ launched_at i self.old.state) }
-        ensures host { OnErr result (halted self.old.state ≡ halted self.new.state) }
-        ensures memory { self.new.state.memory ≡ self.old.state.memory }
-        ensures kept { (w : Stretch) (site : Site) → Z.made self.old.zones w site
-            → Z.made self.new.zones w site }
-        ensures outside { (place : ℕ) → IsFree place self.old.state
-            → IsFree place (launched_at i self.old.state)
-            → IsFree place self.new.state
-            × (Z.byte self.new.zones place ≡ Z.byte self.old.zones place) }
-    {
-        match self.try_launch(i) {
-            Ok(_) => Ok(()),
-            Err(fault) => Err(fault),
-        }
-    }
-
     /// Performs an event.
     ///
     /// # Errors
@@ -121,7 +103,10 @@ impl<'j, Z: ZoneMaker> Desk<'j, Z> {
             × (Z.byte self.new.zones place ≡ Z.byte self.old.zones place) }
     {
         match event {
-            Event::Launch(i) => self.begin_if(i),
+            Event::Launch(i) => match self.try_launch(i) {
+                Ok(_) => Ok(()),
+                Err(fault) => Err(fault),
+            },
             Event::Step(i) => self.step(i),
             Event::Turn(i) => self.turn(i),
             Event::Quit(i) => self.quit(i),
