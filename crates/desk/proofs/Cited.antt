@@ -69,9 +69,9 @@ pub use Rattle.raw_region.specs.Memory.{Whole}
 pub use Rattle.raw_zone.specs.Making.{LiesIn}
 pub use Rattle.raw_zone.specs.Parted.{zone_of}
 pub use Rattle.raw_zone.specs.declared.region_zones.RegionZones.{RegionZones}
-pub use Rattle.res_calls.specs.Files.{File, Resources}
+pub use Rattle.res_calls.specs.Files.{Resources}
 pub use Rattle.res_calls.specs.View.{view_file}
-pub use Rattle.script_text.specs.DeskLog.{end_of, fork_of, launch_of, refusal_of}
+pub use Rattle.script_text.specs.DeskLog.{end_of, launch_of, refusal_of}
 pub use Rattle.script_text.specs.Script.{ScriptParts}
 pub use Rattle.script_text.specs.Transcript.{end_line, launch_line}
 pub use Rattle.script_text.specs.declared.desk_log.TheConstants.{APP_ROOM}

@@ -1,6 +1,6 @@
-use Rattle.desk.proofs.Cited.{◌≡◌, ◌≢◌, ℕ, ◌+◌, ◌<◌, ◌++◌, Bool, true, cond, List, [], length, map, drop, slice_index_or, sym, ◌∙◌}
-use Rattle.desk.proofs.Cited.{append_assoc, ap, arith, nil_from_length, length-append, at_drop_more, flat_map, view_file, File, Extends}
-use Rattle.desk.proofs.Cited.{fork_of, AppOutcome, fork_told, forks_told, forks_of, told_seen}
+use Rattle.desk.proofs.Cited.{◌≡◌, ◌≢◌, ℕ, ◌+◌, ◌<◌, ◌++◌, List, [], length, map, drop, slice_index_or, sym, ◌∙◌}
+use Rattle.desk.proofs.Cited.{append_assoc, ap, arith, nil_from_length, length-append, at_drop_more, flat_map, view_file, Extends}
+use Rattle.desk.proofs.Cited.{AppOutcome, fork_told, forks_told, forks_of, told_seen}
 use Rattle.res_calls.specs.declared.files.File.{File as StoredFile}
 
 -- The lines of forks that were written: what is written so far, followed by the rest, is the whole.

@@ -1,5 +1,5 @@
 -- A zone that fills a region, cut from it and joined again.
-use Rattle.desk.proofs.Cited.{◌≡◌, ◌∙◌, ◌+◌, ◌++◌, ℕ, Bool, false, List, length, Result, Ok, Err, IfOk, ap, subst, sym, arith}
+use Rattle.desk.proofs.Cited.{◌≡◌, ◌∙◌, ◌+◌, ◌++◌, ℕ, false, List, length, Result, Ok, Err, IfOk, ap, subst, sym, arith}
 use Rattle.desk.proofs.Cited.{drop_all, written, Block, Slot, IsStored, LaysOut, ScriptParts, Resources}
 use Rattle.desk.proofs.Cited.{own_resources, heap_alone, script_heap, LieAs, IsZone}
 use Rattle.std.proofs.lemmas.List.{append-nil}

@@ -1,4 +1,4 @@
-use Rattle.desk.proofs.Cited.{◌≡◌, ◌≤◌, ◌+◌, ◌∙◌, arith, Option, Some, IfSome, length, slice_get, refl, sym, ap, subst, vec_len}
+use Rattle.desk.proofs.Cited.{◌≡◌, ◌≤◌, ◌+◌, arith, Option, Some, IfSome, length, slice_get, refl, sym, subst, vec_len}
 use Rattle.desk.proofs.Cited.{vec_capacity, on_ok_weaker, APP_ROOM, Place, place_seen, seen}
 use Rattle.desk.proofs.Changes.{seen-some, seen-none}
 use Rattle.desk.proofs.desk.take_end_room.Goals as goal
