@@ -1,14 +1,13 @@
 -- The names that the proofs of this library cite of others and of its specs, passed on from one place. Declares nothing.
 pub use Rattle.applications.proofs.Elsewhere.{sizes-fresh}
 pub use Rattle.applications.specs.Trying.{code_told}
-pub use Rattle.block_store.specs.Block.{sizes}
+pub use Rattle.block_store.specs.Block.{fresh, sizes}
 pub use Rattle.block_store.specs.Rest.{Site}
 pub use Rattle.core.proofs.alloc.Calls.{Al, Goes-blank, handle_tells}
 pub use Rattle.core.proofs.alloc.Shapes.{after}
 pub use Rattle.core.proofs.atomic.Steps.{fm}
 pub use Rattle.core.proofs.cell.Inside.{Good, one}
 pub use Rattle.core.specs.declared.alloc.Allocator.{Ghosts}
-pub use Rattle.raw_region.proofs.WholeWindow.{whole_home, whole_there}
 pub use Rattle.fork_commands.proofs.Pairs.{also_ok}
 pub use Rattle.fork_commands.specs.Faults.{Stops, made_then}
 unfoldable pub use Rattle.fork_commands.specs.Info.{info_text}
@@ -56,6 +55,7 @@ pub use Rattle.macmem_c.specs.Replayed.{IsScriptFault, IsShowing, IsTranscript, 
 pub use Rattle.macmem_c.specs.declared.faults.Fault.{Fault}
 pub use Rattle.macmem_c.specs.declared.rows.Row.{Row}
 pub use Rattle.raw_region.proofs.Leaving.{all_gone}
+pub use Rattle.raw_region.proofs.WholeWindow.{whole_home, whole_there}
 pub use Rattle.raw_zone.specs.Parted.{rest_of, zone_of}
 pub use Rattle.script_text.specs.declared.fault.FaultKind.{FaultKind}
 pub use Rattle.script_text.specs.declared.fault.ScriptFault.{ScriptFault}
