@@ -7,6 +7,7 @@ ghost use Rattle.macmem_c.specs.Called.{Serves, number_after, IsImage, IsShown};
 use crate::codes::{code_of, number_of};
 use crate::delivering::{deliver, show_in};
 use crate::kept::Kept;
+use crate::zone::Zone;
 use std::alloc::Global;
 
 /// Writes bytes into a handle's block, from the offset `from` on.
@@ -22,7 +23,8 @@ pub extern "C" fn macmem_put(
     ensures { Serves (Put (Some handle) from bytes.now) zone.old.heap zone.new.heap result }
 {
     let mut boxed = zone.take(alloc);
-    let done = boxed.heap.put(Some(handle), from, bytes);
+    let inside: &mut Zone = &mut boxed;
+    let done = inside.heap.put(Some(handle), from, bytes);
     *zone = Kept::of(boxed);
     code_of(done)
 }
@@ -60,7 +62,8 @@ pub extern "C" fn macmem_put_ptr(
     ensures { Serves (PutPtr (Some pointer) from bytes.now) zone.old.heap zone.new.heap result }
 {
     let mut boxed = zone.take(alloc);
-    let done = boxed.heap.put_pointer(Some(pointer), from, bytes);
+    let inside: &mut Zone = &mut boxed;
+    let done = inside.heap.put_pointer(Some(pointer), from, bytes);
     *zone = Kept::of(boxed);
     code_of(done)
 }

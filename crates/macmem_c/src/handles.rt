@@ -10,6 +10,7 @@ ghost use Rattle.macmem_c.specs.Called.{Serves, number_after};
 
 use crate::codes::{code_in, code_of, number_in, number_of};
 use crate::kept::Kept;
+use crate::zone::Zone;
 use heap_calls::NoSink;
 use std::alloc::Global;
 
@@ -30,7 +31,8 @@ pub extern "C" fn macmem_new_handle(
         → (zone.new.heap ≡ zone.old.heap) × (handle.new ≡ handle.old) }
 {
     let mut boxed = zone.take(alloc);
-    let made = boxed.heap.new_handle(size, &mut NoSink);
+    let inside: &mut Zone = &mut boxed;
+    let made = inside.heap.new_handle(size, &mut NoSink);
     *zone = Kept::of(boxed);
     number_in(made, handle)
 }
@@ -47,7 +49,8 @@ pub extern "C" fn macmem_new_empty_handle(alloc: Global, zone: &mut Kept, handle
         → (zone.new.heap ≡ zone.old.heap) × (handle.new ≡ handle.old) }
 {
     let mut boxed = zone.take(alloc);
-    let made = boxed.heap.new_empty_handle(&mut NoSink);
+    let inside: &mut Zone = &mut boxed;
+    let made = inside.heap.new_empty_handle(&mut NoSink);
     *zone = Kept::of(boxed);
     number_in(made, handle)
 }
@@ -59,7 +62,8 @@ pub extern "C" fn macmem_dispose_handle(alloc: Global, zone: &mut Kept, handle: 
     ensures { Serves (DisposeHandle (Some handle)) zone.old.heap zone.new.heap result }
 {
     let mut boxed = zone.take(alloc);
-    let done = boxed.heap.dispose_handle(Some(handle));
+    let inside: &mut Zone = &mut boxed;
+    let done = inside.heap.dispose_handle(Some(handle));
     *zone = Kept::of(boxed);
     code_of(done)
 }
@@ -77,7 +81,8 @@ pub extern "C" fn macmem_get_handle_size(
     ensures number { size.new ≡ number_after (GetHandleSize (Some handle)) zone.old.heap size.old }
 {
     let mut boxed = zone.take(alloc);
-    let told = boxed.heap.get_handle_size(Some(handle));
+    let inside: &mut Zone = &mut boxed;
+    let told = inside.heap.get_handle_size(Some(handle));
     *zone = Kept::of(boxed);
     number_of(told, size)
 }
@@ -95,7 +100,8 @@ pub extern "C" fn macmem_handle_zone(
     ensures number { place.new ≡ number_after (HandleZone (Some handle)) zone.old.heap place.old }
 {
     let mut boxed = zone.take(alloc);
-    let told = boxed.heap.handle_zone(Some(handle));
+    let inside: &mut Zone = &mut boxed;
+    let told = inside.heap.handle_zone(Some(handle));
     *zone = Kept::of(boxed);
     number_of(told, place)
 }
@@ -114,7 +120,8 @@ pub extern "C" fn macmem_set_handle_size(
     ensures host { result ≡ host_memory → zone.new.heap ≡ zone.old.heap }
 {
     let mut boxed = zone.take(alloc);
-    let done = boxed.heap.set_handle_size(Some(handle), size, &mut NoSink);
+    let inside: &mut Zone = &mut boxed;
+    let done = inside.heap.set_handle_size(Some(handle), size, &mut NoSink);
     *zone = Kept::of(boxed);
     code_in(done)
 }
@@ -133,7 +140,8 @@ pub extern "C" fn macmem_reallocate_handle(
     ensures host { result ≡ host_memory → zone.new.heap ≡ zone.old.heap }
 {
     let mut boxed = zone.take(alloc);
-    let done = boxed
+    let inside: &mut Zone = &mut boxed;
+    let done = inside
         .heap
         .reallocate_handle(Some(handle), size, &mut NoSink);
     *zone = Kept::of(boxed);
@@ -147,7 +155,8 @@ pub extern "C" fn macmem_empty_handle(alloc: Global, zone: &mut Kept, handle: us
     ensures { Serves (EmptyHandle (Some handle)) zone.old.heap zone.new.heap result }
 {
     let mut boxed = zone.take(alloc);
-    let done = boxed.heap.empty_handle(Some(handle));
+    let inside: &mut Zone = &mut boxed;
+    let done = inside.heap.empty_handle(Some(handle));
     *zone = Kept::of(boxed);
     code_of(done)
 }
@@ -168,7 +177,8 @@ pub extern "C" fn macmem_hand_to_hand(
     ensures host { result ≡ host_memory → (zone.new.heap ≡ zone.old.heap) × (copy.new ≡ copy.old) }
 {
     let mut boxed = zone.take(alloc);
-    let made = boxed.heap.hand_to_hand(Some(handle), &mut NoSink);
+    let inside: &mut Zone = &mut boxed;
+    let made = inside.heap.hand_to_hand(Some(handle), &mut NoSink);
     *zone = Kept::of(boxed);
     number_in(made, copy)
 }
@@ -187,7 +197,8 @@ pub extern "C" fn macmem_hand_and_hand(
     ensures host { result ≡ host_memory → zone.new.heap ≡ zone.old.heap }
 {
     let mut boxed = zone.take(alloc);
-    let done = boxed.heap.hand_and_hand(Some(from), Some(to), &mut NoSink);
+    let inside: &mut Zone = &mut boxed;
+    let done = inside.heap.hand_and_hand(Some(from), Some(to), &mut NoSink);
     *zone = Kept::of(boxed);
     code_in(done)
 }
@@ -209,7 +220,8 @@ pub extern "C" fn macmem_ptr_to_hand(
         → (zone.new.heap ≡ zone.old.heap) × (handle.new ≡ handle.old) }
 {
     let mut boxed = zone.take(alloc);
-    let made = boxed.heap.pointer_to_hand(bytes, &mut NoSink);
+    let inside: &mut Zone = &mut boxed;
+    let made = inside.heap.pointer_to_hand(bytes, &mut NoSink);
     *zone = Kept::of(boxed);
     number_in(made, handle)
 }
@@ -228,7 +240,8 @@ pub extern "C" fn macmem_ptr_and_hand(
     ensures host { result ≡ host_memory → zone.new.heap ≡ zone.old.heap }
 {
     let mut boxed = zone.take(alloc);
-    let done = boxed
+    let inside: &mut Zone = &mut boxed;
+    let done = inside
         .heap
         .pointer_and_hand(Some(handle), bytes, &mut NoSink);
     *zone = Kept::of(boxed);

@@ -8,6 +8,7 @@ ghost use Rattle.macmem_c.specs.Called.{Serves, number_after, offset_after};
 
 use crate::codes::{HOST_MEMORY, code_in, code_of, handle_of, offset_in, offset_of};
 use crate::kept::Kept;
+use crate::zone::Zone;
 use heap_calls::NoSink;
 use mac_words::Target;
 use std::alloc::{AllocError, Global};
@@ -26,7 +27,8 @@ pub extern "C" fn macmem_recover_handle(
     ensures number { handle.new ≡ number_after (RecoverHandle place) zone.old.heap handle.old }
 {
     let mut boxed = zone.take(alloc);
-    let found = boxed.heap.recover_handle(place);
+    let inside: &mut Zone = &mut boxed;
+    let found = inside.heap.recover_handle(place);
     *zone = Kept::of(boxed);
     handle_of(found, handle)
 }
@@ -48,7 +50,8 @@ pub extern "C" fn macmem_block_move(
         zone.old.heap zone.new.heap result }
 {
     let mut boxed = zone.take(alloc);
-    let done = boxed
+    let inside: &mut Zone = &mut boxed;
+    let done = inside
         .heap
         .block_move(Some(from), start, Some(to), offset, count);
     *zone = Kept::of(boxed);
@@ -69,7 +72,8 @@ pub extern "C" fn macmem_ptr_to_x_hand(
     ensures host { result ≡ host_memory → zone.new.heap ≡ zone.old.heap }
 {
     let mut boxed = zone.take(alloc);
-    let done = boxed
+    let inside: &mut Zone = &mut boxed;
+    let done = inside
         .heap
         .pointer_to_x_hand(Some(handle), bytes, &mut NoSink);
     *zone = Kept::of(boxed);
@@ -110,7 +114,8 @@ pub extern "C" fn macmem_munger(
     };
     let target = Target::Bytes(old);
     let mut boxed = zone.take(alloc);
-    let done = boxed
+    let inside: &mut Zone = &mut boxed;
+    let done = inside
         .heap
         .munger(Some(handle), from, &target, new, &mut NoSink);
     *zone = Kept::of(boxed);
@@ -138,7 +143,8 @@ pub extern "C" fn macmem_munger_count(
 {
     let target = Target::Length(count);
     let mut boxed = zone.take(alloc);
-    let done = boxed
+    let inside: &mut Zone = &mut boxed;
+    let done = inside
         .heap
         .munger(Some(handle), from, &target, new, &mut NoSink);
     *zone = Kept::of(boxed);
@@ -169,7 +175,8 @@ pub extern "C" fn macmem_munger_nil(
     };
     let target = Target::Bytes(old);
     let mut boxed = zone.take(alloc);
-    let found = boxed.heap.munger_nil(Some(handle), from, &target);
+    let inside: &mut Zone = &mut boxed;
+    let found = inside.heap.munger_nil(Some(handle), from, &target);
     *zone = Kept::of(boxed);
     offset_of(found, offset)
 }

@@ -7,6 +7,7 @@ ghost use Rattle.macmem_c.specs.Called.{Serves, number_after};
 
 use crate::codes::{code_in, code_of, number_in, number_of};
 use crate::kept::Kept;
+use crate::zone::Zone;
 use heap_calls::NoSink;
 use std::alloc::Global;
 
@@ -27,7 +28,8 @@ pub extern "C" fn macmem_new_ptr(
         → (zone.new.heap ≡ zone.old.heap) × (pointer.new ≡ pointer.old) }
 {
     let mut boxed = zone.take(alloc);
-    let made = boxed.heap.new_pointer(size, &mut NoSink);
+    let inside: &mut Zone = &mut boxed;
+    let made = inside.heap.new_pointer(size, &mut NoSink);
     *zone = Kept::of(boxed);
     number_in(made, pointer)
 }
@@ -39,7 +41,8 @@ pub extern "C" fn macmem_dispose_ptr(alloc: Global, zone: &mut Kept, pointer: us
     ensures { Serves (DisposePtr (Some pointer)) zone.old.heap zone.new.heap result }
 {
     let mut boxed = zone.take(alloc);
-    let done = boxed.heap.dispose_pointer(Some(pointer));
+    let inside: &mut Zone = &mut boxed;
+    let done = inside.heap.dispose_pointer(Some(pointer));
     *zone = Kept::of(boxed);
     code_of(done)
 }
@@ -57,7 +60,8 @@ pub extern "C" fn macmem_get_ptr_size(
     ensures number { size.new ≡ number_after (GetPtrSize (Some pointer)) zone.old.heap size.old }
 {
     let mut boxed = zone.take(alloc);
-    let told = boxed.heap.get_pointer_size(Some(pointer));
+    let inside: &mut Zone = &mut boxed;
+    let told = inside.heap.get_pointer_size(Some(pointer));
     *zone = Kept::of(boxed);
     number_of(told, size)
 }
@@ -75,7 +79,8 @@ pub extern "C" fn macmem_ptr_zone(
     ensures number { place.new ≡ number_after (PtrZone (Some pointer)) zone.old.heap place.old }
 {
     let mut boxed = zone.take(alloc);
-    let told = boxed.heap.pointer_zone(Some(pointer));
+    let inside: &mut Zone = &mut boxed;
+    let told = inside.heap.pointer_zone(Some(pointer));
     *zone = Kept::of(boxed);
     number_of(told, place)
 }
@@ -94,7 +99,8 @@ pub extern "C" fn macmem_set_ptr_size(
     ensures host { result ≡ host_memory → zone.new.heap ≡ zone.old.heap }
 {
     let mut boxed = zone.take(alloc);
-    let done = boxed
+    let inside: &mut Zone = &mut boxed;
+    let done = inside
         .heap
         .set_pointer_size(Some(pointer), size, &mut NoSink);
     *zone = Kept::of(boxed);

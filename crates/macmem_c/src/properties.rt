@@ -7,6 +7,7 @@ ghost use Rattle.macmem_c.specs.Called.{Serves, number_after};
 
 use crate::codes::{code_of, state_of};
 use crate::kept::Kept;
+use crate::zone::Zone;
 use std::alloc::Global;
 
 /// `HLock`: locks a handle's block, so that it is neither moved nor purged.
@@ -16,7 +17,8 @@ pub extern "C" fn macmem_h_lock(alloc: Global, zone: &mut Kept, handle: usize) -
     ensures { Serves (HLock (Some handle)) zone.old.heap zone.new.heap result }
 {
     let mut boxed = zone.take(alloc);
-    let done = boxed.heap.h_lock(Some(handle));
+    let inside: &mut Zone = &mut boxed;
+    let done = inside.heap.h_lock(Some(handle));
     *zone = Kept::of(boxed);
     code_of(done)
 }
@@ -28,7 +30,8 @@ pub extern "C" fn macmem_h_unlock(alloc: Global, zone: &mut Kept, handle: usize)
     ensures { Serves (HUnlock (Some handle)) zone.old.heap zone.new.heap result }
 {
     let mut boxed = zone.take(alloc);
-    let done = boxed.heap.h_unlock(Some(handle));
+    let inside: &mut Zone = &mut boxed;
+    let done = inside.heap.h_unlock(Some(handle));
     *zone = Kept::of(boxed);
     code_of(done)
 }
@@ -40,7 +43,8 @@ pub extern "C" fn macmem_h_purge(alloc: Global, zone: &mut Kept, handle: usize) 
     ensures { Serves (HPurge (Some handle)) zone.old.heap zone.new.heap result }
 {
     let mut boxed = zone.take(alloc);
-    let done = boxed.heap.h_purge(Some(handle));
+    let inside: &mut Zone = &mut boxed;
+    let done = inside.heap.h_purge(Some(handle));
     *zone = Kept::of(boxed);
     code_of(done)
 }
@@ -52,7 +56,8 @@ pub extern "C" fn macmem_h_no_purge(alloc: Global, zone: &mut Kept, handle: usiz
     ensures { Serves (HNoPurge (Some handle)) zone.old.heap zone.new.heap result }
 {
     let mut boxed = zone.take(alloc);
-    let done = boxed.heap.h_no_purge(Some(handle));
+    let inside: &mut Zone = &mut boxed;
+    let done = inside.heap.h_no_purge(Some(handle));
     *zone = Kept::of(boxed);
     code_of(done)
 }
@@ -71,7 +76,8 @@ pub extern "C" fn macmem_h_get_state(
     ensures number { state.new ≡ number_after (HGetState (Some handle)) zone.old.heap state.old }
 {
     let mut boxed = zone.take(alloc);
-    let told = boxed.heap.h_get_state(Some(handle));
+    let inside: &mut Zone = &mut boxed;
+    let told = inside.heap.h_get_state(Some(handle));
     *zone = Kept::of(boxed);
     state_of(told, state)
 }
@@ -89,7 +95,8 @@ pub extern "C" fn macmem_h_set_state(
     ensures { Serves (HSetState (Some handle) state) zone.old.heap zone.new.heap result }
 {
     let mut boxed = zone.take(alloc);
-    let done = boxed.heap.h_set_state(Some(handle), state);
+    let inside: &mut Zone = &mut boxed;
+    let done = inside.heap.h_set_state(Some(handle), state);
     *zone = Kept::of(boxed);
     code_of(done)
 }
@@ -101,7 +108,8 @@ pub extern "C" fn macmem_move_h_hi(alloc: Global, zone: &mut Kept, handle: usize
     ensures { Serves (MoveHHi (Some handle)) zone.old.heap zone.new.heap result }
 {
     let mut boxed = zone.take(alloc);
-    let done = boxed.heap.move_h_hi(Some(handle));
+    let inside: &mut Zone = &mut boxed;
+    let done = inside.heap.move_h_hi(Some(handle));
     *zone = Kept::of(boxed);
     code_of(done)
 }
@@ -113,7 +121,8 @@ pub extern "C" fn macmem_h_lock_hi(alloc: Global, zone: &mut Kept, handle: usize
     ensures { Serves (HLockHi (Some handle)) zone.old.heap zone.new.heap result }
 {
     let mut boxed = zone.take(alloc);
-    let done = boxed.heap.h_lock_hi(Some(handle));
+    let inside: &mut Zone = &mut boxed;
+    let done = inside.heap.h_lock_hi(Some(handle));
     *zone = Kept::of(boxed);
     code_of(done)
 }

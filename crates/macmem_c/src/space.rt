@@ -9,6 +9,7 @@ ghost use Rattle.macmem_c.specs.Called.{Serves, number_after, AreNumbers};
 
 use crate::codes::{code_in, measure_in};
 use crate::kept::Kept;
+use crate::zone::Zone;
 use heap_calls::NoSink;
 use std::alloc::Global;
 
@@ -20,7 +21,8 @@ pub extern "C" fn macmem_free_mem(alloc: Global, zone: &mut Kept) -> u32
     ensures number { result ≡ number_after FreeMem zone.old.heap 0 }
 {
     let mut boxed = zone.take(alloc);
-    let number = boxed.heap.free_mem();
+    let inside: &mut Zone = &mut boxed;
+    let number = inside.heap.free_mem();
     *zone = Kept::of(boxed);
     number
 }
@@ -34,7 +36,8 @@ pub extern "C" fn macmem_max_block(alloc: Global, zone: &mut Kept) -> u32
     ensures number { result ≡ number_after MaxBlock zone.old.heap 0 }
 {
     let mut boxed = zone.take(alloc);
-    let number = boxed.heap.max_block();
+    let inside: &mut Zone = &mut boxed;
+    let number = inside.heap.max_block();
     *zone = Kept::of(boxed);
     number
 }
@@ -53,7 +56,8 @@ pub extern "C" fn macmem_purge_space(
     ensures numbers { AreNumbers PurgeSpace zone.old.heap total.new contiguous.new }
 {
     let mut boxed = zone.take(alloc);
-    let space = boxed.heap.purge_space();
+    let inside: &mut Zone = &mut boxed;
+    let space = inside.heap.purge_space();
     *zone = Kept::of(boxed);
     *total = space.total;
     *contiguous = space.contiguous;
@@ -68,7 +72,8 @@ pub extern "C" fn macmem_compact_mem(alloc: Global, zone: &mut Kept, size: u32) 
     ensures number { result ≡ number_after (CompactMem size) zone.old.heap 0 }
 {
     let mut boxed = zone.take(alloc);
-    let number = boxed.heap.compact_mem(size);
+    let inside: &mut Zone = &mut boxed;
+    let number = inside.heap.compact_mem(size);
     *zone = Kept::of(boxed);
     number
 }
@@ -82,7 +87,8 @@ pub extern "C" fn macmem_purge_mem(alloc: Global, zone: &mut Kept, size: u32) ->
     ensures host { result ≡ host_memory → zone.new.heap ≡ zone.old.heap }
 {
     let mut boxed = zone.take(alloc);
-    let done = boxed.heap.purge_mem(size, &mut NoSink);
+    let inside: &mut Zone = &mut boxed;
+    let done = inside.heap.purge_mem(size, &mut NoSink);
     *zone = Kept::of(boxed);
     code_in(done)
 }
@@ -97,7 +103,8 @@ pub extern "C" fn macmem_max_mem(alloc: Global, zone: &mut Kept, size: &mut u32)
     ensures host { result ≡ host_memory → (zone.new.heap ≡ zone.old.heap) × (size.new ≡ size.old) }
 {
     let mut boxed = zone.take(alloc);
-    let told = boxed.heap.max_mem(&mut NoSink);
+    let inside: &mut Zone = &mut boxed;
+    let told = inside.heap.max_mem(&mut NoSink);
     *zone = Kept::of(boxed);
     measure_in(told, size)
 }
@@ -111,7 +118,8 @@ pub extern "C" fn macmem_reserve_mem(alloc: Global, zone: &mut Kept, size: u32) 
     ensures host { result ≡ host_memory → zone.new.heap ≡ zone.old.heap }
 {
     let mut boxed = zone.take(alloc);
-    let done = boxed.heap.reserve_mem(size, &mut NoSink);
+    let inside: &mut Zone = &mut boxed;
+    let done = inside.heap.reserve_mem(size, &mut NoSink);
     *zone = Kept::of(boxed);
     code_in(done)
 }
@@ -124,7 +132,8 @@ pub extern "C" fn macmem_more_masters(alloc: Global, zone: &mut Kept) -> i32
     ensures host { result ≡ host_memory → zone.new.heap ≡ zone.old.heap }
 {
     let mut boxed = zone.take(alloc);
-    let done = boxed.heap.more_masters(&mut NoSink);
+    let inside: &mut Zone = &mut boxed;
+    let done = inside.heap.more_masters(&mut NoSink);
     *zone = Kept::of(boxed);
     code_in(done)
 }

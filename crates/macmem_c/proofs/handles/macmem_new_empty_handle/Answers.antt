@@ -9,7 +9,7 @@ returns-clause-served c =
     c.new_empty_handle-made.result c.number_in.result fits (λ n. refl) (record {
       before = _;
       after = _;
-      was = c.take-boxed.ensures.taken ∙ ap Some (sym c.deref_mut.ensures.value ∙ sym c.behind-boxed.view_is);
+      was = c.take-boxed.ensures.taken ∙ ap Some (sym c.deref_mut-inside.ensures.value ∙ sym c.inside.view_is);
       is = c.of.ensures;
       result = _;
       row = refl;
@@ -24,7 +24,7 @@ returns-clause-number c =
     c.new_empty_handle-made.result _ _ c.number_in.result fits (λ n. refl) (record {
       before = _;
       after = _;
-      was = c.take-boxed.ensures.taken ∙ ap Some (sym c.deref_mut.ensures.value ∙ sym c.behind-boxed.view_is);
+      was = c.take-boxed.ensures.taken ∙ ap Some (sym c.deref_mut-inside.ensures.value ∙ sym c.inside.view_is);
       is = c.of.ensures;
       result = _;
       row = refl;

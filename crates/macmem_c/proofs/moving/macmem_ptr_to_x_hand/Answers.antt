@@ -9,7 +9,7 @@ returns-clause-served c =
     c.pointer_to_x_hand-done.result c.code_in.result fits (λ u. refl) (record {
       before = _;
       after = _;
-      was = c.take-boxed.ensures.taken ∙ ap Some (sym c.deref_mut.ensures.value ∙ sym c.behind-boxed.view_is);
+      was = c.take-boxed.ensures.taken ∙ ap Some (sym c.deref_mut-inside.ensures.value ∙ sym c.inside.view_is);
       is = c.of.ensures;
       result = _;
       row = refl;

@@ -9,7 +9,7 @@ returns-clause-served c =
     c.recover_handle-found.result c.handle_of.result fits (λ n. refl) (record {
       before = _;
       after = _;
-      was = c.take-boxed.ensures.taken ∙ ap Some (sym c.deref_mut.ensures.value ∙ sym c.behind-boxed.view_is);
+      was = c.take-boxed.ensures.taken ∙ ap Some (sym c.deref_mut-inside.ensures.value ∙ sym c.inside.view_is);
       is = c.of.ensures;
       answer = ap (telling Given) c.recover_handle-found.ensures.answer;
     })
@@ -19,7 +19,7 @@ pub returns-clause-number : goal.returns-clause-number
 returns-clause-number c = numbers (RecoverHandle c.args.place) Given _ _ c.recover_handle-found.result _ _ (λ n. refl) (record {
   before = _;
   after = _;
-  was = c.take-boxed.ensures.taken ∙ ap Some (sym c.deref_mut.ensures.value ∙ sym c.behind-boxed.view_is);
+  was = c.take-boxed.ensures.taken ∙ ap Some (sym c.deref_mut-inside.ensures.value ∙ sym c.inside.view_is);
   is = c.of.ensures;
   answer = ap (telling Given) c.recover_handle-found.ensures.answer;
 }) c.handle_of.ensures.number

@@ -9,7 +9,7 @@ returns-clause-served c =
     c.get_pointer_size-told.result c.number_of.result fits (λ n. refl) (record {
       before = _;
       after = _;
-      was = c.take-boxed.ensures.taken ∙ ap Some (sym c.deref_mut.ensures.value ∙ sym c.behind-boxed.view_is);
+      was = c.take-boxed.ensures.taken ∙ ap Some (sym c.deref_mut-inside.ensures.value ∙ sym c.inside.view_is);
       is = c.of.ensures;
       answer = ap (telling Number) c.get_pointer_size-told.ensures.answer;
     })
@@ -19,7 +19,7 @@ pub returns-clause-number : goal.returns-clause-number
 returns-clause-number c = numbers (GetPtrSize (Some c.args.pointer)) Number _ _ c.get_pointer_size-told.result _ _ (λ n. refl) (record {
   before = _;
   after = _;
-  was = c.take-boxed.ensures.taken ∙ ap Some (sym c.deref_mut.ensures.value ∙ sym c.behind-boxed.view_is);
+  was = c.take-boxed.ensures.taken ∙ ap Some (sym c.deref_mut-inside.ensures.value ∙ sym c.inside.view_is);
   is = c.of.ensures;
   answer = ap (telling Number) c.get_pointer_size-told.ensures.answer;
 }) c.number_of.ensures.number

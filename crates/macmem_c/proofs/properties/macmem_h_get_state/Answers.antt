@@ -9,7 +9,7 @@ returns-clause-served c =
     c.h_get_state-told.result c.state_of.result fits (λ n. refl) (record {
       before = _;
       after = _;
-      was = c.take-boxed.ensures.taken ∙ ap Some (sym c.deref_mut.ensures.value ∙ sym c.behind-boxed.view_is);
+      was = c.take-boxed.ensures.taken ∙ ap Some (sym c.deref_mut-inside.ensures.value ∙ sym c.inside.view_is);
       is = c.of.ensures;
       answer = ap (telling Number) c.h_get_state-told.ensures.answer;
     })
@@ -19,7 +19,7 @@ pub returns-clause-number : goal.returns-clause-number
 returns-clause-number c = numbers (HGetState (Some c.args.handle)) Number _ _ c.h_get_state-told.result _ _ (λ n. refl) (record {
   before = _;
   after = _;
-  was = c.take-boxed.ensures.taken ∙ ap Some (sym c.deref_mut.ensures.value ∙ sym c.behind-boxed.view_is);
+  was = c.take-boxed.ensures.taken ∙ ap Some (sym c.deref_mut-inside.ensures.value ∙ sym c.inside.view_is);
   is = c.of.ensures;
   answer = ap (telling Number) c.h_get_state-told.ensures.answer;
 }) c.state_of.ensures.state

@@ -9,7 +9,7 @@ returns-clause-served c =
     c.max_mem-told.result c.measure_in.result fits (λ n. refl) (record {
       before = _;
       after = _;
-      was = c.take-boxed.ensures.taken ∙ ap Some (sym c.deref_mut.ensures.value ∙ sym c.behind-boxed.view_is);
+      was = c.take-boxed.ensures.taken ∙ ap Some (sym c.deref_mut-inside.ensures.value ∙ sym c.inside.view_is);
       is = c.of.ensures;
       result = _;
       row = refl;
@@ -24,7 +24,7 @@ returns-clause-number c =
     c.max_mem-told.result _ _ c.measure_in.result fits (λ n. refl) (record {
       before = _;
       after = _;
-      was = c.take-boxed.ensures.taken ∙ ap Some (sym c.deref_mut.ensures.value ∙ sym c.behind-boxed.view_is);
+      was = c.take-boxed.ensures.taken ∙ ap Some (sym c.deref_mut-inside.ensures.value ∙ sym c.inside.view_is);
       is = c.of.ensures;
       result = _;
       row = refl;
