@@ -8,7 +8,7 @@ use crate::jobs::{add, empty_job, is_run_alike};
 use crate::zones::{image_of, read_zone, used_region};
 use applications::{Unwatched, give_alone, own_resources};
 use desk::{Job, run_script};
-use script_text::{Event, Script, read_script};
+use script_text::{Act, Event, Script, read_script};
 use std::alloc::{AllocError, Global};
 use std::process::Abort;
 use std::test::Fail;
@@ -85,9 +85,9 @@ fn an_event(chance: &mut Chance) -> Event {
     let app = (chance.next() % 4) as usize;
     match chance.next() % 16 {
         0..=5 => Event::Launch(app),
-        6..=9 => Event::Step(app),
-        10..=13 => Event::Turn(app),
-        14 => Event::Quit(app),
+        6..=9 => Event::Act(app, Act::Step),
+        10..=13 => Event::Act(app, Act::Turn),
+        14 => Event::Act(app, Act::Quit),
         _ => Event::Rest,
     }
 }

@@ -4,7 +4,7 @@ use crate::jobs::{add, empty_job};
 use crate::zones::{image_of, read_zone, used_region};
 use applications::Unwatched;
 use desk::{Job, run, run_script};
-use script_text::{Event, read_script};
+use script_text::{Act, Event, read_script};
 use std::alloc::Global;
 use std::process::Abort;
 use std::test::Fail;
@@ -71,8 +71,8 @@ fn two_apps(alloc: Global) -> Result<Job, Fail> {
     const EVENTS: &[Event] = &[
         Event::Launch(0),
         Event::Launch(1),
-        Event::Turn(0),
-        Event::Turn(1),
+        Event::Act(0, Act::Turn),
+        Event::Act(1, Act::Turn),
     ];
     let mut job = empty_job(alloc, 1040, EVENTS)?;
     add(alloc, &mut job, b"one", LEAST, ONE)?;

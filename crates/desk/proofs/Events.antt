@@ -77,9 +77,7 @@ module _ (P : App → Place → Type 0)
 
   pub event-pairs : (e : Event) (s : State) → Pairs P apps s.places → Pairs P apps (after_event e s).places
   event-pairs (event.Launch i) s so = launched-pairs i (slice_get s.places i) s refl so
-  event-pairs (event.Step i) s so = acted-pairs Step i (slice_get s.places i) s refl so
-  event-pairs (event.Turn i) s so = acted-pairs Turn i (slice_get s.places i) s refl so
-  event-pairs (event.Quit i) s so = acted-pairs Quit i (slice_get s.places i) s refl so
+  event-pairs (event.Act i act) s so = acted-pairs act i (slice_get s.places i) s refl so
   event-pairs event.Rest s so = rounds-pairs (suc (longest s.places)) s so
 
   -- within a turn there is a place that has what the place had before
@@ -152,9 +150,7 @@ module _ (P : App → Place → Type 0)
   event-within : (Q : State → Type 0) (e : Event) (s : State) → Pairs P apps s.places → WithinEvent Q e s
       → (m : State) × Pairs P apps m.places × Q m
   event-within Q (event.Launch i) s so within = (s, so, within)
-  event-within Q (event.Step i) s so within = at-within Q Step i s so within
-  event-within Q (event.Turn i) s so within = at-within Q Turn i s so within
-  event-within Q (event.Quit i) s so within = at-within Q Quit i s so within
+  event-within Q (event.Act i act) s so within = at-within Q act i s so within
   event-within Q event.Rest s so within = rounds-within Q (suc (longest s.places)) s so within
 
   pub pairs_within : (Q : State → Type 0) (done : ℕ) (events : List Event) (s : State) → Pairs P apps s.places

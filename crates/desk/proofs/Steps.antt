@@ -367,9 +367,7 @@ module _ (Good : State → Type 0)
   event-pair : (P R : State → Type 0) (e : Event) (s : State) → Good s → WithinEvent P e s → WithinEvent R e s
       → (q r : State) × P q × R r × (Before q r ⊎ Before r q)
   event-pair P R (event.Launch i) s good a b = (s, s, a, b, inl (inl refl))
-  event-pair P R (event.Step i) s good a b = at-pair P R Step i s good a b
-  event-pair P R (event.Turn i) s good a b = at-pair P R Turn i s good a b
-  event-pair P R (event.Quit i) s good a b = at-pair P R Quit i s good a b
+  event-pair P R (event.Act i act) s good a b = at-pair P R act i s good a b
   event-pair P R event.Rest s good a b = rounds-pair P R (suc (longest s.places)) s good a b
 
   halts-pair : ((e : Event) (s : State) → Good s → Good (after_event e s)) → (P R : State → Type 0) (done : ℕ)

@@ -11,8 +11,8 @@ use Rattle.script_text.specs.DeskLog.{launch_of, refusal_of, end_of}
 use Rattle.script_text.specs.declared.job.Event.{Event}
 use Rattle.script_text.specs.declared.job.Event.TheVariants as event
 use Rattle.res_calls.specs.Files.{Resources}
-use Rattle.desk.specs.declared.act.Act.{Act}
-use Rattle.desk.specs.declared.act.Act.TheVariants.{Step, Turn, Quit}
+use Rattle.script_text.specs.declared.job.Act.{Act}
+use Rattle.script_text.specs.declared.job.Act.TheVariants.{Step, Turn, Quit}
 use Rattle.desk.specs.Sizes.{Sizes, sizes_asked}
 use Rattle.desk.specs.Phase.{Phase, Waiting, Running, Ended, Live, Left, Coming, begun, acted_by, runs, told_of}
 use Rattle.desk.specs.Outcome.{AppResult, Outcome, outcome_told}
@@ -168,9 +168,7 @@ rested s = rounds (suc (longest s.places)) s
 
 abbrev pub after_event : Event → State → State
 after_event (event.Launch i) s = launched_at i s
-after_event (event.Step i) s = acted_at Step i s
-after_event (event.Turn i) s = acted_at Turn i s
-after_event (event.Quit i) s = acted_at Quit i s
+after_event (event.Act i act) s = acted_at act i s
 after_event event.Rest s = rested s
 
 abbrev pub after_events : List Event → State → State

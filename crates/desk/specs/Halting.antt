@@ -6,8 +6,8 @@ use Rattle.script_text.specs.declared.script.Line.{Line}
 use Rattle.script_text.specs.declared.job.Event.{Event}
 use Rattle.script_text.specs.declared.job.Event.TheVariants as event
 use Rattle.applications.specs.Step.{is_wait}
-use Rattle.desk.specs.declared.act.Act.{Act}
-use Rattle.desk.specs.declared.act.Act.TheVariants.{Step, Turn, Quit}
+use Rattle.script_text.specs.declared.job.Act.{Act}
+use Rattle.script_text.specs.declared.job.Act.TheVariants.{Step, Turn, Quit}
 use Rattle.desk.specs.Outcome.{AppResult, Outcome, forks_of}
 use Rattle.desk.specs.Phase.{Phase, Waiting, Running, Ended, Live, Next, GoesOn, Ends, stepped}
 use Rattle.desk.specs.Desk.{Place, State, acted_at, after_event, after_events, longest, outcome_of, round, told}
@@ -78,9 +78,7 @@ WithinRounds P (suc more) s = WithinRound P s ⊎ WithinRounds P more (round s)
 -- The same within an event. A launch is done wholly or not at all.
 abbrev pub WithinEvent : (State → Type 0) → Event → State → Type 0
 WithinEvent P (event.Launch i) s = P s
-WithinEvent P (event.Step i) s = WithinAt P Step i s
-WithinEvent P (event.Turn i) s = WithinAt P Turn i s
-WithinEvent P (event.Quit i) s = WithinAt P Quit i s
+WithinEvent P (event.Act i act) s = WithinAt P act i s
 WithinEvent P event.Rest s = WithinRounds P (suc (longest s.places)) s
 
 -- Some fork was written, so that the desk's log is to end with lines.

@@ -11,8 +11,8 @@ use Rattle.applications.specs.Trying.{launched_with, nowhere}
 use Rattle.applications.specs.Step.{Course, step, is_wait}
 use Rattle.applications.specs.Application.{lines_told}
 use Rattle.applications.specs.Alone.{Ending, quits, ended_by}
-use Rattle.desk.specs.declared.act.Act.{Act}
-use Rattle.desk.specs.declared.act.Act.TheVariants.{Step, Turn, Quit}
+use Rattle.script_text.specs.declared.job.Act.{Act}
+use Rattle.script_text.specs.declared.job.Act.TheVariants.{Step, Turn, Quit}
 use Rattle.desk.specs.Outcome.{Launched}
 
 -- An application at the desk, and what a step, a turn and a quit make of it. Inside Macintosh: Processes, chapter 1,

@@ -30,7 +30,6 @@ ghost use Rattle.desk.specs.Live.{live_seen};
 ghost use Rattle.desk.specs.Lying.{AllLie};
 ghost use Rattle.desk.specs.View.{seen, told_seen};
 
-use crate::act::Act;
 use crate::departure::{Departure, SeatParts};
 use crate::job::App;
 use crate::live::Live;
@@ -47,7 +46,7 @@ use heap_calls::Refusal;
 use mac_words::OsErr;
 use memory_windows::Window;
 use partitions::Grants;
-use script_text::{APP_ROOM, write_app_end, write_app_launch, write_app_refusal};
+use script_text::{APP_ROOM, Act, write_app_end, write_app_launch, write_app_refusal};
 use std::alloc::{AllocError, Global};
 use std::marker::Model;
 

@@ -3,7 +3,7 @@
 ghost use Rattle.std.specs.Prelude.{◌≡◌, ◌≢◌, ℕ, true, false, List, Some, slice_get};
 ghost use Rattle.fork_format.specs.Content.{Content};
 ghost use Rattle.script_text.specs.declared.job.Event.{Event};
-ghost use Rattle.desk.specs.declared.act.Act.{Act};
+ghost use Rattle.script_text.specs.declared.job.Act.{Act};
 ghost use Rattle.desk.specs.declared.job.App.{App};
 ghost use Rattle.desk.specs.Alone.{IsPlaceOf};
 ghost use Rattle.desk.specs.Outcome.{Launched, Outcome, steps_shown};

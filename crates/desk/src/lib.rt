@@ -2,7 +2,6 @@
 //! and quits.
 #![tactic(auto)]
 
-mod act;
 mod departure;
 mod desk;
 mod forks;

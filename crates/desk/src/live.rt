@@ -13,7 +13,6 @@ ghost use Rattle.desk.specs.Halting.{WithinTurn, WithinAct};
 ghost use Rattle.desk.specs.Live.{live_seen, HasCome, LeavesAs, lot_of_live, leaves_seen};
 ghost use Rattle.desk.specs.Lying.{heap_of};
 
-use crate::act::Act;
 use crate::departure::LiveParts;
 use crate::outcome::Launched;
 use crate::partition::{OpenZone, Partition};
@@ -22,7 +21,7 @@ use block_store::BlockStore;
 use mac_words::OsErr;
 use memory_windows::Window;
 use res_calls::Resources;
-use script_text::{END_ROOM, Line, Script, write_end, write_launch};
+use script_text::{Act, END_ROOM, Line, Script, write_end, write_launch};
 use std::alloc::{AllocError, Global};
 
 /// An application that runs in a window of the memory, with the number of steps that it took since

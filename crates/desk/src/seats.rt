@@ -19,7 +19,6 @@ ghost use Rattle.desk.specs.Lying.{IsHeapOf};
 ghost use Rattle.desk.specs.View.{place_seen, phase_seen, is_waiting, seen, lot_of, lots, left_of};
 ghost use Rattle.desk.specs.View.{told_seen};
 
-use crate::act::Act;
 use crate::departure::{Departure, LiveParts, SeatParts};
 use crate::job::App;
 use crate::live::Live;
@@ -30,6 +29,7 @@ use block_store::BlockStore;
 use core::mem::replace_with;
 use fork_format::Content;
 use mac_words::Label;
+use script_text::Act;
 use std::alloc::{AllocError, Global};
 
 /// Returns a place for each application, at which it waits for its launch.

@@ -5,19 +5,18 @@ ghost use Rattle.std.specs.Io.KnownBytes.{append_known};
 ghost use Rattle.memory_windows.specs.declared.Window.{Window as Stretch};
 ghost use Rattle.block_store.specs.Rest.{Site};
 ghost use Rattle.applications.specs.Reports.{reports};
-ghost use Rattle.desk.specs.declared.act.Act.TheVariants.{Step, Turn, Quit};
+ghost use Rattle.script_text.specs.declared.job.Act.TheVariants.{Step, Turn, Quit};
 ghost use Rattle.desk.specs.Desk.{launched_at, round, rested, after_event, after_events};
 ghost use Rattle.desk.specs.Desk.{longest};
 ghost use Rattle.desk.specs.Free.{IsFree, StaysFree};
 ghost use Rattle.desk.specs.Halting.{HaltsAfter, WithinEvent, WithinRound, WithinRounds, halted};
 ghost use Rattle.desk.specs.View.{seen};
 
-use crate::act::Act;
 use crate::desk::Desk;
 use crate::seat::Seat;
 use applications::{Watch, tell};
 use block_store::{BlockStore, ZoneMaker};
-use script_text::Event;
+use script_text::{Act, Event};
 use std::alloc::AllocError;
 
 /// Returns the number of steps of the longest script.
@@ -107,9 +106,7 @@ impl<'j, Z: ZoneMaker> Desk<'j, Z> {
                 Ok(_) => Ok(()),
                 Err(fault) => Err(fault),
             },
-            Event::Step(i) => self.step(i),
-            Event::Turn(i) => self.turn(i),
-            Event::Quit(i) => self.quit(i),
+            Event::Act(i, act) => self.act(i, act),
             Event::Rest => self.rest(),
         }
     }

@@ -26,8 +26,9 @@ unfoldable pub use Rattle.script_text.specs.Stating.{job_line, token_line}
 unfoldable pub use Rattle.script_text.specs.Token.{after_blanks, token_at}
 pub use Rattle.script_text.specs.Transcript.{Bytes, Number, Shown, end_line, grow_line, hex, launch_line, reply_line, shown_all}
 pub use Rattle.script_text.specs.declared.fault.FaultKind.TheVariants.{BadArgument, NotAllowed, UnknownCall}
+pub use Rattle.script_text.specs.declared.job.Act.TheVariants.{Quit, Step, Turn}
 pub use Rattle.script_text.specs.declared.job.Event.{Event}
-pub use Rattle.script_text.specs.declared.job.Event.TheVariants.{Launch, Quit, Rest, Step, Turn}
+pub use Rattle.script_text.specs.declared.job.Event.TheVariants.{Act, Launch, Rest}
 pub use Rattle.script_text.specs.declared.job_word.JobWord.{JobWord}
 pub use Rattle.script_text.specs.declared.script.Line.{Line}
 pub use Rattle.script_text.specs.declared.script_lines.Begun.{Begun}

@@ -1,6 +1,6 @@
 -- Worked jobs, by computation.
 use Rattle.script_text.proofs.Cited.{◌≡◌, Some, [], ◌∷◌, ◌++◌, Ok, Err, refl, codes, pos, negsuc, digits, chars, is_utf8, encode}
-use Rattle.script_text.proofs.Cited.{UnknownCall, BadArgument, JobWord, Launch, Step, Turn, Quit, Rest, after_blanks, token_at, argument}
+use Rattle.script_text.proofs.Cited.{UnknownCall, BadArgument, JobWord, Act, Launch, Step, Turn, Quit, Rest, after_blanks, token_at, argument}
 use Rattle.script_text.proofs.Cited.{job_line, spelling, token_line, job_of, with_line, System, App, File, launch_of, refusal_of, end_of}
 use Rattle.script_text.proofs.Cited.{fork_of}
 use Rattle.script_text.specs.declared.job_word.JobWord.TheVariants as word
@@ -19,7 +19,7 @@ good : job_of (codes
       memory = 4096;
       inputs = App (codes "one") (codes "f1") (codes "s1") ∷ System (codes "s") ∷ App (codes "two") [] (codes "s2")
           ∷ File 1 (codes "Doc") (codes "d") ∷ [];
-      events = Launch 1 ∷ Step 0 ∷ Turn 0 ∷ Rest ∷ Quit 1 ∷ [];
+      events = Launch 1 ∷ Act 0 Step ∷ Act 0 Turn ∷ Rest ∷ Act 1 Quit ∷ [];
     })
 unfolding job_of with_line job_line token_line word_spelled argument token_at after_blanks is_utf8 chars encode
 good = refl

@@ -135,9 +135,7 @@ with_stated above (said.System path) = with_input above (System path)
 with_stated above (said.App name fork script) = with_input above (App name fork script)
 with_stated above (said.File owner name path) = of_app above owner (λ app. with_input above (File app name path))
 with_stated above (said.Launch name) = of_app above name (λ app. with_event above (event.Launch app))
-with_stated above (said.Step name) = of_app above name (λ app. with_event above (event.Step app))
-with_stated above (said.Turn name) = of_app above name (λ app. with_event above (event.Turn app))
-with_stated above (said.Quit name) = of_app above name (λ app. with_event above (event.Quit app))
+with_stated above (said.Acts name act) = of_app above name (λ app. with_event above (event.Act app act))
 with_stated above said.Rest = with_event above event.Rest
 
 -- One more line, if it states something.

@@ -24,9 +24,7 @@ AreInOrder inputs = IsTrue (all_follow [] inputs)
 -- Whether an event is of one of `apps` applications.
 abbrev pub is_event_of : ℕ → Event → Bool
 is_event_of apps (event.Launch app) = nat_lt app apps
-is_event_of apps (event.Step app) = nat_lt app apps
-is_event_of apps (event.Turn app) = nat_lt app apps
-is_event_of apps (event.Quit app) = nat_lt app apps
+is_event_of apps (event.Act app act) = nat_lt app apps
 is_event_of apps event.Rest = true
 
 -- The events are of the applications of the inputs.

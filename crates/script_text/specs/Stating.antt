@@ -3,6 +3,8 @@ use Rattle.std.specs.Prelude.{bytes_eq, codes, find, if◌then◌else◌}
 use Rattle.std.specs.Option.{ok_or}
 use Rattle.script_text.specs.declared.fault.FaultKind.{FaultKind}
 use Rattle.script_text.specs.declared.fault.FaultKind.TheVariants.{UnknownCall, BadArgument, LongLine}
+use Rattle.script_text.specs.declared.job.Act.{Act}
+use Rattle.script_text.specs.declared.job.Act.TheVariants as act
 use Rattle.script_text.specs.declared.job_line.JobLine.{JobLine}
 use Rattle.script_text.specs.declared.job_line.JobLine.TheVariants as line
 use Rattle.script_text.specs.declared.job_word.JobWord.{JobWord}
@@ -22,9 +24,7 @@ pub data Stated : Type 0 where
   App : (name : List ℕ) → (fork : List ℕ) → (script : List ℕ) → Stated
   File : (owner : List ℕ) → (name : List ℕ) → (path : List ℕ) → Stated
   Launch : (app : List ℕ) → Stated
-  Step : (app : List ℕ) → Stated
-  Turn : (app : List ℕ) → Stated
-  Quit : (app : List ℕ) → Stated
+  Acts : (app : List ℕ) → (act : Act) → Stated
   Rest : Stated
 
 -- The spelling of the word with which a line of a job begins.
@@ -62,9 +62,9 @@ stated word.System (Raw path ∷ []) = Ok (System path)
 stated word.App (Letters name ∷ Raw fork ∷ Raw script ∷ []) = Ok (App name fork script)
 stated word.File (Letters owner ∷ Raw name ∷ Raw path ∷ []) = Ok (File owner name path)
 stated word.Launch (Letters app ∷ []) = Ok (Launch app)
-stated word.Step (Letters app ∷ []) = Ok (Step app)
-stated word.Turn (Letters app ∷ []) = Ok (Turn app)
-stated word.Quit (Letters app ∷ []) = Ok (Quit app)
+stated word.Step (Letters app ∷ []) = Ok (Acts app act.Step)
+stated word.Turn (Letters app ∷ []) = Ok (Acts app act.Turn)
+stated word.Quit (Letters app ∷ []) = Ok (Acts app act.Quit)
 stated word.Rest [] = Ok Rest
 stated _ _ = Err BadArgument
 
@@ -95,7 +95,5 @@ line_seen (line.System path) = System path.now
 line_seen (line.App name fork script) = App name.0.items fork.now script.now
 line_seen (line.File owner name path) = File owner.0.items name.0.items path.now
 line_seen (line.Launch app) = Launch app.0.items
-line_seen (line.Step app) = Step app.0.items
-line_seen (line.Turn app) = Turn app.0.items
-line_seen (line.Quit app) = Quit app.0.items
+line_seen (line.Act app act) = Acts app.0.items act
 line_seen line.Rest = Rest

@@ -40,17 +40,24 @@ pub enum Input<'t> {
     },
 }
 
+/// What an application does, or is made to do.
+#[derive(Clone, Copy, Debug, PartialEq, Eq)]
+pub enum Act {
+    /// The application takes its next step; if it has no call left, it quits.
+    Step,
+    /// The application takes steps up to and including the next `WaitNextEvent`, or to its end.
+    Turn,
+    /// The application is asked to quit.
+    Quit,
+}
+
 /// An event of a job; an application is given by its number.
 #[derive(Clone, Copy, Debug, PartialEq, Eq)]
 pub enum Event {
     /// The application is launched.
     Launch(usize),
-    /// The application makes its next step.
-    Step(usize),
-    /// The application makes a turn: its steps up to and including its next `WaitNextEvent`.
-    Turn(usize),
-    /// The application quits.
-    Quit(usize),
+    /// The application does something, if it runs.
+    Act(usize, Act),
     /// The running applications make one turn each, in the order of their lines, again and again
     /// until none runs.
     Rest,

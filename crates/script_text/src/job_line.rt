@@ -7,6 +7,7 @@ ghost use Rattle.script_text.specs.Reading.{Gives};
 
 use crate::arguments::{first, last_path, none, one, two_paths};
 use crate::fault::FaultKind;
+use crate::job::Act;
 use crate::job_word::JobWord;
 use crate::lines::LONGEST_LINE;
 use crate::token::{first_blank, trim};
@@ -41,17 +42,10 @@ pub enum JobLine<'t> {
     Launch {
         app: Label,
     },
-    /// An application makes its next step.
-    Step {
+    /// An application does something.
+    Act {
         app: Label,
-    },
-    /// An application makes a turn.
-    Turn {
-        app: Label,
-    },
-    /// An application quits.
-    Quit {
-        app: Label,
+        act: Act,
     },
     /// The running applications make turns until none runs.
     Rest,
@@ -100,14 +94,17 @@ fn read_rest<'t>(alloc: Global, word: JobWord, rest: &'t [u8]) -> Result<JobLine
         JobWord::Launch => Ok(JobLine::Launch {
             app: one(alloc, rest)?,
         }),
-        JobWord::Step => Ok(JobLine::Step {
+        JobWord::Step => Ok(JobLine::Act {
             app: one(alloc, rest)?,
+            act: Act::Step,
         }),
-        JobWord::Turn => Ok(JobLine::Turn {
+        JobWord::Turn => Ok(JobLine::Act {
             app: one(alloc, rest)?,
+            act: Act::Turn,
         }),
-        JobWord::Quit => Ok(JobLine::Quit {
+        JobWord::Quit => Ok(JobLine::Act {
             app: one(alloc, rest)?,
+            act: Act::Quit,
         }),
         JobWord::Rest => {
             none(rest)?;

@@ -215,17 +215,9 @@ impl<'t> JobLines<'t> {
                 let app = self.find_app(&app)?;
                 self.add_event(Event::Launch(app))
             }
-            JobLine::Step { app } => {
+            JobLine::Act { app, act } => {
                 let app = self.find_app(&app)?;
-                self.add_event(Event::Step(app))
-            }
-            JobLine::Turn { app } => {
-                let app = self.find_app(&app)?;
-                self.add_event(Event::Turn(app))
-            }
-            JobLine::Quit { app } => {
-                let app = self.find_app(&app)?;
-                self.add_event(Event::Quit(app))
+                self.add_event(Event::Act(app, act))
             }
             JobLine::Rest => self.add_event(Event::Rest),
         }

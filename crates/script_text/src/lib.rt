@@ -24,7 +24,7 @@ mod word;
 pub use argument::{Argument, GREATEST_SIZE, is_label, number_in, path_in};
 pub use desk_log::{APP_ROOM, write_app_end, write_app_fork, write_app_launch, write_app_refusal};
 pub use fault::{FaultKind, ScriptFault};
-pub use job::{Event, Input, JobText, read_job};
+pub use job::{Act, Event, Input, JobText, read_job};
 pub use job_line::{JobLine, read_job_line};
 pub use job_lines::{JobLines, Misfit, Refusal};
 pub use job_word::{JOB_WORDS, JobWord};
