@@ -62,13 +62,13 @@ fn is_in_none(bytes: &[u8]) -> bool
     }
 }
 
-/// Returns whether a file is encoded: its bytes are in no wrapper, they are no resource fork, and
+/// Returns whether a file is encoded: its bytes are no resource fork, they are in no wrapper, and
 /// they are those of a BinHex file.
 #[tactic(auto, unfolding(crate::specs::Opening::is_encoded))]
 pub(crate) fn is_encoded_file(bytes: &[u8]) -> bool
     ensures { result ≡ is_encoded bytes.now }
 {
-    is_in_none(bytes) && !is_resource_fork(bytes) && is_bin_hex(bytes)
+    !is_resource_fork(bytes) && is_in_none(bytes) && is_bin_hex(bytes)
 }
 
 /// Opens an encoded file.
