@@ -1,15 +1,8 @@
 use Rattle.heap_calls.proofs.Cited.{◌≡◌, ℕ, ◌-◌, true, false, length, take, replicate, refl, ◌∙◌, ap, arith, length-append, length-take}
 use Rattle.heap_calls.proofs.Cited.{length-replicate, padded, Block, Free, Nonrelocatable, Masters, Relocatable, size, is_nonrelocatable}
-use Rattle.heap_calls.proofs.Cited.{is_mover, resized}
+use Rattle.heap_calls.proofs.Cited.{resized}
 
 -- The size of a pointer's block.
-
--- a nonrelocatable block stands where it is
-pub stands : (place : ℕ) (b : Block) → is_nonrelocatable place b ≡ true → is_mover b ≡ false
-stands place (Free n) e = refl
-stands place (Nonrelocatable id content) e = refl
-stands place Masters e = refl
-stands place (Relocatable id flags content) e = let f : false ≡ true = e in cc
 
 -- what it takes at n bytes
 pub nonrelocatable-size : (place n : ℕ) (b : Block) → is_nonrelocatable place b ≡ true → size (resized n b) ≡ padded n

@@ -2,7 +2,7 @@ use Rattle.heap_calls.proofs.Cited.{◌≡◌, false, sym, ◌∙◌, ap, subst,
 use Rattle.heap_calls.proofs.Cited.{told_along}
 use Rattle.heap_calls.proofs.Going.{went-as, went-nowhere, sized-large}
 use Rattle.heap_calls.proofs.Hearing.{hears-as, hears-none}
-use Rattle.heap_calls.proofs.Sizes.PointerSizes.{stands}
+use Rattle.heap_calls.proofs.Rows.Found.{pointer-still}
 use Rattle.heap_calls.proofs.Sizes.Resizing.{IsSized, pointer-sized, lowest, cut-went, cut-told, cut-nonrelocatable, grows, still, stays-is}
 use Rattle.heap_calls.proofs.pointer_sizing.fit_nonrelocatable.Given.{Over}
 use Rattle.heap_calls.proofs.pointer_sizing.fit_nonrelocatable.Goals.{After-bytes_at}
@@ -52,7 +52,7 @@ returns-then-bytes-bytes_at-clause-hears g c =
 -- It grows where it stands.
 
 immovable : (g : Over) (c : After-bytes_at g) → is_mover (sized g c).s.here ≡ false
-immovable g c = stands c.args.place (sized g c).s.here (spot-passes (is_nonrelocatable c.args.place)
+immovable g c = pointer-still c.args.place (sized g c).s.here (spot-passes (is_nonrelocatable c.args.place)
     (g.S.BlockStore.zone c.args.store.now) (sized g c).s (sized g c).found)
 
 pub grow_in_place-requires-clause-still : goal.grow_in_place-requires-clause-still
