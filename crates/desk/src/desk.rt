@@ -16,7 +16,7 @@ ghost use Rattle.fork_format.specs.Content.{Group as GroupValue};
 ghost use Rattle.fork_format.specs.Canonical.{has_refs, are_distinct};
 ghost use Rattle.fork_format.specs.View.{view};
 ghost use Rattle.partitions.specs.Grant.{grant};
-ghost use Rattle.desk.specs.declared.act.Act.TheVariants.{Step, Turn, Quit};
+ghost use Rattle.script_text.specs.declared.job.Act.TheVariants.{Step, Turn, Quit};
 ghost use Rattle.res_calls.specs.Given.{IsReply};
 ghost use Rattle.script_text.specs.declared.desk_log.TheConstants.{APP_ROOM};
 ghost use Rattle.desk.specs.Desk.{launched_at, reply_at, acted_at, any_runs, longest, told};

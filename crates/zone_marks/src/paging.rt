@@ -14,7 +14,7 @@ pub const LANDMARKS: usize = 8192;
 const GROUPS: usize = LANDMARKS / GROUP;
 
 /// The least size of a page in bytes.
-pub const LEAST_PAGE: u32 = 256;
+pub const LEAST_PAGE: u32 = 1024;
 
 /// Returns the size of a page in bytes. A zone has no more pages than landmarks.
 pub fn page_bytes(sound: &SoundPart) -> u32
