@@ -8,6 +8,7 @@ use Rattle.mac_words.specs.declared.call.ControlCall.{ControlCall}
 use Rattle.mac_words.specs.declared.call.ControlCall.TheVariants as control
 use Rattle.mac_words.specs.declared.call.HeapCall.{HeapCall}
 use Rattle.mac_words.specs.declared.call.HeapCall.TheVariants as heap
+use Rattle.mac_words.specs.declared.call.Replacement.{Replacement as New}
 use Rattle.mac_words.specs.declared.call.Replacement.TheVariants as replacement
 use Rattle.mac_words.specs.declared.resource_call.ResourceCall.{ResourceCall}
 use Rattle.mac_words.specs.declared.resource_call.ResourceCall.TheVariants as resource
@@ -19,7 +20,7 @@ use Rattle.heap_calls.specs.State.{Memory, fresh_memory}
 use Rattle.mac_words.specs.Told.{Told, Done, Given, Fetched, Number, Numbers, Offset, Code, Bytes, Kind, Info, Entry, Refused}
 use Rattle.heap_calls.specs.Asked.{Asked}
 use Rattle.heap_calls.specs.Asked as asks
-use Rattle.heap_calls.specs.Munging.{target_of}
+use Rattle.heap_calls.specs.Munging.{Target, target_of}
 use Rattle.heap_calls.specs.Table.{served, gone_in}
 use Rattle.heap_calls.specs.Gone.{Gone}
 use Rattle.fork_format.specs.Content.{Content}
@@ -106,6 +107,11 @@ program_of r = record { managers = managers_of r; table = r.table }
 abbrev pub Blocks : Type 0
 Blocks = List (List ℕ × List Line)
 
+-- `Munger` with what it puts there: bytes, or NIL.
+abbrev pub replacing : Option ℕ → ℕ → Target → New → Asked
+replacing handle from old (replacement.Bytes new) = asks.Munger handle from old new.items
+replacing handle from old replacement.Nil = asks.MungerNil handle from old
+
 -- A call of the heap's table, with the numbers that its names are bound to.
 abbrev pub asked : HeapCall → Bindings → Asked
 asked (heap.NewHandle name size) names = asks.NewHandle (asks.Zeros size)
@@ -130,10 +136,8 @@ asked (heap.PtrToHand name bytes) names = asks.NewHandle (asks.CopyOf bytes.item
 asked (heap.HandAndHand from to) names = asks.HandAndHand (bound_to from.0.items names) (bound_to to.value.0.items names)
 asked (heap.PtrAndHand name bytes) names = asks.PtrAndHand (bound_to name.0.items names) bytes.items
 asked (heap.PtrToXHand name bytes) names = asks.PtrToXHand (bound_to name.0.items names) bytes.items
-asked (heap.Munger name from old (replacement.Bytes new)) names =
-    asks.Munger (bound_to name.0.items names) from (target_of old) new.items
-asked (heap.Munger name from old replacement.Nil) names =
-    asks.MungerNil (bound_to name.0.items names) from (target_of old)
+asked (heap.Munger name from old new) names =
+    replacing (bound_to name.0.items names) from (target_of old.value) new.value
 asked (heap.NewPtr name size) names = asks.NewPtr size
 asked (heap.DisposePtr name) names = asks.DisposePtr (bound_to name.0.items names)
 asked (heap.GetPtrSize name) names = asks.GetPtrSize (bound_to name.0.items names)

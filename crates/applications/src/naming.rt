@@ -61,8 +61,9 @@ pub fn named(call: &HeapCall, names: &Names) -> Arguments
         HeapCall::HandToHand(_, from) => only(names.number(from)),
         HeapCall::PtrAndHand(name, _) => only(names.number(name)),
         HeapCall::PtrToXHand(name, _) => only(names.number(name)),
-        HeapCall::Munger(name, _, _, Replacement::Bytes(_)) => only(names.number(name)),
-        HeapCall::Munger(name, _, _, Replacement::Nil) => only(names.number(name)),
+        HeapCall::Munger(name, _, _, new) => match &**new {
+            Replacement::Bytes(_) | Replacement::Nil => only(names.number(name)),
+        },
         HeapCall::DisposePtr(name) => only(names.number(name)),
         HeapCall::GetPtrSize(name) => only(names.number(name)),
         HeapCall::PtrZone(name) => only(names.number(name)),

@@ -153,12 +153,10 @@ fn answered<S: BlockStore, K: PurgeSink>(
         HeapCall::HandAndHand(..) => completed(heap.hand_and_hand(first, second, sink)),
         HeapCall::PtrAndHand(_, bytes) => completed(heap.pointer_and_hand(first, bytes, sink)),
         HeapCall::PtrToXHand(_, bytes) => completed(heap.pointer_to_x_hand(first, bytes, sink)),
-        HeapCall::Munger(_, from, old, Replacement::Bytes(new)) => replaced(heap.munger(
-            first, *from, old, new, sink,
-        )),
-        HeapCall::Munger(_, from, old, Replacement::Nil) => offset(heap.munger_nil(
-            first, *from, old,
-        )),
+        HeapCall::Munger(_, from, old, new) => match &**new {
+            Replacement::Bytes(new) => replaced(heap.munger(first, *from, old, new, sink)),
+            Replacement::Nil => offset(heap.munger_nil(first, *from, old)),
+        },
         HeapCall::NewPtr(_, size) => given(heap.new_pointer(*size, sink)),
         HeapCall::DisposePtr(_) => done(heap.dispose_pointer(first)),
         HeapCall::GetPtrSize(_) => number(heap.get_pointer_size(first)),

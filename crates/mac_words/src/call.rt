@@ -73,7 +73,7 @@ pub enum HeapCall {
     PtrToXHand(Label, Vec<u8>),
     /// Searches a handle's block for bytes, from an offset on, and replaces them; returns the offset
     /// after the new bytes, or where the bytes were found if nothing is to replace them, or -1.
-    Munger(Label, u32, Target, Replacement),
+    Munger(Label, u32, Box<Target>, Box<Replacement>),
     /// Binds the name to a pointer to a new nonrelocatable block with the given number of bytes 0.
     NewPtr(Label, u32),
     /// Disposes of a nonrelocatable block.

@@ -162,7 +162,7 @@ heap_spoken (heap.HandAndHand a b) = (word.HandAndHand, Letters a.0.items ∷ Le
 heap_spoken (heap.PtrAndHand h bytes) = (word.PtrAndHand, Letters h.0.items ∷ Raw bytes.items ∷ [])
 heap_spoken (heap.PtrToXHand h bytes) = (word.PtrToXHand, Letters h.0.items ∷ Raw bytes.items ∷ [])
 heap_spoken (heap.Munger h offset old new) =
-    (word.Munger, Letters h.0.items ∷ Number offset ∷ target_seen old ∷ replacement_seen new ∷ [])
+    (word.Munger, Letters h.0.items ∷ Number offset ∷ target_seen old.value ∷ replacement_seen new.value ∷ [])
 heap_spoken (heap.NewPtr p size) = (word.NewPtr, Letters p.0.items ∷ Number size ∷ [])
 heap_spoken (heap.DisposePtr p) = (word.DisposePtr, Letters p.0.items ∷ [])
 heap_spoken (heap.GetPtrSize p) = (word.GetPtrSize, Letters p.0.items ∷ [])
