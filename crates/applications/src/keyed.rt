@@ -1,29 +1,28 @@
 //! Hashing by a key.
 
-use core::hash::keyed_hasher;
-use std::hash::{BuildHasher, DefaultHasher};
+use std::hash::{BuildHasher, FoldHasher, Hasher};
 
-/// Makes hashers of a key, each of which hashes as SipHash does with that key.
+/// Makes hashers of a key: each begins with the key, and then takes what is hashed.
 #[derive(Clone, Copy)]
 pub struct Keyed {
-    initial: DefaultHasher,
+    initial: FoldHasher,
 }
 
 impl Keyed {
     /// Returns what makes the hashers of a key.
     pub fn by(key: u64) -> Keyed {
-        Keyed {
-            initial: keyed_hasher(key, key),
-        }
+        let mut initial = FoldHasher::default();
+        initial.write_u64(key);
+        Keyed { initial }
     }
 }
 
 impl BuildHasher for Keyed {
-    type Hasher = DefaultHasher;
+    type Hasher = FoldHasher;
 
     ghost build_hasher = { λ k. k.initial };
 
-    fn build_hasher(&self) -> DefaultHasher {
+    fn build_hasher(&self) -> FoldHasher {
         self.initial
     }
 }
