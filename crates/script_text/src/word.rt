@@ -1,10 +1,13 @@
 //! The words of the calls.
 
-ghost use Rattle.std.specs.Prelude.{◌≡◌, [], ◌∷◌, true, Some, IfOk, IfSome, bytes_eq};
+ghost use Rattle.std.specs.Prelude.{◌≡◌, List, [], ◌∷◌, true, Some, IfOk, IfSome, bytes_eq};
+ghost use Rattle.script_text.specs.Argument.{Value};
 ghost use Rattle.script_text.specs.Call.{spelling, kinds, meant, spoken, word_of, may_stand};
-ghost use Rattle.script_text.specs.Call.{word_spelled, call_read};
+ghost use Rattle.script_text.specs.Call.{heap_spoken, resource_spoken, segment_spoken};
+ghost use Rattle.script_text.specs.Call.{control_spoken, word_spelled, call_read};
 ghost use Rattle.script_text.specs.Reading.{Gives};
 ghost use Rattle.script_text.specs.declared.word.CallWord as declared;
+ghost use Rattle.script_text.specs.declared.word.CallWord.{CallWord as Word};
 
 use crate::argument::Argument;
 use crate::arguments::{five, four, none, one, three, two};
@@ -383,23 +386,23 @@ macro_rules! own_word {
 }
 
 macro_rules! arm {
-    ($given:expr, $alloc:expr, $text:expr; $word:ident $group:ident $calls:ident none()) => {
-        $given.of_none($text, || Call::$group($calls::$word))
+    ($given:expr, $alloc:expr, $text:expr; $word:ident $calls:ident none()) => {
+        $given.of_none($text, $calls::$word)
     };
-    ($given:expr, $alloc:expr, $text:expr; $word:ident $group:ident $calls:ident one($a:ident)) => {
-        $given.of_one($alloc, $text, |a| Call::$group($calls::$word(a)))
+    ($given:expr, $alloc:expr, $text:expr; $word:ident $calls:ident one $names:tt) => {
+        $given.of_one($alloc, $text, $calls::$word)
     };
-    ($given:expr, $alloc:expr, $text:expr; $word:ident $group:ident $calls:ident two($a:ident, $b:ident)) => {
-        $given.of_two($alloc, $text, |a, b| Call::$group($calls::$word(a, b)))
+    ($given:expr, $alloc:expr, $text:expr; $word:ident $calls:ident two $names:tt) => {
+        $given.of_two($alloc, $text, $calls::$word)
     };
-    ($given:expr, $alloc:expr, $text:expr; $word:ident $group:ident $calls:ident three($a:ident, $b:ident, $c:ident)) => {
-        $given.of_three($alloc, $text, |a, b, c| Call::$group($calls::$word(a, b, c)))
+    ($given:expr, $alloc:expr, $text:expr; $word:ident $calls:ident three $names:tt) => {
+        $given.of_three($alloc, $text, $calls::$word)
     };
-    ($given:expr, $alloc:expr, $text:expr; $word:ident $group:ident $calls:ident four($a:ident, $b:ident, $c:ident, $d:ident)) => {
-        $given.of_four($alloc, $text, |a, b, c, d| Call::$group($calls::$word(a, b, c, d)))
+    ($given:expr, $alloc:expr, $text:expr; $word:ident $calls:ident four $names:tt) => {
+        $given.of_four($alloc, $text, $calls::$word)
     };
-    ($given:expr, $alloc:expr, $text:expr; $word:ident $group:ident $calls:ident five($a:ident, $b:ident, $c:ident, $d:ident, $e:ident)) => {
-        $given.of_five($alloc, $text, |a, b, c, d, e| Call::$group($calls::$word(a, b, c, d, e)))
+    ($given:expr, $alloc:expr, $text:expr; $word:ident $calls:ident five $names:tt) => {
+        $given.of_five($alloc, $text, $calls::$word)
     };
 }
 
@@ -413,8 +416,8 @@ macro_rules! read_of {
         [$($held:ident)*]
     ) => {
         match $given {
-            $($(CallWord::$word => arm!($given, $alloc, $text; $word $group $calls $read $names),)*)*
-            $(CallWord::$other => arm!($given, $alloc, $text; $own $table $kind $by $named),)*
+            $($(CallWord::$word => arm!($given, $alloc, $text; $word $calls $read $names),)*)*
+            $(CallWord::$other => arm!($given, $alloc, $text; $own $kind $by $named),)*
         }
     };
 }
@@ -513,6 +516,47 @@ fn any_word(token: &[u8]) -> Option<CallWord>
     WORDS.iter().copied().find(|word| word.text() == token)
 }
 
+/// A call of one part of the toolbox.
+trait Spoken: Sized {
+    ghost said: { Self → Word × List Value };
+
+    /// Returns the call, as one of all calls.
+    fn into_call(self) -> Call
+        ensures { spoken result ≡ said self };
+}
+
+impl Spoken for HeapCall {
+    ghost said = { heap_spoken };
+
+    fn into_call(self) -> Call {
+        Call::Heap(self)
+    }
+}
+
+impl Spoken for ResourceCall {
+    ghost said = { resource_spoken };
+
+    fn into_call(self) -> Call {
+        Call::Resource(self)
+    }
+}
+
+impl Spoken for SegmentCall {
+    ghost said = { segment_spoken };
+
+    fn into_call(self) -> Call {
+        Call::Segment(self)
+    }
+}
+
+impl Spoken for ControlCall {
+    ghost said = { control_spoken };
+
+    fn into_call(self) -> Call {
+        Call::Control(self)
+    }
+}
+
 impl CallWord {
     /// Returns the word of a call.
     pub fn of(call: &Call) -> CallWord
@@ -521,11 +565,17 @@ impl CallWord {
         calls!(word_of_call call)
     }
 
+    fn name(self) -> &'static str
+        ensures { result.now ≡ spelling self }
+    {
+        calls!(spelling_of self)
+    }
+
     /// Returns the spelling of the word.
     pub fn text(self) -> &'static [u8]
         ensures { result.now ≡ spelling self }
     {
-        calls!(spelling_of self).as_bytes()
+        self.name().as_bytes()
     }
 
     /// Returns the call's own word, where the word is another name of a call.
@@ -555,20 +605,19 @@ impl CallWord {
 
     /// Makes the call of a word that takes no argument. The text must then be blank.
     #[tactic(auto, using(crate::proofs::Allowed::spoken_stands))]
-    fn of_none<F: FnOnce() -> Call>(self, text: &[u8], make: F) -> Result<Call, FaultKind>
-        requires callable { F.IsAlwaysCallable make }
+    fn of_none<T: Spoken + Drop>(self, text: &[u8], call: T) -> Result<Call, FaultKind>
         requires kinds { kinds self ≡ [] }
-        requires made { (call : Call) → F.post make call → spoken call ≡ (meant self, []) }
+        requires made { T.said call ≡ (meant self, []) }
         ensures call { Gives spoken result (call_read self text.now) }
         ensures word { IfOk result (λ call. may_stand (word_of call) ≡ may_stand self) }
     {
         none(text)?;
-        Ok(make())
+        Ok(call.into_call())
     }
 
     /// Reads the one argument of a word from a text and makes the call.
     #[tactic(auto, using(crate::proofs::Allowed::spoken_stands))]
-    fn of_one<A: Argument + Drop, F: FnOnce(A) -> Call>(
+    fn of_one<A: Argument + Drop, T: Spoken, F: FnOnce(A) -> T>(
         self,
         alloc: Global,
         text: &[u8],
@@ -576,18 +625,18 @@ impl CallWord {
     ) -> Result<Call, FaultKind>
         requires callable { F.IsAlwaysCallable make }
         requires kinds { kinds self ≡ A.kind ∷ [] }
-        requires made { (a : A) → (call : Call) → F.post make a call
-            → spoken call ≡ (meant self, A.seen a ∷ []) }
+        requires made { (a : A) → (call : T) → F.post make a call
+            → T.said call ≡ (meant self, A.seen a ∷ []) }
         ensures call { Gives spoken result (call_read self text.now) }
         ensures word { IfOk result (λ call. may_stand (word_of call) ≡ may_stand self) }
     {
         let a = one(alloc, text)?;
-        Ok(make(a))
+        Ok(make(a).into_call())
     }
 
     /// Reads the two arguments of a word from a text and makes the call.
     #[tactic(auto, using(crate::proofs::Allowed::spoken_stands))]
-    fn of_two<A: Argument + Drop, B: Argument + Drop, F: FnOnce(A, B) -> Call>(
+    fn of_two<A: Argument + Drop, B: Argument + Drop, T: Spoken, F: FnOnce(A, B) -> T>(
         self,
         alloc: Global,
         text: &[u8],
@@ -595,13 +644,13 @@ impl CallWord {
     ) -> Result<Call, FaultKind>
         requires callable { F.IsAlwaysCallable make }
         requires kinds { kinds self ≡ A.kind ∷ B.kind ∷ [] }
-        requires made { (a : A) → (b : B) → (call : Call) → F.post make a b call
-            → spoken call ≡ (meant self, A.seen a ∷ B.seen b ∷ []) }
+        requires made { (a : A) → (b : B) → (call : T) → F.post make a b call
+            → T.said call ≡ (meant self, A.seen a ∷ B.seen b ∷ []) }
         ensures call { Gives spoken result (call_read self text.now) }
         ensures word { IfOk result (λ call. may_stand (word_of call) ≡ may_stand self) }
     {
         let (a, b) = two(alloc, text)?;
-        Ok(make(a, b))
+        Ok(make(a, b).into_call())
     }
 
     /// Reads the three arguments of a word from a text and makes the call.
@@ -610,17 +659,18 @@ impl CallWord {
         A: Argument + Drop,
         B: Argument + Drop,
         C: Argument + Drop,
-        F: FnOnce(A, B, C) -> Call,
+        T: Spoken,
+        F: FnOnce(A, B, C) -> T,
     >(self, alloc: Global, text: &[u8], make: F) -> Result<Call, FaultKind>
         requires callable { F.IsAlwaysCallable make }
         requires kinds { kinds self ≡ A.kind ∷ B.kind ∷ C.kind ∷ [] }
-        requires made { (a : A) → (b : B) → (c : C) → (call : Call) → F.post make a b c call
-            → spoken call ≡ (meant self, A.seen a ∷ B.seen b ∷ C.seen c ∷ []) }
+        requires made { (a : A) → (b : B) → (c : C) → (call : T) → F.post make a b c call
+            → T.said call ≡ (meant self, A.seen a ∷ B.seen b ∷ C.seen c ∷ []) }
         ensures call { Gives spoken result (call_read self text.now) }
         ensures word { IfOk result (λ call. may_stand (word_of call) ≡ may_stand self) }
     {
         let (a, b, c) = three(alloc, text)?;
-        Ok(make(a, b, c))
+        Ok(make(a, b, c).into_call())
     }
 
     /// Reads the four arguments of a word from a text and makes the call.
@@ -630,40 +680,40 @@ impl CallWord {
         B: Argument + Drop,
         C: Argument + Drop,
         D: Argument + Drop,
-        F: FnOnce(A, B, C, D) -> Call,
+        T: Spoken,
+        F: FnOnce(A, B, C, D) -> T,
     >(self, alloc: Global, text: &[u8], make: F) -> Result<Call, FaultKind>
         requires callable { F.IsAlwaysCallable make }
         requires kinds { kinds self ≡ A.kind ∷ B.kind ∷ C.kind ∷ D.kind ∷ [] }
-        requires made { (a : A) → (b : B) → (c : C) → (d : D)
-            → (call : Call) → F.post make a b c d call
-            → spoken call ≡ (meant self, A.seen a ∷ B.seen b ∷ C.seen c ∷ D.seen d ∷ []) }
+        requires made { (a : A) → (b : B) → (c : C) → (d : D) → (call : T) → F.post make a b c d call
+            → T.said call ≡ (meant self, A.seen a ∷ B.seen b ∷ C.seen c ∷ D.seen d ∷ []) }
         ensures call { Gives spoken result (call_read self text.now) }
         ensures word { IfOk result (λ call. may_stand (word_of call) ≡ may_stand self) }
     {
         let (a, b, c, d) = four(alloc, text)?;
-        Ok(make(a, b, c, d))
+        Ok(make(a, b, c, d).into_call())
     }
 
     /// Reads the five arguments of a word from a text and makes the call.
-    #[tactic(auto, using(crate::proofs::Allowed::meant_stands))]
+    #[tactic(auto, using(crate::proofs::Allowed::spoken_stands))]
     fn of_five<
         A: Argument + Drop,
         B: Argument + Drop,
         C: Argument + Drop,
         D: Argument + Drop,
         E: Argument + Drop,
-        F: FnOnce(A, B, C, D, E) -> Call,
+        T: Spoken,
+        F: FnOnce(A, B, C, D, E) -> T,
     >(self, alloc: Global, text: &[u8], make: F) -> Result<Call, FaultKind>
         requires callable { F.IsAlwaysCallable make }
         requires kinds { kinds self ≡ A.kind ∷ B.kind ∷ C.kind ∷ D.kind ∷ E.kind ∷ [] }
-        requires made { (a : A) → (b : B) → (c : C) → (d : D) → (e : E)
-            → (call : Call) → F.post make a b c d e call → spoken call
-            ≡ (meant self, A.seen a ∷ B.seen b ∷ C.seen c ∷ D.seen d ∷ E.seen e ∷ []) }
+        requires made { (a : A) → (b : B) → (c : C) → (d : D) → (e : E) → (call : T) → F.post make a b c d e call
+            → T.said call ≡ (meant self, A.seen a ∷ B.seen b ∷ C.seen c ∷ D.seen d ∷ E.seen e ∷ []) }
         ensures call { Gives spoken result (call_read self text.now) }
         ensures word { IfOk result (λ call. may_stand (word_of call) ≡ may_stand self) }
     {
         let (a, b, c, d, e) = five(alloc, text)?;
-        Ok(make(a, b, c, d, e))
+        Ok(make(a, b, c, d, e).into_call())
     }
 
     /// Reads the arguments of a word from a text and makes the call.
