@@ -7,7 +7,7 @@ use crate::nearest::{nearest_call, nearest_word};
 use crate::role::Role;
 use crate::shown::{Bare, Quoted};
 use crate::wrong::{Fault, Wrong};
-use std::fmt;
+use std::fmt::{self, Display};
 
 /// Reports whether a word begins a comment in another notation.
 fn begins_comment(word: &[u8]) -> bool {
@@ -39,7 +39,38 @@ fn has_wide_blank(word: &[u8]) -> bool {
     false
 }
 
-/// Writes that a first word is no call, or no word of a job.
+/// Writes a word between two texts.
+fn write_word<W: fmt::Write>(
+    f: &mut fmt::Formatter<W>,
+    before: &str,
+    word: &[u8],
+    after: &str,
+) -> fmt::Result {
+    f.write_str(before)?;
+    Bare(word).fmt(f)?;
+    f.write_str(after)
+}
+
+/// Writes a word in quotation marks between two texts.
+fn write_quoted<W: fmt::Write>(
+    f: &mut fmt::Formatter<W>,
+    before: &str,
+    word: &[u8],
+    after: &str,
+) -> fmt::Result {
+    f.write_str(before)?;
+    Quoted(word).fmt(f)?;
+    f.write_str(after)
+}
+
+/// Writes how a line stands that is right.
+fn write_as_in<W: fmt::Write>(f: &mut fmt::Formatter<W>, form: Form) -> fmt::Result {
+    f.write_str(", as in '")?;
+    form.fmt(f)?;
+    f.write_str("'")
+}
+
+/// Writes that a first word is of no kind that there is: no call, or no word of a job.
 fn write_unknown<W: fmt::Write>(
     f: &mut fmt::Formatter<W>,
     word: &[u8],
@@ -48,14 +79,10 @@ fn write_unknown<W: fmt::Write>(
 ) -> fmt::Result {
     match word {
         [0xEF, 0xBB, 0xBF, word @ ..] => {
-            write!(
-                f,
-                "unknown {kind} {}: a byte-order mark stands before it",
-                Bare(word)
-            )
+            write_word(f, kind, word, ": a byte-order mark stands before it")
         }
         _ => {
-            write!(f, "unknown {kind} {}", Bare(word))?;
+            write_word(f, kind, word, "")?;
             write_meant(f, word, near)
         }
     }
@@ -65,8 +92,11 @@ fn write_unknown<W: fmt::Write>(
 /// Macintosh.
 fn write_unknown_call<W: fmt::Write>(f: &mut fmt::Formatter<W>, word: &[u8]) -> fmt::Result {
     match instead_of(word) {
-        Some(instead) => write!(f, "{} is not here: {instead}", Bare(word)),
-        None => write_unknown(f, word, "call", nearest_call(word)),
+        Some(instead) => {
+            write_word(f, "", word, " is not here: ")?;
+            f.write_str(instead)
+        }
+        None => write_unknown(f, word, "unknown call ", nearest_call(word)),
     }
 }
 
@@ -98,9 +128,31 @@ fn write_meant<W: fmt::Write>(
         f.write_str(": a blank is a space or a tab, and here stands a no-break space")
     } else {
         match near {
-            Some(near) => write!(f, ": did you mean {}?", Bare(near)),
+            Some(near) => write_word(f, ": did you mean ", near, "?"),
             None => Ok(()),
         }
+    }
+}
+
+/// Writes what stands in an argument's place, and what should.
+fn write_found<W: fmt::Write>(
+    f: &mut fmt::Formatter<W>,
+    form: Form,
+    role: Role,
+    found: &[u8],
+) -> fmt::Result {
+    f.write_str(": expected ")?;
+    f.write_str(role.description())?;
+    write_quoted(f, ", found ", found, "")?;
+    if found.contains(&b'\r') {
+        return f.write_str("; a line ends with LF, and here stands a carriage return");
+    }
+    match hint_of(role, found) {
+        Some(hint) => {
+            f.write_str("; ")?;
+            hint.fmt(f)
+        }
+        None => write_as_in(f, form),
     }
 }
 
@@ -112,54 +164,46 @@ fn write_argument<W: fmt::Write>(
     role: Role,
     found: &[u8],
 ) -> fmt::Result {
-    write!(f, "argument {number} of {}", Bare(form.word))?;
+    f.write_str("argument ")?;
+    number.fmt(f)?;
+    write_word(f, " of ", form.word, "")?;
     if found.is_empty() {
-        return write!(
-            f,
-            " is missing: expected {}, as in '{form}'",
-            role.description()
-        );
+        f.write_str(" is missing: expected ")?;
+        f.write_str(role.description())?;
+        write_as_in(f, form)
+    } else {
+        write_found(f, form, role, found)
     }
-    write!(
-        f,
-        ": expected {}, found {}",
-        role.description(),
-        Quoted(found)
-    )?;
-    if found.contains(&b'\r') {
-        return f.write_str("; a line ends with LF, and here stands a carriage return");
-    }
-    match hint_of(role, found) {
-        Some(hint) => write!(f, "; {hint}"),
-        None => write!(f, ", as in '{form}'"),
+}
+
+/// Writes how many arguments a call has, and what stands after them.
+fn write_after<W: fmt::Write>(f: &mut fmt::Formatter<W>, form: Form, found: &[u8]) -> fmt::Result {
+    write_word(f, "", form.word, " has ")?;
+    match form.roles {
+        [] => write_quoted(f, "no argument, found ", found, " after it"),
+        [_] => write_quoted(f, "one argument, found ", found, " after it"),
+        roles => {
+            roles.len().fmt(f)?;
+            write_quoted(f, " arguments, found ", found, " after them")
+        }
     }
 }
 
 /// Writes that more follows the last argument.
 fn write_extra<W: fmt::Write>(f: &mut fmt::Formatter<W>, form: Form, found: &[u8]) -> fmt::Result {
-    write!(f, "{} has ", Bare(form.word))?;
-    match form.roles {
-        [] => write!(f, "no argument, found {} after it", Quoted(found))?,
-        [_] => write!(f, "one argument, found {} after it", Quoted(found))?,
-        roles => write!(
-            f,
-            "{} arguments, found {} after them",
-            roles.len(),
-            Quoted(found)
-        )?,
-    }
+    write_after(f, form, found)?;
     if begins_comment(found) {
         f.write_str("; a comment stands in a line of its own, and begins with #")
     } else if is_arrow(found) {
         f.write_str("; a call binds a name that is one of its arguments")
     } else {
-        write!(f, ", as in '{form}'")
+        write_as_in(f, form)
     }
 }
 
 /// Writes that a call may not stand in a grow-zone script.
 fn write_not_allowed<W: fmt::Write>(f: &mut fmt::Formatter<W>, word: &[u8]) -> fmt::Result {
-    write!(f, "'{}' inside a grow-zone script", Bare(word))?;
+    write_word(f, "'", word, "' inside a grow-zone script")?;
     if word == b"grow".as_slice() {
         return f.write_str(": an 'end' must stand above");
     }
@@ -185,13 +229,13 @@ fn write_script<W: fmt::Write>(f: &mut fmt::Formatter<W>, wrong: &Wrong<'_>) -> 
         } => write_argument(f, *form, *number, *role, found),
         Wrong::Extra { form, found } => write_extra(f, *form, found),
         Wrong::TakenName { name } => {
-            write!(f, "a grow-zone script named {} stands above", Bare(name))
+            write_word(f, "a grow-zone script named ", name, " stands above")
         }
         Wrong::NamedNone => f.write_str(
             "a grow-zone script is not named none: 'SetGrowZone none' sets no script",
         ),
-        Wrong::NoEnd { name } => write!(f, "'grow {}' has no 'end'", Bare(name)),
-        Wrong::NoGrowZone { name } => write!(f, "no grow-zone script is named {}", Bare(name)),
+        Wrong::NoEnd { name } => write_word(f, "'grow ", name, "' has no 'end'"),
+        Wrong::NoGrowZone { name } => write_word(f, "no grow-zone script is named ", name, ""),
         _ => Ok(()),
     }
 }
@@ -199,37 +243,31 @@ fn write_script<W: fmt::Write>(f: &mut fmt::Formatter<W>, wrong: &Wrong<'_>) -> 
 /// Writes what is wrong with a line of a job as a whole.
 fn write_job<W: fmt::Write>(f: &mut fmt::Formatter<W>, wrong: &Wrong<'_>) -> fmt::Result {
     match wrong {
-        Wrong::UnknownWord { word } => write_unknown(f, word, "word", nearest_word(word)),
+        Wrong::UnknownWord { word } => write_unknown(f, word, "unknown word ", nearest_word(word)),
         Wrong::BeforeMemory { word } => {
-            write!(
+            write_word(
                 f,
-                "'{}' before 'memory': a job begins with 'memory N'",
-                Bare(word)
+                "'",
+                word,
+                "' before 'memory': a job begins with 'memory N'",
             )
         }
         Wrong::SecondMemory => f.write_str("a second 'memory'"),
         Wrong::MemorySize { size } => write_memory(f, *size),
         Wrong::SecondSystem => f.write_str("a second 'system'"),
         Wrong::AfterEvent { word } => {
-            write!(
-                f,
-                "'{}' after an event: 'system', 'app' and 'file' come before all events",
-                Bare(word)
-            )
+            let order = "' after an event: 'system', 'app' and 'file' come before all events";
+            write_word(f, "'", word, order)
         }
         Wrong::TakenApplication { name } => {
-            write!(f, "an application named {} stands above", Bare(name))
+            write_word(f, "an application named ", name, " stands above")
         }
         Wrong::ManyApplications => f.write_str("a job has at most 64 applications"),
         Wrong::NoApplication { name } => {
-            write!(f, "no application named {} stands above", Bare(name))
+            write_word(f, "no application named ", name, " stands above")
         }
         Wrong::TakenFile { name } => {
-            write!(
-                f,
-                "the application has a file named {} already",
-                Quoted(name)
-            )
+            write_quoted(f, "the application has a file named ", name, " already")
         }
         Wrong::ManyFiles => f.write_str("an application has at most 255 files besides its own"),
         Wrong::NoMemory => f.write_str("a job begins with 'memory N'"),
