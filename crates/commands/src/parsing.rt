@@ -174,7 +174,8 @@ pub fn with_ruled_words<'a>(
 ) -> Result<Command<'a>, AllocError> {
     let mut command = command;
     for (word, rules) in words {
-        command = command.arg(ruled(alloc, *word, rules)?)?;
+        let arg = ruled(alloc, *word, rules)?;
+        command = command.arg(arg)?;
     }
     Ok(command)
 }

@@ -21,7 +21,7 @@ use crate::play_words::{
 use crate::request::Request;
 use crate::size_words::{SIZE_WORD, sizes_in};
 use crate::zone_words::{heap_command, heap_request};
-use clap::{ArgMatches, Command};
+use clap::{Arg, ArgMatches, Command};
 use fork_tasks::{Spelling, Survey, ToolFault};
 use job_tasks::{Errand, PartitionSize, Playing, Task, Work};
 use script_text::CALLS;
@@ -247,14 +247,19 @@ const SCRIPT_WORDS: [Word; 7] = [
     Word::Required("SCRIPT", SCRIPT_HELP),
 ];
 
+/// Returns the flag that explains a transcript in words.
+fn in_words<'a>(alloc: Global) -> Result<Arg<'a>, AllocError> {
+    flag(alloc, WORDS, WORDS_HELP)
+        .conflicts_with(WRITE)?
+        .conflicts_with(PROGRESS)
+}
+
 fn script_command<'a>(alloc: Global) -> Result<Command<'a>, AllocError> {
     let command = Command::new(alloc, "script")
         .about(SCRIPT_ABOUT)
         .long_about(SCRIPT_LONG_ABOUT)
         .after_help(CALLS);
-    let in_words = flag(alloc, WORDS, WORDS_HELP)
-        .conflicts_with(WRITE)?
-        .conflicts_with(PROGRESS)?;
+    let in_words = in_words(alloc)?;
     with_words(alloc, command, &SCRIPT_WORDS)?.arg(in_words)
 }
 

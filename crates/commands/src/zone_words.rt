@@ -240,15 +240,25 @@ fn strips<'a>(alloc: Global) -> Result<ArgGroup<'a>, AllocError> {
     ArgGroup::new(alloc, STRIPS).arg(SVG)?.arg(TEXT)
 }
 
+/// Gives a command the words that say what is shown.
+fn with_shown<'a>(alloc: Global, command: Command<'a>) -> Result<Command<'a>, AllocError> {
+    let command = with_ruled_words(alloc, command, &FILE_WORDS)?;
+    with_ruled_words(alloc, command, &SHOWN_WORDS)
+}
+
+/// Gives a command the words that say at which moments.
+fn with_moments<'a>(alloc: Global, command: Command<'a>) -> Result<Command<'a>, AllocError> {
+    let strips = strips(alloc)?;
+    with_ruled_words(alloc, command, &MOMENT_WORDS)?.group(strips)
+}
+
 /// Returns the command that shows a zone.
 pub fn heap_command<'a>(alloc: Global) -> Result<Command<'a>, AllocError> {
     let command = Command::new(alloc, "heap")
         .about(HEAP_ABOUT)
         .after_help(HEAP_EXAMPLES)
         .override_usage(HEAP_USAGE);
-    let command = with_ruled_words(alloc, command, &FILE_WORDS)?;
-    let command = with_ruled_words(alloc, command, &SHOWN_WORDS)?;
-    let command = with_ruled_words(alloc, command, &MOMENT_WORDS)?.group(strips(alloc)?)?;
+    let command = with_moments(alloc, with_shown(alloc, command)?)?;
     with_ruled_words(alloc, command, &OWNER_WORDS)
 }
 
