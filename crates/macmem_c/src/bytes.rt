@@ -24,7 +24,8 @@ pub extern "C" fn macmem_put(
 {
     let mut boxed = zone.take(alloc);
     let inside: &mut Zone = &mut boxed;
-    let done = inside.heap.put(Some(handle), from, bytes);
+    let heap = &mut inside.heap;
+    let done = heap.put(Some(handle), from, bytes);
     *zone = Kept::of(boxed);
     code_of(done)
 }
@@ -63,7 +64,8 @@ pub extern "C" fn macmem_put_ptr(
 {
     let mut boxed = zone.take(alloc);
     let inside: &mut Zone = &mut boxed;
-    let done = inside.heap.put_pointer(Some(pointer), from, bytes);
+    let heap = &mut inside.heap;
+    let done = heap.put_pointer(Some(pointer), from, bytes);
     *zone = Kept::of(boxed);
     code_of(done)
 }

@@ -32,7 +32,8 @@ pub extern "C" fn macmem_new_handle(
 {
     let mut boxed = zone.take(alloc);
     let inside: &mut Zone = &mut boxed;
-    let made = inside.heap.new_handle(size, &mut NoSink);
+    let heap = &mut inside.heap;
+    let made = heap.new_handle(size, &mut NoSink);
     *zone = Kept::of(boxed);
     number_in(made, handle)
 }
@@ -50,7 +51,8 @@ pub extern "C" fn macmem_new_empty_handle(alloc: Global, zone: &mut Kept, handle
 {
     let mut boxed = zone.take(alloc);
     let inside: &mut Zone = &mut boxed;
-    let made = inside.heap.new_empty_handle(&mut NoSink);
+    let heap = &mut inside.heap;
+    let made = heap.new_empty_handle(&mut NoSink);
     *zone = Kept::of(boxed);
     number_in(made, handle)
 }
@@ -63,7 +65,8 @@ pub extern "C" fn macmem_dispose_handle(alloc: Global, zone: &mut Kept, handle: 
 {
     let mut boxed = zone.take(alloc);
     let inside: &mut Zone = &mut boxed;
-    let done = inside.heap.dispose_handle(Some(handle));
+    let heap = &mut inside.heap;
+    let done = heap.dispose_handle(Some(handle));
     *zone = Kept::of(boxed);
     code_of(done)
 }
@@ -82,7 +85,8 @@ pub extern "C" fn macmem_get_handle_size(
 {
     let mut boxed = zone.take(alloc);
     let inside: &mut Zone = &mut boxed;
-    let told = inside.heap.get_handle_size(Some(handle));
+    let heap = &mut inside.heap;
+    let told = heap.get_handle_size(Some(handle));
     *zone = Kept::of(boxed);
     number_of(told, size)
 }
@@ -101,7 +105,8 @@ pub extern "C" fn macmem_handle_zone(
 {
     let mut boxed = zone.take(alloc);
     let inside: &mut Zone = &mut boxed;
-    let told = inside.heap.handle_zone(Some(handle));
+    let heap = &mut inside.heap;
+    let told = heap.handle_zone(Some(handle));
     *zone = Kept::of(boxed);
     number_of(told, place)
 }
@@ -121,7 +126,8 @@ pub extern "C" fn macmem_set_handle_size(
 {
     let mut boxed = zone.take(alloc);
     let inside: &mut Zone = &mut boxed;
-    let done = inside.heap.set_handle_size(Some(handle), size, &mut NoSink);
+    let heap = &mut inside.heap;
+    let done = heap.set_handle_size(Some(handle), size, &mut NoSink);
     *zone = Kept::of(boxed);
     code_in(done)
 }
@@ -141,9 +147,8 @@ pub extern "C" fn macmem_reallocate_handle(
 {
     let mut boxed = zone.take(alloc);
     let inside: &mut Zone = &mut boxed;
-    let done = inside
-        .heap
-        .reallocate_handle(Some(handle), size, &mut NoSink);
+    let heap = &mut inside.heap;
+    let done = heap.reallocate_handle(Some(handle), size, &mut NoSink);
     *zone = Kept::of(boxed);
     code_in(done)
 }
@@ -156,7 +161,8 @@ pub extern "C" fn macmem_empty_handle(alloc: Global, zone: &mut Kept, handle: us
 {
     let mut boxed = zone.take(alloc);
     let inside: &mut Zone = &mut boxed;
-    let done = inside.heap.empty_handle(Some(handle));
+    let heap = &mut inside.heap;
+    let done = heap.empty_handle(Some(handle));
     *zone = Kept::of(boxed);
     code_of(done)
 }
@@ -178,7 +184,8 @@ pub extern "C" fn macmem_hand_to_hand(
 {
     let mut boxed = zone.take(alloc);
     let inside: &mut Zone = &mut boxed;
-    let made = inside.heap.hand_to_hand(Some(handle), &mut NoSink);
+    let heap = &mut inside.heap;
+    let made = heap.hand_to_hand(Some(handle), &mut NoSink);
     *zone = Kept::of(boxed);
     number_in(made, copy)
 }
@@ -198,7 +205,8 @@ pub extern "C" fn macmem_hand_and_hand(
 {
     let mut boxed = zone.take(alloc);
     let inside: &mut Zone = &mut boxed;
-    let done = inside.heap.hand_and_hand(Some(from), Some(to), &mut NoSink);
+    let heap = &mut inside.heap;
+    let done = heap.hand_and_hand(Some(from), Some(to), &mut NoSink);
     *zone = Kept::of(boxed);
     code_in(done)
 }
@@ -221,7 +229,8 @@ pub extern "C" fn macmem_ptr_to_hand(
 {
     let mut boxed = zone.take(alloc);
     let inside: &mut Zone = &mut boxed;
-    let made = inside.heap.pointer_to_hand(bytes, &mut NoSink);
+    let heap = &mut inside.heap;
+    let made = heap.pointer_to_hand(bytes, &mut NoSink);
     *zone = Kept::of(boxed);
     number_in(made, handle)
 }
@@ -241,9 +250,8 @@ pub extern "C" fn macmem_ptr_and_hand(
 {
     let mut boxed = zone.take(alloc);
     let inside: &mut Zone = &mut boxed;
-    let done = inside
-        .heap
-        .pointer_and_hand(Some(handle), bytes, &mut NoSink);
+    let heap = &mut inside.heap;
+    let done = heap.pointer_and_hand(Some(handle), bytes, &mut NoSink);
     *zone = Kept::of(boxed);
     code_in(done)
 }

@@ -28,7 +28,8 @@ pub extern "C" fn macmem_recover_handle(
 {
     let mut boxed = zone.take(alloc);
     let inside: &mut Zone = &mut boxed;
-    let found = inside.heap.recover_handle(place);
+    let heap = &mut inside.heap;
+    let found = heap.recover_handle(place);
     *zone = Kept::of(boxed);
     handle_of(found, handle)
 }
@@ -51,9 +52,8 @@ pub extern "C" fn macmem_block_move(
 {
     let mut boxed = zone.take(alloc);
     let inside: &mut Zone = &mut boxed;
-    let done = inside
-        .heap
-        .block_move(Some(from), start, Some(to), offset, count);
+    let heap = &mut inside.heap;
+    let done = heap.block_move(Some(from), start, Some(to), offset, count);
     *zone = Kept::of(boxed);
     code_of(done)
 }
@@ -73,9 +73,8 @@ pub extern "C" fn macmem_ptr_to_x_hand(
 {
     let mut boxed = zone.take(alloc);
     let inside: &mut Zone = &mut boxed;
-    let done = inside
-        .heap
-        .pointer_to_x_hand(Some(handle), bytes, &mut NoSink);
+    let heap = &mut inside.heap;
+    let done = heap.pointer_to_x_hand(Some(handle), bytes, &mut NoSink);
     *zone = Kept::of(boxed);
     code_in(done)
 }
@@ -115,9 +114,8 @@ pub extern "C" fn macmem_munger(
     let target = Target::Bytes(old);
     let mut boxed = zone.take(alloc);
     let inside: &mut Zone = &mut boxed;
-    let done = inside
-        .heap
-        .munger(Some(handle), from, &target, new, &mut NoSink);
+    let heap = &mut inside.heap;
+    let done = heap.munger(Some(handle), from, &target, new, &mut NoSink);
     *zone = Kept::of(boxed);
     offset_in(done, offset)
 }
@@ -144,9 +142,8 @@ pub extern "C" fn macmem_munger_count(
     let target = Target::Length(count);
     let mut boxed = zone.take(alloc);
     let inside: &mut Zone = &mut boxed;
-    let done = inside
-        .heap
-        .munger(Some(handle), from, &target, new, &mut NoSink);
+    let heap = &mut inside.heap;
+    let done = heap.munger(Some(handle), from, &target, new, &mut NoSink);
     *zone = Kept::of(boxed);
     offset_in(done, offset)
 }
@@ -176,7 +173,8 @@ pub extern "C" fn macmem_munger_nil(
     let target = Target::Bytes(old);
     let mut boxed = zone.take(alloc);
     let inside: &mut Zone = &mut boxed;
-    let found = inside.heap.munger_nil(Some(handle), from, &target);
+    let heap = &mut inside.heap;
+    let found = heap.munger_nil(Some(handle), from, &target);
     *zone = Kept::of(boxed);
     offset_of(found, offset)
 }

@@ -29,7 +29,8 @@ pub extern "C" fn macmem_new_ptr(
 {
     let mut boxed = zone.take(alloc);
     let inside: &mut Zone = &mut boxed;
-    let made = inside.heap.new_pointer(size, &mut NoSink);
+    let heap = &mut inside.heap;
+    let made = heap.new_pointer(size, &mut NoSink);
     *zone = Kept::of(boxed);
     number_in(made, pointer)
 }
@@ -42,7 +43,8 @@ pub extern "C" fn macmem_dispose_ptr(alloc: Global, zone: &mut Kept, pointer: us
 {
     let mut boxed = zone.take(alloc);
     let inside: &mut Zone = &mut boxed;
-    let done = inside.heap.dispose_pointer(Some(pointer));
+    let heap = &mut inside.heap;
+    let done = heap.dispose_pointer(Some(pointer));
     *zone = Kept::of(boxed);
     code_of(done)
 }
@@ -61,7 +63,8 @@ pub extern "C" fn macmem_get_ptr_size(
 {
     let mut boxed = zone.take(alloc);
     let inside: &mut Zone = &mut boxed;
-    let told = inside.heap.get_pointer_size(Some(pointer));
+    let heap = &mut inside.heap;
+    let told = heap.get_pointer_size(Some(pointer));
     *zone = Kept::of(boxed);
     number_of(told, size)
 }
@@ -80,7 +83,8 @@ pub extern "C" fn macmem_ptr_zone(
 {
     let mut boxed = zone.take(alloc);
     let inside: &mut Zone = &mut boxed;
-    let told = inside.heap.pointer_zone(Some(pointer));
+    let heap = &mut inside.heap;
+    let told = heap.pointer_zone(Some(pointer));
     *zone = Kept::of(boxed);
     number_of(told, place)
 }
@@ -100,9 +104,8 @@ pub extern "C" fn macmem_set_ptr_size(
 {
     let mut boxed = zone.take(alloc);
     let inside: &mut Zone = &mut boxed;
-    let done = inside
-        .heap
-        .set_pointer_size(Some(pointer), size, &mut NoSink);
+    let heap = &mut inside.heap;
+    let done = heap.set_pointer_size(Some(pointer), size, &mut NoSink);
     *zone = Kept::of(boxed);
     code_in(done)
 }

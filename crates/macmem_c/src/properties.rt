@@ -18,7 +18,8 @@ pub extern "C" fn macmem_h_lock(alloc: Global, zone: &mut Kept, handle: usize) -
 {
     let mut boxed = zone.take(alloc);
     let inside: &mut Zone = &mut boxed;
-    let done = inside.heap.h_lock(Some(handle));
+    let heap = &mut inside.heap;
+    let done = heap.h_lock(Some(handle));
     *zone = Kept::of(boxed);
     code_of(done)
 }
@@ -31,7 +32,8 @@ pub extern "C" fn macmem_h_unlock(alloc: Global, zone: &mut Kept, handle: usize)
 {
     let mut boxed = zone.take(alloc);
     let inside: &mut Zone = &mut boxed;
-    let done = inside.heap.h_unlock(Some(handle));
+    let heap = &mut inside.heap;
+    let done = heap.h_unlock(Some(handle));
     *zone = Kept::of(boxed);
     code_of(done)
 }
@@ -44,7 +46,8 @@ pub extern "C" fn macmem_h_purge(alloc: Global, zone: &mut Kept, handle: usize) 
 {
     let mut boxed = zone.take(alloc);
     let inside: &mut Zone = &mut boxed;
-    let done = inside.heap.h_purge(Some(handle));
+    let heap = &mut inside.heap;
+    let done = heap.h_purge(Some(handle));
     *zone = Kept::of(boxed);
     code_of(done)
 }
@@ -57,7 +60,8 @@ pub extern "C" fn macmem_h_no_purge(alloc: Global, zone: &mut Kept, handle: usiz
 {
     let mut boxed = zone.take(alloc);
     let inside: &mut Zone = &mut boxed;
-    let done = inside.heap.h_no_purge(Some(handle));
+    let heap = &mut inside.heap;
+    let done = heap.h_no_purge(Some(handle));
     *zone = Kept::of(boxed);
     code_of(done)
 }
@@ -77,7 +81,8 @@ pub extern "C" fn macmem_h_get_state(
 {
     let mut boxed = zone.take(alloc);
     let inside: &mut Zone = &mut boxed;
-    let told = inside.heap.h_get_state(Some(handle));
+    let heap = &mut inside.heap;
+    let told = heap.h_get_state(Some(handle));
     *zone = Kept::of(boxed);
     state_of(told, state)
 }
@@ -96,7 +101,8 @@ pub extern "C" fn macmem_h_set_state(
 {
     let mut boxed = zone.take(alloc);
     let inside: &mut Zone = &mut boxed;
-    let done = inside.heap.h_set_state(Some(handle), state);
+    let heap = &mut inside.heap;
+    let done = heap.h_set_state(Some(handle), state);
     *zone = Kept::of(boxed);
     code_of(done)
 }
@@ -109,7 +115,8 @@ pub extern "C" fn macmem_move_h_hi(alloc: Global, zone: &mut Kept, handle: usize
 {
     let mut boxed = zone.take(alloc);
     let inside: &mut Zone = &mut boxed;
-    let done = inside.heap.move_h_hi(Some(handle));
+    let heap = &mut inside.heap;
+    let done = heap.move_h_hi(Some(handle));
     *zone = Kept::of(boxed);
     code_of(done)
 }
@@ -122,7 +129,8 @@ pub extern "C" fn macmem_h_lock_hi(alloc: Global, zone: &mut Kept, handle: usize
 {
     let mut boxed = zone.take(alloc);
     let inside: &mut Zone = &mut boxed;
-    let done = inside.heap.h_lock_hi(Some(handle));
+    let heap = &mut inside.heap;
+    let done = heap.h_lock_hi(Some(handle));
     *zone = Kept::of(boxed);
     code_of(done)
 }

@@ -22,7 +22,8 @@ pub extern "C" fn macmem_free_mem(alloc: Global, zone: &mut Kept) -> u32
 {
     let mut boxed = zone.take(alloc);
     let inside: &mut Zone = &mut boxed;
-    let number = inside.heap.free_mem();
+    let heap = &mut inside.heap;
+    let number = heap.free_mem();
     *zone = Kept::of(boxed);
     number
 }
@@ -37,7 +38,8 @@ pub extern "C" fn macmem_max_block(alloc: Global, zone: &mut Kept) -> u32
 {
     let mut boxed = zone.take(alloc);
     let inside: &mut Zone = &mut boxed;
-    let number = inside.heap.max_block();
+    let heap = &mut inside.heap;
+    let number = heap.max_block();
     *zone = Kept::of(boxed);
     number
 }
@@ -57,7 +59,8 @@ pub extern "C" fn macmem_purge_space(
 {
     let mut boxed = zone.take(alloc);
     let inside: &mut Zone = &mut boxed;
-    let space = inside.heap.purge_space();
+    let heap = &mut inside.heap;
+    let space = heap.purge_space();
     *zone = Kept::of(boxed);
     *total = space.total;
     *contiguous = space.contiguous;
@@ -73,7 +76,8 @@ pub extern "C" fn macmem_compact_mem(alloc: Global, zone: &mut Kept, size: u32) 
 {
     let mut boxed = zone.take(alloc);
     let inside: &mut Zone = &mut boxed;
-    let number = inside.heap.compact_mem(size);
+    let heap = &mut inside.heap;
+    let number = heap.compact_mem(size);
     *zone = Kept::of(boxed);
     number
 }
@@ -88,7 +92,8 @@ pub extern "C" fn macmem_purge_mem(alloc: Global, zone: &mut Kept, size: u32) ->
 {
     let mut boxed = zone.take(alloc);
     let inside: &mut Zone = &mut boxed;
-    let done = inside.heap.purge_mem(size, &mut NoSink);
+    let heap = &mut inside.heap;
+    let done = heap.purge_mem(size, &mut NoSink);
     *zone = Kept::of(boxed);
     code_in(done)
 }
@@ -104,7 +109,8 @@ pub extern "C" fn macmem_max_mem(alloc: Global, zone: &mut Kept, size: &mut u32)
 {
     let mut boxed = zone.take(alloc);
     let inside: &mut Zone = &mut boxed;
-    let told = inside.heap.max_mem(&mut NoSink);
+    let heap = &mut inside.heap;
+    let told = heap.max_mem(&mut NoSink);
     *zone = Kept::of(boxed);
     measure_in(told, size)
 }
@@ -119,7 +125,8 @@ pub extern "C" fn macmem_reserve_mem(alloc: Global, zone: &mut Kept, size: u32) 
 {
     let mut boxed = zone.take(alloc);
     let inside: &mut Zone = &mut boxed;
-    let done = inside.heap.reserve_mem(size, &mut NoSink);
+    let heap = &mut inside.heap;
+    let done = heap.reserve_mem(size, &mut NoSink);
     *zone = Kept::of(boxed);
     code_in(done)
 }
@@ -133,7 +140,8 @@ pub extern "C" fn macmem_more_masters(alloc: Global, zone: &mut Kept) -> i32
 {
     let mut boxed = zone.take(alloc);
     let inside: &mut Zone = &mut boxed;
-    let done = inside.heap.more_masters(&mut NoSink);
+    let heap = &mut inside.heap;
+    let done = heap.more_masters(&mut NoSink);
     *zone = Kept::of(boxed);
     code_in(done)
 }
