@@ -154,7 +154,7 @@ pub record Made (file fork new : List ℕ) : Type 0 where
   pub how : wrapping_of new ≡ wrapping_of file
   pub made : remade (wrapping_of file) file fork ≡ Ok new
 
-abbrev pub Rewrapping : List ℕ → List ℕ → List ℕ → Type 0
+abbrev pub Rewrapping : (file fork new : List ℕ) → Type 0
 Rewrapping file fork new = Held file fork new ⊎ Made file fork new
 
 pub rewrapping : (file fork new : List ℕ) → rewrapped file fork ≡ Ok new → Rewrapping file fork new

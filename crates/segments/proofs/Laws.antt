@@ -241,7 +241,7 @@ served-sound c p sound = served-goes (λ wants reads s. Sound s.resources) p sou
     (λ n k. own-sound code_type n p.managers sound) c (λ k same. sound)
 
 -- where it is refused it leaves all as it was, but for a system error
-abbrev Leaves : {T : Type 0} → Program → Answer T → Type 0
+abbrev Leaves : {T : Type 0} (before : Program) (answer : Answer T) → Type 0
 Leaves p a = (code : OsErr) → a.reply ≡ Err code → code ≢ SYSTEM_ERROR → a.after ≡ p
 
 -- a system error
