@@ -1,2 +1,3 @@
+pub mod Emptying
 pub mod Given
 pub mod Short

@@ -47,7 +47,7 @@ pub use Rattle.block_store.specs.Inner.Joining.{last_free}
 pub use Rattle.block_store.specs.Inner.Packing.{Loose}
 pub use Rattle.block_store.specs.Inner.Stretch.{is_free}
 pub use Rattle.block_store.specs.Rest.{IsRest, Rest, counted, lowered_in_run, with_placed}
-pub use Rattle.block_store.specs.Room.{Spot, filled, lowest_purged, may_be_purged, raised, spot, spot_at}
+pub use Rattle.block_store.specs.Room.{Spot, count_of, filled, lowest_purged, may_be_purged, raised, spot, spot_at}
 pub use Rattle.block_store.specs.Run.{RunSpot, has, has_free, high, in_run, low, movers, run_at, run_spot, segments, settle, with_run}
 pub use Rattle.block_store.specs.Seen.{seen, with_flags}
 pub use Rattle.block_store.specs.Slot.{NoSlot, Slot, Unused, Used, is_resource, is_used, set_slot}
@@ -65,9 +65,10 @@ pub use Rattle.memory_windows.specs.Windows.{Misses}
 pub use Rattle.memory_windows.specs.Writes.{piece, written}
 pub use Rattle.memory_windows.specs.declared.Window.{Window}
 pub use Rattle.raw_region.specs.Memory.{Bytes}
-pub use Rattle.std.proofs.Common.{Bool, IsTrue, List, None, Option, Some, [], ap, append_assoc, arith, cond, drop, eqb, false, get_or, inl}
-pub use Rattle.std.proofs.Common.{inr, is_some, length, length-append, map, nat_le, nat_lt, not, refl, replicate, rules, set, subst, suc}
-pub use Rattle.std.proofs.Common.{sym, take, true, zero, ℕ, ◌%◌, ◌&&◌, ◌*◌, ◌++◌, ◌+◌, ◌-◌, ◌<◌, ◌==◌, ◌^◌, ◌∙◌, ◌∷◌, ◌≡◌, ◌≤◌, ◌⊎◌}
+pub use Rattle.std.proofs.Common.{Bool, IsTrue, List, None, Option, Some, [], add-zero, ap, append_assoc, arith, cond, drop, eqb, false}
+pub use Rattle.std.proofs.Common.{get_or, inl, inr, is_some, length, length-append, map, nat_le, nat_lt, not, refl, replicate, rules, set}
+pub use Rattle.std.proofs.Common.{subst, suc, sym, take, true, zero, ℕ, ◌%◌, ◌&&◌, ◌*◌, ◌++◌, ◌+◌, ◌-◌, ◌<◌, ◌==◌, ◌^◌, ◌∙◌, ◌∷◌, ◌≡◌, ◌≤◌}
+pub use Rattle.std.proofs.Common.{◌⊎◌}
 pub use Rattle.std.proofs.Math.Seq.{drop-append-add, drop-append_seam, take-add, take-append-add}
 pub use Rattle.std.proofs.lemmas.Bool.{and_from, and_parts, cases_eq, eq-eqb, false≢true, ne_eqb, or_cases, or_left, or_right}
 pub use Rattle.std.proofs.lemmas.Bool.Decides.{eqb_tells, nat_tests}
@@ -86,6 +87,7 @@ pub use Rattle.zone_bytes.specs.Changes.{Became, Replaced}
 pub use Rattle.zone_bytes.specs.Decode.{block_in, block_of_kind, flags_of}
 unfoldable pub use Rattle.zone_bytes.specs.Decode.{blocks_in, zone_in}
 pub use Rattle.zone_bytes.specs.Edges.{AreEdges, ByEdges, IsMover, Noted, Starts}
+pub use Rattle.zone_bytes.specs.Emptied.{emptied}
 pub use Rattle.zone_bytes.specs.Flagged.{flagged}
 pub use Rattle.zone_bytes.specs.Fresh.{fresh_slots, slots_from}
 unfoldable pub use Rattle.zone_bytes.specs.Fresh.{all_slots}
@@ -113,5 +115,3 @@ unfoldable pub use Rattle.zone_bytes.specs.Table.{slot_in}
 pub use Rattle.zone_bytes.specs.Walking.{Walk}
 pub use Rattle.zone_bytes.specs.declared.edges.Edges.{Edges}
 pub use Rattle.zone_bytes.specs.declared.settling.TheConstants.{NEVER_ENOUGH}
-pub use Rattle.zone_summary.proofs.Purges.{all-purged}
-pub use Rattle.zone_summary.specs.Emptied.{emptied}

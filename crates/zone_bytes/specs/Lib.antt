@@ -24,3 +24,4 @@ pub mod Joining
 pub mod Adopting
 pub mod Changes
 pub mod PurgeableBytes
+pub mod Emptied

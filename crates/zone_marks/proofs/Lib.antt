@@ -1,4 +1,5 @@
 mod Cited
+pub mod Stretches
 pub mod Joined
 pub mod Marks
 pub mod Bounds

@@ -5,8 +5,8 @@ use Rattle.zone_bytes.specs.Changes.{AtEach, Begins}
 use Rattle.zone_marks.specs.Marks.{AtMost, AreMarks, IsTally, above_all, between}
 use Rattle.zone_marks.specs.declared.landmark.Landmark.{Landmark}
 use Rattle.zone_marks.specs.declared.landmark.Tally.TheVariants as tally
-use Rattle.zone_summary.specs.declared.stretch.Counting.TheVariants as counting
-use Rattle.zone_summary.specs.declared.stretch.Stretch.TheVariants.{Whole}
+use Rattle.zone_marks.specs.declared.stretch.Counting.TheVariants as counting
+use Rattle.zone_marks.specs.declared.stretch.Stretch.TheVariants.{Whole}
 
 -- None of the blocks that begin from `lo` up to `hi` ends a run or has a free byte.
 abbrev pub IsBare : ℕ → ℕ → List Block → Type 0

@@ -1,3 +1,6 @@
+pub mod Stretches
+pub mod RunSearch
+pub mod Fewest
 pub mod Marks
 pub mod Marked
 pub mod Purgeable

@@ -11,11 +11,11 @@ use Rattle.zone_marks.specs.declared.landmark.Tally.{Tally}
 use Rattle.zone_marks.specs.declared.landmark.Tally.TheVariants as tally
 use Rattle.zone_marks.specs.declared.measuring.Measured.{Measured}
 use Rattle.zone_marks.specs.declared.landmark.TheConstants.{GROUP}
-use Rattle.zone_summary.specs.Stretches.{join, stretch_by, stretch_of, load}
-use Rattle.zone_summary.specs.declared.stretch.Counting.{Counting}
-use Rattle.zone_summary.specs.declared.stretch.Counting.TheVariants as counting
-use Rattle.zone_summary.specs.declared.stretch.Stretch.{Stretch}
-use Rattle.zone_summary.specs.declared.stretch.Stretch.TheVariants.{Whole}
+use Rattle.zone_marks.specs.Stretches.{join, stretch_by, stretch_of, load}
+use Rattle.zone_marks.specs.declared.stretch.Counting.{Counting}
+use Rattle.zone_marks.specs.declared.stretch.Counting.TheVariants as counting
+use Rattle.zone_marks.specs.declared.stretch.Stretch.{Stretch}
+use Rattle.zone_marks.specs.declared.stretch.Stretch.TheVariants.{Whole}
 use Rattle.zone_bytes.specs.Changes.{AtEach, Begins}
 
 -- A block that begins from `lo` up to `hi` has at most `most` free bytes.

@@ -16,9 +16,9 @@ use Rattle.zone_marks.specs.declared.beginning.Passed.{Passed}
 use Rattle.zone_marks.specs.declared.landmark.Group.{Group}
 use Rattle.zone_marks.specs.declared.landmark.Landmark.{Landmark}
 use Rattle.zone_marks.specs.declared.landmark.Tally.{Tally}
-use Rattle.zone_summary.specs.Searches.{begun_in}
-use Rattle.zone_summary.specs.Stretches.{best, is_ended, stretch_of, suffix}
-use Rattle.zone_summary.specs.declared.stretch.Counting.{Counting}
+use Rattle.zone_marks.specs.RunSearch.{begun_in}
+use Rattle.zone_marks.specs.Stretches.{best, is_ended, stretch_of, suffix}
+use Rattle.zone_marks.specs.declared.stretch.Counting.{Counting}
 
 -- The landmarks and their groups are those of the zone that bytes spell.
 pub record HasMarks (xs : List ℕ) (all : List Landmark) (in_groups : List Group) : Type 0 where

@@ -9,16 +9,16 @@ ghost use Rattle.zone_bytes.specs.Changes.{Begins};
 ghost use Rattle.zone_marks.specs.Searching.{HasCome, HasMarks, IsKnown, IsPassed, IsPiece};
 ghost use Rattle.zone_marks.specs.Searching.{IsStretch, begun, place_at};
 ghost use Rattle.zone_bytes.specs.Stepping.{left_in};
-ghost use Rattle.zone_summary.specs.Searches.{begun_in};
-ghost use Rattle.zone_summary.specs.Stretches.{best};
-ghost use Rattle.zone_summary.specs.declared.stretch.Counting.TheVariants as counting;
+ghost use Rattle.zone_marks.specs.RunSearch.{begun_in};
+ghost use Rattle.zone_marks.specs.Stretches.{best};
+ghost use Rattle.zone_marks.specs.declared.stretch.Counting.TheVariants as counting;
 
 use crate::landmark::{Group, Landmark, Tally};
 use crate::largest::{edge_of, told_from};
 use crate::marking::index_above;
+use crate::stretch::{Counting, Stretch};
 use block_store::{RunScan, is_in_run};
 use zone_bytes::{SoundPart, step_at};
-use zone_summary::{Counting, Stretch};
 
 /// What is known of the blocks below the place `at`, which were passed: their summary in runs. From
 /// the place `end` on none of them ends a run; if one ends a run, the last one that does is between

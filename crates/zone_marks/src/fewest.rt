@@ -13,8 +13,8 @@ ghost use Rattle.zone_bytes.specs.Changes.{Begins};
 ghost use Rattle.zone_marks.specs.Marked.{AreOf};
 ghost use Rattle.zone_marks.specs.Purgeable.{NoneGoes};
 ghost use Rattle.zone_bytes.specs.Stepping.{left_in};
-ghost use Rattle.zone_summary.specs.Fewest.{count_within, purges_for, run_purges_for};
-ghost use Rattle.zone_summary.specs.Stretches.{prefix, stretch_of};
+ghost use Rattle.zone_marks.specs.Fewest.{count_within, purges_for, run_purges_for};
+ghost use Rattle.zone_marks.specs.Stretches.{prefix, stretch_of};
 ghost use Rattle.block_store.specs.Fewest.{serves, serves_block, IsFewest};
 ghost use Rattle.zone_marks.specs.Searching.{HasMarks};
 
@@ -24,11 +24,11 @@ use crate::landmark::{Group, Landmark};
 use crate::largest::stretch_above;
 use crate::measuring::walk_at;
 use crate::purgeable::frees_one;
+use crate::stretch::Counting;
 use block_store::{
     Sparing, Walk, is_counted_free, is_in_run, may_purge, may_purge_now, size_of_seen,
 };
 use zone_bytes::SoundPart;
-use zone_summary::Counting;
 
 /// Returns the number of blocks that may be purged, of those of a walk that begin in the first
 /// `bytes` bytes.

@@ -12,7 +12,7 @@ ghost use Rattle.zone_marks.specs.Marked.{AreOf};
 ghost use Rattle.zone_marks.specs.Purgeable.{MayStart};
 ghost use Rattle.zone_bytes.specs.Stepping.{left_in};
 ghost use Rattle.zone_marks.specs.Searching.{HasMarks};
-ghost use Rattle.zone_summary.specs.Emptied.{all_purged};
+ghost use Rattle.zone_bytes.specs.Emptied.{all_purged};
 
 use crate::beginning::{begun_at, run_below};
 use crate::keeping::Landmarks;

@@ -15,9 +15,9 @@ use crate::landmark::{GROUP, Group, Landmark};
 use crate::largest::stretch_above;
 use crate::marking::place_of_mark;
 use crate::measuring::{measure_up_to, walk_at};
+use crate::stretch::Counting;
 use block_store::{GREATEST_ZONE, Sparing, largest_after_in};
 use zone_bytes::SoundPart;
-use zone_summary::Counting;
 
 /// Returns the size of the largest free block in the stretches of a group's landmarks, or `most` if
 /// none of them is larger. No free block below these stretches is larger than `most`. The stretch

@@ -7,7 +7,7 @@ ghost use Rattle.zone_marks.specs.declared.landmark.Landmark.{Landmark};
 ghost use Rattle.zone_marks.specs.declared.landmark.TheConstants.{GROUP};
 
 use crate::landmark::{GROUP, Group, Landmark, Tallies, Tally};
-use zone_summary::{Counting, Stretch};
+use crate::stretch::{Counting, Stretch};
 
 /// Changes what is known of a landmark's group, before the landmark becomes another that notes the
 /// bound `most`: the group's bound is at least as high, and the tallies of its blocks are

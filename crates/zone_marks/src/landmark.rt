@@ -3,7 +3,7 @@
 ghost use Rattle.std.specs.Prelude.{◌≡◌};
 ghost use Rattle.zone_marks.specs.Marks.{told};
 
-use zone_summary::{Counting, Stretch};
+use crate::stretch::{Counting, Stretch};
 
 /// The number of landmarks in a group.
 pub const GROUP: usize = 16;

@@ -11,14 +11,14 @@ ghost use Rattle.zone_marks.specs.Marked.{AreOf};
 ghost use Rattle.zone_marks.specs.Searching.{HasMarks, IsStretch, place_at};
 ghost use Rattle.zone_bytes.specs.Stepping.{left_in};
 ghost use Rattle.zone_marks.specs.declared.landmark.Tally.TheVariants as tally;
-ghost use Rattle.zone_summary.specs.Stretches.{prefix, stretch_by};
+ghost use Rattle.zone_marks.specs.Stretches.{prefix, stretch_by};
 
 use crate::keeping::Landmarks;
 use crate::landmark::{GROUP, Group, Landmark, Tally};
 use crate::marking::index_above;
 use crate::measuring::{measure_up_to, spaces_up_to};
+use crate::stretch::{Counting, Stretch};
 use zone_bytes::SoundPart;
-use zone_summary::{Counting, Stretch};
 
 /// Returns the summary of the blocks from one place up to another, by a walk over them.
 fn walked_between(sound: &SoundPart, from: u32, to: u32, counting: Counting) -> Stretch

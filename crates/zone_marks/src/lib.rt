@@ -18,6 +18,7 @@ mod measuring;
 mod paging;
 mod purgeable;
 mod purging;
+mod stretch;
 
 pub use above::has_room_above;
 pub use freeing::{Freed, free_block, free_slot};

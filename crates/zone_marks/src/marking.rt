@@ -9,7 +9,7 @@ ghost use Rattle.zone_marks.specs.LaidMarks.{AreLaid, IsBare};
 ghost use Rattle.zone_bytes.specs.Edges.{ByEdges};
 ghost use Rattle.zone_bytes.specs.Changes.{AtEach, Begins, Replaced};
 ghost use Rattle.zone_marks.specs.Marks.{NoRoom, NoneBelow, IsMark, AreMarks, AreGroups, no_mark};
-ghost use Rattle.zone_summary.specs.declared.stretch.Counting.TheVariants.{Spaces};
+ghost use Rattle.zone_marks.specs.declared.stretch.Counting.TheVariants.{Spaces};
 ghost use Rattle.zone_marks.specs.Marks.{IsTally, Lowered, Measures, above_all, between, next_of};
 ghost use Rattle.zone_bytes.specs.Stepping.{left_in, IsOnWay};
 ghost use Rattle.zone_marks.specs.declared.landmark.TheConstants.{GROUP};
@@ -18,9 +18,9 @@ use crate::grouping::raise_group;
 use crate::landmark::{GROUP, Group, Kept, Landmark, Tallies, Tally, UNKNOWN};
 use crate::measuring::{Measured, measure_up_to, room_between, spaces_up_to};
 use crate::paging::page_end;
+use crate::stretch::Stretch;
 use raw_region::Part;
 use zone_bytes::{Edges, SoundPart};
-use zone_summary::Stretch;
 
 /// Returns the landmark to be compared next, of those from `low` up to `high`: the likely one, or
 /// one just beside it; if the landmark was not there either, the one in the middle.

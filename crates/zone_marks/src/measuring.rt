@@ -11,13 +11,13 @@ ghost use Rattle.zone_bytes.specs.Changes.{AtEach, Begins};
 ghost use Rattle.zone_marks.specs.Marks.{NoRoom, Spans, RoomAt, Measures, between};
 ghost use Rattle.zone_bytes.specs.Settling.{runs_on};
 ghost use Rattle.zone_bytes.specs.Stepping.{left_in, IsOnWay};
-ghost use Rattle.zone_summary.specs.Stretches.{counted, space, spaces_of};
+ghost use Rattle.zone_marks.specs.Stretches.{counted, space, spaces_of};
 
+use crate::stretch::Stretch;
 use block_headers::LOCKED;
 use block_store::{Seen, UNIT};
 use raw_region::Part;
 use zone_bytes::{RawWalk, SoundPart, read_word, step_at, walk_from};
-use zone_summary::Stretch;
 
 /// Returns a walk over the blocks of a zone from a place on.
 pub fn walk_at<'a>(sound: &'a SoundPart, at: u32) -> RawWalk<'a>

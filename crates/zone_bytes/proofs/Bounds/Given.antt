@@ -3,9 +3,10 @@ use Rattle.zone_bytes.proofs.Cited.{◌≡◌, ℕ, zero, suc, ◌+◌, ◌-◌,
 use Rattle.zone_bytes.proofs.Cited.{map, refl, ap, ◌∙◌, arith, and_parts, option_map, Block, Free, Relocatable, size, sizes, total, free_of}
 use Rattle.zone_bytes.proofs.Cited.{free_sum, count, is_purgeable, fresh, tidy, freed, grow_up, Spot, spot, raised, filled, may_be_purged}
 use Rattle.zone_bytes.proofs.Cited.{lowest_purged, most_purges, purged, spared, free-purged, total-sized, SeesNoFree, unless, unless-none}
-use Rattle.zone_bytes.proofs.Cited.{freely, freed-is, tidied, total-tidy, total-append, total-le, emptied, all-purged, zone_in, IsSound}
+use Rattle.zone_bytes.proofs.Cited.{freely, freed-is, tidied, total-tidy, total-append, total-le, emptied, zone_in, IsSound}
 use Rattle.zone_bytes.proofs.Cited.{Became, purgeable_of, purgeable_sum, purgeable_at}
 use Rattle.block_store.specs.declared.sparing.Sparing.TheVariants as sparing
+use Rattle.zone_bytes.proofs.Bounds.Emptying.{all-purged}
 use Rattle.zone_bytes.proofs.Laws.Lawful.{sizes-length}
 use Rattle.zone_bytes.proofs.Places.Walks.{free_span-le}
 

@@ -1,13 +1,16 @@
 -- The blocks that may be purged below a run, counted from an edge of a zone below which none may be.
-use Rattle.zone_marks.proofs.Cited.{Counting, stretch_by, load, join, stretch_by-append, load-counted, ◌≡◌, ℕ, ◌+◌, ◌-◌, ◌≤◌, List, ◌++◌}
-use Rattle.zone_marks.proofs.Cited.{inl, refl, sym, ap, ◌∙◌, subst, arith, Block, sizes, count_of, most_purges, opened, spared}
-use Rattle.zone_marks.proofs.Cited.{GREATEST_ZONE, Sparing, sizes-opened, count_within, count-few, count-past, opened-append, zone_in}
-use Rattle.zone_marks.proofs.Cited.{IsSound, Begins, IsTally, between, Tally, NoneGoes, Stays, IsStretch, left_in, Stretch}
+use Rattle.zone_marks.proofs.Cited.{Counting, stretch_by, load, join, ◌≡◌, ℕ, ◌+◌, ◌-◌, ◌≤◌, List, ◌++◌, inl, refl, sym, ap, ◌∙◌, subst}
+use Rattle.zone_marks.proofs.Cited.{arith, Block, sizes, count_of, most_purges, opened, spared, GREATEST_ZONE, Sparing, sizes-opened}
+use Rattle.zone_marks.proofs.Cited.{count_within, zone_in, IsSound, Begins, IsTally, between, Tally, NoneGoes, Stays, IsStretch, left_in}
+use Rattle.zone_marks.proofs.Cited.{Stretch}
 use Rattle.zone_marks.specs.declared.landmark.Tally.TheVariants as tally
 use Rattle.zone_marks.proofs.Bounds.Going.{count-none}
 use Rattle.zone_marks.proofs.Marks.Lowering.{seen-from, one-here}
 use Rattle.zone_marks.proofs.Marks.Passing.{at-left}
 use Rattle.zone_marks.proofs.Searches.Pieces.{stretch-at, zone-long}
+use Rattle.zone_marks.proofs.Stretches.Fewest.{count-few, count-past, opened-append}
+use Rattle.zone_marks.proofs.Stretches.Monoid.{stretch_by-append}
+use Rattle.zone_marks.proofs.Stretches.Sums.{load-counted}
 
 pub count-below : (xs : List ℕ) (first unused : ℕ) (i : IsSound xs first unused) (from edge run : ℕ) (n : Sparing)
     (low rest : List Block) → Begins edge 0 (zone_in xs) → edge ≤ from → NoneGoes from (zone_in xs) → edge ≤ run

@@ -2,9 +2,10 @@
 use Rattle.zone_marks.proofs.Cited.{◌≡◌, ℕ, ◌+◌, ◌≤◌, ◌<◌, ◌⊎◌, Bool, true, false, ◌&&◌, cond, List, [], ◌∷◌, ◌++◌, inl, inr, nat_le}
 use Rattle.zone_marks.proofs.Cited.{nat_lt, refl, ap, ◌∙◌, arith, le-leb, lt-ltb, leb-true, leb-false, ltb-true, ltb-false, append-nil}
 use Rattle.zone_marks.proofs.Cited.{Block, size, sizes, AtEach, AreTold, IsTally, between, Tallies, Tally, stretch_by, stretch_of, Counting}
-use Rattle.zone_marks.proofs.Cited.{Stretch, stretch_by-append}
+use Rattle.zone_marks.proofs.Cited.{Stretch}
 use Rattle.zone_marks.specs.declared.landmark.Tally.TheVariants as tally
-use Rattle.zone_summary.specs.declared.stretch.Counting.TheVariants as counting
+use Rattle.zone_marks.specs.declared.stretch.Counting.TheVariants as counting
+use Rattle.zone_marks.proofs.Stretches.Monoid.{stretch_by-append}
 
 -- blocks that come to the same, counted in each way
 pub record CountAlike (some others : List Block) : Type 0 where

@@ -1,10 +1,11 @@
 -- A walk that counts what it passes.
 use Rattle.zone_marks.proofs.Cited.{◌≡◌, ℕ, ◌+◌, ◌≤◌, ◌<◌, ◌⊎◌, Bool, true, false, List, [], ◌∷◌, length, rules, sym, refl, ap, arith, inl}
 use Rattle.zone_marks.proofs.Cited.{Block, size, free_of, AtEach, AtMost, Measures, between, left_in, IsOnWay, left-none, counted, join}
-use Rattle.zone_marks.proofs.Cited.{load, prefix, stretch_by, suffix, Counting, Runs, Stretch, Whole, Ended, counted-none, joined-is}
-use Rattle.zone_marks.proofs.Cited.{load-counted}
+use Rattle.zone_marks.proofs.Cited.{load, prefix, stretch_by, suffix, Counting, Runs, Stretch, Whole, Ended}
 use Rattle.zone_marks.proofs.Marks.Between.{CountAlike, all-begin, all-within, between-append, none-above}
 use Rattle.zone_marks.proofs.Marks.Passing.{Passed, at-map, passed-all, passed-more, passed-on}
+use Rattle.zone_marks.proofs.Stretches.Monoid.{counted-none, joined-is}
+use Rattle.zone_marks.proofs.Stretches.Sums.{load-counted}
 
 -- the blocks from a place on up to another, of each of which something holds, and what they come to
 pub record Walked (w : Counting) (xs : List ℕ) (from at : ℕ) (R : ℕ → Block → Type 0) (total : Stretch) : Type 0 where

@@ -3,10 +3,11 @@ use Rattle.zone_marks.proofs.Cited.{IsMark, AreMarks, AtMost, between, next_of, 
 use Rattle.zone_marks.proofs.Cited.{◌⊎◌, inl, inr, List, [], ◌∷◌, ◌++◌, length, take, drop, max, refl, sym, ap, ◌∙◌, subst, arith, cases_lt}
 use Rattle.zone_marks.proofs.Cited.{false≢true, drop_all, drop_more, drop-drop, drop-set, take_more_set, Block, Free, Relocatable, size}
 use Rattle.zone_marks.proofs.Cited.{sizes, free_of, Each, Starts, AreEdges, IsMover, ByEdges, IsBare, AreLaid, AtEach, Begins, Landmark}
-use Rattle.zone_marks.proofs.Cited.{Edges, counted, join, one, stretch_of, Runs, Whole, join-unit_left, stretch_of-append}
+use Rattle.zone_marks.proofs.Cited.{Edges, counted, join, one, stretch_of, Runs, Whole}
 use Rattle.zone_marks.proofs.Marks.Between.{between-append, between-each, between-none, none-below, none-above}
 use Rattle.zone_marks.proofs.Marks.Lowering.{mark-begins, mark-first, marks-join, marks-parted}
 use Rattle.zone_marks.proofs.Marks.Passing.{at-each, at-append, at-all, begins-left, begins-right, begins-within}
+use Rattle.zone_marks.proofs.Stretches.Monoid.{join-unit_left, stretch_of-append}
 
 -- the greater of two places is one of them
 pub either-is : (p q r : ℕ) → r ≡ max p q → (r ≡ p) ⊎ (r ≡ q)

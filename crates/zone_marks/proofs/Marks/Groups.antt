@@ -4,7 +4,7 @@ use Rattle.zone_marks.proofs.Cited.{◌∙◌, subst, arith, length-set, replica
 use Rattle.zone_marks.proofs.Cited.{Stretch, eqb_tells, get_or-take, get_or-drop, get_or-set_same, get_or-set_other, length-drop}
 use Rattle.zone_marks.proofs.Cited.{get_or-replicate, length-replicate, drop-take, drop-set-lt, take-set-le, Group, Landmark, Tallies}
 use Rattle.zone_marks.proofs.Cited.{GROUP, Counting}
-use Rattle.zone_summary.specs.declared.stretch.Counting.TheVariants as counting
+use Rattle.zone_marks.specs.declared.stretch.Counting.TheVariants as counting
 use Rattle.zone_marks.specs.declared.landmark.Tally.TheVariants as tally
 
 -- nothing known is nothing that is known, in either way

@@ -1,9 +1,10 @@
 -- Landmarks where a block changes in place, and where one is put into a Free block.
-use Rattle.zone_marks.proofs.Cited.{stretch_by-append, ◌≡◌, ℕ, ◌+◌, ◌≤◌, ◌<◌, List, [], ◌∷◌, ◌++◌, sym, refl, ap, ◌∙◌, arith, zero, suc}
-use Rattle.zone_marks.proofs.Cited.{append_assoc, Block, Free, size, sizes, free, free_of, add, free_first, Became, Replaced, AreMarks}
-use Rattle.zone_marks.proofs.Cited.{between, next_of, Landmark, one, space, span-append, span-free}
+use Rattle.zone_marks.proofs.Cited.{◌≡◌, ℕ, ◌+◌, ◌≤◌, ◌<◌, List, [], ◌∷◌, ◌++◌, sym, refl, ap, ◌∙◌, arith, zero, suc, append_assoc, Block}
+use Rattle.zone_marks.proofs.Cited.{Free, size, sizes, free, free_of, add, free_first, Became, Replaced, AreMarks, between, next_of}
+use Rattle.zone_marks.proofs.Cited.{Landmark, one, space, span-append, span-free}
 use Rattle.zone_marks.proofs.Marks.Passing.{begins-either, begins-left, begins-right, at-other}
 use Rattle.zone_marks.proofs.Marks.Between.{between-append, CountAlike, alike-as}
+use Rattle.zone_marks.proofs.Stretches.Monoid.{stretch_by-append}
 
 tally-same : (lo hi : ℕ) (below above : List Block) (b c : Block) → size c ≡ size b → one c ≡ one b → space c ≡ space b
     → CountAlike (between lo hi 0 (below ++ c ∷ above)) (between lo hi 0 (below ++ b ∷ above))

@@ -1,17 +1,18 @@
 -- Landmarks once a stretch of the zone became another.
-use Rattle.zone_marks.proofs.Cited.{stretch_by, length-set, stretch_by-append, ◌≡◌, ℕ, ◌+◌, ◌-◌, ◌≤◌, ◌<◌, ◌⊎◌, inl, inr, List, [], ◌∷◌}
-use Rattle.zone_marks.proofs.Cited.{◌++◌, sym, refl, ap, ◌∙◌, subst, arith, length, take, drop, take-append-drop, get_or, set, replicate}
-use Rattle.zone_marks.proofs.Cited.{zero, suc, drop_all, take_more, take-set, drop-set, drop_more, drop-drop, Block, size, sizes, zone_in}
-use Rattle.zone_marks.proofs.Cited.{IsSound, left_in, IsOnWay, AtEach, Begins, Replaced, AtMost, AreMarks, AreTold, IsMark, IsTally}
-use Rattle.zone_marks.proofs.Cited.{Lowered, Measures, between, next_of, no_mark, Landmark, Tally, Measured, Counting, way-above}
-use Rattle.zone_marks.proofs.Cited.{left-above, above_all, GREATEST_ZONE, free_of-le}
+use Rattle.zone_marks.proofs.Cited.{stretch_by, length-set, ◌≡◌, ℕ, ◌+◌, ◌-◌, ◌≤◌, ◌<◌, ◌⊎◌, inl, inr, List, [], ◌∷◌, ◌++◌, sym, refl, ap}
+use Rattle.zone_marks.proofs.Cited.{◌∙◌, subst, arith, length, take, drop, take-append-drop, get_or, set, replicate, zero, suc, drop_all}
+use Rattle.zone_marks.proofs.Cited.{take_more, take-set, drop-set, drop_more, drop-drop, Block, size, sizes, zone_in, IsSound, left_in}
+use Rattle.zone_marks.proofs.Cited.{IsOnWay, AtEach, Begins, Replaced, AtMost, AreMarks, AreTold, IsMark, IsTally, Lowered, Measures}
+use Rattle.zone_marks.proofs.Cited.{between, next_of, no_mark, Landmark, Tally, Measured, Counting, way-above, left-above, above_all}
+use Rattle.zone_marks.proofs.Cited.{GREATEST_ZONE, free_of-le}
 use Rattle.zone_marks.specs.declared.landmark.Tally.TheVariants as tally
-use Rattle.zone_summary.specs.declared.stretch.Counting.TheVariants as counting
+use Rattle.zone_marks.specs.declared.stretch.Counting.TheVariants as counting
 use Rattle.zone_marks.proofs.Marks.Groups.{unknown}
 use Rattle.zone_marks.proofs.Marks.Passing.{at-each, at-map, at-append, at-left, at-right, begins-here, begins-left}
 use Rattle.zone_marks.proofs.Marks.Passing.{begins-right, begins-either, begins-within, parts}
 use Rattle.zone_marks.proofs.Marks.Between.{CountAlike, alike-as, tally-as}
 use Rattle.zone_marks.proofs.Marks.Between.{between-append, none-below, none-above, told-both}
+use Rattle.zone_marks.proofs.Stretches.Monoid.{stretch_by-append}
 
 -- the first of some landmarks is no higher than where they end
 pub marks-below : (end : ℕ) (zone : List Block) (marks : List Landmark) → AreMarks end zone marks → next_of end marks

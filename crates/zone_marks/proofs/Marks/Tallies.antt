@@ -3,11 +3,12 @@ use Rattle.zone_marks.proofs.Cited.{AreOfZone, AreMarks, IsTally, between, join_
 use Rattle.zone_marks.proofs.Cited.{ℕ, ◌+◌, ◌≤◌, ◌<◌, inl, inr, Bool, true, false, ◌&&◌, cond, nat_le, nat_lt, List, [], ◌∷◌, ◌++◌, length}
 use Rattle.zone_marks.proofs.Cited.{take, drop, get_or, take-append-drop, refl, sym, ap, ◌∙◌, subst, arith, cases_lt, le-leb, lt-leb}
 use Rattle.zone_marks.proofs.Cited.{lt-ltb, take_more, Block, size, sizes, zone_in, IsSound, Landmark, Tally, sizes-length, span-append}
-use Rattle.zone_marks.proofs.Cited.{stretch_by, load, Counting, Stretch, Whole, counted-none, join-assoc, join-unit_left, join-unit_right}
-use Rattle.zone_marks.proofs.Cited.{stretch_by-append, load-counted, above_all}
+use Rattle.zone_marks.proofs.Cited.{stretch_by, load, Counting, Stretch, Whole, above_all}
 use Rattle.zone_marks.specs.declared.landmark.Tally.TheVariants as tally
 use Rattle.zone_marks.proofs.Marks.Between.{between-few, between-none, none-above}
 use Rattle.zone_marks.proofs.Marks.Lowering.{mark-at, mark-first, marks-below, marks-parted}
+use Rattle.zone_marks.proofs.Stretches.Monoid.{counted-none, join-assoc, join-unit_left, join-unit_right, stretch_by-append}
+use Rattle.zone_marks.proofs.Stretches.Sums.{load-counted}
 
 -- tallies are joined as what they tell
 tallies-left : (t : Tally) → join_tallies (tally.Known (Whole 0)) t ≡ t

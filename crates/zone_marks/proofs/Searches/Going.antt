@@ -1,9 +1,10 @@
 -- A search that goes from block to block.
 use Rattle.zone_marks.proofs.Cited.{◌≡◌, ℕ, ◌<◌, inr, List, [], ◌∷◌, ◌++◌, arith, if◌then◌else◌, Block, in_run, Seen, Begins, zone_in}
-use Rattle.zone_marks.proofs.Cited.{IsSound, left_in, Steps, IsPiece, begun_in, begun-append}
+use Rattle.zone_marks.proofs.Cited.{IsSound, left_in, Steps, IsPiece, begun_in}
 use Rattle.zone_marks.proofs.Marks.Lowering.{begins-further}
 use Rattle.zone_marks.proofs.Marks.Passing.{begins-here}
 use Rattle.zone_marks.proofs.Searches.Pieces.{piece-more}
+use Rattle.zone_marks.proofs.Stretches.Searching.{begun-append}
 
 module _ (xs : List ℕ) (at : ℕ) (block : Seen) (end : ℕ) (s : Steps at block end xs) where
   -- an edge above a block is one of those behind it

@@ -2,12 +2,14 @@
 use Rattle.zone_marks.proofs.Cited.{◌≡◌, ℕ, ◌+◌, ◌≤◌, ◌<◌, ◌^◌, inl, inr, true, false, List, [], ◌++◌, append_assoc, refl, sym, ap, ◌∙◌}
 use Rattle.zone_marks.proofs.Cited.{arith, Block, RunScan, IsSound, HasCome, IsKnown, IsPassed, IsPiece, IsStretch, begun, place_at, Passed}
 use Rattle.zone_marks.proofs.Cited.{Landmark, begun_in, best, is_ended, join, prefix, stretch_of, suffix, Runs, Stretch, Whole}
-use Rattle.zone_marks.proofs.Cited.{stretch_of-append, begun-append, begun-ended, begun-open, ends-load}
 use Rattle.std.proofs.Common.{append-nil}
 use Rattle.zone_marks.proofs.Marks.Passing.{begins-here}
 use Rattle.zone_marks.specs.declared.landmark.Tally.TheVariants as tally
 use Rattle.zone_marks.proofs.Searches.Pieces.{edge-within, piece-more}
 use Rattle.zone_marks.proofs.Bounds.Fewest.{known-fits}
+use Rattle.zone_marks.proofs.Stretches.Monoid.{stretch_of-append}
+use Rattle.zone_marks.proofs.Stretches.Searching.{begun-append, begun-ended, begun-open}
+use Rattle.zone_marks.proofs.Stretches.Sums.{ends-load}
 
 pub none-between : (xs : List ℕ) (from to : ℕ) (here : List Block) → IsPiece from to xs here → IsPiece to to xs []
 none-between xs from to here p = record { is = refl; up = omega arith; edge = p.edge }

@@ -2,8 +2,8 @@
 use Rattle.zone_marks.proofs.Cited.{◌≡◌, ℕ, ◌+◌, ◌≤◌, ◌<◌, ◌⊎◌, inl, inr, List, [], ◌∷◌, ◌++◌, length, take, drop, get_or, append_assoc}
 use Rattle.zone_marks.proofs.Cited.{refl, sym, ap, subst, arith, drop-drop, drop_more, Block, sizes, zone_in, IsSound, AreMarks, IsTally}
 use Rattle.zone_marks.proofs.Cited.{between, next_of, no_mark, tally_of, told, above_all, Begins, IsPiece, IsStretch, place_at, left_in}
-use Rattle.zone_marks.proofs.Cited.{slot_in, Landmark, Tally, GROUP, sizes-length, left-above, left-none, span-append, join, joined-is}
-use Rattle.zone_marks.proofs.Cited.{Counting, Stretch}
+use Rattle.zone_marks.proofs.Cited.{slot_in, Landmark, Tally, GROUP, sizes-length, left-above, left-none, span-append, join, Counting}
+use Rattle.zone_marks.proofs.Cited.{Stretch}
 use Rattle.zone_marks.proofs.Marks.Lowering.{mark-at}
 use Rattle.zone_marks.specs.declared.landmark.Tally.TheVariants as tally
 use Rattle.zone_marks.proofs.Marks.Between.{CountAlike, tally-as, between-parts}
@@ -11,6 +11,7 @@ use Rattle.zone_marks.proofs.Marks.Lowering.{begins-way, mark-begins, seen-from,
 use Rattle.zone_marks.proofs.Marks.Lowering.{mark-first, begins-end}
 use Rattle.zone_marks.proofs.Marks.Passing.{begins-either, begins-here, begins-within, parts}
 use Rattle.zone_marks.proofs.Marks.Tallies.{group-tally}
+use Rattle.zone_marks.proofs.Stretches.Monoid.{joined-is}
 
 -- a piece and the one above it
 pub piece-more : (xs : List ℕ) (from at to : ℕ) (low high : List Block) → IsPiece from at xs low → IsPiece at to xs high

@@ -3,11 +3,14 @@ use Rattle.zone_marks.proofs.Marks.Lowering.{begins-end}
 use Rattle.zone_marks.proofs.Cited.{◌≡◌, ℕ, ◌+◌, ◌≤◌, Bool, true, false, map, Option, Some, None, List, [], ◌∷◌, ◌++◌, refl, sym, ap, ◌∙◌}
 use Rattle.zone_marks.proofs.Cited.{subst, arith, map-append, Block, size, free_of, met_after, scan_runs, FindsLowestRun, count_of}
 use Rattle.zone_marks.proofs.Cited.{has_free, most_purges, opened, purged, spared, RunScan, Sparing, scan-is, finds_run, total-append}
-use Rattle.zone_marks.proofs.Cited.{serves, Begins, first-is, zone_in, MayStart, NoneGoes, Stays, IsKnown, begun, finds_in, finds_purging}
-use Rattle.zone_marks.proofs.Cited.{left_in, left-zone, all_purged, emptied, emptied-none, past-short, scan-emptied, join-unit_left}
+use Rattle.zone_marks.proofs.Cited.{serves, Begins, zone_in, MayStart, NoneGoes, Stays, IsKnown, begun, finds_in, finds_purging, left_in}
+use Rattle.zone_marks.proofs.Cited.{left-zone, all_purged, emptied}
 use Rattle.block_store.specs.declared.sparing.Sparing.TheVariants as sparing
 use Rattle.zone_marks.proofs.Bounds.Going.{count-none}
 use Rattle.zone_marks.proofs.Marks.Passing.{at-left, begins-left}
+use Rattle.zone_marks.proofs.Stretches.Fewest.{first-is}
+use Rattle.zone_marks.proofs.Stretches.Monoid.{join-unit_left}
+use Rattle.zone_marks.proofs.Stretches.Searching.{emptied-none, past-short, scan-emptied}
 
 -- what a search from the bottom finds
 pub found-lowest : (bytes purges : ℕ) (n : Sparing) (xs : List ℕ) (zone : List Block) (found : Option ℕ)

@@ -2,7 +2,9 @@
 use Rattle.zone_marks.proofs.Cited.{◌≡◌, ℕ, ◌≤◌, ◌&&◌, Bool, false, Option, Some, List, [], ◌∷◌, ◌++◌, refl, sym, ap, ◌∙◌, arith, Block}
 use Rattle.zone_marks.proofs.Cited.{is_relocatable, sizes, FindsLowestRun, scan_from, scan_runs, suits, Spot, spot, has, has_free, purged}
 use Rattle.zone_marks.proofs.Cited.{spared, RunScan, Nothing, scan-is, suits-slot, finds_run, Apart, apart-size, IfSome, zone_in, left_in}
-use Rattle.zone_marks.proofs.Cited.{left-zone, IsKnown, join-unit_left, past-others}
+use Rattle.zone_marks.proofs.Cited.{left-zone, IsKnown}
+use Rattle.zone_marks.proofs.Stretches.Monoid.{join-unit_left}
+use Rattle.zone_marks.proofs.Stretches.Searching.{past-others}
 
 pub slot-run : (bytes to : ℕ) (xs : List ℕ) (r : RunScan) (k : IsKnown bytes to xs r) (number p : ℕ) (found : Option ℕ)
     → has (is_relocatable number) k.done ≡ false → purged 0 Nothing (zone_in xs) ≡ zone_in xs

@@ -1,6 +1,8 @@
-use Rattle.zone_marks.proofs.Cited.{◌∙◌, ◌-◌, ◌+◌, ap, arith, sym, spared, told-size, told-sizes, run_purges_for, goes-size, run-goes}
+use Rattle.zone_marks.proofs.Cited.{◌∙◌, ◌-◌, ◌+◌, ap, arith, sym, spared, told-size, told-sizes, run_purges_for}
 use Rattle.block_store.proofs.Walks.Telling.{told}
 use Rattle.zone_marks.proofs.fewest.count_in_run.Goals as goal
+use Rattle.zone_marks.proofs.Stretches.BlockRuns.{run-goes}
+use Rattle.zone_marks.proofs.Stretches.Fewest.{goes-size}
 
 pub loop-left-preserved-then-may_purge_now : goal.loop-left-preserved-then-may_purge_now
 loop-left-preserved-then-may_purge_now g c =

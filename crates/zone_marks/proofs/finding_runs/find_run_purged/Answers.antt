@@ -1,8 +1,9 @@
-use Rattle.zone_marks.proofs.Cited.{GREATEST_ZONE, zone_in, purged-most}
+use Rattle.zone_marks.proofs.Cited.{GREATEST_ZONE, zone_in}
 use Rattle.zone_marks.proofs.Bounds.Fewest.{most-fits}
 use Rattle.zone_marks.proofs.Marks.Passing.{begins-here}
 use Rattle.zone_marks.proofs.Searches.RunStarting.{found-lowest, reached-lowest}
 use Rattle.zone_marks.proofs.finding_runs.find_run_purged.Goals as goal
+use Rattle.zone_marks.proofs.Stretches.Fewest.{purged-most}
 
 pub search_on-requires-clause-begins : goal.search_on-requires-clause-begins
 search_on-requires-clause-begins c = rw c.begun_at.ensures (begins-here 0 _)

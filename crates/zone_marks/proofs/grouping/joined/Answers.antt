@@ -1,6 +1,7 @@
-use Rattle.zone_marks.proofs.Cited.{ap, sym, ◌∙◌, arith, known_load, ends-load}
+use Rattle.zone_marks.proofs.Cited.{ap, sym, ◌∙◌, arith, known_load}
 use Rattle.zone_marks.proofs.Marks.Tallies.{loads-fit, tally_of-more, tally_of-unknown}
 use Rattle.zone_marks.proofs.grouping.joined.Goals as goal
+use Rattle.zone_marks.proofs.Stretches.Sums.{ends-load}
 
 -- one landmark of which nothing is known
 pub returns-in_default : goal.returns-in_default

@@ -1,11 +1,13 @@
-use Rattle.zone_marks.proofs.Cited.{drop, ◌≡◌, ◌∙◌, ap, arith, sym, drop_all, join, prefix, stretch_by, counted-none, join-unit_right}
-use Rattle.zone_marks.proofs.Cited.{ends-load, IsStretch, place_at, left_in, left-none}
+use Rattle.zone_marks.proofs.Cited.{drop, ◌≡◌, ◌∙◌, ap, arith, sym, drop_all, join, prefix, stretch_by, IsStretch, place_at, left_in}
+use Rattle.zone_marks.proofs.Cited.{left-none}
 use Rattle.zone_marks.specs.declared.landmark.Tally.TheVariants as tally
 use Rattle.zone_marks.proofs.Bounds.Fewest.{known-fits, known-past}
 use Rattle.zone_marks.proofs.Marks.Lowering.{begins-way, marks-parted}
 use Rattle.zone_marks.proofs.Searches.Pieces.{edge-within, stretch-before, stretch-more}
 use Rattle.zone_marks.proofs.largest.stretch_above.Goals.{After-loop-index, Joined-told, in-Known, in-Unknown}
 use Rattle.zone_marks.proofs.largest.stretch_above.Goals as goal
+use Rattle.zone_marks.proofs.Stretches.Monoid.{counted-none, join-unit_right}
+use Rattle.zone_marks.proofs.Stretches.Sums.{ends-load}
 
 pub walked_between-stretch-requires-clause-stretch : goal.walked_between-stretch-requires-clause-stretch
 walked_between-stretch-requires-clause-stretch c =

@@ -1,8 +1,9 @@
-use Rattle.zone_marks.proofs.Cited.{◌≤◌, ◌<◌, ◌∙◌, ap, sym, arith, rules, free_of, largest_free, free_of-le, prefix, Runs, join-unit_right}
+use Rattle.zone_marks.proofs.Cited.{◌≤◌, ◌<◌, ◌∙◌, ap, sym, arith, rules, free_of, largest_free, free_of-le, prefix, Runs}
 use Rattle.zone_marks.proofs.Marks.Counting.{measured-below, measured-edge, prefix-counted, walked-few, walked-start}
 use Rattle.zone_marks.proofs.Marks.Counting.{walked-step}
 use Rattle.zone_marks.proofs.Marks.Passing.{begins-here, begins-right}
 use Rattle.zone_marks.proofs.measuring.measure_up_to.Goals as goal
+use Rattle.zone_marks.proofs.Stretches.Monoid.{join-unit_right}
 
 pub loop-at-init : goal.loop-at-init
 loop-at-init c = record {

@@ -1,6 +1,7 @@
-use Rattle.zone_marks.proofs.Cited.{◌<◌, ◌∙◌, sym, arith, Spaces, join-unit_right}
+use Rattle.zone_marks.proofs.Cited.{◌<◌, ◌∙◌, sym, arith, Spaces}
 use Rattle.zone_marks.proofs.Marks.Counting.{prefix-counted, walked-below, walked-few, walked-start, walked-step}
 use Rattle.zone_marks.proofs.measuring.spaces_up_to.Goals as goal
+use Rattle.zone_marks.proofs.Stretches.Monoid.{join-unit_right}
 
 pub loop-at-init : goal.loop-at-init
 loop-at-init c = walked-start Spaces _ _ (λ p _. p < c.min-stop.result) c.requires

@@ -1,9 +1,9 @@
 use Rattle.zone_marks.proofs.Marks.Lowering.{begins-end}
-use Rattle.zone_marks.proofs.Cited.{◌≡◌, ◌∙◌, ap, arith, count_of, spared, prefix, stretch_of, IsRunOf, enough-now, fewest-of, never-enough}
-use Rattle.zone_marks.proofs.Cited.{no-run-of, run-of, Begins, zone_in, left_in, left-above}
+use Rattle.zone_marks.proofs.Cited.{◌≡◌, ◌∙◌, ap, arith, count_of, spared, prefix, stretch_of, Begins, zone_in, left_in, left-above}
 use Rattle.zone_marks.proofs.Marks.Passing.{begins-left}
 use Rattle.zone_marks.proofs.keeping.Landmarks.fewest_for_block.Goals.{In_ok-run, After-free_at-free}
 use Rattle.zone_marks.proofs.keeping.Landmarks.fewest_for_block.Goals as goal
+use Rattle.zone_marks.proofs.Stretches.BlockRuns.{IsRunOf, enough-now, fewest-of, never-enough, no-run-of, run-of}
 
 pub returns-in_err-run : goal.returns-in_err-run
 returns-in_err-run c = let t = c.args.sound.now.sound.tidied in rw c.from_residual.ensures

@@ -1,5 +1,6 @@
-use Rattle.zone_marks.proofs.Cited.{◌∙◌, ◌-◌, ap, arith, opened, spared, purges_for, first-is, never-serves, zone_in, left-above}
+use Rattle.zone_marks.proofs.Cited.{◌∙◌, ◌-◌, ap, arith, opened, spared, purges_for, zone_in, left-above}
 use Rattle.zone_marks.proofs.keeping.Landmarks.fewest_purges.Goals as goal
+use Rattle.zone_marks.proofs.Stretches.Fewest.{first-is, never-serves}
 
 pub returns-in_err-run : goal.returns-in_err-run
 returns-in_err-run c = rw c.from_residual.ensures (never-serves _ _ _ (rw c.in_err-run.was at c.find_run_purged.ensures))

@@ -1,9 +1,10 @@
-use Rattle.zone_marks.proofs.Cited.{refl, sym, ap, ◌∙◌, arith, largest_free, zone_in, purged-most, left-zone, spaces_of}
+use Rattle.zone_marks.proofs.Cited.{refl, sym, ap, ◌∙◌, arith, largest_free, zone_in, left-zone, spaces_of}
 use Rattle.block_store.specs.declared.sparing.Sparing.TheVariants as sparing
 use Rattle.zone_marks.proofs.Bounds.Fewest.{most-fits}
 use Rattle.zone_marks.proofs.Marks.Passing.{begins-here}
 use Rattle.zone_marks.proofs.Bounds.Space.{largest-from}
 use Rattle.zone_marks.proofs.keeping.Landmarks.largest_after.Goals as goal
+use Rattle.zone_marks.proofs.Stretches.Fewest.{purged-most}
 
 pub returns : goal.returns
 returns c =

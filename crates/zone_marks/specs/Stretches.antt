@@ -3,10 +3,10 @@
 use Rattle.std.specs.Prelude.{ℕ, ◌+◌, max, Bool, true, false, List, [], ◌∷◌}
 use Rattle.block_store.specs.Block.{Block, Free, Nonrelocatable, Masters, Relocatable, free_of, is_purgeable, size}
 use Rattle.block_store.specs.Run.{in_run}
-use Rattle.zone_summary.specs.declared.stretch.Counting.{Counting}
-use Rattle.zone_summary.specs.declared.stretch.Counting.TheVariants as counting
-use Rattle.zone_summary.specs.declared.stretch.Stretch.{Stretch}
-use Rattle.zone_summary.specs.declared.stretch.Stretch.TheVariants.{Whole, Ended}
+use Rattle.zone_marks.specs.declared.stretch.Counting.{Counting}
+use Rattle.zone_marks.specs.declared.stretch.Counting.TheVariants as counting
+use Rattle.zone_marks.specs.declared.stretch.Stretch.{Stretch}
+use Rattle.zone_marks.specs.declared.stretch.Stretch.TheVariants.{Whole, Ended}
 
 -- A block that adds so many free bytes to its run, or one that ends a run.
 abbrev pub counted : Bool → ℕ → Stretch

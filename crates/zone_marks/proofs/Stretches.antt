@@ -1,4 +1,3 @@
-mod Cited
 pub mod Monoid
 pub mod Sums
 pub mod Searching

@@ -1,6 +1,5 @@
 -- What stretches hold in sum.
-use Rattle.zone_summary.proofs.Cited.{◌+◌, ◌≤◌, List, [], ◌∷◌, arith, Block, sizes, join, load, prefix, suffix, stretch_by, Counting}
-use Rattle.zone_summary.proofs.Cited.{Stretch}
+use Rattle.zone_marks.proofs.Cited.{◌+◌, ◌≤◌, List, [], ◌∷◌, arith, Block, sizes, join, load, prefix, suffix, stretch_by, Counting, Stretch}
 
 pub load-join : (s t : Stretch) → load (join s t) ≤ load s + load t
 load-join s t = grind arith

@@ -1,7 +1,7 @@
 -- The search for a run passes blocks by what they come to.
-use Rattle.zone_summary.proofs.Cited.{◌≡◌, ℕ, ◌+◌, ◌<◌, ◌≤◌, Bool, true, false, None, Some, List, [], ◌∷◌, ◌++◌, map, refl, arith, Block}
-use Rattle.zone_summary.proofs.Cited.{is_relocatable, sizes, scan_runs, count_of, has, emptied, begun_in, found_from, join, best, is_ended}
-use Rattle.zone_summary.proofs.Cited.{stretch_of, suffix, Whole}
+use Rattle.zone_marks.proofs.Cited.{◌≡◌, ℕ, ◌+◌, ◌<◌, ◌≤◌, Bool, true, false, None, Some, List, [], ◌∷◌, ◌++◌, map, refl, arith, Block}
+use Rattle.zone_marks.proofs.Cited.{is_relocatable, sizes, scan_runs, count_of, has, emptied, begun_in, found_from, join, best, is_ended}
+use Rattle.zone_marks.proofs.Cited.{stretch_of, suffix, Whole}
 
 -- where a run began
 pub begun-append : (start place : ℕ) (low high : List Block) → begun_in start place (low ++ high)

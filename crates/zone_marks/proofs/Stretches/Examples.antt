@@ -1,6 +1,6 @@
 -- Worked examples of what stretches come to, by the definitions alone.
-use Rattle.zone_summary.proofs.Cited.{◌≡◌, true, false, List, [], ◌∷◌, ◌++◌, replicate, refl, Block, Free, Masters, Relocatable, no_flags}
-use Rattle.zone_summary.proofs.Cited.{Flags, best, join, stretch_of, Ended}
+use Rattle.zone_marks.proofs.Cited.{◌≡◌, true, false, List, [], ◌∷◌, ◌++◌, replicate, refl, Block, Free, Masters, Relocatable, no_flags}
+use Rattle.zone_marks.proofs.Cited.{Flags, best, join, stretch_of, Ended}
 
 abbrev locked : Flags
 locked = record { locked = true; purgeable = false }

@@ -1,6 +1,6 @@
 -- Stretches are a monoid, to which lists of blocks go by a homomorphism.
-use Rattle.zone_summary.proofs.Cited.{◌≡◌, List, [], ◌∷◌, ◌++◌, arith, Block, join, stretch_by, stretch_of, Counting, Stretch, Whole}
-use Rattle.zone_summary.specs.declared.stretch.Counting.TheVariants as counting
+use Rattle.zone_marks.proofs.Cited.{◌≡◌, List, [], ◌∷◌, ◌++◌, arith, Block, join, stretch_by, stretch_of, Counting, Stretch, Whole}
+use Rattle.zone_marks.specs.declared.stretch.Counting.TheVariants as counting
 
 pub join-unit_left : (s : Stretch) → join (Whole 0) s ≡ s
 join-unit_left s = grind arith

@@ -1,11 +1,11 @@
 -- The most of a stretch is that of its runs, or of its spaces. What blocks come to after purges: all those below a
 -- place, and some of those above it; what purges of the lowest run of blocks free.
-use Rattle.zone_summary.proofs.Cited.{◌≡◌, ℕ, ◌+◌, zero, suc, Bool, List, [], ◌∷◌, ◌++◌, map, nat_le, refl, arith, append-nil, add-zero}
-use Rattle.zone_summary.proofs.Cited.{◌-◌, ◌≤◌, ◌&&◌, ◌⊎◌, true, false, Some, inl, inr, is_some, cond, free_sum, Block, size, tidy, largest}
-use Rattle.zone_summary.proofs.Cited.{largest_run, largest_free, segments, in_run, Nothing, lowest_purged, may_be_purged, count_of, serves}
-use Rattle.zone_summary.proofs.Cited.{opened, spared, Sparing, largest_stretch, largest-purged, lowest_purged-none, run-there, emptied}
-use Rattle.zone_summary.proofs.Cited.{all_purged, spaces_of, prefix, beyond, stretch_of, join, best, Whole, purges_for, run_purges_for}
-use Rattle.zone_summary.proofs.Monoid.{join-assoc, join-unit_left, stretch_of-append}
+use Rattle.zone_marks.proofs.Cited.{◌≡◌, ℕ, ◌+◌, zero, suc, Bool, List, [], ◌∷◌, ◌++◌, map, nat_le, refl, arith, ◌-◌, ◌≤◌, ◌&&◌, ◌⊎◌, true}
+use Rattle.zone_marks.proofs.Cited.{false, Some, inl, inr, is_some, cond, free_sum, Block, size, tidy, largest, largest_run, largest_free}
+use Rattle.zone_marks.proofs.Cited.{segments, in_run, Nothing, lowest_purged, may_be_purged, count_of, serves, opened, spared, Sparing}
+use Rattle.zone_marks.proofs.Cited.{largest_stretch, largest-purged, lowest_purged-none, run-there, emptied, all_purged, spaces_of, prefix}
+use Rattle.zone_marks.proofs.Cited.{beyond, stretch_of, join, best, Whole, purges_for, run_purges_for, all-purged, purged-below}
+use Rattle.zone_marks.proofs.Stretches.Monoid.{join-assoc, join-unit_left, stretch_of-append}
 
 -- the most of a stretch is that of the runs of its blocks
 cut_of : (zone : List Block) → (prefix (stretch_of zone) ≡ free_sum (segments zone).first)
@@ -21,17 +21,6 @@ stretch_of-tidy : (bs : List Block) → stretch_of (tidy bs) ≡ stretch_of bs
 stretch_of-tidy [] = refl
 stretch_of-tidy (b ∷ bs) = grind (arith, join-unit_left, join-assoc, stretch_of-tidy bs)
 
-module _ (sp : Block → Bool) where
-  -- the lowest purges are those below a place
-  purged-below : (low rest : List Block) (j k : ℕ) → k ≡ count_of sp low + j
-      → lowest_purged k sp (low ++ rest) ≡ map (emptied sp) low ++ lowest_purged j sp rest
-  purged-below [] rest j k e = grind arith
-  purged-below (b ∷ low) rest j zero e = grind (arith, purged-below low rest j 0)
-  purged-below (b ∷ low) rest j (suc k) e = grind (arith, purged-below low rest j k, purged-below low rest j (suc k))
-
-  pub all-purged : (blocks : List Block) → lowest_purged (count_of sp blocks) sp blocks ≡ map (emptied sp) blocks
-  all-purged blocks = simp (append-nil, add-zero) at (purged-below blocks [] 0 (count_of sp blocks + 0) refl)
-
 -- the most of the spaces of blocks is the largest free block of the zone once all that may be purged were
 spaces_from : (zone : List Block) (free : ℕ)
     → largest_stretch free (map (emptied (spared Nothing)) zone) ≡ best (join (Whole free) (spaces_of zone))
@@ -41,6 +30,9 @@ spaces_from (b ∷ above) free = grind (arith, spaces_from above)
 pub largest_free_is : (zone : List Block) → largest_free (all_purged Nothing zone) ≡ best (spaces_of zone)
 largest_free_is zone = let s = rw all-purged at (largest-purged Nothing (count_of (spared Nothing) zone) zone) in
     grind (arith, spaces_from, join-unit_left)
+
+-- what the code of `best` names
+pub ruleset bests = (largest_run_is, largest_free_is)
 
 module _ (sp : Block → Bool) where
   -- a block is purged, or it stays, in its run or at its end

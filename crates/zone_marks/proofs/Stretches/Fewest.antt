@@ -1,14 +1,14 @@
 -- The least number of purges after which a run has enough free bytes: all blocks below the run that is the first to
 -- have them, and as few of its own as serve.
-use Rattle.zone_summary.proofs.Cited.{◌≡◌, ℕ, ◌+◌, ◌-◌, ◌≤◌, ◌<◌, ◌⊎◌, zero, Bool, true, false, Some, None, List, [], ◌∷◌, ◌++◌, map}
-use Rattle.zone_summary.proofs.Cited.{is_some, ◌∙◌, arith, inl, inr, cases_Bool, cases_lt, le-leb, leb-false, lt-leb, map-append, Block}
-use Rattle.zone_summary.proofs.Cited.{size, sizes, free_of, serves, IsFewest, FindsLowestRun, opened_block, count_of, lowest_purged}
-use Rattle.zone_summary.proofs.Cited.{may_be_purged, has_free, in_run, most_purges, opened, purged, spared, Sparing, none-before}
-use Rattle.zone_summary.proofs.Cited.{purged-all, run-rises, scan-is, all_purged, emptied, count_within, purges_for, run_purges_for}
-use Rattle.zone_summary.proofs.Cited.{found_from, best, join, prefix, stretch_of, Stretch, Whole}
+use Rattle.zone_marks.proofs.Cited.{◌≡◌, ℕ, ◌+◌, ◌-◌, ◌≤◌, ◌<◌, ◌⊎◌, zero, Bool, true, false, Some, None, List, [], ◌∷◌, ◌++◌, map, is_some}
+use Rattle.zone_marks.proofs.Cited.{◌∙◌, arith, inl, inr, cases_Bool, cases_lt, le-leb, leb-false, lt-leb, map-append, Block, size, sizes}
+use Rattle.zone_marks.proofs.Cited.{free_of, serves, IsFewest, FindsLowestRun, opened_block, count_of, lowest_purged, may_be_purged}
+use Rattle.zone_marks.proofs.Cited.{has_free, in_run, most_purges, opened, purged, spared, Sparing, none-before, purged-all, run-rises}
+use Rattle.zone_marks.proofs.Cited.{scan-is, all_purged, emptied, count_within, purges_for, run_purges_for, found_from, best, join, prefix}
+use Rattle.zone_marks.proofs.Cited.{stretch_of, Stretch, Whole, all-purged}
 use Rattle.block_store.specs.declared.sparing.Sparing.TheVariants as sparing
-use Rattle.zone_summary.proofs.Monoid.{join-unit_left, stretch_of-append}
-use Rattle.zone_summary.proofs.Purges.{all-purged, serves-is, freed, gains, others}
+use Rattle.zone_marks.proofs.Stretches.Monoid.{join-unit_left, stretch_of-append}
+use Rattle.zone_marks.proofs.Stretches.Purges.{serves-is, freed, gains, others}
 
 module _ (p : ℕ) (sp : Block → Bool) (each : Block → Block) where
   -- Blocks that a search finds a run among, where `each` makes others of the same size of them: those below the run,

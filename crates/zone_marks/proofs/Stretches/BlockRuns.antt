@@ -1,13 +1,13 @@
 -- The run of the block of a master pointer, after purges: it stays where it is. As few purges serve as are below it,
 -- and as few of its own as free what it lacks.
-use Rattle.zone_summary.proofs.Cited.{◌≡◌, ℕ, ◌+◌, ◌-◌, ◌≤◌, ◌<◌, ◌⊎◌, Bool, true, false, ◌&&◌, Option, Some, None, nat_le, List, [], ◌∷◌}
-use Rattle.zone_summary.proofs.Cited.{◌++◌, is_some, option_map, arith, inl, inr, cases_Bool, Block, size, sizes, free_of, count}
-use Rattle.zone_summary.proofs.Cited.{is_relocatable, serves_block, IsFewest, FindsLowestRun, scan_runs, count_of, lowest_purged}
-use Rattle.zone_summary.proofs.Cited.{may_be_purged, RunSpot, has, has_free, in_run, run_spot, opened, purged, spared, Sparing}
-use Rattle.zone_summary.proofs.Cited.{lowest_purged-none, scan-end, scan-is, scan_kept, suits-slot, purges_for, run_purges_for, prefix}
-use Rattle.zone_summary.proofs.Cited.{stretch_of}
+use Rattle.zone_marks.proofs.Cited.{◌≡◌, ℕ, ◌+◌, ◌-◌, ◌≤◌, ◌<◌, ◌⊎◌, Bool, true, false, ◌&&◌, Option, Some, None, nat_le, List, [], ◌∷◌}
+use Rattle.zone_marks.proofs.Cited.{◌++◌, is_some, option_map, arith, inl, inr, cases_Bool, Block, size, sizes, free_of, count}
+use Rattle.zone_marks.proofs.Cited.{is_relocatable, serves_block, IsFewest, FindsLowestRun, scan_runs, count_of, lowest_purged}
+use Rattle.zone_marks.proofs.Cited.{may_be_purged, RunSpot, has, has_free, in_run, run_spot, opened, purged, spared, Sparing}
+use Rattle.zone_marks.proofs.Cited.{lowest_purged-none, scan-end, scan-is, scan_kept, suits-slot, purges_for, run_purges_for, prefix}
+use Rattle.zone_marks.proofs.Cited.{stretch_of}
 use Rattle.block_store.specs.declared.sparing.Sparing.TheVariants as sparing
-use Rattle.zone_summary.proofs.Purges.{freed, gain, gains, own-is}
+use Rattle.zone_marks.proofs.Stretches.Purges.{freed, gain, gains, own-is}
 
 -- a walk that counts purges looks at one block
 pub run-goes : (sp : Block → Bool) (done left : ℕ) (b : Block) (above : List Block) → 0 < left

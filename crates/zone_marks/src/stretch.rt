@@ -5,10 +5,10 @@ ghost use Rattle.std.specs.Prelude.{◌≡◌, ◌+◌, ◌^◌, ◌<◌, ◌++�
 ghost use Rattle.block_store.specs.Block.{Block};
 ghost use Rattle.block_store.specs.Compact.{largest_free, largest_run};
 ghost use Rattle.block_store.specs.declared.sparing.Sparing.TheVariants.{Nothing};
-ghost use Rattle.zone_summary.specs.Emptied.{all_purged};
-ghost use Rattle.zone_summary.specs.Stretches as stretches;
-ghost use Rattle.zone_summary.specs.Stretches.{prefix, spaces_of, stretch_by, stretch_of, suffix};
-ghost use Rattle.zone_summary.specs.declared.stretch.Counting.{Counting as CountingOf};
+ghost use Rattle.zone_bytes.specs.Emptied.{all_purged};
+ghost use Rattle.zone_marks.specs.Stretches as stretches;
+ghost use Rattle.zone_marks.specs.Stretches.{prefix, spaces_of, stretch_by, stretch_of, suffix};
+ghost use Rattle.zone_marks.specs.declared.stretch.Counting.{Counting as CountingOf};
 
 /// How the bytes of blocks are counted.
 #[derive(Clone, Copy)]
@@ -40,7 +40,7 @@ impl Stretch {
     pub const END: Stretch = Stretch::Ended(0, 0, 0);
 
     /// Returns the summary of this stretch together with the one that follows it.
-    #[tactic(auto, using(crate::proofs::Monoid::joins))]
+    #[tactic(auto, using(crate::proofs::Stretches::Monoid::joins))]
     pub fn join(self, high: Stretch) -> Stretch
         requires { suffix self + prefix high < 2 ^ 32 }
         ensures is { result ≡ stretches.join self high }
@@ -59,7 +59,7 @@ impl Stretch {
     }
 
     /// Returns the greatest number of free bytes of a run.
-    #[tactic(auto, using(crate::proofs::Purges::largest_run_is, crate::proofs::Purges::largest_free_is))]
+    #[tactic(auto, using(crate::proofs::Stretches::Purges::bests))]
     pub fn best(self) -> u32
         ensures is { result ≡ stretches.best self }
         ensures largest { (blocks : List Block) → self ≡ stretch_of blocks

@@ -1,4 +1,0 @@
-pub mod Emptied
-pub mod Fewest
-pub mod Searches
-pub mod Stretches
