@@ -15,7 +15,7 @@ pub use Rattle.fork_commands.specs.Extracting.{ToWrite, resource_files, within}
 pub use Rattle.fork_commands.specs.Faults.{Stops, made_then, of_code}
 pub use Rattle.fork_commands.specs.Info.{decoded_info, info_lines}
 unfoldable pub use Rattle.fork_commands.specs.Info.{info_text, info_within}
-pub use Rattle.fork_commands.specs.Opening.{bytes_of, decoded_of, decoded_or_fault, is_unwrapped}
+pub use Rattle.fork_commands.specs.Opening.{IsOpen, bytes_of, decoded_or_fault, is_unwrapped}
 unfoldable pub use Rattle.fork_commands.specs.Opening.{container_of, is_encoded, opened}
 pub use Rattle.fork_commands.specs.Packaging.{of_put, of_rewrap, put_or_fault, recognized, then_packed, wrapped_or_fault}
 unfoldable pub use Rattle.fork_commands.specs.Packaging.{packed}

@@ -1,12 +1,15 @@
 use Rattle.fork_commands.proofs.Cited.{◌≡◌, ℕ, Bool, true, false, cond, List, Some, None, Result, Ok, Err, refl, ap, decoded, File, Damage}
 use Rattle.fork_commands.proofs.Cited.{is_fork, wrapping_of, unwrapped, WrapFault, Wrapping, FileFault, WorkFault, HostMemory, made_then}
 use Rattle.fork_commands.proofs.Cited.{Stops, fork_found, fork_within, fork_in, content_of_fork, content_in, is_unwrapped, is_encoded}
-use Rattle.fork_commands.proofs.Cited.{opened, decoded_or_fault, container_of}
+use Rattle.fork_commands.proofs.Cited.{opened, decoded_or_fault, container_of, bytes_of, IsOpen, Option, ◌∙◌}
+use Rattle.bin_hex.specs.File.{view}
 use Rattle.fork_wrappers.specs.Unwrapped.{fork_in as fork_wrapped}
 use Rattle.fork_wrappers.specs.declared.wrapping.Wrapping.TheVariants as wrapping
 use Rattle.fork_commands.specs.declared.fault.FileFault.TheVariants as fault
 use Rattle.fork_commands.specs.declared.fault.WorkFault.TheVariants.{File as FileAt}
 use Rattle.fork_commands.specs.declared.opening.Container.TheVariants as container
+use Rattle.fork_commands.specs.declared.opening.OpenFile.{OpenFile}
+use Rattle.fork_commands.specs.declared.opening.OpenFile.TheVariants as open_file
 
 -- What the bytes of a file stand for.
 
@@ -35,6 +38,23 @@ encoded_damaged bytes damage is has = rw is (rw has refl)
 pub plain_there : (bytes : List ℕ) → is_encoded bytes ≡ false → opened bytes ≡ Ok None
 unfolding opened
 plain_there bytes is = rw is refl
+
+-- a fork stands for itself
+pub bare_there : (bytes : List ℕ) → is_fork bytes ≡ true → opened bytes ≡ Ok None
+unfolding is_encoded
+bare_there bytes is =
+    let plain : wrapping_of bytes ≡ wrapping.Plain = rw is refl in plain_there bytes (rw (plain, is) refl)
+
+-- the file for which the bytes of a file stand that was opened, if they are encoded
+abbrev pub decoded_of : OpenFile → Option File
+decoded_of (open_file.Fork bytes) = None
+decoded_of (open_file.Plain bytes) = None
+decoded_of (open_file.BinHex bytes file) = Some (view file)
+
+pub stands : (file : OpenFile) → IsOpen file → opened (bytes_of file) ≡ Ok (decoded_of file)
+stands (open_file.Fork bytes) is = bare_there bytes.now is
+stands (open_file.Plain bytes) is = is
+stands (open_file.BinHex bytes file) is = is
 
 -- the fork in a file that stands for itself
 pub plain_fork : (bytes : List ℕ) (found : Result (List ℕ) FileFault) → opened bytes ≡ Ok None
@@ -93,7 +113,11 @@ no_content bytes (FileAt fault) stops = rw stops refl
 
 -- a fork is its own file
 pub bare_fork : (bytes : List ℕ) → is_fork bytes ≡ true → fork_in bytes ≡ Ok bytes
-unfolding is_encoded
 bare_fork bytes is =
     let plain : wrapping_of bytes ≡ wrapping.Plain = rw is refl in
-    plain_fork bytes (Ok bytes) (plain_there bytes (rw (plain, is) refl)) (rw plain refl)
+    plain_fork bytes (Ok bytes) (bare_there bytes is) (rw plain refl)
+
+pub bare_container : (bytes : List ℕ) → is_fork bytes ≡ true → container_of bytes ≡ container.Wrapped wrapping.Plain
+bare_container bytes is =
+    let plain : wrapping_of bytes ≡ wrapping.Plain = rw is refl in
+    plain_container bytes (bare_there bytes is) ∙ ap container.Wrapped plain

@@ -1,6 +1,9 @@
 use Rattle.fork_commands.proofs.Cited.{◌≡◌, ℕ, List, Option, Some, None, Ok, Err, refl, sym, ap, ◌∙◌, File, Info, info_of, data_fork_in}
 use Rattle.fork_commands.proofs.Cited.{WrapFault, FileFault, Wrapper, ToWrite, decoded_info, info_lines, info_within, info_text, opened}
-use Rattle.fork_commands.proofs.Cited.{data_found, data_in, part_files, parted, fork_in}
+use Rattle.fork_commands.proofs.Cited.{data_found, data_in, part_files, parted, fork_in, is_fork, wrapping_of, unwrapped, true}
+use Rattle.fork_commands.proofs.Opens.{bare_there}
+use Rattle.fork_wrappers.specs.Info.{data_beside, data_in as data_in_wrapper}
+use Rattle.fork_wrappers.specs.declared.wrapping.Wrapping.TheVariants as wrapping
 use Rattle.fork_commands.specs.declared.opening.Container.TheVariants as container
 
 -- What is known of a file that was opened.
@@ -21,6 +24,9 @@ pub told_plain : (bytes text : List ℕ) → opened bytes ≡ Ok None → text �
 unfolding info_text
 told_plain bytes text is same = rw is (rw same refl)
 
+pub told_bare : (bytes text : List ℕ) → is_fork bytes ≡ true → text ≡ info_within bytes None → info_text bytes ≡ Ok text
+told_bare bytes text is same = told_plain bytes text (bare_there bytes is) same
+
 pub told_decoded : (bytes text : List ℕ) (file : File) → opened bytes ≡ Ok (Some file)
     → text ≡ info_within bytes (Some file) → info_text bytes ≡ Ok text
 unfolding info_text
@@ -32,6 +38,14 @@ pub data_plain : (bytes : List ℕ) (found : Option (List ℕ)) → opened bytes
     → data_in bytes ≡ Ok found
 unfolding data_in
 data_plain bytes found is has = rw is (ap data_found has)
+
+-- a fork has none beside it
+pub data_bare : (bytes : List ℕ) → is_fork bytes ≡ true → data_in bytes ≡ Ok None
+data_bare bytes is =
+    let plain : wrapping_of bytes ≡ wrapping.Plain = rw is refl in
+    let found : unwrapped bytes ≡ Ok bytes = rw plain refl in
+    data_plain bytes None (bare_there bytes is)
+    (ap (λ fork. data_beside fork bytes) found ∙ ap (λ how. Ok (data_in_wrapper how bytes)) plain)
 
 pub data_damaged : (bytes : List ℕ) (fault : WrapFault) → opened bytes ≡ Ok None → data_fork_in bytes ≡ Err fault
     → data_in bytes ≡ Err (Wrapper fault)

@@ -41,14 +41,13 @@ container_of bytes = if is_encoded bytes then container.BinHex else container.Wr
 
 -- The bytes of a file that was opened.
 abbrev pub bytes_of : OpenFile → List ℕ
+bytes_of (open_file.Fork bytes) = bytes.now
 bytes_of (open_file.Plain bytes) = bytes.now
 bytes_of (open_file.BinHex bytes file) = bytes.now
 
--- The file for which they stand, if they are encoded.
-abbrev pub decoded_of : OpenFile → Option File
-decoded_of (open_file.Plain bytes) = None
-decoded_of (open_file.BinHex bytes file) = Some (view file)
-
--- What holds of each file that was opened: it has what its bytes stand for.
+-- What holds of each file that was opened: its bytes are a resource fork, or they stand for themselves, or for the file
+-- that was decoded.
 abbrev pub IsOpen : OpenFile → Type 0
-IsOpen file = opened (bytes_of file) ≡ Ok (decoded_of file)
+IsOpen (open_file.Fork bytes) = is_fork bytes.now ≡ true
+IsOpen (open_file.Plain bytes) = opened bytes.now ≡ Ok None
+IsOpen (open_file.BinHex bytes file) = opened bytes.now ≡ Ok (Some (view file))

@@ -382,12 +382,13 @@ fn decoded_lines(alloc: Global, bytes: &[u8], file: &BinHexFile) -> Result<Vec<u
 /// # Errors
 ///
 /// The host is out of memory.
-#[tactic(auto, using(crate::proofs::Told::told_plain, crate::proofs::Told::told_decoded))]
+#[tactic(auto, using(crate::proofs::Told::told_bare, crate::proofs::Told::told_plain, crate::proofs::Told::told_decoded))]
 pub fn info_text(alloc: Global, file: &OpenFile<'_>) -> Result<Vec<u8>, AllocError>
     requires { IsOpen file.now }
     ensures { IfOk result (λ text. info_text (bytes_of file.now) ≡ Ok text.items) }
 {
     match file {
+        OpenFile::Fork(bytes) => plain_lines(alloc, bytes),
         OpenFile::Plain(bytes) => plain_lines(alloc, bytes),
         OpenFile::BinHex { bytes, file } => decoded_lines(alloc, bytes, file),
     }

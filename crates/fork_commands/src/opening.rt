@@ -1,6 +1,7 @@
 //! Files that are opened: their bytes, and what those of a BinHex file stand for.
 
 ghost use Rattle.std.specs.Prelude.{◌≡◌, true, false, IfOk, IfErr};
+ghost use Rattle.fork_format.specs.Fork.{is_fork};
 ghost use Rattle.fork_wrappers.specs.Unwrapped.{wrapping_of};
 ghost use Rattle.fork_commands.specs.Faults.{Stops};
 ghost use Rattle.fork_commands.specs.Reading.{fork_in, content_in};
@@ -34,7 +35,9 @@ impl fmt::Display for Container {
 /// A file that was opened.
 #[derive(Drop)]
 pub enum OpenFile<'b> {
-    /// A file that is not encoded.
+    /// A file that is a resource fork itself.
+    Fork(&'b [u8]),
+    /// Another file that is not encoded: in a wrapper, or in none that is known.
     Plain(&'b [u8]),
     /// A BinHex file.
     BinHex {
@@ -62,13 +65,23 @@ fn is_in_none(bytes: &[u8]) -> bool
     }
 }
 
+/// Returns whether a file that is no resource fork is encoded: its bytes are in no wrapper, and
+/// they are those of a BinHex file.
+#[tactic(auto, unfolding(crate::specs::Opening::is_encoded))]
+fn is_encoded_other(bytes: &[u8]) -> bool
+    requires { is_fork bytes.now ≡ false }
+    ensures { result ≡ is_encoded bytes.now }
+{
+    is_in_none(bytes) && is_bin_hex(bytes)
+}
+
 /// Returns whether a file is encoded: its bytes are no resource fork, they are in no wrapper, and
 /// they are those of a BinHex file.
 #[tactic(auto, unfolding(crate::specs::Opening::is_encoded))]
 pub(crate) fn is_encoded_file(bytes: &[u8]) -> bool
     ensures { result ≡ is_encoded bytes.now }
 {
-    !is_resource_fork(bytes) && is_in_none(bytes) && is_bin_hex(bytes)
+    !is_resource_fork(bytes) && is_encoded_other(bytes)
 }
 
 /// Opens an encoded file.
@@ -98,8 +111,24 @@ fn plain_file<'b>(bytes: &'b [u8]) -> OpenFile<'b>
     OpenFile::Plain(bytes)
 }
 
+/// Opens a file, once it is known that it is no resource fork.
+fn other_file<'b>(alloc: Global, bytes: &'b [u8]) -> Result<OpenFile<'b>, WorkFault>
+    requires { is_fork bytes.now ≡ false }
+    ensures bytes { IfOk result (λ file. bytes_of file ≡ bytes.now) }
+    ensures is_open { IfOk result IsOpen }
+    ensures fault { IfErr result (λ fault. Stops fault (opened bytes.now)) }
+    ensures no_fork { IfErr result (λ fault. Stops fault (fork_in bytes.now)) }
+    ensures no_content { IfErr result (λ fault. Stops fault (content_in bytes.now)) }
+{
+    if is_encoded_other(bytes) {
+        decoded_file(alloc, bytes)
+    } else {
+        Ok(plain_file(bytes))
+    }
+}
+
 /// Opens a file: what its bytes stand for is read if they are those of a BinHex file, in no wrapper
-/// and no resource fork.
+/// and no resource fork. Whether they are a fork is judged here, and not again.
 ///
 /// RFC 1741, appendix A.
 ///
@@ -113,9 +142,8 @@ pub fn open_file<'b>(alloc: Global, bytes: &'b [u8]) -> Result<OpenFile<'b>, Wor
     ensures no_fork { IfErr result (λ fault. Stops fault (fork_in bytes.now)) }
     ensures no_content { IfErr result (λ fault. Stops fault (content_in bytes.now)) }
 {
-    if is_encoded_file(bytes) {
-        decoded_file(alloc, bytes)
-    } else {
-        Ok(plain_file(bytes))
+    if is_resource_fork(bytes) {
+        return Ok(OpenFile::Fork(bytes));
     }
+    other_file(alloc, bytes)
 }

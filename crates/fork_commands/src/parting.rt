@@ -17,7 +17,7 @@ use fork_wrappers::data_fork;
 use std::alloc::{AllocError, Global};
 
 /// Returns the data fork of a file, if it has one.
-#[tactic(auto, using(crate::proofs::Told::data_plain, crate::proofs::Told::data_damaged, crate::proofs::Told::data_decoded))]
+#[tactic(auto, using(crate::proofs::Told::data_bare, crate::proofs::Told::data_plain, crate::proofs::Told::data_damaged, crate::proofs::Told::data_decoded))]
 fn data_in<'f>(file: &'f OpenFile<'_>) -> Result<Option<&'f [u8]>, FileFault>
     requires { IsOpen file.now }
     ensures found { IfOk result (λ found. data_in (bytes_of file.now)
@@ -25,6 +25,7 @@ fn data_in<'f>(file: &'f OpenFile<'_>) -> Result<Option<&'f [u8]>, FileFault>
     ensures fault { IfErr result (λ fault. data_in (bytes_of file.now) ≡ Err fault) }
 {
     match file {
+        OpenFile::Fork(_) => Ok(None),
         OpenFile::Plain(bytes) => match data_fork(bytes) {
             Ok(found) => Ok(found),
             Err(fault) => Err(FileFault::Wrapper { fault }),

@@ -9,7 +9,7 @@ ghost use Rattle.fork_commands.specs.Reading.{content_of_fork, fork_in, content_
 use crate::fault::{FileFault, WorkFault};
 use crate::opening::{Container, OpenFile, open_file};
 use fork_format::{Content, is_resource_fork, read_fork};
-use fork_wrappers::unwrap;
+use fork_wrappers::{Wrapping, unwrap};
 use std::alloc::{AllocError, Global};
 
 /// A resource fork that was found in a file.
@@ -42,7 +42,7 @@ pub fn content_of_fork<'b>(alloc: Global, fork: &'b [u8]) -> Result<Content<'b>,
 /// # Errors
 ///
 /// The wrapper is damaged.
-#[tactic(auto, using(crate::proofs::Opens::plain_fork, crate::proofs::Opens::plain_container, crate::proofs::Opens::decoded_fork, crate::proofs::Opens::decoded_container))]
+#[tactic(auto, using(crate::proofs::Opens::bare_fork, crate::proofs::Opens::bare_container, crate::proofs::Opens::plain_fork, crate::proofs::Opens::plain_container, crate::proofs::Opens::decoded_fork, crate::proofs::Opens::decoded_container))]
 pub fn fork_in<'f>(file: &'f OpenFile<'_>) -> Result<ForkFound<'f>, FileFault>
     requires { IsOpen file.now }
     ensures container { IfOk result (λ found. found.container ≡ container_of (bytes_of file.now)) }
@@ -50,6 +50,10 @@ pub fn fork_in<'f>(file: &'f OpenFile<'_>) -> Result<ForkFound<'f>, FileFault>
     ensures fault { IfErr result (λ fault. fork_in (bytes_of file.now) ≡ Err fault) }
 {
     match file {
+        OpenFile::Fork(bytes) => Ok(ForkFound {
+            container: Container::Wrapped(Wrapping::Plain),
+            fork: bytes,
+        }),
         OpenFile::Plain(bytes) => match unwrap(bytes) {
             Ok(found) => Ok(ForkFound {
                 container: Container::Wrapped(found.wrapping),
@@ -92,13 +96,14 @@ pub fn copied(alloc: Global, bytes: &[u8]) -> Result<Vec<u8>, AllocError>
 
 /// Returns the resource fork of a file that was opened: it is moved out of what a BinHex file
 /// stands for, else copied.
-#[tactic(auto, using(crate::proofs::Opens::plain_fork, crate::proofs::Opens::decoded_fork))]
+#[tactic(auto, using(crate::proofs::Opens::bare_fork, crate::proofs::Opens::plain_fork, crate::proofs::Opens::decoded_fork))]
 pub(crate) fn fork_out(alloc: Global, file: OpenFile<'_>) -> Result<Vec<u8>, WorkFault>
     requires { IsOpen file }
     ensures fork { IfOk result (λ fork. fork_in (bytes_of file.entry) ≡ Ok fork.items) }
     ensures fault { IfErr result (λ fault. Stops fault (fork_in (bytes_of file.entry))) }
 {
     match file {
+        OpenFile::Fork(bytes) => Ok(copied(alloc, bytes)?),
         OpenFile::Plain(bytes) => match unwrap(bytes) {
             Ok(found) => Ok(copied(alloc, found.fork)?),
             Err(fault) => Err(WorkFault::File(FileFault::Wrapper { fault })),
