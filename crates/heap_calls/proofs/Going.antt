@@ -5,8 +5,9 @@ use Rattle.heap_calls.proofs.Cited.{counted, counted-none, has_free, segments, S
 use Rattle.heap_calls.proofs.Cited.{grow_up, spared, Sparing, Move, Purge, Grow, Extend, Push, Cut, Did, did, moved, gone_by}
 use Rattle.heap_calls.proofs.Cited.{lowered_by, searches_by, lowest_gone, gone_above, is_same, run_above, Sought, at_hand, no_room, sought}
 use Rattle.heap_calls.proofs.Cited.{around, purges_for, seek, seek_in_place, seek_size, seek_resized, did-append, Anchor, Grown, OpensNone}
-use Rattle.heap_calls.proofs.Cited.{Gone, gone_named, gone_from, Went, told_named, told_along, at_spot, seek_sized, length, Write, written_in}
-use Rattle.heap_calls.proofs.Cited.{is_relocatable, length_of, seek_longer, seek_still, spot_at}
+use Rattle.heap_calls.proofs.Cited.{Gone, gone_named, gone_from, Went, told_named, told_along, at_spot, seek_sized, length, Write}
+use Rattle.heap_calls.proofs.Cited.{written_in}
+use Rattle.heap_calls.proofs.Cited.{Refuses, is_relocatable, length_of, seek_longer, seek_still, spot_at}
 use Rattle.heap_calls.specs.Inner.Appending.{behind}
 use Rattle.moves.specs.Moves as moves
 
@@ -23,6 +24,11 @@ went-as {E = E} r sp zone zone' rest rest' p q same went =
 -- no room is sought
 pub went-nowhere : (sp : Block → Bool) (zone : List Block) (rest : Rest) → Went sp zone no_room false 0 zone rest rest
 went-nowhere sp zone rest = record { finds = refl; leaves = refl; looks = refl; lowers = sym (counted-none rest.moves) }
+
+-- where no room is found the zone is as it was
+pub went-refused : {sp : Block → Bool} {zone : List Block} {p : Sought} {found : Bool} {n : ℕ} {zone' : List Block}
+    {rest rest' : Rest} → Refuses sp p → Went sp zone p found n zone' rest rest' → found ≡ false → zone' ≡ zone
+went-refused {zone = zone} only w is = w.leaves ∙ ap (λ (d : Did). d.zone) ((only (sym w.finds ∙ is)).1 zone)
 
 -- A search for the place of a move that itself neither searches nor purges, after the least number of purges.
 module _ (sp : Block → Bool) (zone : List Block) (m : Move) (quiet : searches_by m ≡ 0)

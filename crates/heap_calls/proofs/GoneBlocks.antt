@@ -1,19 +1,19 @@
-use Rattle.heap_calls.proofs.Cited.{◌≡◌, ℕ, ◌+◌, ◌-◌, ◌≤◌, ◌<◌, zero, suc, Bool, true, false, not, ◌&&◌, List, [], ◌∷◌, ◌++◌, length, drop}
+use Rattle.heap_calls.proofs.Cited.{◌≡◌, ℕ, ◌+◌, ◌-◌, ◌≤◌, ◌<◌, zero, suc, Bool, true, false, ◌&&◌, List, [], ◌∷◌, ◌++◌, length, drop}
 use Rattle.heap_calls.proofs.Cited.{slice_index_or, inl, inr, append_assoc, append-nil, refl, sym, ◌∙◌, ap, cond, arith, Option, Some, None}
-use Rattle.heap_calls.proofs.Cited.{subst, is_some, map, ◌*◌, cond-true, cond-false, nat_tests, at_drop_more, length-map, none-some}
+use Rattle.heap_calls.proofs.Cited.{subst, map, ◌*◌, cond-true, cond-false, nat_tests, at_drop_more, length-map, none-some}
 use Rattle.heap_calls.proofs.Cited.{option_map, Block, Free, Nonrelocatable, Masters, Relocatable, size, sizes, is_purgeable, content_of}
-use Rattle.heap_calls.proofs.Cited.{rename, rename_block, tidy, IsEdge, Spot, spot_at, may_be_purged, put_at_base, room, spared, opened}
+use Rattle.heap_calls.proofs.Cited.{rename, rename_block, tidy, IsEdge, Spot, spot_at, may_be_purged, put_at_base, spared}
 use Rattle.heap_calls.proofs.Cited.{opened_block, seen, Flags, Sparing, Nothing, spot_at-below, spot_at-is, Apart, apart-tidied}
-use Rattle.heap_calls.proofs.Cited.{spot_at-parted, spot-end, total-append, is_purgeable-rename, Anchor, Rest, Log, State, Memory}
-use Rattle.heap_calls.proofs.Cited.{used_slots, all_slots, nothing, Gone, gone, room_gone, slot_gone, room_searches, base, base_searches}
-use Rattle.heap_calls.proofs.Cited.{is_some-map, Slot, rename_run_spot, count, is_masters, number_from, handle_number, pointer_number}
+use Rattle.heap_calls.proofs.Cited.{spot_at-parted, spot-end, total-append, is_purgeable-rename, Anchor, Rest, Log, Memory}
+use Rattle.heap_calls.proofs.Cited.{nothing, Gone, gone, room_gone, slot_gone, Did, did, Sought, slot-rename, did-rename}
+use Rattle.heap_calls.proofs.Cited.{count, is_masters, number_from, handle_number, pointer_number}
 use Rattle.heap_calls.proofs.Cited.{leads_to, name_of, memory_of, state_of, Agrees, IsNumberOf, gone_named, gone_from, from_spot}
-use Rattle.heap_calls.proofs.Cited.{blocks_from, base_gone, zone_slot_gone}
+use Rattle.heap_calls.proofs.Cited.{blocks_from, zone_slot_gone, some_left, seek_unused, told_blocks}
 use Rattle.std.specs.Prelude.{nat_lt}
 use Rattle.block_store.specs.declared.sparing.Seen.TheVariants as see
-use Rattle.heap_calls.proofs.NewBlocks.Basing.{base-rename, base_searches-rename}
-use Rattle.heap_calls.proofs.NewBlocks.NewSlots.{at_base, room-base, searches-base}
-use Rattle.heap_calls.proofs.NewBlocks.NewHandles.{base-is, base_searches-is, none-left, some-left}
+use Rattle.heap_calls.proofs.NewBlocks.NewHandles.{unused-is}
+use Rattle.heap_calls.proofs.Same.NewBlocks.{slot-agrees}
+use Rattle.heap_calls.proofs.Went.{slot-names}
 
 -- What a sink is told of blocks that are purged.
 
@@ -145,84 +145,22 @@ told-all value zone rest es log k k' is same =
     ∙ ap (λ (m : Memory). gone (length m.heap.names) k nothing m.heap.zone) is
     ∙ ap (λ n. gone (length value.heap.names) n nothing value.heap.zone) same
 
--- the blocks of a store that are purged, where the names that a search spares are those of slots
-pub gone-spared : (entries : List Anchor) (sp : Block → Bool) (sparing : Sparing)
-    → ((b : Block) → sp (rename_block (handle_number entries) (pointer_number entries) b) ≡ spared sparing b)
-    → ((b : Block) → opened_block sparing b ≡ b) → (k : ℕ) (blocks : List Block)
-    → gone (length entries) k sp (rename (handle_number entries) (pointer_number entries) blocks)
-    ≡ gone_from entries sparing k blocks
-gone-spared entries sp sparing same closed zero blocks = refl
-gone-spared entries sp sparing same closed (suc k) [] = refl
-gone-spared entries sp sparing same closed (suc k) (b ∷ above) =
-    let f = handle_number entries in
-    let g = pointer_number entries in
-    let test : may_be_purged sp (rename_block f g b) ≡ may_be_purged (spared sparing) (opened_block sparing b) =
-    ap (λ t. t && not (sp (rename_block f g b))) (is_purgeable-rename f g b)
-    ∙ ap (λ t. is_purgeable b && not t) (same b) ∙ ap (may_be_purged (spared sparing)) (sym (closed b)) in
-    ap (λ t. cond t (gone_named entries b ++ gone (length entries) k sp (rename f g above))
-    (gone (length entries) (suc k) sp (rename f g above))) test
-    ∙ ap (λ l. cond (may_be_purged (spared sparing) (opened_block sparing b)) (gone_named entries b ++ l)
-    (gone (length entries) (suc k) sp (rename f g above))) (gone-spared entries sp sparing same closed k above)
-    ∙ ap (λ l. cond (may_be_purged (spared sparing) (opened_block sparing b))
-    (gone_named entries b ++ gone_from entries sparing k above) l)
-    (gone-spared entries sp sparing same closed (suc k) above)
-
-module _ (zone : List Block) (rest : Rest) (es : List Anchor) (masters : rest.all ≡ 64 * count is_masters zone)
+-- the blocks that are purged for an unused master pointer, where the names that a search spares are those of slots
+pub slot_gone-is : (zone : List Block) (rest : Rest) (es : List Anchor) (masters : rest.all ≡ 64 * count is_masters zone)
     (agrees : Agrees zone rest es) (sp : Block → Bool) (sparing : Sparing)
-    (same : (b : Block) → sp (rename_block (handle_number es) (pointer_number es) b) ≡ spared sparing b)
-    (closed : opened sparing zone ≡ zone) (closed_block : (b : Block) → opened_block sparing b ≡ b)
-  where
-    -- the blocks that are purged for room at the base of a run
-    pub base_gone-is : (new : Block)
-        → base_gone es (size new) sparing zone
-        ≡ room_gone (length (map (name_of rest.slots) es))
-        (put_at_base (rename_block (handle_number es) (pointer_number es) new)) sp
-        (rename (handle_number es) (pointer_number es) zone)
-    base_gone-is new =
-        let f = handle_number es in
-        let g = pointer_number es in
-        let found : is_some (base (size new) sparing zone)
-        ≡ is_some (room (put_at_base (rename_block f g new)) sp (rename f g zone)) =
-        sym (ap is_some (base-is zone rest es masters agrees sp sparing same closed new)
-        ∙ is_some-map (rename f g) _ ∙ ap is_some (room-base new sparing zone) ∙ is_some-map (at_base new) _) in
-        let many = base_searches-is zone rest es masters agrees sp sparing same closed new in
-        ap (λ t. cond t (gone_from es sparing (base_searches (size new) sparing zone - 1) zone) []) found
-        ∙ ap (λ l. cond (is_some (room (put_at_base (rename_block f g new)) sp (rename f g zone))) l [])
-        (sym (gone-spared es sp sparing same closed_block (base_searches (size new) sparing zone - 1) zone)
-        ∙ ap (λ n. gone (length es) (n - 1) sp (rename f g zone)) (sym many)
-        ∙ ap (λ n. gone n (room_searches (put_at_base (rename_block f g new)) sp (rename f g zone) - 1) sp
-        (rename f g zone)) (sym (length-map es (name_of rest.slots))))
-
-    -- the blocks that are purged for an unused master pointer
-    pub slot_gone-is : zone_slot_gone es sparing rest.unused zone ≡ slot_gone sp (state_of zone rest.slots es)
-    slot_gone-is = cases rest.unused refl
-      where
-        s : State
-        s = state_of zone rest.slots es
-
-        cases : (n : ℕ) → rest.unused ≡ n → zone_slot_gone es sparing n zone ≡ slot_gone sp s
-        cases zero e = base_gone-is Masters
-            ∙ sym (cond-false {A = List Gone} (nat_lt (used_slots s) (all_slots s)) [] _
-            (none-left zone rest es masters agrees sp sparing same closed e))
-        cases (suc n) e = sym (cond-true {A = List Gone} (nat_lt (used_slots s) (all_slots s)) [] _
-            (some-left zone rest es masters agrees sp sparing same closed n e))
-
--- the same, whatever the new block is named, where no name is spared
-pub base_gone-any : (zone : List Block) (slots : ℕ → Slot) (es : List Anchor) (new : Block)
-    → base_gone es (size new) Nothing zone
-    ≡ room_gone (length (map (name_of slots) es)) (put_at_base new) nothing
-    (rename (handle_number es) (pointer_number es) zone)
-base_gone-any zone slots es new =
+    → ((b : Block) → sp (rename_block (handle_number es) (pointer_number es) b) ≡ spared sparing b)
+    → zone_slot_gone es sparing rest.unused zone ≡ slot_gone sp (state_of zone rest.slots es)
+slot_gone-is zone rest es masters agrees sp sparing same =
     let f = handle_number es in
     let g = pointer_number es in
-    let found : is_some (base (size new) Nothing zone) ≡ is_some (room (put_at_base new) nothing (rename f g zone)) =
-    sym (ap is_some (room-base new Nothing (rename f g zone)) ∙ is_some-map (at_base new) _
-    ∙ ap is_some (base-rename f g (size new) zone) ∙ is_some-map (rename_run_spot f g) _) in
-    let many : room_searches (put_at_base new) nothing (rename f g zone) ≡ base_searches (size new) Nothing zone =
-    searches-base new Nothing (rename f g zone) ∙ base_searches-rename f g (size new) zone in
-    ap (λ t. cond t (gone_from es Nothing (base_searches (size new) Nothing zone - 1) zone) []) found
-    ∙ ap (λ l. cond (is_some (room (put_at_base new) nothing (rename f g zone))) l [])
-    (sym (gone-named es (base_searches (size new) Nothing zone - 1) zone)
-    ∙ ap (λ n. gone (length es) (n - 1) nothing (rename f g zone)) (sym many)
-    ∙ ap (λ n. gone n (room_searches (put_at_base new) nothing (rename f g zone) - 1) nothing (rename f g zone))
-    (sym (length-map es (name_of slots))))
+    let n = length (map (name_of rest.slots) es) in
+    let left = some_left rest.unused in
+    let path = (seek_unused sparing rest.unused zone).path in
+    ap (λ (k : ℕ). told_blocks k (rename f g (did (spared sparing) path zone).gone))
+    (sym (length-map es (name_of rest.slots)))
+    ∙ sym (ap (λ (t : Bool). cond {A = List Gone} t [] (room_gone n (put_at_base Masters) sp (rename f g zone)))
+    (unused-is zone rest es masters agrees) ∙ (slot-agrees n sp left (rename f g zone)).tells
+    ∙ ap (λ (r : Sought). told_blocks n (did sp r.path (rename f g zone)).gone)
+    (slot-rename f g sp (spared sparing) same left zone)
+    ∙ ap (λ (d : Did). told_blocks n d.gone)
+    (did-rename f g sp (spared sparing) same path (slot-names f g (spared sparing) left zone) zone))

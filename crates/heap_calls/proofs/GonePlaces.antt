@@ -176,7 +176,7 @@ refill_gone-none value zone rest es copy log h n code is same e =
 module _ (zone : List Block) (rest : Rest) (es : List Anchor) (masters : rest.all ≡ 64 * count is_masters zone)
     (agrees : Agrees zone rest es) (sp : Block → Bool) (sparing : Sparing)
     (same : (b : Block) → sp (rename_block (handle_number es) (pointer_number es) b) ≡ spared sparing b)
-    (closed : (z : List Block) → opened sparing z ≡ z) (closed_block : (b : Block) → opened_block sparing b ≡ b)
+    (closed : (z : List Block) → opened sparing z ≡ z)
   where
     -- the blocks that are purged for a new block, where there is a slot
     fresh_gone-is : (bytes : List ℕ) (ready : List Block)
@@ -189,14 +189,14 @@ module _ (zone : List Block) (rest : Rest) (es : List Anchor) (masters : rest.al
 
     slotted_as : slotted sp (state_of zone rest.slots es)
         ≡ option_map (λ z. state_of z rest.slots es) (zone_slotted sparing rest.unused zone)
-    slotted_as = slotted-is zone rest es masters agrees sp sparing same (closed zone)
+    slotted_as = slotted-is zone rest es masters agrees sp sparing same
 
     -- the blocks that are purged for a slot and a new block
     pub new_gone-is : (bytes : List ℕ) → new_gone es sparing (length bytes) rest.unused zone
         ≡ made_gone sp bytes (state_of zone rest.slots es)
     new_gone-is bytes =
         ap (λ l. l ++ after_slot_gone es sparing (length bytes) (zone_slotted sparing rest.unused zone))
-        (slot_gone-is zone rest es masters agrees sp sparing same (closed zone) closed_block)
+        (slot_gone-is zone rest es masters agrees sp sparing same)
         ∙ ap (λ l. slot_gone sp (state_of zone rest.slots es) ++ l)
         (ready (zone_slotted sparing rest.unused zone)
         ∙ ap (λ o. ready_gone o (block_gone sp bytes)) (sym slotted_as))

@@ -1,29 +1,30 @@
 use Rattle.heap_calls.proofs.Cited.{Went}
-use Rattle.heap_calls.proofs.Cited.{◌≡◌, ℕ, ◌+◌, ◌-◌, ◌*◌, zero, suc, Bool, true, false, List, [], ◌∷◌, ◌++◌, length, map, replicate}
+use Rattle.heap_calls.proofs.Cited.{◌≡◌, ℕ, ◌+◌, ◌-◌, ◌*◌, Bool, true, false, List, [], ◌∷◌, ◌++◌, length, map, replicate}
 use Rattle.heap_calls.proofs.Cited.{Option, Some, None, refl, sym, ◌∙◌, ap, cond, arith, is_some, inl, inr, option_map, unwrap_or}
-use Rattle.heap_calls.proofs.Cited.{false_from_ne_true, nat_tests, length-map, length-replicate, phys, padded, is_some-map, Flags, Block}
-use Rattle.heap_calls.proofs.Cited.{Masters, Relocatable, size, count, is_masters, is_relocatable, rename, rename_block, no_flags, has}
-use Rattle.heap_calls.proofs.Cited.{place, least, filled, purge, count_of, put_in_place, put_at_base, room, Unused, Used, is_used, Rest}
+use Rattle.heap_calls.proofs.Cited.{false_from_ne_true, length-map, length-replicate, phys, padded, is_some-map, Flags, Block}
+use Rattle.heap_calls.proofs.Cited.{Relocatable, size, count, is_masters, is_relocatable, rename, rename_block, no_flags, has}
+use Rattle.heap_calls.proofs.Cited.{place, least, filled, purge, count_of, put_in_place, room, Unused, Used, is_used, Rest}
 use Rattle.heap_calls.proofs.Cited.{IsRest, KeepsSlots, with_slot, counted, spared, opened, Sparing, Nothing, map-none, least-map, Put, did}
-use Rattle.heap_calls.proofs.Cited.{Sought, no_room, seek, seek_slot, then_seek, if_fits, rename_sought, Along, along-if, along-then}
-use Rattle.heap_calls.proofs.Cited.{along-seek, along-slot, Names, PathNames, seek-rename, slot-rename, then-rename, State, Memory, Plain}
-use Rattle.heap_calls.proofs.Cited.{Handle, used_slots, all_slots, nothing, place_lowers, put_moves, Done, doing_silently, purges_made}
+use Rattle.heap_calls.proofs.Cited.{Sought, no_room, seek, seek_slot, then_seek, if_fits, rename_sought, along-if, along-then}
+use Rattle.heap_calls.proofs.Cited.{along-seek, Names, PathNames, seek-rename, slot-rename, then-rename, State, Memory, Plain}
+use Rattle.heap_calls.proofs.Cited.{Handle, nothing, place_lowers, put_moves, Done, doing_silently, purges_made}
 use Rattle.heap_calls.proofs.Cited.{reply_of, is_unused, new_handle, new_empty_handle, new_inside, room_searches, Anchor, Log, IsFilling}
 use Rattle.heap_calls.proofs.Cited.{entered, number_of, fresh_block, HasNoRoom, IsPut, IsNewBlock, new_searches, place_searches}
-use Rattle.heap_calls.proofs.Cited.{ready_count, HasMore, TakesSlot, zone_slotted, zone_searches, state_of, memory_of, name_of}
+use Rattle.heap_calls.proofs.Cited.{ready_count, HasMore, TakesSlot, some_left, seek_unused, zone_slotted, zone_searches, state_of}
+use Rattle.heap_calls.proofs.Cited.{memory_of, name_of}
 use Rattle.heap_calls.proofs.Cited.{handle_number, pointer_number, Agrees, KeepsNonrelocatable, Packs, content_moves, new_moves}
 use Rattle.heap_calls.proofs.Cited.{placement_moves, placement_searches, tries, new_gone, zone_slot_gone}
 use Rattle.heap_calls.specs.Rows.{given, made}
 use Rattle.heap_calls.proofs.GoneBlocks.{slot_gone-is}
 use Rattle.heap_calls.proofs.GonePlaces.{new_gone-is}
-use Rattle.heap_calls.proofs.NewBlocks.NewHandles.{names-more, agrees-more}
-use Rattle.heap_calls.proofs.NewBlocks.NewSlots.{searches-base, tries-map}
-use Rattle.heap_calls.proofs.Numbering.Changing.{masters-rename, number-now, zone-kept, names-now, agrees-now}
+use Rattle.heap_calls.proofs.NewBlocks.NewHandles.{names-more, agrees-more, unused-is}
+use Rattle.heap_calls.proofs.NewBlocks.NewSlots.{tries-map, slotted-after}
+use Rattle.heap_calls.proofs.Numbering.Changing.{number-now, zone-kept, names-now, agrees-now}
 use Rattle.heap_calls.proofs.Same.Agreeing.{on_some}
 use Rattle.heap_calls.proofs.Same.NewBlocks.{slot_after, slot_looks, slot-agrees, next, new-agrees, filling}
 use Rattle.heap_calls.proofs.Same.NewBlocks.{filled-same, new_empty_handle-same}
 use Rattle.heap_calls.proofs.Same.Silent.{filled-silent}
-use Rattle.heap_calls.proofs.Went.{follows-none, given-is, path-names, seek-any, fits-rename}
+use Rattle.heap_calls.proofs.Went.{given-is, path-names, slot-along, slot-names, seek-any, fits-rename}
 
 -- A call that makes a handle: what its path does is what the store did.
 
@@ -77,10 +78,10 @@ takes-kept slot rest mid rest' t now = record {
   };
 }
 
-pub taken-slotted : (sparing : Sparing) (slot : Option ℕ) (zone zone' : List Block) (rest rest' : Rest)
-    → TakesSlot sparing zone rest slot zone' rest' → Slotted slot rest rest'
-taken-slotted sparing None zone zone' rest rest' h = kept-more rest rest' h.2
-taken-slotted sparing (Some slot) zone zone' rest rest' p =
+pub taken-slotted : (slot : Option ℕ) (zone' : List Block) (rest rest' : Rest) → TakesSlot slot rest zone' rest'
+    → Slotted slot rest rest'
+taken-slotted None zone' rest rest' h = kept-more rest rest' h
+taken-slotted (Some slot) zone' rest rest' p =
     record { more = p.more; has_more = p.has_more; was = p.was; one = p.one; slots = p.slots }
 
 pub new-slotted : (sparing : Sparing) (n : ℕ) (slot : Option ℕ) (zone zone' : List Block) (rest rest' : Rest)
@@ -96,11 +97,6 @@ filled-slotted flags x None zone zone' rest rest' h = new-slotted Nothing (lengt
 filled-slotted flags x (Some slot) zone zone' rest rest' p =
     takes-kept slot rest p.mid rest' (new-slotted Nothing (length x) (Some slot) zone p.made rest p.mid p.put) p.kept
 
--- some slots are left
-abbrev pub some_left : ℕ → Bool
-some_left zero = false
-some_left (suc n) = true
-
 -- What a store's search for a slot and a block found, where no block counts as free.
 module _ (sparing : Sparing) (closed : (z : List Block) → opened sparing z ≡ z) (zone : List Block) (rest : Rest)
   where
@@ -111,30 +107,10 @@ module _ (sparing : Sparing) (closed : (z : List Block) → opened sparing z ≡
     first = slot_after (spared sparing) unused zone
 
     slot-is : (k : ℕ) → zone_slotted sparing k zone ≡ slot_after (spared sparing) (some_left k) zone
-    slot-is zero = ap (room (put_at_base Masters) (spared sparing)) (closed zone)
-    slot-is (suc k) = refl
+    slot-is k = slotted-after sparing k zone
 
     slot_looks-is : (k : ℕ) → zone_searches sparing k zone ≡ slot_looks (spared sparing) (some_left k) zone
-    slot_looks-is zero = sym (searches-base Masters sparing zone)
-        ∙ ap (room_searches (put_at_base Masters) (spared sparing)) (closed zone)
-    slot_looks-is (suc k) = refl
-
-    pub taken-follows : (slot : Option ℕ) (zone' : List Block) (rest' : Rest) (n : ℕ)
-        → TakesSlot sparing zone rest slot zone' rest' → n ≡ zone_searches sparing rest.unused zone
-        → rest'.moves ≡ rest.moves → Went (spared sparing) zone (seek_slot unused (spared sparing) zone)
-        (is_some slot) n zone' rest rest'
-    taken-follows slot zone' rest' n took looks still =
-        let a = slot-agrees 0 (spared sparing) unused zone in
-        let d = ends slot took in
-        follows-none (sym d.0 ∙ a.finds) (d.1 ∙ a.leaves) (looks ∙ slot_looks-is rest.unused ∙ a.looks)
-        a.lowers still
-      where
-        ends : (slot : Option ℕ) → TakesSlot sparing zone rest slot zone' rest'
-            → (is_some first ≡ is_some slot) × (zone' ≡ unwrap_or first zone)
-        ends None h = let e = sym (slot-is rest.unused) ∙ h.0 in
-            (ap is_some e, h.1 ∙ sym (ap (λ o. unwrap_or o zone) e))
-        ends (Some slot) t = let e = sym (slot-is rest.unused) ∙ t.ready in
-            (ap is_some e, sym (ap (λ o. unwrap_or o zone) e))
+    slot_looks-is k = sym (slot-agrees 0 (spared sparing) (some_left k) zone).looks
 
     module _ (flags : Flags) (x : List ℕ) (n : ℕ) (long : length x ≡ n) (fits : Bool) (may : fits ≡ is_some (phys n))
         (zone' : List Block) (rest' : Rest)
@@ -239,17 +215,11 @@ module _ (sparing : Sparing) (closed : (z : List Block) → opened sparing z ≡
 -- the path of a row, by names
 module _ (f g : ℕ → ℕ) (p q : Block → Bool) (spares : (b : Block) → p (rename_block f g b) ≡ q b) (unused : Bool)
   where
-    slot-along : (zone : List Block) → Along (λ m z. Names f g m) q (seek_slot unused q zone).path zone
-    slot-along zone = along-slot (λ m z. Names f g m) q (λ n z. tt) (λ k z. tt) (λ z. tt) unused zone
-
-    pub slot-names : (zone : List Block) → PathNames f g (seek_slot unused q zone).path
-    slot-names zone = path-names f g q (seek_slot unused q zone).path zone (slot-along zone)
-
     pub new-names : (new : Block) (fits : Bool) (zone : List Block) → PathNames f g (seek_new q unused new fits zone).path
     new-names new fits zone =
         path-names f g q (seek_new q unused new fits zone).path zone
         (along-then (λ m z. Names f g m) q (seek_slot unused q zone) (λ z. cond fits (seek (Put new) q z) no_room) zone
-        (slot-along zone) (λ z. along-if (λ m z. Names f g m) q fits (seek (Put new) q z) z
+        (slot-along f g q unused zone) (λ z. along-if (λ m z. Names f g m) q fits (seek (Put new) q z) z
         (along-seek (λ m z. Names f g m) q (λ n z. tt) (λ k z. tt) (Put new) (λ z. tt) z)))
 
     pub new-rename : (new : Block) (fits : Bool) (zone : List Block)
@@ -257,7 +227,7 @@ module _ (f g : ℕ → ℕ) (p q : Block → Bool) (spares : (b : Block) → p 
     new-rename new fits zone =
         ap (λ r. then_seek p (rename f g zone) r (λ z. cond fits (seek (Put (rename_block f g new)) p z) no_room))
         (slot-rename f g p q spares unused zone)
-        ∙ then-rename f g p q spares (seek_slot unused q zone) (slot-names zone)
+        ∙ then-rename f g p q spares (seek_slot unused q zone) (slot-names f g q unused zone)
         (λ z. cond fits (seek (Put (rename_block f g new)) p z) no_room) (λ z. cond fits (seek (Put new) q z) no_room)
         (λ z. ap (λ r. cond fits r no_room) (seek-rename f g p q spares (Put new) tt z) ∙ fits-rename f g fits
         (seek (Put new) q z)) zone
@@ -293,24 +263,13 @@ module _ (p : Block → Bool) (a b : Block) (same : size a ≡ size b)
         cases true none = ap both (next_is fits none)
         cases false none = refl
 
--- the heap has a master pointer left where the store has a slot left
+-- the entries after the call
 module _ (zone : List Block) (rest : Rest) (es : List Anchor) (masters : rest.all ≡ 64 * count is_masters zone)
     (agrees : Agrees zone rest es)
   where
     abbrev s : State
     s = state_of zone rest.slots es
 
-    pub unused-is : is_unused s ≡ some_left rest.unused
-    unused-is =
-        let a = agrees.counted in
-        let m = masters-rename (handle_number es) (pointer_number es) zone in
-        cases rest.unused (omega (arith, masters))
-      where
-        cases : (left : ℕ) → left + used_slots s ≡ all_slots s → is_unused s ≡ some_left left
-        cases zero e = grind (arith, nat_tests)
-        cases (suc left) e = grind (arith, nat_tests)
-
-    -- the entries after the call
     module _ (fresh : (k : ℕ) → is_used (rest.slots k) ≡ false → has (is_relocatable k) zone ≡ false) (rest' : Rest)
       where
         none-there : (slot : ℕ) → Takes slot rest rest' → has (is_relocatable slot) zone ≡ false
@@ -377,8 +336,8 @@ module _ (zone : List Block) (rest : Rest) (es : List Anchor) (masters : rest.al
             pub empty-is : call s ≡ given (Handle Plain) p (seek_slot (is_unused s) p s.zone) s
                 → Went q zone (seek_slot (some_left rest.unused) q zone) (is_some slot) m zone' rest rest' → Answers
             empty-is row did = answers (seek_slot (some_left rest.unused) q zone)
-                (slot-names f g p q spares (some_left rest.unused) zone)
-                (row ∙ ap (λ r. given (Handle Plain) p r s) (ap (λ u. seek_slot u p s.zone) unused-is
+                (slot-names f g q (some_left rest.unused) zone)
+                (row ∙ ap (λ r. given (Handle Plain) p r s) (ap (λ u. seek_slot u p s.zone) (unused-is zone rest es masters agrees)
                 ∙ ap (seek_slot (some_left rest.unused) p) (sym (kept slot slotted))
                 ∙ slot-rename f g p q spares (some_left rest.unused) zone)) did
 
@@ -415,7 +374,7 @@ module _ (zone : List Block) (rest : Rest) (es : List Anchor) (masters : rest.al
                 made-is row did = answers stored (new-names f g p q spares (some_left rest.unused) (next_new (unwrap_or slot 0))
                     fits zone)
                     (row ∙ ap (λ r. given (Handle Plain) p r s)
-                    (ap (λ u. seek_new p u (next_new (length s.names)) fits s.zone) unused-is
+                    (ap (λ u. seek_new p u (next_new (length s.names)) fits s.zone) (unused-is zone rest es masters agrees)
                     ∙ ap (λ k. seek_new p (some_left rest.unused) (next_new k) fits s.zone) (length-map es (name_of rest.slots))
                     ∙ ap (seek_new p (some_left rest.unused) (next_new (length es)) fits) (sym (kept slot slotted))
                     ∙ by_name (sym did.finds))) did
@@ -430,12 +389,12 @@ module _ (zone : List Block) (rest : Rest) (es : List Anchor) (masters : rest.al
         abbrev after_it : Memory
         after_it = memory_of zone' rest' (entered slot es) (record log { searches = counted log.searches m })
 
-        pub empty-answer : TakesSlot Nothing zone rest slot zone' rest' → m ≡ zone_searches Nothing rest.unused zone
-            → rest'.moves ≡ rest.moves → doing_silently new_empty_handle value ≡ (number_of slot es, after_it)
-        empty-answer took looks still =
+        pub empty-answer : TakesSlot slot rest zone' rest'
+            → Went nothing zone (seek_unused Nothing rest.unused zone) (is_some slot) m zone' rest rest'
+            → doing_silently new_empty_handle value ≡ (number_of slot es, after_it)
+        empty-answer took =
             empty-is zone rest es masters agrees fresh rest' log value is zone' nothing nothing new_empty_handle m slot
-            (taken-slotted Nothing slot zone zone' rest rest' took) (λ b. refl) refl
-            (taken-follows Nothing (λ z. refl) zone rest slot zone' rest' m took looks still)
+            (taken-slotted slot zone' rest rest' took) (λ b. refl) refl
 
         pub new_handle-answer : (n : ℕ) → IsNewBlock Nothing n zone rest slot zone' rest'
             → m ≡ new_searches Nothing n rest.unused zone → Packs (new_moves Nothing n rest.unused zone) rest rest'
@@ -474,7 +433,7 @@ module _ (zone : List Block) (rest : Rest) (es : List Anchor) (masters : rest.al
     pub new_handle-gone : (n : ℕ) → new_gone es Nothing n rest.unused zone ≡ purges_made (new_handle n) value.heap
     new_handle-gone n =
         ap (λ (k : ℕ). new_gone es Nothing k rest.unused zone) (sym (length-replicate n 0))
-        ∙ new_gone-is zone rest es masters agrees nothing Nothing (λ b. refl) (λ z. refl) (λ b. refl) (replicate n 0)
+        ∙ new_gone-is zone rest es masters agrees nothing Nothing (λ b. refl) (λ z. refl) (replicate n 0)
         ∙ (filled-same no_flags (replicate n 0) (state_of zone rest.slots es)).tells
         ∙ ap (λ (k : ℕ). purges_made (λ (s : State). made nothing (λ z. if_fits k
         (seek (Put (Relocatable (length s.names) no_flags (replicate n 0))) nothing z)) s) (state_of zone rest.slots es))
@@ -482,6 +441,6 @@ module _ (zone : List Block) (rest : Rest) (es : List Anchor) (masters : rest.al
 
     pub empty-gone : zone_slot_gone es Nothing rest.unused zone ≡ purges_made new_empty_handle value.heap
     empty-gone =
-        slot_gone-is zone rest es masters agrees nothing Nothing (λ b. refl) refl (λ b. refl)
+        slot_gone-is zone rest es masters agrees nothing Nothing (λ b. refl)
         ∙ (new_empty_handle-same (state_of zone rest.slots es)).tells
         ∙ ap (λ (m : Memory). purges_made new_empty_handle m.heap) is

@@ -1,4 +1,3 @@
-pub mod Basing
 pub mod NewPointers
 pub mod NewHandles
 pub mod Renewing

@@ -1,21 +1,17 @@
 use Rattle.heap_calls.proofs.Cited.{◌≡◌, ℕ, Bool, true, false, List, [], ◌∷◌, ◌++◌, length, map, Option, Some, None, Result, Err, refl, sym}
-use Rattle.heap_calls.proofs.Cited.{◌∙◌, ap, subst, cond, is_some, length-map, option_map, unwrap_or, phys, OsErr, MEM_FULL, Block, Free}
-use Rattle.heap_calls.proofs.Cited.{Masters, size, rename, rename_block, room, purge, put_at_base, Rest, counted, counted-none, Move, Purge}
+use Rattle.heap_calls.proofs.Cited.{◌∙◌, ap, subst, cond, is_some, length-map, phys, OsErr, MEM_FULL, Block, Free}
+use Rattle.heap_calls.proofs.Cited.{rename, rename_block, purge, Rest, counted, counted-none, Move, Purge}
 use Rattle.heap_calls.proofs.Cited.{Base, Did, did, moved, one, rename_move, rename_did, Sought, no_room, sought, purges_for, seek}
 use Rattle.heap_calls.proofs.Cited.{rename_sought, Along, along-seek, Names, PathNames, did-rename, seek-rename, State, Memory, Meaning}
 use Rattle.heap_calls.proofs.Cited.{nothing, Done, work, doing_silently, purges_made, reply_of, changed, room_for, heap_after, purged_by}
-use Rattle.heap_calls.proofs.Cited.{told_blocks, reserve_mem, Anchor, Log, base, base_searches, IsBaseAt, IsMade, state_of, memory_of}
+use Rattle.heap_calls.proofs.Cited.{told_blocks, reserve_mem, Anchor, Log, GainsSlots, state_of, memory_of, seek_slot, along-slot}
+use Rattle.heap_calls.proofs.Cited.{gone_by, lowest_gone, told_along}
 use Rattle.heap_calls.proofs.Cited.{name_of, handle_number, pointer_number, Agrees, KeepsNonrelocatable, KeepsAllButPlaced, sized_reply}
-use Rattle.heap_calls.proofs.Cited.{base_gone, Went}
-use Rattle.block_store.specs.declared.sparing.Sparing.TheVariants as sparing
+use Rattle.heap_calls.proofs.Cited.{Went}
 use Rattle.moves.specs.Moves as moves
 use Rattle.heap_calls.specs.Rows.{given, refused}
-use Rattle.heap_calls.specs.Rows.{more_masters}
-use Rattle.heap_calls.proofs.GoneBlocks.{base_gone-any}
 use Rattle.heap_calls.proofs.NewBlocks.NewHandles.{names-more, agrees-more}
-use Rattle.heap_calls.proofs.NewBlocks.NewSlots.{at_base, room-base, searches-base}
 use Rattle.heap_calls.proofs.Numbering.Changing.{names-same, agrees-kept}
-use Rattle.heap_calls.proofs.Same.NewBlocks.{base-agrees}
 
 -- What a store did for a call is what the path of the call does in the heap.
 
@@ -55,18 +51,6 @@ doing-is {T = T} call value zone zone' rest rest' es es' log log' r d is worked 
       window = sym lies i;
     } in
     subst P is (done ∙ ap (λ (m : Memory). (r, m)) kept)
-
--- where nothing is moved down
-pub follows-none : {spared : Block → Bool} {zone zone' : List Block} {p : Sought} {found : Bool} {searches : ℕ}
-    {rest rest' : Rest} → found ≡ p.found → zone' ≡ (did spared p.path zone).zone
-    → searches ≡ (did spared p.path zone).searches → 0 ≡ (did spared p.path zone).lowered → rest'.moves ≡ rest.moves
-    → Went spared zone p found searches zone' rest rest'
-follows-none {rest = rest} finds leaves looks none still = record {
-  finds = finds;
-  leaves = leaves;
-  looks = looks;
-  lowers = still ∙ sym (counted-none rest.moves) ∙ ap (counted rest.moves) none;
-}
 
 -- a call that is refused changes nothing, and purges nothing
 pub refused-is : {T : Type 0} (call : State → Done T) (code : OsErr) (value : Memory)
@@ -129,6 +113,35 @@ pub seek-names : (f g : ℕ → ℕ) (p : Block → Bool) (m : Move) → Names f
     → PathNames f g (seek m p zone).path
 seek-names f g p m names zone = path-names f g p (seek m p zone).path zone
     (along-seek (λ m z. Names f g m) p (λ n z. tt) (λ k z. tt) m (λ z. names) zone)
+
+-- a search for an unused master pointer
+module _ (f g : ℕ → ℕ) (q : Block → Bool) (unused : Bool) (zone : List Block)
+  where
+    pub slot-along : Along (λ m z. Names f g m) q (seek_slot unused q zone).path zone
+    slot-along = along-slot (λ m z. Names f g m) q (λ n z. tt) (λ k z. tt) (λ z. tt) unused zone
+
+    pub slot-names : PathNames f g (seek_slot unused q zone).path
+    slot-names = path-names f g q (seek_slot unused q zone).path zone slot-along
+
+-- a search takes blocks that go as any other that finds room where it does
+pub gone-alike : (p : Block → Bool) (m n : Move) → ((z : List Block) → gone_by p m z ≡ [])
+    → ((z : List Block) → gone_by p n z ≡ []) → ((z : List Block) → is_some (moved p n z) ≡ is_some (moved p m z))
+    → (zone : List Block) → (did p (seek m p zone).path zone).gone ≡ (did p (seek n p zone).path zone).gone
+gone-alike p m n still still' sees zone =
+    cases (there (purge k p zone))
+    ∙ sym (ap (λ t. (did p (sought (purges_for t p zone) (t (purge (purges_for t p zone) p zone)) (Purge
+    (purges_for t p zone) ∷ n ∷ [])).path zone).gone) (λ i z. sees z i))
+  where
+    there : List Block → Bool
+    there z = is_some (moved p m z)
+
+    k : ℕ
+    k = purges_for there p zone
+
+    cases : (t : Bool) → (did p (sought k t (Purge k ∷ m ∷ [])).path zone).gone
+        ≡ (did p (sought k t (Purge k ∷ n ∷ [])).path zone).gone
+    cases true = ap (λ l. lowest_gone k p zone ++ (l ++ [])) (still (purge k p zone) ∙ sym (still' (purge k p zone)))
+    cases false = refl
 
 -- a call for what isn't found
 module _ {T : Type 0} (zone : List Block) (rest : Rest) (es : List Anchor) (log : Log) (value : Memory)
@@ -208,68 +221,41 @@ module _ (zone : List Block) (rest : Rest) (es : List Anchor) (log : Log) (value
         ∙ sym named) did.leaves did.lowers
         (ap (λ (k : ℕ). let l : Log = record log { searches = counted log.searches k } in l) did.looks) lies
 
-    -- one that makes room at the base of a run
-    base-is : (call : State → Done (Unit {0})) (new : Block) → rename_block f g new ≡ new
-        → call s ≡ changed nothing (seek (Base new) nothing s.zone) s → (after : Option (List Block))
-        → room (put_at_base new) nothing zone ≡ after → (n : ℕ) → zone' ≡ unwrap_or after zone
-        → n ≡ base_searches (size new) sparing.Nothing zone → rest'.moves ≡ rest.moves → Stays
-        → doing_silently call value
-        ≡ (sized_reply (is_some after), memory_of zone' rest' es (record log { searches = counted log.searches n }))
-    base-is call new same row after at n leaves looks still stays =
-        let a = base-agrees 0 nothing new zone in
-        changed-is call nothing nothing (λ b. refl) (seek (Base new) nothing zone)
-        (seek-names f g nothing (Base new) tt zone)
-        (row ∙ ap (λ (r : Sought). changed nothing r s) (ap (λ (b : Block). seek (Base b) nothing s.zone) (sym same)
-        ∙ seek-rename f g nothing nothing (λ b. refl) (Base new) tt zone)) (is_some after) n
-        (follows-none (sym (ap is_some at) ∙ a.finds)
-        (leaves ∙ sym (ap (λ (o : Option (List Block)). unwrap_or o zone) at) ∙ a.leaves)
-        (looks ∙ sym (searches-base new sparing.Nothing zone) ∙ a.looks) a.lowers still) stays
-
-    -- what it purges
-    base_gone-is : (new : Block) → base_gone es (size new) sparing.Nothing zone
-        ≡ purges_made (λ (t : State). changed nothing (seek (Base new) nothing t.zone) t) s
-    base_gone-is new = base_gone-any zone rest.slots es new ∙ (base-agrees (length s.names) nothing new s.zone).tells
-
-    -- MoreMasters
-    pub masters-is : Agrees zone rest es → (place : Option ℕ) → IsMade sparing.Nothing zone rest place zone' rest' → (n : ℕ)
-        → n ≡ base_searches 272 sparing.Nothing zone → rest'.moves ≡ rest.moves → doing_silently more_masters value
-        ≡ (sized_reply (is_some place), memory_of zone' rest' es (record log { searches = counted log.searches n }))
-    masters-is agrees None made n looks still = base-is more_masters Masters refl refl None made.0 n made.1 looks still
-        (names-same rest.slots rest'.slots es (λ h k t at. made.2.slots k), made.2.window)
-    masters-is agrees (Some place) made n looks still =
-        base-is more_masters Masters refl refl (Some zone') made.0 n refl looks still
-        (names-more rest rest' es agrees made.1, made.1.window)
-
-    pub masters-agrees : Agrees zone rest es → KeepsNonrelocatable zone zone' → (place : Option ℕ)
-        → IsMade sparing.Nothing zone rest place zone' rest' → Agrees zone' rest' es
-    masters-agrees agrees nonrelocatable None made = agrees-kept zone zone' rest rest' es agrees nonrelocatable made.2
-    masters-agrees agrees nonrelocatable (Some place) made =
-        agrees-more zone' rest rest' es agrees nonrelocatable made.1
-
-    pub masters_gone-is : base_gone es 272 sparing.Nothing zone ≡ purges_made more_masters value.heap
-    masters_gone-is = base_gone-is Masters ∙ ap (λ (m : Memory). purges_made more_masters m.heap) is
-
-    -- ReserveMem, where a block can have the size
-    module _ (bytes p : ℕ) (fits : phys bytes ≡ Some p)
+    -- one that makes room at the base of a run, and what it purges
+    module _ (call : State → Done (Unit {0})) (new : Block) (same : rename_block f g new ≡ new)
+        (row : call s ≡ changed nothing (seek (Base new) nothing s.zone) s)
       where
-        row-is : reserve_mem bytes s ≡ changed nothing (seek (Base (Free p)) nothing s.zone) s
-        row-is = ap (λ (o : Option ℕ). changed nothing (room_for o s.zone) s) fits
+        named : call s ≡ changed nothing (rename_sought f g (seek (Base new) nothing zone)) s
+        named = row ∙ ap (λ (r : Sought). changed nothing r s) (ap (λ (b : Block). seek (Base b) nothing s.zone) (sym same)
+            ∙ seek-rename f g nothing nothing (λ b. refl) (Base new) tt zone)
 
-        pub reserve-is : KeepsAllButPlaced rest rest' → (place : Option ℕ)
-            → IsBaseAt p (base p sparing.Nothing zone) zone' place → (place ≡ None → zone' ≡ zone) → (n : ℕ)
-            → n ≡ base_searches p sparing.Nothing zone → doing_silently (reserve_mem bytes) value
-            ≡ (sized_reply (is_some place), memory_of zone' rest' es (record log { searches = counted log.searches n }))
-        reserve-is kept None at same n looks = base-is (reserve_mem bytes) (Free p) refl row-is None
-            (room-base (Free p) sparing.Nothing zone ∙ ap (option_map (at_base (Free p))) at) n (same refl) looks
-            kept.moves (names-same rest.slots rest'.slots es (λ h k t is. kept.slots k), kept.window)
-        reserve-is kept (Some place) at same n looks = base-is (reserve_mem bytes) (Free p) refl row-is (Some zone')
-            (room-base (Free p) sparing.Nothing zone ∙ ap (option_map (at_base (Free p))) at.1 ∙ ap Some (sym at.2)) n
-            refl looks kept.moves (names-same rest.slots rest'.slots es (λ h k t is. kept.slots k), kept.window)
+        pub base-is : (found : Bool) (n : ℕ) → Went nothing zone (seek (Base new) nothing zone) found n zone' rest rest'
+            → Stays → doing_silently call value
+            ≡ (sized_reply found, memory_of zone' rest' es (record log { searches = counted log.searches n }))
+        base-is = changed-is call nothing nothing (λ b. refl) (seek (Base new) nothing zone)
+            (seek-names f g nothing (Base new) tt zone) named
 
-        pub reserve_gone-is : base_gone es p sparing.Nothing zone ≡ purges_made (reserve_mem bytes) value.heap
-        reserve_gone-is = base_gone-is (Free p)
-            ∙ sym (ap (λ (o : Option ℕ). purges_made (λ (t : State). changed nothing (room_for o t.zone) t) s) fits)
-            ∙ ap (λ (m : Memory). purges_made (reserve_mem bytes) m.heap) is
+        pub base-gone : told_along es nothing (seek (Base new) nothing zone) zone ≡ purges_made call value.heap
+        base-gone = changed-gone call nothing nothing (λ b. refl) (seek (Base new) nothing zone)
+            (seek-names f g nothing (Base new) tt zone) named
+
+    -- the names are kept where the slots are, or where there are more
+    pub kept-stays : KeepsAllButPlaced rest rest' → Stays
+    kept-stays now = (names-same rest.slots rest'.slots es (λ h k t at. now.slots k), now.window)
+
+    pub gains-stays : Agrees zone rest es → (place : Option ℕ) → GainsSlots place rest rest' → Stays
+    gains-stays agrees None now = (names-same rest.slots rest'.slots es (λ h k t at. now.slots k), now.window)
+    gains-stays agrees (Some place) now = (names-more rest rest' es agrees now.0, now.0.window)
+
+    pub gains-agrees : Agrees zone rest es → KeepsNonrelocatable zone zone' → (place : Option ℕ)
+        → GainsSlots place rest rest' → Agrees zone' rest' es
+    gains-agrees agrees nonrelocatable None now = agrees-kept zone zone' rest rest' es agrees nonrelocatable now
+    gains-agrees agrees nonrelocatable (Some place) now = agrees-more zone' rest rest' es agrees nonrelocatable now.0
+
+-- ReserveMem, where a block can have the size
+pub reserves : (bytes p : ℕ) (s : State) → phys bytes ≡ Some p
+    → reserve_mem bytes s ≡ changed nothing (seek (Base (Free p)) nothing s.zone) s
+reserves bytes p s fits = ap (λ (o : Option ℕ). changed nothing (room_for o s.zone) s) fits
 
 -- and where no block can
 pub reserve-row : (bytes : ℕ) (s : State) → phys bytes ≡ None → reserve_mem bytes s ≡ refused MEM_FULL s

@@ -1,7 +1,6 @@
 pub mod Given
 pub mod Numbered
 pub mod Search
-pub mod Base
 pub mod NewPointer
 pub mod NewBlock
 pub mod Growing
@@ -22,3 +21,4 @@ pub mod Appending
 pub mod Naming
 pub mod Filling
 pub mod Roles
+pub mod Making

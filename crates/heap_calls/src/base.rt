@@ -1,38 +1,28 @@
 //! Room at the base of a run of movable blocks.
 
-ghost use Rattle.std.specs.Prelude.{◌≡◌, ◌+◌, ◌≤◌, ◌<◌, ◌%◌, IfOk, OnErr, MatchOption, is_some};
-ghost use Rattle.block_store.specs.Sparing.{purged};
-ghost use Rattle.block_store.specs.Run.{run_spot, has_free};
-ghost use Rattle.heap_calls.specs.Inner.Base.{IsBaseAt, base, base_searches};
+ghost use Rattle.std.specs.Prelude.{◌≡◌, ◌+◌, ◌≤◌, ◌<◌, ◌%◌, IfOk, OnErr, is_some};
+ghost use Rattle.block_store.specs.Block.{Block, Masters, size as size_of};
+ghost use Rattle.block_store.specs.Sparing.{spared};
+ghost use Rattle.moves.specs.Moves.{Base};
+ghost use Rattle.moves.specs.Seeking.{seek};
+ghost use Rattle.heap_calls.specs.Inner.Making.{MakesRoom, HasRoomAt};
 ghost use Rattle.heap_calls.specs.Inner.Numbered.{KeepsNonrelocatable};
-ghost use Rattle.heap_calls.specs.Inner.NewSlot.{HasMore, IsMade, TakesSlot, zone_searches};
+ghost use Rattle.heap_calls.specs.Inner.NewSlot.{HasMore, GainsSlots, TakesSlot, seek_unused};
+ghost use Rattle.heap_calls.specs.Inner.Went.{Went, told_along};
 ghost use Rattle.heap_calls.specs.Gone.{IsIdle, Hears};
 ghost use Rattle.heap_calls.specs.Inner.Halting.{Halts};
 ghost use Rattle.heap_calls.specs.Inner.Packed.{KeepsAllButPlaced, PacksNone};
-ghost use Rattle.heap_calls.specs.Inner.Telling.{base_gone, zone_slot_gone};
-ghost use Rattle.block_store.specs.declared.measures.TheConstants.{GREATEST_ZONE, MASTERS_SIZE};
+ghost use Rattle.heap_calls.specs.Inner.Telling.{OpensNone};
+ghost use Rattle.block_store.specs.declared.measures.TheConstants.{GREATEST_ZONE};
 ghost use Rattle.std.specs.Prelude.{IsOk};
 
 use crate::anchor::Anchor;
-use crate::least::{Searched, count_for_run};
+use crate::least::count_for_run;
 use crate::search::Room;
 use crate::sink::PurgeSink;
 use crate::telling::purge_telling;
 use block_store::{BlockStore, MASTERS_SIZE, Sparing};
 use std::alloc::AllocError;
-
-/// Counts the purges after which a run has `bytes` free bytes: the least number that serves, or all
-/// that there can be where none serves.
-fn count_for_base<S: BlockStore>(store: &S, bytes: u32, sparing: Sparing) -> Searched
-    ensures there { result.there ≡ is_some (run_spot (has_free bytes)
-        (purged result.purges sparing (S.zone store.now))) }
-    ensures least { base bytes sparing (S.zone store.now) ≡ run_spot (has_free bytes)
-        (purged result.purges sparing (S.zone store.now)) }
-    ensures searches { result.purges + 1 ≡ base_searches bytes sparing (S.zone store.now) }
-    ensures few { result.purges ≤ GREATEST_ZONE }
-{
-    count_for_run(store, bytes, sparing)
-}
 
 /// Makes a free block of `bytes` bytes at the base of the lowest run that has as many free bytes
 /// after as few purges as serve, and returns the place of that block; `None`, and nothing changes,
@@ -48,22 +38,22 @@ pub fn make_base<S: BlockStore, K: PurgeSink>(
 ) -> Result<Room, AllocError>
     requires positive { 0 < bytes }
     requires even { bytes % 16 ≡ 0 }
+    requires whole { OpensNone sparing }
     requires idle { IsIdle K.told K.waits sink.old }
-    ensures place { IfOk result (λ r.
-        IsBaseAt bytes (base bytes sparing (S.zone store.old)) (S.zone store.new) r.place) }
-    ensures none { IfOk result (λ r.
-        MatchOption r.place (S.zone store.new ≡ S.zone store.old) (λ _. Unit {0})) }
-    ensures searches { IfOk result (λ r. r.searches
-        ≡ base_searches bytes sparing (S.zone store.old)) }
+    ensures went { IfOk result (λ r. MakesRoom bytes Base (spared sparing) (S.zone store.old) r
+        (S.zone store.new) (S.rest store.old) (S.rest store.new)) }
+    ensures room { IfOk result (λ r. HasRoomAt bytes r.place (S.zone store.new)) }
     ensures few { IfOk result (λ r. r.searches ≤ GREATEST_ZONE + 1) }
     ensures nonrelocatable { KeepsNonrelocatable (S.zone store.old) (S.zone store.new) }
     ensures rest { KeepsAllButPlaced (S.rest store.old) (S.rest store.new) }
-    ensures hears { Hears K.told K.waits K.listens (IsOk result)
-        (base_gone names.now bytes sparing (S.zone store.old)) sink.old sink.new }
+    ensures hears { (new : Block) → size_of new ≡ bytes → Hears K.told K.waits K.listens
+        (IsOk result) (told_along names.now (spared sparing)
+        (seek (Base new) (spared sparing) (S.zone store.old)) (S.zone store.old))
+        sink.old sink.new }
     ensures halts { OnErr result (Halts S.TAKES_HOST K.told K.listens (S.zone store.old)
         (S.rest store.old) (S.zone store.new) (S.rest store.new) sink.old sink.new) }
 {
-    let counted = count_for_base(store, bytes, sparing);
+    let counted = count_for_run(store, bytes, sparing);
     let searches = counted.purges + 1;
     if !counted.there {
         return Ok(Room {
@@ -92,17 +82,19 @@ pub fn make_masters<S: BlockStore, K: PurgeSink>(
     sparing: Sparing,
     sink: &mut K,
 ) -> Result<Room, AllocError>
+    requires whole { OpensNone sparing }
     requires idle { IsIdle K.told K.waits sink.old }
-    ensures made { IfOk result (λ r. IsMade sparing (S.zone store.old) (S.rest store.old) r.place
-        (S.zone store.new) (S.rest store.new)) }
+    ensures went { IfOk result (λ r. Went (spared sparing) (S.zone store.old)
+        (seek (Base Masters) (spared sparing) (S.zone store.old))
+        (is_some r.place) r.searches (S.zone store.new) (S.rest store.old) (S.rest store.new)) }
+    ensures slots { IfOk result (λ r. GainsSlots r.place (S.rest store.old) (S.rest store.new)) }
     ensures nonrelocatable { KeepsNonrelocatable (S.zone store.old) (S.zone store.new) }
     ensures kept { OnErr result (HasMore (S.rest store.old) (S.rest store.new)) }
-    ensures searches { IfOk result (λ r. r.searches
-        ≡ base_searches MASTERS_SIZE sparing (S.zone store.old)) }
     ensures few { IfOk result (λ r. r.searches ≤ GREATEST_ZONE + 1) }
     ensures moves { PacksNone (S.rest store.old) (S.rest store.new) }
-    ensures hears { Hears K.told K.waits K.listens (IsOk result)
-        (base_gone names.now MASTERS_SIZE sparing (S.zone store.old)) sink.old sink.new }
+    ensures hears { Hears K.told K.waits K.listens (IsOk result) (told_along names.now
+        (spared sparing) (seek (Base Masters) (spared sparing) (S.zone store.old))
+        (S.zone store.old)) sink.old sink.new }
     ensures halts { OnErr result (Halts S.TAKES_HOST K.told K.listens (S.zone store.old)
         (S.rest store.old) (S.zone store.new) (S.rest store.new) sink.old sink.new) }
 {
@@ -128,17 +120,20 @@ pub fn make_slot<S: BlockStore, K: PurgeSink>(
     sparing: Sparing,
     sink: &mut K,
 ) -> Result<Taken, AllocError>
+    requires whole { OpensNone sparing }
     requires idle { IsIdle K.told K.waits sink.old }
-    ensures hears { Hears K.told K.waits K.listens (IsOk result) (zone_slot_gone names.now sparing
-        (S.rest store.old).unused (S.zone store.old)) sink.old sink.new }
-    ensures slot { IfOk result (λ r. TakesSlot sparing (S.zone store.old) (S.rest store.old) r.slot
-        (S.zone store.new) (S.rest store.new)) }
+    ensures went { IfOk result (λ r. Went (spared sparing) (S.zone store.old)
+        (seek_unused sparing (S.rest store.old).unused (S.zone store.old))
+        (is_some r.slot) r.searches (S.zone store.new) (S.rest store.old) (S.rest store.new)) }
+    ensures slot { IfOk result (λ r. TakesSlot r.slot (S.rest store.old) (S.zone store.new)
+        (S.rest store.new)) }
     ensures nonrelocatable { KeepsNonrelocatable (S.zone store.old) (S.zone store.new) }
     ensures kept { OnErr result (HasMore (S.rest store.old) (S.rest store.new)) }
-    ensures searches { IfOk result (λ r. r.searches
-        ≡ zone_searches sparing (S.rest store.old).unused (S.zone store.old)) }
     ensures few { IfOk result (λ r. r.searches ≤ GREATEST_ZONE + 1) }
     ensures moves { PacksNone (S.rest store.old) (S.rest store.new) }
+    ensures hears { Hears K.told K.waits K.listens (IsOk result) (told_along names.now
+        (spared sparing) (seek_unused sparing (S.rest store.old).unused (S.zone store.old))
+        (S.zone store.old)) sink.old sink.new }
     ensures halts { OnErr result (Halts S.TAKES_HOST K.told K.listens (S.zone store.old)
         (S.rest store.old) (S.zone store.new) (S.rest store.new) sink.old sink.new) }
 {

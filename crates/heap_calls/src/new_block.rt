@@ -5,7 +5,7 @@ ghost use Rattle.std.specs.Prelude.{◌≡◌, ◌⊎◌, ◌≤◌, ◌+◌, tr
 ghost use Rattle.std.specs.Prelude.{IsTrue, IsOk};
 ghost use Rattle.heap_calls.specs.Gone.{IsIdle, Hears};
 ghost use Rattle.heap_calls.specs.Inner.Halting.{Halts};
-ghost use Rattle.heap_calls.specs.Inner.Telling.{fresh_gone, new_gone, LeavesSlot};
+ghost use Rattle.heap_calls.specs.Inner.Telling.{OpensNone, fresh_gone, new_gone, LeavesSlot};
 ghost use Rattle.block_store.specs.Block.{is_relocatable};
 ghost use Rattle.block_store.specs.Rest.{KeepsSlots};
 ghost use Rattle.block_store.specs.Run.{has};
@@ -94,6 +94,7 @@ pub fn new_block<S: BlockStore, K: PurgeSink>(
     sparing: Sparing,
     sink: &mut K,
 ) -> Result<Taken, AllocError>
+    requires whole { OpensNone sparing }
     requires idle { IsIdle K.told K.waits sink.old }
     ensures hears { Hears K.told K.waits K.listens (IsOk result) (new_gone names.now sparing size
         (S.rest store.old).unused (S.zone store.old)) sink.old sink.new }

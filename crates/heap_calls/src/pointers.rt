@@ -1,15 +1,15 @@
 //! Pointers, and the nonrelocatable blocks that they lead to.
 
 ghost use Rattle.std.specs.Prelude.{◌≡◌, ◌≢◌, ◌⊎◌, ◌≤◌, length, true, Err, IfOk, OnOk, OnErr};
-ghost use Rattle.std.specs.Prelude.{IsErr, IsTrue};
+ghost use Rattle.std.specs.Prelude.{IsErr, IsTrue, is_some, unwrap_or};
 ghost use Rattle.heap_calls.specs.Busy.{pointer_barred, unless, unless_silent};
 ghost use Rattle.heap_calls.specs.Inner.Halting.{Halts};
 ghost use Rattle.heap_calls.specs.Inner.Given.{IsAnswer, IsShown, KeepsMoves};
-ghost use Rattle.heap_calls.specs.Answer.{noting, silent};
-ghost use Rattle.heap_calls.specs.Inner.NewPointer.{IsNewNonrelocatable, nonrelocatable_searches};
+ghost use Rattle.heap_calls.specs.Answer.{nothing, noting, silent};
+ghost use Rattle.heap_calls.specs.Inner.NewPointer.{IsNewPlace, seek_pointer};
+ghost use Rattle.heap_calls.specs.Inner.Went.{Went, told_along};
 ghost use Rattle.heap_calls.specs.Gone.{IsIdle, Hears};
 ghost use Rattle.heap_calls.specs.Rows.{new_pointer, doing, doing_silently, purges_made};
-ghost use Rattle.heap_calls.specs.Inner.Telling.{pointer_gone};
 ghost use Rattle.heap_calls.specs.Pointers.{dispose_pointer, get_pointer_size, pointer_zone};
 ghost use Rattle.heap_calls.specs.Pointers.{show_pointer, put_pointer, block_named};
 ghost use Rattle.heap_calls.specs.Inner.Pointing.{FindsHeld};
@@ -231,15 +231,15 @@ fn add_nonrelocatable<S: BlockStore, K: PurgeSink>(
     sink: &mut K,
 ) -> Result<Room, AllocError>
     requires idle { IsIdle K.told K.waits sink.old }
-    ensures put { IfOk result (λ r.
-        IsNewNonrelocatable size (S.zone store.old) r.place (S.zone store.new)) }
-    ensures searches { IfOk result (λ r. r.searches
-        ≡ nonrelocatable_searches size (S.zone store.old)) }
+    ensures went { IfOk result (λ r. Went nothing (S.zone store.old)
+        (seek_pointer (unwrap_or r.place 0) size (S.zone store.old)) (is_some r.place) r.searches
+        (S.zone store.new) (S.rest store.old) (S.rest store.new)) }
+    ensures place { IfOk result (λ r. IsNewPlace r.place (S.zone store.old) (S.zone store.new)) }
     ensures nonrelocatable { OnErr result
         (KeepsNonrelocatable (S.zone store.old) (S.zone store.new)) }
     ensures rest { KeepsAllButPlaced (S.rest store.old) (S.rest store.new) }
-    ensures hears { Hears K.told K.waits K.listens (IsOk result)
-        (pointer_gone names.now size (S.zone store.old)) sink.old sink.new }
+    ensures hears { Hears K.told K.waits K.listens (IsOk result) (told_along names.now nothing
+        (seek_pointer 0 size (S.zone store.old)) (S.zone store.old)) sink.old sink.new }
     ensures halts { OnErr result (Halts S.TAKES_HOST K.told K.listens (S.zone store.old)
         (S.rest store.old) (S.zone store.new) (S.rest store.new) sink.old sink.new) }
 {

@@ -19,7 +19,7 @@ module _ {A : Type 0} (told : A → List Gone → Type 0) (value : Memory) (zone
     made-told bytes was =
         subst (λ (l : List Gone). Tells told l before after)
         (ap (λ (e : List Anchor). new_gone e Nothing (length bytes) rest.unused zone) copied
-        ∙ new_gone-is zone rest es masters agrees nothing Nothing (λ b. refl) (λ z. refl) (λ b. refl) bytes
+        ∙ new_gone-is zone rest es masters agrees nothing Nothing (λ b. refl) (λ z. refl) bytes
         ∙ ap (λ (m : Memory). made_gone nothing bytes m.heap) is) was
 
     -- where no slot was taken
@@ -39,12 +39,12 @@ module _ {A : Type 0} (told : A → List Gone → Type 0) (value : Memory) (zone
       kept-still value zone zone' rest rest' es es' log is now agrees more still
           ∙ ap (λ z. record value { heap = record value.heap { zone = z } })
           (ap (λ (l : List Anchor). rename (handle_number l) (pointer_number l) zone') now
-          ∙ sym (slotted_zone-is zone rest es masters agrees nothing Nothing (λ b. refl) (λ z. refl) (λ b. refl) zone'
+          ∙ sym (slotted_zone-is zone rest es masters agrees nothing Nothing (λ b. refl) (λ z. refl) zone'
           slotted)
           ∙ ap (λ (m : Memory). slotted_zone nothing m.heap) is),
       subst (λ (l : List Gone). Tells told l before after)
           (ap (λ (e : List Anchor). zone_slot_gone e Nothing rest.unused zone) copied
-          ∙ slot_gone-is zone rest es masters agrees nothing Nothing (λ b. refl) refl (λ b. refl)
+          ∙ slot_gone-is zone rest es masters agrees nothing Nothing (λ b. refl)
           ∙ ap (λ (m : Memory). slot_gone nothing m.heap) is) tells,
     )
 

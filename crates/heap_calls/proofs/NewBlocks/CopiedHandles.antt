@@ -13,7 +13,8 @@ use Rattle.heap_calls.specs.Rows.{refused, for_found, made}
 use Rattle.heap_calls.specs.declared.anchor.Anchor.TheVariants.{Handle}
 use Rattle.heap_calls.proofs.GoneBlocks.{slot_gone-is}
 use Rattle.heap_calls.proofs.GonePlaces.{new_gone-is, slotted_zone-is}
-use Rattle.heap_calls.proofs.Made.{Slotted, some_left, seek_new, new-slotted, takes-kept, unmade-follows, made-follows}
+use Rattle.heap_calls.proofs.Cited.{some_left}
+use Rattle.heap_calls.proofs.Made.{Slotted, seek_new, new-slotted, takes-kept, unmade-follows, made-follows}
 use Rattle.heap_calls.proofs.Made.{made-agrees, made-is}
 use Rattle.heap_calls.proofs.Numbering.Answering.{slot_of-ok, look_up-by, held, content_of-rename, place-small, header-fits}
 use Rattle.heap_calls.proofs.Numbering.Numbers.{is_relocatable-number}
@@ -146,7 +147,7 @@ module _ (zone : List Block) (rest : Rest) (es : List Anchor) (masters : rest.al
     pub copied-gone : new_gone es (sparing.One f.slot) n rest.unused zone ≡ purges_made (hand_to_hand handle) s
     copied-gone =
         ap (λ m. new_gone es (sparing.One f.slot) m rest.unused zone) (sym k.long)
-        ∙ new_gone-is zone rest es masters agrees own (sparing.One f.slot) spares (λ z. refl) (λ b. refl) bytes
+        ∙ new_gone-is zone rest es masters agrees own (sparing.One f.slot) spares (λ z. refl) bytes
         ∙ (made-same own no_flags bytes (is_some (phys (length bytes))) s).tells
         ∙ ap (λ (t : Bool). purged_by (made own (λ z. cond t (seek (Put (next_block bytes s)) own z) no_room) s) s)
         (fits (length bytes) k.long) ∙ sym (ap (λ d. purged_by d s) row)
@@ -155,10 +156,10 @@ module _ (zone : List Block) (rest : Rest) (es : List Anchor) (masters : rest.al
     pub copy_slot_gone-is : zone_slot_gone es (sparing.One f.slot) rest.unused zone ≡ copy_slot_gone handle s
     copy_slot_gone-is =
         sym (ap (λ r. found_gone r (λ (h : Held). slot_gone (is_relocatable h.number) s)) found
-        ∙ sym (slot_gone-is zone rest es masters agrees own (sparing.One f.slot) spares refl (λ b. refl)))
+        ∙ sym (slot_gone-is zone rest es masters agrees own (sparing.One f.slot) spares))
 
     pub copying_zone-is : (zone' : List Block) → zone_slotted (sparing.One f.slot) rest.unused zone ≡ Some zone'
         → copying_zone (look_up handle s) s ≡ rename (handle_number es) (pointer_number es) zone'
     copying_zone-is zone' ready =
         ap (λ r. copying_zone r s) found
-        ∙ slotted_zone-is zone rest es masters agrees own (sparing.One f.slot) spares (λ z. refl) (λ b. refl) zone' ready
+        ∙ slotted_zone-is zone rest es masters agrees own (sparing.One f.slot) spares (λ z. refl) zone' ready

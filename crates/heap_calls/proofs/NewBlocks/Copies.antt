@@ -7,6 +7,7 @@ use Rattle.heap_calls.proofs.Cited.{IsPut, IsNewBlock, IsCopied, filter-room_bas
 use Rattle.std.proofs.lemmas.List.{append-nil}
 use Rattle.block_store.specs.declared.sparing.Sparing.TheVariants as sparing
 use Rattle.heap_calls.proofs.Filled.Replaced as replacing
+use Rattle.heap_calls.proofs.NewBlocks.NewSlots.{slotted-after}
 use Rattle.heap_calls.proofs.Filled.Replaced.{put-replaced}
 
 -- A copy of a block: a new block of as many bytes 0, into which the bytes are written.
@@ -42,7 +43,7 @@ module _ (source n slot : ℕ) (zone : List Block) (rest : Rest) (zone1 : List B
     ready-kept : (m : ℕ) → zone_slotted (sparing.One source) m zone ≡ Some p.ready
         → filter (is_relocatable source) p.ready ≡ filter (is_relocatable source) zone
     ready-kept zero e = filter-room_base (is_relocatable source) (is_relocatable source) (λ n. refl) (λ b is. is)
-        Masters refl zone p.ready e
+        Masters refl zone p.ready (sym (slotted-after (sparing.One source) 0 zone) ∙ e)
     ready-kept (suc m) e = ap (filter (is_relocatable source)) (sym (same_Some _ _ e))
 
     -- the one that is copied is what it was

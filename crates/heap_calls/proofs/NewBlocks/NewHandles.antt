@@ -1,15 +1,16 @@
-use Rattle.heap_calls.proofs.Cited.{is_used, ◌≡◌, ℕ, ◌-◌, ◌*◌, ◌<◌, zero, suc, Bool, true, false, List, ◌∷◌, ◌++◌, refl, sym, ◌∙◌, ap}
-use Rattle.heap_calls.proofs.Cited.{subst, map, arith, Option, Some, None, nat_lt, count_by, map-append, cond-true, cond-false}
-use Rattle.heap_calls.proofs.Cited.{false_from_ne_true, Decides-ltb, option_map, Block, Masters, size, count, free_of, free_sum, free}
+use Rattle.heap_calls.proofs.Cited.{is_used, ◌≡◌, ℕ, ◌-◌, ◌*◌, zero, suc, Bool, List, ◌∷◌, ◌++◌, refl, sym, ◌∙◌, ap}
+use Rattle.heap_calls.proofs.Cited.{subst, map, arith, Option, Some, None, count_by, map-append}
+use Rattle.heap_calls.proofs.Cited.{option_map, Block, Masters, size, count, free_of, free_sum, free}
 use Rattle.heap_calls.proofs.Cited.{rename, rename_block, is_mover, is_masters, tidy, low, movers, has_free, change_run, room, put_at_base}
-use Rattle.heap_calls.proofs.Cited.{Rest, spared, opened, Sparing, size-rename, free_of-rename, free-rename, total-rename, filter-rename}
+use Rattle.heap_calls.proofs.Cited.{Rest, spared, Sparing, size-rename, free_of-rename, free-rename, total-rename, filter-rename}
 use Rattle.heap_calls.proofs.Cited.{is_mover-rename, tidy-rename, change_run-rename, has_free-rename, room-rename, Log, Anchor, State}
-use Rattle.heap_calls.proofs.Cited.{Memory, used_slots, all_slots, uses_slot, more_masters, slotted, tries, room_searches, base_searches}
-use Rattle.heap_calls.proofs.Cited.{zone_with_masters, zone_slotted, HasMore, state_of, memory_of, name_of, handle_number, pointer_number}
+use Rattle.heap_calls.proofs.Cited.{Memory, used_slots, all_slots, uses_slot, more_masters, slotted, tries, some_left, nat_tests}
+use Rattle.heap_calls.proofs.Cited.{is_unused, cond, ◌+◌}
+use Rattle.heap_calls.proofs.Cited.{zone_slotted, HasMore, state_of, memory_of, name_of, handle_number, pointer_number}
 use Rattle.heap_calls.proofs.Cited.{KeepsNonrelocatable, Agrees}
-use Rattle.heap_calls.proofs.NewBlocks.NewSlots.{tries-map, searches-base}
+use Rattle.heap_calls.proofs.NewBlocks.NewSlots.{tries-map, slotted-after}
 use Rattle.heap_calls.proofs.Numbering.Changing.{names-same, masters-rename, es'}
-use Rattle.heap_calls.proofs.Numbering.Looking.{room_searches-rename}
+use Rattle.heap_calls.proofs.Same.NewBlocks.{slot_after}
 
 -- A store's new slots and blocks, seen as the heap's.
 
@@ -75,9 +76,6 @@ agrees-more zone' rest more es agrees nonrelocatable has = record {
 -- a slot of the heap is one of its store
 module _ (zone : List Block) (rest : Rest) (es : List Anchor) (masters : rest.all ≡ 64 * count is_masters zone)
     (agrees : Agrees zone rest es)
-    (sp : Block → Bool) (sparing : Sparing) (same : (b : Block)
-    → sp (rename_block (handle_number es) (pointer_number es) b) ≡ spared sparing b)
-    (closed : opened sparing zone ≡ zone)
   where
     abbrev f : ℕ → ℕ
     f = handle_number es
@@ -88,50 +86,33 @@ module _ (zone : List Block) (rest : Rest) (es : List Anchor) (masters : rest.al
     abbrev s : State
     s = state_of zone rest.slots es
 
-    pub none-left : rest.unused ≡ 0 → nat_lt (used_slots s) (all_slots s) ≡ false
-    none-left e =
+    -- the heap has a master pointer left where the store has a slot left
+    pub unused-is : is_unused s ≡ some_left rest.unused
+    unused-is =
         let a = agrees.counted in
         let m = masters-rename f g zone in
-        false_from_ne_true (nat_lt (used_slots s) (all_slots s))
-        (λ t. let less = (Decides-ltb (used_slots s) (all_slots s)).0 t in absurd (omega (arith, masters, e)))
+        cases rest.unused (omega (arith, masters))
+      where
+        cases : (left : ℕ) → left + used_slots s ≡ all_slots s → is_unused s ≡ some_left left
+        cases zero e = grind (arith, nat_tests)
+        cases (suc left) e = grind (arith, nat_tests)
 
-    pub some-left : (n : ℕ) → rest.unused ≡ suc n → nat_lt (used_slots s) (all_slots s) ≡ true
-    some-left n e =
-        let a = agrees.counted in
-        let m = masters-rename f g zone in
-        let less : used_slots s < all_slots s = omega (arith, masters, e) in
-        (Decides-ltb (used_slots s) (all_slots s)).1 less
-
-    -- a block at the base of a run
-    pub base-is : (new : Block) → room (put_at_base (rename_block f g new)) sp (rename f g zone)
-        ≡ option_map (rename f g) (room (put_at_base new) (spared sparing) (opened sparing zone))
-    base-is new =
-        room-rename f g sp (spared sparing) (put_at_base (rename_block f g new)) (put_at_base new) same
-        (put_at_base-rename f g new) zone
-        ∙ ap (λ z. option_map (rename f g) (room (put_at_base new) (spared sparing) z)) (sym closed)
-
-    pub slotted-is : slotted sp s ≡ option_map (λ z. state_of z rest.slots es) (zone_slotted sparing rest.unused zone)
-    slotted-is = cases rest.unused refl
+    pub slotted-is : (sp : Block → Bool) (sparing : Sparing) → ((b : Block) → sp (rename_block f g b) ≡ spared sparing b)
+        → slotted sp s ≡ option_map (λ z. state_of z rest.slots es) (zone_slotted sparing rest.unused zone)
+    slotted-is sp sparing same = ap (λ t. cond t (Some s) (more_masters sp s)) unused-is ∙ cases rest.unused
+        ∙ ap (option_map (λ z. state_of z rest.slots es)) (sym (slotted-after sparing rest.unused zone))
       where
         renamed : (o : Option (List Block)) → option_map (λ (z : List Block). record s { zone = z })
             (option_map (rename f g) o) ≡ option_map (λ z. state_of z rest.slots es) o
         renamed None = refl
         renamed (Some z) = refl
 
-        cases : (n : ℕ) → rest.unused ≡ n → slotted sp s ≡ option_map (λ z. state_of z rest.slots es)
-            (zone_slotted sparing n zone)
-        cases zero e =
-            cond-false (nat_lt (used_slots s) (all_slots s)) (Some s) (more_masters sp s) (none-left e)
-            ∙ ap (option_map (λ (z : List Block). record s { zone = z })) (base-is Masters)
-            ∙ renamed (zone_with_masters sparing zone)
-        cases (suc n) e = cond-true (nat_lt (used_slots s) (all_slots s)) (Some s) (more_masters sp s) (some-left n e)
-
-    pub base_searches-is : (new : Block) → room_searches (put_at_base (rename_block f g new)) sp (rename f g zone)
-        ≡ base_searches (size new) sparing zone
-    base_searches-is new =
-        room_searches-rename f g sp (spared sparing) same (put_at_base (rename_block f g new)) (put_at_base new)
-        (put_at_base-rename f g new) zone
-        ∙ ap (room_searches (put_at_base new) (spared sparing)) (sym closed) ∙ searches-base new sparing zone
+        cases : (n : ℕ) → cond (some_left n) (Some s) (more_masters sp s)
+            ≡ option_map (λ z. state_of z rest.slots es) (slot_after (spared sparing) (some_left n) zone)
+        cases zero = ap (option_map (λ (z : List Block). record s { zone = z }))
+            (room-rename f g sp (spared sparing) (put_at_base Masters) (put_at_base Masters) same
+            (put_at_base-rename f g Masters) zone) ∙ renamed (room (put_at_base Masters) (spared sparing) zone)
+        cases (suc n) = refl
 
 -- all but the zone is what it was, where the host had no memory, and how many blocks were moved
 pub kept-memory : (value : Memory) (zone zone' : List Block) (rest rest' : Rest) (es es' : List Anchor) (log : Log)

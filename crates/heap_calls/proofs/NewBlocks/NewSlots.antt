@@ -1,11 +1,19 @@
-use Rattle.heap_calls.proofs.Cited.{◌≡◌, ℕ, ◌+◌, zero, suc, List, refl, sym, ◌∙◌, ap, subst, cond, arith, Option, Some, None, is_some}
-use Rattle.heap_calls.proofs.Cited.{option_map, IfSome, IsSomeAnd, IsTrue, Block, Masters, size, is_room, tidy, RunSpot, run_spot, has_free}
-use Rattle.heap_calls.proofs.Cited.{with_run, low, Spot, spot_at, filled, least, room, put_at_base, is_used, Rest, IsRest, KeepsSlots}
-use Rattle.heap_calls.proofs.Cited.{KeepsAllButPlaced, spared, opened, purged, most_purges, Sparing, least-map, tries, room_searches, base}
-use Rattle.heap_calls.proofs.Cited.{base_searches, IsBaseAt, zone_with_masters, zone_slotted, HasMore, IsMade, TakesSlot, IsAdded}
+use Rattle.heap_calls.proofs.Cited.{◌≡◌, ℕ, ◌+◌, ◌<◌, zero, suc, Bool, true, false, List, [], map, refl, sym, ◌∙◌, ap, subst, cond, arith}
+use Rattle.heap_calls.proofs.Cited.{Option, Some, None, is_some, is_some-map, option_map, unwrap_or, map-id, IfSome, IsSomeAnd, IsTrue}
+use Rattle.heap_calls.proofs.Cited.{some_and}
+use Rattle.heap_calls.proofs.Cited.{Block, Free, Masters, size, is_room, tidy, RunSpot, run_spot, run_at, has_free, with_run, low, Spot}
+use Rattle.heap_calls.proofs.Cited.{spot_at, filled}
+use Rattle.heap_calls.proofs.Cited.{purge, put_at_base, FindsLowestRun, least_or_last, serves, is_used, Rest, KeepsSlots, counted}
+use Rattle.heap_calls.proofs.Cited.{counted-none, KeepsAllButPlaced, spared, opened, purged, most_purges, Sparing, OpensNone, tries, Base}
+use Rattle.heap_calls.proofs.Cited.{did, moved, Sought, purges_for, seek, slot-refused, Went, told_along, told_named, gone_from, Anchor}
+use Rattle.heap_calls.proofs.Cited.{filled_at, HasRoomAt, HasMore, GainsSlots, some_left, seek_unused, zone_slotted, TakesSlot, IsAdded}
 use Rattle.heap_calls.proofs.Cited.{HasOnlySlot, HasNoRoom}
+use Rattle.block_store.specs.declared.sparing.Sparing.TheVariants as sparing
+use Rattle.heap_calls.proofs.Going.{went-refused, went-none, went-some, gone-none, gone-some, goes-named}
 use Rattle.heap_calls.proofs.Numbering.Changing.{slots_kept}
+use Rattle.heap_calls.proofs.Room.Packing.{base-found, free-filled}
 use Rattle.heap_calls.proofs.Room.Placements.{slot-back}
+use Rattle.heap_calls.proofs.Same.NewBlocks.{slot_after, slot-agrees}
 
 -- Room at the base of a run, and new slots there.
 
@@ -32,91 +40,185 @@ put_at_base-is new zone = cases (run_spot (has_free (size new)) zone)
     cases None = refl
     cases (Some r) = refl
 
--- room at the bottom of a run is a search for a base
-pub room-base : (new : Block) (sparing : Sparing) (zone : List Block)
-    → room (put_at_base new) (spared sparing) (opened sparing zone)
-    ≡ option_map (at_base new) (base (size new) sparing zone)
-room-base new sparing zone =
-    ap (λ f. least f (most_purges sparing zone)) (λ i k. put_at_base-is new (purged k sparing zone) i)
-    ∙ least-map (at_base new) (λ k. run_spot (has_free (size new)) (purged k sparing zone)) (most_purges sparing zone)
+-- where no block counts as free the zone is seen as it is
+pub opened-whole : (nd : Sparing) → OpensNone nd → (zone : List Block) → opened nd zone ≡ zone
+opened-whole sparing.Nothing whole zone = refl
+opened-whole (sparing.One slot) whole zone = refl
+opened-whole (sparing.Two slot other) whole zone = refl
+opened-whole (sparing.Freed slot) whole zone = (λ i. map (λ b. whole b i) zone) ∙ map-id zone
 
-pub searches-base : (new : Block) (sparing : Sparing) (zone : List Block)
-    → room_searches (put_at_base new) (spared sparing) (opened sparing zone) ≡ base_searches (size new) sparing zone
-searches-base new sparing zone =
-    ap (λ f. tries f (most_purges sparing zone)) (λ i k. put_at_base-is new (purged k sparing zone) i)
-    ∙ tries-map (at_base new) (λ k. run_spot (has_free (size new)) (purged k sparing zone)) (most_purges sparing zone)
+-- the search for p bytes at the base of a run, after the least number of purges that serves, for a block that takes them
+module _ (p : ℕ) (nd : Sparing) (whole : OpensNone nd) (zone : List Block) (k : ℕ)
+    (least : k ≡ least_or_last (serves p nd zone) (most_purges nd zone)) (new : Block) (sized : size new ≡ p)
+  where
+    abbrev sp : Block → Bool
+    sp = spared nd
 
--- no base, no room
-pub masters-none : (sparing : Sparing) (zone zone' : List Block) (o : Option ℕ) → o ≡ None
-    → IsBaseAt 272 (base 272 sparing zone) zone' o → zone_with_masters sparing zone ≡ None
-masters-none sparing zone zone' o is found =
-    let P : Option ℕ → Type 0 = λ o. IsBaseAt 272 (base 272 sparing zone) zone' o in
-    room-base Masters sparing zone ∙ ap (option_map (at_base Masters)) (subst P is found)
+    same : opened nd zone ≡ zone
+    same = opened-whole nd whole zone
 
--- a Masters block that was put at the base
-pub masters-some : (sparing : Sparing) (zone zone' after : List Block) (o : Option ℕ) (place : ℕ) → o ≡ Some place
-    → IsBaseAt 272 (base 272 sparing zone) zone' o → IfSome (spot_at place zone') (λ s. after ≡ filled Masters s)
-    → zone_with_masters sparing zone ≡ Some after
-masters-some sparing zone zone' after o place is at h =
-    let P : Option ℕ → Type 0 = λ o. IsBaseAt 272 (base 272 sparing zone) zone' o in
-    let found : P (Some place) = subst P is at in
-    let b = found.3 in
-    let Q : Option Spot → Type 0 = λ o. IfSome o (λ s. after ≡ filled Masters s) in
-    let done : after ≡ filled Masters b.s = subst Q b.at h in
-    room-base Masters sparing zone ∙ ap (option_map (at_base Masters)) found.1
-    ∙ ap Some (sym (b.fills Masters refl refl) ∙ sym done)
+    sees : (z : List Block) → is_some (run_spot (has_free p) z) ≡ is_some (put_at_base new z)
+    sees z = ap (λ n. is_some (run_spot (has_free n) z)) (sym sized)
+        ∙ sym (ap is_some (put_at_base-is new z) ∙ is_some-map (at_base new) (run_spot (has_free (size new)) z))
 
--- the base has room
-pub base-wide : (p : ℕ) (wanted : Option RunSpot) (zone : List Block) (o : Option ℕ) (place : ℕ) → o ≡ Some place
-    → IsBaseAt p wanted zone o → IsSomeAnd (spot_at place zone) (λ s. IsTrue (is_room p s.here))
-base-wide p wanted zone o place is at =
-    let P : Option ℕ → Type 0 = λ o. IsBaseAt p wanted zone o in
-    let found : P (Some place) = subst P is at in
-    let Q : Option Spot → Type 0 = λ o. IsSomeAnd o (λ s. IsTrue (is_room p s.here)) in
-    subst Q (sym found.3.at) found.3.room
+    fewest : k ≡ purges_for (λ z. is_some (moved sp (Base new) z)) sp zone
+    fewest = least ∙ ap (λ z. purges_for (λ z. is_some (run_spot (has_free p) z)) sp z) same
+        ∙ ap (λ (t : List Block → Bool). purges_for t sp zone) (λ i z. sees z i)
+
+    ready : (t : Bool) → serves p nd zone k ≡ t → is_some (put_at_base new (purge k sp zone)) ≡ t
+    ready t is = sym (sees (purge k sp zone)) ∙ ap (λ z. is_some (run_spot (has_free p) (purge k sp z))) (sym same) ∙ is
+
+    pub base-unmade : serves p nd zone k ≡ false → (rest : Rest)
+        → Went sp zone (seek (Base new) sp zone) false (k + 1) zone rest rest
+    base-unmade is rest = went-none sp zone (Base new) refl (λ z. refl) k fewest (ready false is) rest
+
+    pub base-untold : serves p nd zone k ≡ false → (es : List Anchor)
+        → told_along es sp (seek (Base new) sp zone) zone ≡ []
+    base-untold is es = ap (told_named es) (gone-none sp zone (Base new) refl (λ z. refl) k fewest (ready false is))
+
+    pub base-told : serves p nd zone k ≡ true → (es : List Anchor)
+        → gone_from es nd k zone ≡ told_along es sp (seek (Base new) sp zone) zone
+    base-told is es = goes-named es nd whole k zone
+        ∙ ap (told_named es) (sym (gone-some sp zone (Base new) refl (λ z. refl) k fewest (ready true is)))
+
+    pub base-made : (place : ℕ) (zone1 after : List Block) → 0 < p → zone1 ≡ purged k nd zone
+        → FindsLowestRun (has_free p) zone1 (Some place)
+        → IfSome (run_at place zone1) (λ r. after ≡ tidy (with_run (low (Free p)) r))
+        → (rest rest' : Rest) → rest'.moves ≡ rest.moves
+        → Went sp zone (seek (Base new) sp zone) true (k + 1) (filled_at new (Some place) after) rest rest'
+    base-made place zone1 after pos purged found h rest rest' still =
+        let b = base-found p place zone1 after pos found h in
+        went-some sp zone (Base new) refl (λ z. refl) k fewest (filled_at new (Some place) after)
+        (put_at_base-is new (purge k sp zone)
+        ∙ ap (λ n. option_map (at_base new) (run_spot (has_free n) (purge k sp zone))) sized
+        ∙ ap (λ z. option_map (at_base new) (run_spot (has_free p) z)) (ap (purge k sp) (sym same) ∙ sym purged)
+        ∙ ap (option_map (at_base new)) found.1
+        ∙ ap Some (sym (ap (λ o. unwrap_or (option_map (filled new) o) after) b.at ∙ b.fills new sized)))
+        rest rest' (still ∙ sym (counted-none rest.moves))
+
+-- the place has room
+pub base-room : (p place : ℕ) (zone after : List Block) → 0 < p → FindsLowestRun (has_free p) zone (Some place)
+    → IfSome (run_at place zone) (λ r. after ≡ tidy (with_run (low (Free p)) r)) → HasRoomAt p (Some place) after
+base-room p place zone after pos found h =
+    let b = base-found p place zone after pos found h in
+    subst (λ o. IsSomeAnd o (λ s. IsTrue (is_room p s.here))) (sym b.at) b.room
+
+pub room-at : (p : ℕ) (o : Option ℕ) (place : ℕ) (zone : List Block) → o ≡ Some place → HasRoomAt p o zone
+    → IsSomeAnd (spot_at place zone) (λ s. IsTrue (is_room p s.here))
+room-at p o place zone is room = let P : Option ℕ → Type 0 = λ o. HasRoomAt p o zone in subst P is room
+
+-- a block was put into the room that was made
+module _ (new : Block) (o : Option ℕ) {sp : Block → Bool} {zone : List Block} (zone1 : List Block) {p : Sought} {n : ℕ}
+    {rest rest1 : Rest} (w : Went sp zone p (is_some o) n (filled_at new o zone1) rest rest1)
+  where
+    pub went-filled : (k place : ℕ) → o ≡ Some place → HasRoomAt k o zone1 → (zone' : List Block)
+        → IfSome (spot_at place zone1) (λ s. zone' ≡ filled new s) → (rest' : Rest) → rest'.moves ≡ rest1.moves
+        → Went sp zone p (is_some o) n zone' rest rest'
+    went-filled k place is room zone' done rest' still = record {
+      finds = w.finds;
+      leaves = cases (spot_at place zone1) (room-at k o place zone1 is room) done
+          ∙ ap (λ o. filled_at new o zone1) (sym is) ∙ w.leaves;
+      looks = w.looks;
+      lowers = still ∙ w.lowers;
+    }
+      where
+        cases : (t : Option Spot) → IsSomeAnd t (λ s. IsTrue (is_room k s.here)) → IfSome t (λ s. zone' ≡ filled new s)
+            → zone' ≡ unwrap_or (option_map (filled new) t) zone1
+        cases None wide done = absurd wide
+        cases (Some s) wide done = done
+
+    pub went-unfilled : o ≡ None → Went sp zone p (is_some o) n zone1 rest rest1
+    went-unfilled is = record {
+      finds = w.finds;
+      leaves = ap (λ o. filled_at new o zone1) (sym is) ∙ w.leaves;
+      looks = w.looks;
+      lowers = w.lowers;
+    }
+
+-- a free block in it leaves the zone
+pub went-free : (k : ℕ) (o : Option ℕ) (zone' : List Block) → tidy zone' ≡ zone' → HasRoomAt k o zone'
+    → {sp : Block → Bool} {zone : List Block} {p : Sought} {n : ℕ} {rest rest' : Rest}
+    → Went sp zone p (is_some o) n (filled_at (Free k) o zone') rest rest' → Went sp zone p (is_some o) n zone' rest rest'
+went-free k o zone' tidied room w = record {
+  finds = w.finds;
+  leaves = sym (same o room) ∙ w.leaves;
+  looks = w.looks;
+  lowers = w.lowers;
+}
+  where
+    same : (o : Option ℕ) → HasRoomAt k o zone' → filled_at (Free k) o zone' ≡ zone'
+    same None room = refl
+    same (Some place) room =
+        let b = some_and (spot_at place zone') (λ s. IsTrue (is_room k s.here)) room in
+        ap (λ o. unwrap_or (option_map (filled (Free k)) o) zone') b.1 ∙ free-filled k place zone' b.0 tidied b.1 b.2
 
 -- what came of making 64 slots
-pub made-some : (sparing : Sparing) (zone zone' : List Block) (rest rest1 rest' : Rest) (o : Option ℕ) (place : ℕ)
-    → o ≡ Some place → zone_with_masters sparing zone ≡ Some zone' → KeepsAllButPlaced rest rest1
+pub gains-some : (rest rest1 rest' : Rest) (o : Option ℕ) (place : ℕ) → o ≡ Some place → KeepsAllButPlaced rest rest1
     → rest'.unused ≡ rest1.unused + 64 → rest'.all ≡ rest1.all + 64
     → ((k : ℕ) → IsTrue (is_used (rest1.slots k)) → rest'.slots k ≡ rest1.slots k) → rest'.window ≡ rest1.window
-    → IsMade sparing zone rest o zone' rest'
-made-some sparing zone zone' rest rest1 rest' o place is made now unused all slots window =
-    let P : Option ℕ → Type 0 = λ o. IsMade sparing zone rest o zone' rest' in
+    → GainsSlots o rest rest'
+gains-some rest rest1 rest' o place is now unused all slots window =
+    let P : Option ℕ → Type 0 = λ o. GainsSlots o rest rest' in
     let more : HasMore rest rest' = record {
       slots = λ k used. slots k (ap is_used (now.slots k) ∙ used) ∙ now.slots k;
       counts = omega (arith, unused, all, now.unused, now.all);
       grows = omega (arith, all, now.all);
       window = window ∙ now.window;
     } in
-    let done : P (Some place) = (made, more, unused ∙ ap (λ n. n + 64) now.unused) in
+    let done : P (Some place) = (more, unused ∙ ap (λ n. n + 64) now.unused) in
     subst P (sym is) done
 
-pub made-none : (sparing : Sparing) (zone zone' : List Block) (rest rest' : Rest) (o : Option ℕ) → o ≡ None
-    → zone_with_masters sparing zone ≡ None → zone' ≡ zone → KeepsAllButPlaced rest rest' → IsMade sparing zone rest o zone' rest'
-made-none sparing zone zone' rest rest' o is none same now =
-    let P : Option ℕ → Type 0 = λ o. IsMade sparing zone rest o zone' rest' in
-    let done : P None = (none, same, slots_kept rest rest' now) in
+pub gains-none : (rest rest' : Rest) (o : Option ℕ) → o ≡ None → KeepsAllButPlaced rest rest' → GainsSlots o rest rest'
+gains-none rest rest' o is now =
+    let P : Option ℕ → Type 0 = λ o. GainsSlots o rest rest' in
+    let done : P None = slots_kept rest rest' now in
     subst P (sym is) done
 
--- there is neither an unused slot nor room for more
-pub slot-none : (sparing : Sparing) (zone zone1 zone' : List Block) (rest rest1 rest' : Rest) (o : Option ℕ) → o ≡ None
-    → rest.unused ≡ 0 → zone1 ≡ zone → IsRest rest rest1 → IsMade sparing zone1 rest1 o zone' rest'
-    → TakesSlot sparing zone rest None zone' rest'
-slot-none sparing zone zone1 zone' rest rest1 rest' o is unused same now made =
-    let P : Option ℕ → Type 0 = λ o. IsMade sparing zone1 rest1 o zone' rest' in
-    let none : P None = subst P is made in (
-      ap (λ n. zone_slotted sparing n zone) unused ∙ ap (zone_with_masters sparing) (sym same) ∙ none.0,
-      none.1 ∙ same,
-      record {
-        slots = λ k. none.2.slots k ∙ now.slots k;
-        unused = none.2.unused ∙ now.unused;
-        all = none.2.all ∙ now.all;
-        moves = refl;
-        placed = refl;
-        window = none.2.window ∙ now.window;
-      },
+-- where no slot is unused, the search for one is the search for a master pointer block's base
+pub went-slot : (nd : Sparing) (zone zone1 zone2 zone' : List Block) (rest rest1 rest2 rest' : Rest) (found had : Bool)
+    (n : ℕ) → rest.unused ≡ 0 → zone1 ≡ zone → rest1.moves ≡ rest.moves → had ≡ found
+    → Went (spared nd) zone1 (seek (Base Masters) (spared nd) zone1) found n zone2 rest1 rest2
+    → zone' ≡ zone2 → rest'.moves ≡ rest2.moves
+    → Went (spared nd) zone (seek_unused nd rest.unused zone) had n zone' rest rest'
+went-slot nd zone zone1 zone2 zone' rest rest1 rest2 rest' found had n none same still is went at still' =
+    let w = subst (λ z. Went (spared nd) z (seek (Base Masters) (spared nd) z) found n zone2 rest1 rest2) same went in
+    subst (λ (k : ℕ). Went (spared nd) zone (seek_unused nd k zone) had n zone' rest rest') (sym none) (record {
+      finds = is ∙ w.finds;
+      leaves = at ∙ w.leaves;
+      looks = w.looks;
+      lowers = still' ∙ w.lowers ∙ ap (λ m. counted m (did (spared nd) (seek (Base Masters) (spared nd) zone).path
+          zone).lowered) still;
+    })
+
+-- what the search for an unused slot found
+module _ (nd : Sparing) (k : ℕ) (zone : List Block) (o : Option ℕ) {n : ℕ} {zone' : List Block} {rest rest' : Rest}
+    (w : Went (spared nd) zone (seek_unused nd k zone) (is_some o) n zone' rest rest')
+  where
+    abbrev left : List Block
+    left = (did (spared nd) (seek_unused nd k zone).path zone).zone
+
+    pub slotted-some : (slot : ℕ) → o ≡ Some slot → zone_slotted nd k zone ≡ Some zone'
+    slotted-some slot is = ap (λ t. cond t (Some left) None) (sym w.finds ∙ ap is_some is) ∙ ap Some (sym w.leaves)
+
+    pub slotted-none : o ≡ None → (zone_slotted nd k zone ≡ None) × (zone' ≡ zone)
+    slotted-none is = (
+      ap (λ t. cond t (Some left) None) (sym w.finds ∙ ap is_some is),
+      went-refused (slot-refused (spared nd) (some_left k) zone) w (ap is_some is),
     )
+
+pub slotted-after : (nd : Sparing) (k : ℕ) (zone : List Block)
+    → zone_slotted nd k zone ≡ slot_after (spared nd) (some_left k) zone
+slotted-after nd k zone =
+    let a = slot-agrees 0 (spared nd) (some_left k) zone in
+    cases (slot_after (spared nd) (some_left k) zone) a.finds a.leaves
+  where
+    r : Sought
+    r = seek_unused nd k zone
+
+    cases : (o : Option (List Block)) → is_some o ≡ r.found → unwrap_or o zone ≡ (did (spared nd) r.path zone).zone
+        → zone_slotted nd k zone ≡ o
+    cases None e f = ap (λ t. cond t (Some (did (spared nd) r.path zone).zone) None) (sym e)
+    cases (Some z) e f = ap (λ t. cond t (Some (did (spared nd) r.path zone).zone) None) (sym e) ∙ ap Some (sym f)
 
 -- slots that are kept are no fewer
 pub more-kept : (rest more rest' : Rest) → HasMore rest more → KeepsSlots more rest' → HasMore rest rest'
@@ -129,17 +231,17 @@ more-kept rest more rest' has kept = record {
 
 -- a slot could be had, but no block
 pub only-slot : (sparing : Sparing) (n slot : ℕ) (zone zone1 zone' : List Block) (rest rest1 rest' : Rest)
-    (o p : Option ℕ) → o ≡ Some slot → p ≡ None → TakesSlot sparing zone rest o zone1 rest1
-    → IsAdded sparing slot n zone1 rest1 p zone' rest'
+    (o p : Option ℕ) → o ≡ Some slot → p ≡ None → zone_slotted sparing rest.unused zone ≡ Some zone1
+    → TakesSlot o rest zone1 rest1 → IsAdded sparing slot n zone1 rest1 p zone' rest'
     → HasOnlySlot sparing n zone rest zone' rest'
-only-slot sparing n slot zone zone1 zone' rest rest1 rest' o p some none taken added =
-    let P : Option ℕ → Type 0 = λ o. TakesSlot sparing zone rest o zone1 rest1 in
+only-slot sparing n slot zone zone1 zone' rest rest1 rest' o p some none ready taken added =
+    let P : Option ℕ → Type 0 = λ o. TakesSlot o rest zone1 rest1 in
     let Q : Option ℕ → Type 0 = λ p. IsAdded sparing slot n zone1 rest1 p zone' rest' in
     let t : P (Some slot) = subst P some taken in
     let a : Q None = subst Q none added in
     let R : List Block → Type 0 = λ z. (slot : ℕ) × HasNoRoom sparing slot n z in
     let no_room : R zone1 = (slot, a.0) in (
-      t.ready ∙ ap Some (sym a.1),
+      ready ∙ ap Some (sym a.1),
       more-kept rest t.more rest' t.has_more (slot-back t.more rest1 rest' slot t.was t.one t.slots a.2),
       subst R (sym a.1) no_room,
     )

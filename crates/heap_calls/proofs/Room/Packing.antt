@@ -1,10 +1,10 @@
 use Rattle.heap_calls.proofs.Cited.{◌≡◌, ℕ, ◌+◌, ◌-◌, ◌<◌, zero, suc, Bool, true, false, not, ◌||◌, ◌==◌, List, [], ◌∷◌, ◌++◌, refl, sym}
 use Rattle.heap_calls.proofs.Cited.{◌∙◌, ap, subst, cond, arith, Option, Some, None, nat_le, append_assoc, none-some, same_Some, le-leb}
 use Rattle.heap_calls.proofs.Cited.{cond-true, cond-false, nat_tests, option_map, IfSome, IsSomeAnd, IsTrue, FindsLowestRun, Block, Free}
-use Rattle.heap_calls.proofs.Cited.{Nonrelocatable, Masters, Relocatable, size, sizes, free_sum, free_of, free, is_room, add, tidy, has}
+use Rattle.heap_calls.proofs.Cited.{Nonrelocatable, Masters, Relocatable, size, sizes, free_sum, free, is_room, add, tidy, has}
 use Rattle.heap_calls.proofs.Cited.{has_free, in_run, movers, low, with_run, RunSpot, run_raised, lowest_run, run_spot, run_at, segments}
 use Rattle.heap_calls.proofs.Cited.{joined, Stretch, raised, spot_at, total-tidy, has-tidy, tidy-tidy, barrier-alone, run_spot-passes}
-use Rattle.heap_calls.proofs.Cited.{AreParts, in-parts, IsBase, IsBaseAt}
+use Rattle.heap_calls.proofs.Cited.{AreParts, in-parts, Spot, filled, spot_at-is, false≢true}
 use Rattle.heap_calls.proofs.Room.Searching.{at_run}
 
 -- two Free blocks below others
@@ -139,6 +139,13 @@ low-is new p r e closed =
     ap tidy (append_assoc r.below (low new r.run) r.above) ∙ closed (low new r.run ++ r.above)
     ∙ ap (λ n. tidy r.below ++ add new (tidy ((movers r.run ++ free (free_sum r.run - n)) ++ r.above))) e
 
+-- a place of p bytes at the bottom of a run: a block that is filled into it stands there
+pub record IsBase (p : ℕ) (r : RunSpot) (zone : List Block) (place : ℕ) : Type 0 where
+  pub s : Spot
+  pub at : spot_at place zone ≡ Some s
+  pub room : is_room p s.here ≡ true
+  pub fills : (new : Block) → size new ≡ p → filled new s ≡ tidy (with_run (low new) r)
+
 -- a block filled into the lowest bytes of a run that was packed upward stands at its bottom
 pub low-filled : (p : ℕ) (r : RunSpot) → 0 < p → Closed r.below
     → IsBase p r (tidy (with_run (low (Free p)) r)) (sizes r.below)
@@ -154,10 +161,9 @@ low-filled (suc n) r pos closed = by_top (tidy (upper (suc n) r)) (tidy-tidy (up
     even : sizes below ≡ sizes r.below
     even = total-tidy size (λ n m. refl) r.below
 
-    fills : (new : Block) (left : ℕ) (above top : List Block) → size new ≡ p → free_of new ≡ 0
-        → add (Free left) (tidy above) ≡ top → tidy (upper p r) ≡ top
+    fills : (new : Block) (left : ℕ) (above top : List Block) → size new ≡ p → add (Free left) (tidy above) ≡ top → tidy (upper p r) ≡ top
         → tidy (below ++ new ∷ Free left ∷ above) ≡ tidy (with_run (low new) r)
-    fills new left above top e none is top_is =
+    fills new left above top e is top_is =
         tidy-left r.below (new ∷ Free left ∷ above) ∙ closed (new ∷ Free left ∷ above)
         ∙ ap (λ l. below ++ add new l) (is ∙ sym top_is) ∙ sym (low-is new p r e closed)
 
@@ -169,9 +175,8 @@ low-filled (suc n) r pos closed = by_top (tidy (upper (suc n) r)) (tidy-tidy (up
       at = ap (spot_at (sizes r.below)) is ∙ ap (λ n. spot_at n (below ++ here ∷ above)) (sym even)
           ∙ spot_at-above below here above (solid-tidy r.below);
       room = room;
-      distance = even;
-      fills = λ new e none. ap (λ n. tidy (below ++ new ∷ Free (size here - n) ∷ above)) e
-          ∙ fills new (size here - p) above top e none left top_is;
+      fills = λ new e. ap (λ n. tidy (below ++ new ∷ Free (size here - n) ∷ above)) e
+          ∙ fills new (size here - p) above top e left top_is;
     }
 
     whole : (top : List Block) → tidy (upper p r) ≡ top → tidy (with_run (low (Free p)) r) ≡ below ++ add (Free p) top
@@ -201,21 +206,35 @@ low-filled (suc n) r pos closed = by_top (tidy (upper (suc n) r)) (tidy-tidy (up
         (ap (λ k. add (Free k) (tidy (Relocatable id flags content ∷ above))) none ∙ tidied)
 
 -- the bottom of a found run, after it was packed upward
-pub base-found : (p : ℕ) (place : ℕ) (zone zone' : List Block) (after : List Block) → 0 < p → zone' ≡ zone
-    → (found : FindsLowestRun (has_free p) zone (Some place)) → IfSome (run_at place zone')
-    (λ r. after ≡ tidy (with_run (low (Free p)) r))
-    → IsBaseAt p (run_spot (has_free p) zone) after (Some place)
-base-found p place zone zone' after pos same found h =
-    let is : after ≡ tidy (with_run (low (Free p)) found.0) = at_run place zone zone' found.0
-    (λ r. after ≡ tidy (with_run (low (Free p)) r)) same found.2 h in
+pub base-found : (p : ℕ) (place : ℕ) (zone after : List Block) → 0 < p
+    → (found : FindsLowestRun (has_free p) zone (Some place))
+    → IfSome (run_at place zone) (λ r. after ≡ tidy (with_run (low (Free p)) r)) → IsBase p found.0 after place
+base-found p place zone after pos found h =
+    let is : after ≡ tidy (with_run (low (Free p)) found.0) = at_run place zone zone found.0
+    (λ r. after ≡ tidy (with_run (low (Free p)) r)) refl found.2 h in
     let P : List Block → Type 0 = λ z. IsBase p found.0 z (sizes found.0.below) in
-    let Q : ℕ → Type 0 = λ n. IsBase p found.0 after n in (
-      found.0,
-      found.1,
-      is,
-      subst Q found.3 (subst P (sym is) (low-filled p found.0 pos
-          (closed-below (has_free p) zone found.0 found.1))),
-    )
+    let Q : ℕ → Type 0 = λ n. IsBase p found.0 after n in
+    subst Q found.3
+    (subst P (sym is) (low-filled p found.0 pos (closed-below (has_free p) zone found.0 found.1)))
+
+-- a free block at the lower end of a free block leaves the zone as it is
+tidy-below : (below xs ys : List Block) → tidy xs ≡ tidy ys → tidy (below ++ xs) ≡ tidy (below ++ ys)
+tidy-below [] xs ys e = e
+tidy-below (b ∷ below) xs ys e = ap (add b) (tidy-below below xs ys e)
+
+pub free-filled : (p place : ℕ) (zone : List Block) (s : Spot) → tidy zone ≡ zone → spot_at place zone ≡ Some s
+    → is_room p s.here ≡ true → filled (Free p) s ≡ zone
+free-filled p place zone s tidied at wide =
+    tidy-below s.below (Free p ∷ Free (size s.here - p) ∷ s.above) (s.here ∷ s.above) (both_free s.here wide)
+    ∙ ap tidy (spot_at-is place zone s at) ∙ tidied
+  where
+    both_free : (b : Block) → is_room p b ≡ true
+        → tidy (Free p ∷ Free (size b - p) ∷ s.above) ≡ tidy (b ∷ s.above)
+    both_free (Free n) wide = add-add p (n - p) (tidy s.above)
+        ∙ ap (λ k. add (Free k) (tidy s.above)) (grind (arith, nat_tests, wide))
+    both_free (Nonrelocatable id content) wide = absurd (false≢true wide)
+    both_free Masters wide = absurd (false≢true wide)
+    both_free (Relocatable id flags content) wide = absurd (false≢true wide)
 
 pub raise-allowed : (p : ℕ) (place : ℕ) (zone zone' : List Block) → zone' ≡ zone
     → FindsLowestRun (has_free p) zone (Some place) → IsSomeAnd (run_at place zone') (λ r. IsTrue (has_free p r.run))

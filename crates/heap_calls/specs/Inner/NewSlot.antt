@@ -1,30 +1,34 @@
-use Rattle.std.specs.Prelude.{◌≡◌, ◌≤◌, ℕ, ◌+◌, zero, suc, false, Option, Some, None, List}
+use Rattle.std.specs.Prelude.{◌≡◌, ◌≤◌, ℕ, ◌+◌, zero, suc, Bool, true, false, Option, Some, None, List, if◌then◌else◌}
 use Rattle.std.specs.Bool.{IsTrue}
-use Rattle.block_store.specs.Block.{Block, Masters, is_relocatable}
+use Rattle.block_store.specs.Block.{Block, is_relocatable}
 use Rattle.block_store.specs.Run.{has}
-use Rattle.block_store.specs.Room.{room, put_at_base}
 use Rattle.block_store.specs.Slot.{Unused, Used, is_used}
 use Rattle.block_store.specs.Rest.{Rest, KeepsSlots, with_slot}
-use Rattle.block_store.specs.Sparing.{spared, opened}
+use Rattle.block_store.specs.Sparing.{spared}
 use Rattle.block_store.specs.declared.sparing.Sparing.{Sparing}
-use Rattle.heap_calls.specs.Inner.Base.{base_searches}
-use Rattle.block_store.specs.declared.measures.TheConstants.{MASTERS_SIZE, SLOTS_A_BLOCK}
+use Rattle.block_store.specs.declared.measures.TheConstants.{SLOTS_A_BLOCK}
+use Rattle.moves.specs.Moves.{did}
+use Rattle.moves.specs.Seeking.{Sought, seek_slot}
 
 -- New slots in a store.
 
--- The zone with one more master pointer block.
-abbrev pub zone_with_masters : Sparing → List Block → Option (List Block)
-zone_with_masters sparing zone = room (put_at_base Masters) (spared sparing) (opened sparing zone)
+-- Some slots are unused.
+abbrev pub some_left : ℕ → Bool
+some_left zero = false
+some_left (suc n) = true
 
--- The zone with an unused slot, by the number of slots that are unused.
+-- The search for an unused slot, by the number of slots that are unused.
+abbrev pub seek_unused : Sparing → ℕ → List Block → Sought
+seek_unused sparing n zone = seek_slot (some_left n) (spared sparing) zone
+
+-- The zone with an unused slot; `None` where there is no room for more slots.
 abbrev pub zone_slotted : Sparing → ℕ → List Block → Option (List Block)
-zone_slotted sparing zero zone = zone_with_masters sparing zone
-zone_slotted sparing (suc n) zone = Some zone
+zone_slotted sparing n zone = if (seek_unused sparing n zone).found
+    then Some (did (spared sparing) (seek_unused sparing n zone).path zone).zone else None
 
 -- The number of searches for an unused slot.
 abbrev pub zone_searches : Sparing → ℕ → List Block → ℕ
-zone_searches sparing zero zone = base_searches MASTERS_SIZE sparing zone
-zone_searches sparing (suc n) zone = 0
+zone_searches sparing n zone = (did (spared sparing) (seek_unused sparing n zone).path zone).searches
 
 -- A store has more slots than it had, all the new ones unused.
 pub record HasMore (rest more : Rest) : Type 0 where
@@ -33,27 +37,22 @@ pub record HasMore (rest more : Rest) : Type 0 where
   pub grows : rest.all ≤ more.all
   pub window : more.window ≡ rest.window
 
--- A master pointer block was put at the base of a run; `None` where there is no room for it, and then nothing
--- changed.
-abbrev pub IsMade : {T : Type 0} → Sparing → List Block → Rest → Option T → List Block → Rest → Type 0
-IsMade sparing zone rest (Some place) zone' rest' = (zone_with_masters sparing zone ≡ Some zone') × HasMore rest rest'
-    × (rest'.unused ≡ rest.unused + SLOTS_A_BLOCK)
-IsMade sparing zone rest None zone' rest' = (zone_with_masters sparing zone ≡ None) × (zone' ≡ zone)
-    × KeepsSlots rest rest'
+-- A store got the slots of a new master pointer block; as many as it had where there is no place for one.
+abbrev pub GainsSlots : {T : Type 0} → Option T → Rest → Rest → Type 0
+GainsSlots None rest rest' = KeepsSlots rest rest'
+GainsSlots (Some place) rest rest' = HasMore rest rest' × (rest'.unused ≡ rest.unused + SLOTS_A_BLOCK)
 
--- An unused slot was taken for a new handle, which the store had or got with a new master pointer block.
-pub record IsTaken (sparing : Sparing) (slot : ℕ) (zone : List Block) (rest : Rest) (zone' : List Block)
-    (rest' : Rest) : Type 0 where
+-- An unused slot was taken for a new handle, which the store had or got with a new master pointer block, and it has no
+-- block.
+pub record IsTaken (slot : ℕ) (rest : Rest) (zone' : List Block) (rest' : Rest) : Type 0 where
   pub more : Rest
-  pub ready : zone_slotted sparing rest.unused zone ≡ Some zone'
   pub has_more : HasMore rest more
   pub was : more.slots slot ≡ Unused
   pub one : rest'.unused + 1 ≡ more.unused
   pub slots : KeepsSlots (with_slot slot (Used false) rest'.unused more) rest'
   pub none : has (is_relocatable slot) zone' ≡ false
 
--- The slot that was taken; `None` where no slot is unused and there is no room for more, and then nothing changed.
-abbrev pub TakesSlot : Sparing → List Block → Rest → Option ℕ → List Block → Rest → Type 0
-TakesSlot sparing zone rest (Some slot) zone' rest' = IsTaken sparing slot zone rest zone' rest'
-TakesSlot sparing zone rest None zone' rest' = (zone_slotted sparing rest.unused zone ≡ None) × (zone' ≡ zone)
-    × KeepsSlots rest rest'
+-- The slot that was taken; `None` where no slot is unused, and then they are what they were.
+abbrev pub TakesSlot : Option ℕ → Rest → List Block → Rest → Type 0
+TakesSlot None rest zone' rest' = KeepsSlots rest rest'
+TakesSlot (Some slot) rest zone' rest' = IsTaken slot rest zone' rest'

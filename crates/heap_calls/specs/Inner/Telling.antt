@@ -5,15 +5,14 @@ use Rattle.block_store.specs.Room.{Spot, spot_at, may_be_purged}
 use Rattle.block_store.specs.Sparing.{spared}
 use Rattle.block_store.specs.Inner.Stretch.{opened_block}
 use Rattle.block_store.specs.declared.sparing.Sparing.{Sparing}
-use Rattle.block_store.specs.declared.sparing.Sparing.TheVariants.{Nothing, Freed}
-use Rattle.block_store.specs.declared.measures.TheConstants.{MASTERS_SIZE}
+use Rattle.block_store.specs.declared.sparing.Sparing.TheVariants.{Freed}
 use Rattle.mac_words.specs.Size.{phys, padded}
 use Rattle.heap_calls.specs.Gone.{Gone, gone_of, Tells, TellsNothing}
-use Rattle.heap_calls.specs.Inner.Base.{base, base_searches}
 use Rattle.heap_calls.specs.Inner.Numbered.{handle_number, pointer_number}
-use Rattle.heap_calls.specs.Inner.NewSlot.{zone_slotted, HasMore}
+use Rattle.heap_calls.specs.Inner.NewSlot.{seek_unused, zone_slotted, HasMore}
 use Rattle.block_store.specs.Rest.{Rest, IsRest}
 use Rattle.heap_calls.specs.Inner.Search.{placement, placement_searches}
+use Rattle.heap_calls.specs.Inner.Went.{told_along}
 use Rattle.heap_calls.specs.declared.anchor.Anchor.{Anchor}
 
 -- How a store's blocks, which the store names by slot, are reported to a sink.
@@ -44,19 +43,9 @@ from_spot (Some s) = s.here ∷ s.above
 abbrev pub blocks_from : ℕ → List Block → List Block
 blocks_from place zone = from_spot (spot_at place zone)
 
--- The blocks of a store that are purged for room of p bytes at the base of a run.
-abbrev pub base_gone : List Anchor → ℕ → Sparing → List Block → List Gone
-base_gone entries p sparing zone =
-    if is_some (base p sparing zone) then gone_from entries sparing (base_searches p sparing zone - 1) zone else []
-
--- The blocks of a store that are purged for a new nonrelocatable block of n bytes.
-abbrev pub pointer_gone : List Anchor → ℕ → List Block → List Gone
-pointer_gone entries n zone = if is_some (phys n) then base_gone entries (padded n) Nothing zone else []
-
 -- The blocks of a store that are purged for an unused slot, by the number of slots that are unused.
 abbrev pub zone_slot_gone : List Anchor → Sparing → ℕ → List Block → List Gone
-zone_slot_gone entries sparing zero zone = base_gone entries MASTERS_SIZE sparing zone
-zone_slot_gone entries sparing (suc n) zone = []
+zone_slot_gone entries sparing n zone = told_along entries (spared sparing) (seek_unused sparing n zone) zone
 
 -- No block counts as free for the search.
 abbrev pub OpensNone : Sparing → Type 0

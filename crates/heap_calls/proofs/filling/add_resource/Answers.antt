@@ -21,7 +21,9 @@ agrees g c o is =
     rw (← is) (made-agrees (g.S.BlockStore.zone store) (g.S.BlockStore.rest store) _ (g.met.S.BlockStore.masters store)
     c.requires.agrees (g.met.S.BlockStore.no_block store) (g.S.BlockStore.rest c.fill_block.new.store) _
     c.fill_block.ensures.nonrelocatable c.in_ok-made.made.slot
-    (filled-slotted c.args.flags c.args.bytes.now _ _ _ _ _ c.in_ok-made.ensures.answer))
+    (filled-slotted c.args.flags c.args.bytes.now c.in_ok-made.made.slot (g.S.BlockStore.zone store)
+    (g.S.BlockStore.zone c.fill_block.new.store) (g.S.BlockStore.rest store) (g.S.BlockStore.rest c.fill_block.new.store)
+    c.in_ok-made.ensures.answer))
 
 -- the answer, with no role as yet
 plain : (g : Over) (c : After-count g) (o : Option ℕ) → c.in_ok-made.made.slot ≡ o

@@ -1,11 +1,12 @@
-use Rattle.heap_calls.proofs.Cited.{◌≡◌, ◌∙◌, refl, List, ap, err_from_is_err_and, Nothing, Anchor, doing_silently, purges_made, Hears}
-use Rattle.heap_calls.proofs.Cited.{KeepsMoves, base_gone}
+use Rattle.heap_calls.proofs.Cited.{◌≡◌, ◌∙◌, refl, List, ap, err_from_is_err_and, is_some, Masters, nothing, Base, seek, told_along}
+use Rattle.heap_calls.proofs.Cited.{Anchor, doing_silently, purges_made, Hears}
+use Rattle.heap_calls.proofs.Cited.{KeepsMoves}
 use Rattle.heap_calls.specs.Rows.{more_masters}
 use Rattle.heap_calls.proofs.Hearing.{stops-halted, hears-as}
 use Rattle.heap_calls.proofs.NewBlocks.NewHandles.{agrees-more, kept-still}
 use Rattle.heap_calls.proofs.Numbering.Changing.{heap-same}
 use Rattle.heap_calls.proofs.Numbering.Memories.{memory_as, reply-as}
-use Rattle.heap_calls.proofs.Went.{masters-is, masters-agrees, masters_gone-is}
+use Rattle.heap_calls.proofs.Went.{base-is, base-gone, gains-stays, gains-agrees}
 use Rattle.heap_calls.proofs.heap.Heap.add_masters.Given.{Over}
 use Rattle.heap_calls.proofs.heap.Heap.add_masters.Goals.{In_ok-room, After-account}
 use Rattle.heap_calls.proofs.heap.Heap.add_masters.Goals as goal
@@ -20,10 +21,10 @@ invariant_of-self g c =
 pub invariant_of-self-2 : goal.invariant_of-self-2
 invariant_of-self-2 g c =
     let a = c.self.inside in
-    masters-agrees (g.S.BlockStore.zone a.store) (g.S.BlockStore.rest a.store) a.names.items a.log
+    gains-agrees (g.S.BlockStore.zone a.store) (g.S.BlockStore.rest a.store) a.names.items a.log
     c.args.self.now.memory (memory_as c.self.view_is) (g.S.BlockStore.zone c.make_masters.new.store)
     (g.S.BlockStore.rest c.make_masters.new.store) c.self.invariant c.make_masters.ensures.nonrelocatable
-    c.in_ok-room.room.place c.in_ok-room.ensures.made
+    c.in_ok-room.room.place c.in_ok-room.ensures.slots
 
 -- what the call answers where the host has memory
 told : (g : Over) (c : After-account g) → doing_silently more_masters c.args.self.now.memory
@@ -31,10 +32,14 @@ told : (g : Over) (c : After-account g) → doing_silently more_masters c.args.s
 told g c =
     let a = c.self.inside in
     rw (c.account.ensures.reply, c.account.ensures.counted, c.is_some.ensures)
-    (masters-is (g.S.BlockStore.zone a.store) (g.S.BlockStore.rest a.store) a.names.items a.log
+    (base-is (g.S.BlockStore.zone a.store) (g.S.BlockStore.rest a.store) a.names.items a.log
+    c.args.self.now.memory (memory_as c.self.view_is) (g.S.BlockStore.zone c.make_masters.new.store)
+    (g.S.BlockStore.rest c.make_masters.new.store) more_masters Masters refl refl (is_some c.in_ok-room.room.place)
+    c.in_ok-room.room.searches c.in_ok-room.ensures.went
+    (gains-stays (g.S.BlockStore.zone a.store) (g.S.BlockStore.rest a.store) a.names.items a.log
     c.args.self.now.memory (memory_as c.self.view_is) (g.S.BlockStore.zone c.make_masters.new.store)
     (g.S.BlockStore.rest c.make_masters.new.store) c.self.invariant c.in_ok-room.room.place
-    c.in_ok-room.ensures.made c.in_ok-room.room.searches c.in_ok-room.ensures.searches c.make_masters.ensures.moves)
+    c.in_ok-room.ensures.slots))
 
 pub returns-in_err-account-clause-answer : goal.returns-in_err-account-clause-answer
 returns-in_err-account-clause-answer g c =
@@ -65,10 +70,10 @@ heard : (g : Over) (c : In_ok-room g) → (done : Type 0)
 heard g c done =
     let a = c.self.inside in
     let zone = g.S.BlockStore.zone a.store in
-    let same = ap (λ (e : List Anchor). base_gone e 272 Nothing zone) c.deref.ensures.value
-    ∙ masters_gone-is zone (g.S.BlockStore.rest a.store) a.names.items a.log c.args.self.now.memory
+    let same = ap (λ (e : List Anchor). told_along e nothing (seek (Base Masters) nothing zone) zone) c.deref.ensures.value
+    ∙ base-gone zone (g.S.BlockStore.rest a.store) a.names.items a.log c.args.self.now.memory
     (memory_as c.self.view_is) (g.S.BlockStore.zone c.make_masters.new.store)
-    (g.S.BlockStore.rest c.make_masters.new.store) in
+    (g.S.BlockStore.rest c.make_masters.new.store) more_masters Masters refl refl in
     hears-as g.K.PurgeSink.told g.K.PurgeSink.waits g.K.PurgeSink.listens _ _ _ _ _ _ (λ some. refl) same
     c.in_ok-room.ensures.hears
 

@@ -102,7 +102,9 @@ agrees g c =
     made-agrees (g.S.BlockStore.zone store) (g.S.BlockStore.rest store) _ (g.met.S.BlockStore.masters store)
     c.self.invariant (g.met.S.BlockStore.no_block store) (g.S.BlockStore.rest c.copy_block.new.store) _
     c.copy_block.ensures.nonrelocatable c.in_ok-made.made.slot
-    (copied-slotted c.in_ok-found.found.slot _ _ _ _ _ _ c.in_ok-made.ensures.answer)
+    (copied-slotted c.in_ok-found.found.slot _ c.in_ok-made.made.slot (g.S.BlockStore.zone store) (g.S.BlockStore.zone
+    c.copy_block.new.store)
+    (g.S.BlockStore.rest store) (g.S.BlockStore.rest c.copy_block.new.store) c.in_ok-made.ensures.answer)
 
 pub overflow_cast-size : goal.overflow_cast-size
 overflow_cast-size g c = let few = (source g c).few in omega arith

@@ -28,7 +28,9 @@ agrees g c =
     made-agrees (g.S.BlockStore.zone store) (g.S.BlockStore.rest store) _ (g.met.S.BlockStore.masters store)
     c.self.invariant (g.met.S.BlockStore.no_block store) (g.S.BlockStore.rest c.fill_block.new.store) _
     c.fill_block.ensures.nonrelocatable c.in_ok-made.made.slot
-    (filled-slotted c.args.flags c.args.bytes.now _ _ _ _ _ c.in_ok-made.ensures.answer)
+    (filled-slotted c.args.flags c.args.bytes.now c.in_ok-made.made.slot (g.S.BlockStore.zone store) (g.S.BlockStore.zone
+    c.fill_block.new.store)
+    (g.S.BlockStore.rest store) (g.S.BlockStore.rest c.fill_block.new.store) c.in_ok-made.ensures.answer)
 
 pub invariant_of-self-2 : goal.invariant_of-self-2
 invariant_of-self-2 g c = rw (c.name_handle.ensures.entered, c.in_ok-reserve.ensures.items)

@@ -17,7 +17,7 @@ agrees g c =
     made-agrees (g.S.BlockStore.zone store) (g.S.BlockStore.rest store) _ (g.met.S.BlockStore.masters store)
     c.self.invariant (g.met.S.BlockStore.no_block store) (g.S.BlockStore.rest c.make_slot.new.store) _
     c.make_slot.ensures.nonrelocatable c.in_ok-taken.taken.slot
-    (taken-slotted Nothing _ _ _ _ _ c.in_ok-taken.ensures.slot)
+    (taken-slotted _ _ _ _ c.in_ok-taken.ensures.slot)
 
 pub returns-in_err-reserve-clause-stops : goal.returns-in_err-reserve-clause-stops
 returns-in_err-reserve-clause-stops g c host =
@@ -40,7 +40,7 @@ told g c =
     (g.met.S.BlockStore.masters a.store) c.self.invariant (g.met.S.BlockStore.no_block a.store) a.log
     c.args.self.now.memory (memory_as c.self.view_is) (g.S.BlockStore.zone c.make_slot.new.store)
     (g.S.BlockStore.rest c.make_slot.new.store) c.in_ok-taken.taken.slot c.in_ok-taken.taken.searches
-    c.in_ok-taken.ensures.slot c.in_ok-taken.ensures.searches c.make_slot.ensures.moves)
+    c.in_ok-taken.ensures.slot c.in_ok-taken.ensures.went)
 
 pub returns-in_err-name_handle-clause-answer : goal.returns-in_err-name_handle-clause-answer
 returns-in_err-name_handle-clause-answer g c =

@@ -28,7 +28,8 @@ agrees g c =
     made-agrees (g.S.BlockStore.zone store) (g.S.BlockStore.rest store) _ (g.met.S.BlockStore.masters store)
     c.self.invariant (g.met.S.BlockStore.no_block store) (g.S.BlockStore.rest c.new_block.new.store) _
     c.new_block.ensures.nonrelocatable c.in_ok-made.made.slot
-    (new-slotted Nothing c.args.size _ _ _ _ _ c.in_ok-made.ensures.answer)
+    (new-slotted Nothing c.args.size c.in_ok-made.made.slot (g.S.BlockStore.zone store) (g.S.BlockStore.zone c.new_block.new.store)
+    (g.S.BlockStore.rest store) (g.S.BlockStore.rest c.new_block.new.store) c.in_ok-made.ensures.answer)
 
 pub invariant_of-self-2 : goal.invariant_of-self-2
 invariant_of-self-2 g c = rw (c.name_handle.ensures.entered, c.in_ok-reserve.ensures.items)

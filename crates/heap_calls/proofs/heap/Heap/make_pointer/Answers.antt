@@ -1,5 +1,6 @@
 use Rattle.heap_calls.proofs.Cited.{◌≡◌, ◌++◌, ◌∷◌, [], length, List, refl, ◌∙◌, ap, arith, rules, is_some, length-map, counted, Anchor}
-use Rattle.heap_calls.proofs.Cited.{new_pointer, doing_silently, purges_made, reply_of, KeepsMoves, name_of, memory_of, pointer_gone}
+use Rattle.heap_calls.proofs.Cited.{new_pointer, doing_silently, purges_made, reply_of, KeepsMoves, name_of, memory_of, nothing}
+use Rattle.heap_calls.proofs.Cited.{seek_pointer, told_along}
 use Rattle.heap_calls.specs.declared.anchor.Anchor.TheVariants.{Pointer}
 use Rattle.heap_calls.proofs.Hearing.{hears-as, stops-at-once, stops-halted}
 use Rattle.heap_calls.proofs.NewBlocks.NewPointers.{agrees-more, pointed, pointer-answer, pointer-gone}
@@ -30,7 +31,7 @@ answered g c =
     pointer-answer (g.S.BlockStore.zone a.store) (g.S.BlockStore.rest a.store) a.names.items a.log
     c.args.self.now.memory (memory_as c.self.view_is) c.args.size (g.S.BlockStore.zone c.add_nonrelocatable.new.store)
     (g.S.BlockStore.rest c.add_nonrelocatable.new.store) c.in_ok-room.room.searches c.add_nonrelocatable.ensures.rest
-    c.in_ok-room.ensures.searches c.self.invariant c.in_ok-room.room.place c.in_ok-room.ensures.put
+    c.self.invariant c.in_ok-room.room.place c.in_ok-room.ensures.place c.in_ok-room.ensures.went
 
 pub returns-in_default-clause-answer : goal.returns-in_default-clause-answer
 returns-in_default-clause-answer g c = rw (c.count.ensures, c.in_ok-reserve.ensures.items)
@@ -47,10 +48,10 @@ entered g c = c.push_reserved.ensures.items ∙ ap (λ l. l ++ Pointer c.in-Some
 
 pub invariant_of-self-2 : goal.invariant_of-self-2
 invariant_of-self-2 g c = rw (entered g (goal.at.invariant_of-self-2 g c).After-push_reserved)
-    (agrees-more _ _ _ _ _ c.args.size c.in-Some.place c.self.invariant
+    (agrees-more _ _ _ _ _ c.in-Some.place c.self.invariant
     (slots_kept (g.S.BlockStore.rest c.self.inside.store) (g.S.BlockStore.rest c.add_nonrelocatable.new.store)
     c.add_nonrelocatable.ensures.rest)
-    (rw c.in-Some.is at c.in_ok-room.ensures.put))
+    (rw c.in-Some.is at c.in_ok-room.ensures.place))
 
 pub returns-clause-answer : goal.returns-clause-answer
 returns-clause-answer g c =
@@ -60,12 +61,14 @@ returns-clause-answer g c =
 
 -- the sink is told of the blocks of the call's row
 told : (g : Over) (c : In_ok-room g)
-    → pointer_gone c.deref.result.now c.args.size (g.S.BlockStore.zone c.self.inside.store)
+    → told_along c.deref.result.now nothing (seek_pointer 0 c.args.size (g.S.BlockStore.zone c.self.inside.store))
+    (g.S.BlockStore.zone c.self.inside.store)
     ≡ purges_made (new_pointer c.args.size) c.args.self.now.memory.heap
 told g c =
     let a = c.self.inside in
     let zone = g.S.BlockStore.zone a.store in
-    ap (λ (e : List Anchor). pointer_gone e c.args.size zone) (c.deref.ensures.value ∙ c.in_ok-reserve.ensures.items)
+    ap (λ (e : List Anchor). told_along e nothing (seek_pointer 0 c.args.size zone) zone) (c.deref.ensures.value ∙
+    c.in_ok-reserve.ensures.items)
     ∙ pointer-gone zone (g.S.BlockStore.rest a.store) a.names.items a.log c.args.self.now.memory
     (memory_as c.self.view_is) c.args.size
 
