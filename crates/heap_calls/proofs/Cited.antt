@@ -101,7 +101,7 @@ pub use Rattle.heap_calls.specs.Inner.Filling.{IsFilling, IsFresh, IsNext, IsRef
 pub use Rattle.heap_calls.specs.Inner.Filling.{refilled_moves, refilled_searches, wanted_as}
 pub use Rattle.heap_calls.specs.Inner.Given.{FindsBlock, IsAnswer, KeepsMoves, KeepsNames, found, seen_flags, seen_in_run, seen_mover}
 pub use Rattle.heap_calls.specs.Inner.Given.{slot_at, slot_of}
-pub use Rattle.heap_calls.specs.Inner.Growing.{CanGrowUp, FindsGrowth, GrewUp, IsToGrow, SameBlocks, Spares, Stays, block_of, grown}
+pub use Rattle.heap_calls.specs.Inner.Growing.{CanGrowUp, FindsGrowth, GrewUp, IsToGrow, SameBlocks, Spares, block_of, grown}
 pub use Rattle.heap_calls.specs.Inner.GrowingInPlace.{above_taken, pushed_up, room_at, seen_size}
 pub use Rattle.heap_calls.specs.Inner.Halting.{Halts}
 pub use Rattle.heap_calls.specs.Inner.Least.{IsMost, enough_above}

@@ -16,7 +16,8 @@ ghost use Rattle.heap_calls.specs.Rows.{hand_and_hand, pointer_and_hand, doing, 
 ghost use Rattle.heap_calls.specs.Rows.{purges_made};
 ghost use Rattle.heap_calls.specs.Inner.Halting.{Halts};
 ghost use Rattle.heap_calls.specs.Inner.Given.{IsAnswer, KeepsNames};
-ghost use Rattle.heap_calls.specs.Inner.Growing.{Spares, Stays};
+ghost use Rattle.heap_calls.specs.Inner.Growing.{Spares};
+ghost use Rattle.heap_calls.specs.Inner.Telling.{OpensNone};
 ghost use Rattle.heap_calls.specs.Inner.Numbered.{KeepsNonrelocatable};
 ghost use Rattle.heap_calls.specs.Inner.Went.{Went, seek_sized, told_along};
 ghost use Rattle.block_store.specs.declared.measures.TheConstants.{GREATEST_ZONE};
@@ -193,7 +194,7 @@ fn lengthen<S: BlockStore, K: PurgeSink>(
 ) -> Result<Grown, AllocError>
     requires idle { IsIdle K.told K.waits sink.old }
     requires spared { Spares sparing (is_relocatable slot) }
-    requires stays { Stays sparing (is_relocatable slot) }
+    requires whole { OpensNone sparing }
     requires found { FindsLowest (is_relocatable slot) (S.zone store.old) (Some place) }
     requires len { len ≡ length_of slot (S.zone store.old) }
     requires small { len ≤ GREATEST_ZONE }

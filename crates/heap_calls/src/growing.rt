@@ -10,11 +10,12 @@ ghost use Rattle.block_store.specs.Sparing.{opened, purged, spared};
 ghost use Rattle.block_store.specs.Rest.{IsRest, KeepsSlots};
 ghost use Rattle.moves.specs.Moves.{Grow, lowered_by};
 ghost use Rattle.moves.specs.Seeking.{purges_for};
-ghost use Rattle.heap_calls.specs.Inner.Growing.{FindsGrowth, Spares, Stays, grown, IsToGrow};
+ghost use Rattle.heap_calls.specs.Inner.Growing.{FindsGrowth, Spares, grown, IsToGrow};
 ghost use Rattle.heap_calls.specs.Inner.Growing.{CanGrowUp, GrewUp};
 ghost use Rattle.block_store.specs.Fewest.{smaller};
 ghost use Rattle.heap_calls.specs.Inner.Numbered.{KeepsNonrelocatable};
 ghost use Rattle.heap_calls.specs.Inner.Packed.{Packs};
+ghost use Rattle.heap_calls.specs.Inner.Telling.{OpensNone};
 ghost use Rattle.heap_calls.specs.Inner.Went.{Went, seek_growth, told_along};
 ghost use Rattle.heap_calls.specs.Gone.{IsIdle, Hears};
 ghost use Rattle.heap_calls.specs.Inner.Halting.{Halts};
@@ -98,7 +99,7 @@ fn count_for_growth<S: BlockStore>(
         ≡ bytes }
     requires positive { 0 < bytes }
     requires spared { Spares sparing (is_relocatable number) }
-    requires stays { Stays sparing (is_relocatable number) }
+    requires whole { OpensNone sparing }
     requires more { IsSomeAnd (spot (is_relocatable number) (S.zone store.now))
         (λ s. growth (grown size (spot (is_relocatable number) (S.zone store.now))) s ≡ more) }
     requires mover { IsSomeAnd (spot (is_relocatable number) (S.zone store.now)) (λ s.
@@ -250,7 +251,7 @@ pub fn grow_movable<S: BlockStore, K: PurgeSink>(
 ) -> Result<Grown, AllocError>
     requires idle { IsIdle K.told K.waits sink.old }
     requires spared { Spares sparing (is_relocatable slot) }
-    requires stays { Stays sparing (is_relocatable slot) }
+    requires whole { OpensNone sparing }
     requires mover { IsSomeAnd (spot (is_relocatable slot) (S.zone store.old)) (λ s.
         IsTrue (is_mover s.here)) }
     requires more { IsToGrow (is_relocatable slot) bytes (S.zone store.old) }

@@ -14,7 +14,8 @@ ghost use Rattle.heap_calls.specs.Gone.{IsIdle, gone_unless, Hears};
 ghost use Rattle.heap_calls.specs.Rows.{set_handle_size, doing, doing_silently, purges_made};
 ghost use Rattle.heap_calls.specs.Inner.Halting.{Halts};
 ghost use Rattle.heap_calls.specs.Inner.Went.{Went, seek_sized, told_along};
-ghost use Rattle.heap_calls.specs.Inner.Growing.{Spares, Stays};
+ghost use Rattle.heap_calls.specs.Inner.Growing.{Spares};
+ghost use Rattle.heap_calls.specs.Inner.Telling.{OpensNone};
 ghost use Rattle.block_store.specs.Sparing.{spared};
 ghost use Rattle.heap_calls.specs.Left.{Stops};
 ghost use Rattle.std.specs.Prelude.{IsOk, None};
@@ -126,7 +127,7 @@ pub fn fit_block<S: BlockStore, K: PurgeSink>(
     sink: &mut K,
 ) -> Result<Grown, AllocError>
     requires spared { Spares sparing (is_relocatable slot) }
-    requires stays { Stays sparing (is_relocatable slot) }
+    requires whole { OpensNone sparing }
     requires found { FindsLowest (is_relocatable slot) (S.zone store.old) (Some place) }
     requires idle { IsIdle K.told K.waits sink.old }
     ensures went { IfOk result (λ r. Went (spared sparing) (S.zone store.old)
@@ -163,7 +164,7 @@ fn resize_block<S: BlockStore, K: PurgeSink>(
 ) -> Result<Grown, AllocError>
     requires fits { IsSome (physical_size size) }
     requires spared { Spares sparing (is_relocatable slot) }
-    requires stays { Stays sparing (is_relocatable slot) }
+    requires whole { OpensNone sparing }
     requires found { FindsLowest (is_relocatable slot) (S.zone store.old) (Some place) }
     requires idle { IsIdle K.told K.waits sink.old }
     ensures went { IfOk result (λ r. Went (spared sparing) (S.zone store.old)

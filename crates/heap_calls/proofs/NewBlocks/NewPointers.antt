@@ -1,6 +1,6 @@
 use Rattle.heap_calls.proofs.Cited.{is_used, ◌≡◌, ℕ, ◌+◌, ◌-◌, Bool, true, false, ◌||◌, List, [], ◌∷◌, ◌++◌, length, refl, sym, ◌∙◌, ap}
-use Rattle.heap_calls.proofs.Cited.{cond, map, arith, Option, Some, None, slice_get, count_by, subst, inl, inr, is_some, map_push}
-use Rattle.heap_calls.proofs.Cited.{length-map, length-replicate, sum_by_push, same_Some, false_from_ne_true, option_map, IfSome, IsSomeAnd}
+use Rattle.heap_calls.proofs.Cited.{cond, map, arith, Option, Some, None, slice_get, count_by, inl, inr, is_some, map_push}
+use Rattle.heap_calls.proofs.Cited.{length-map, length-replicate, sum_by_push, same_Some, false_from_ne_true, IfSome, IsSomeAnd}
 use Rattle.heap_calls.proofs.Cited.{IsTrue, phys, padded, Block, Free, size, rename, is_nonrelocatable, is_room, tidy, has, Placed, Rest}
 use Rattle.heap_calls.proofs.Cited.{KeepsSlots, Spot, spot_at, filled, put_at_base, apart-tidied, spot-passes, some_and, cond-true}
 use Rattle.heap_calls.proofs.Cited.{Refuses, fits-refused, seek-refused}

@@ -1,5 +1,5 @@
-use Rattle.heap_calls.proofs.Cited.{◌≡◌, ℕ, ◌+◌, ◌<◌, zero, suc, Bool, true, false, List, [], map, refl, sym, ◌∙◌, ap, subst, cond, arith}
-use Rattle.heap_calls.proofs.Cited.{Option, Some, None, is_some, is_some-map, option_map, unwrap_or, map-id, IfSome, IsSomeAnd, IsTrue}
+use Rattle.heap_calls.proofs.Cited.{◌≡◌, ℕ, ◌+◌, ◌<◌, zero, suc, Bool, true, false, List, [], refl, sym, ◌∙◌, ap, subst, cond, arith}
+use Rattle.heap_calls.proofs.Cited.{Option, Some, None, is_some, is_some-map, option_map, unwrap_or, IfSome, IsSomeAnd, IsTrue}
 use Rattle.heap_calls.proofs.Cited.{some_and}
 use Rattle.heap_calls.proofs.Cited.{Block, Free, Masters, size, is_room, tidy, RunSpot, run_spot, run_at, has_free, with_run, low, Spot}
 use Rattle.heap_calls.proofs.Cited.{spot_at, filled}
@@ -8,12 +8,12 @@ use Rattle.heap_calls.proofs.Cited.{counted-none, KeepsAllButPlaced, spared, ope
 use Rattle.heap_calls.proofs.Cited.{did, moved, Sought, purges_for, seek, slot-refused, Went, told_along, told_named, gone_from, Anchor}
 use Rattle.heap_calls.proofs.Cited.{filled_at, HasRoomAt, HasMore, GainsSlots, some_left, seek_unused, zone_slotted, TakesSlot, IsAdded}
 use Rattle.heap_calls.proofs.Cited.{HasOnlySlot, HasNoRoom}
-use Rattle.block_store.specs.declared.sparing.Sparing.TheVariants as sparing
 use Rattle.heap_calls.proofs.Going.{went-refused, went-none, went-some, gone-none, gone-some, goes-named}
 use Rattle.heap_calls.proofs.Numbering.Changing.{slots_kept}
 use Rattle.heap_calls.proofs.Room.Packing.{base-found, free-filled}
 use Rattle.heap_calls.proofs.Room.Placements.{slot-back}
 use Rattle.heap_calls.proofs.Same.NewBlocks.{slot_after, slot-agrees}
+use Rattle.heap_calls.proofs.Sizes.Growth.{opened-whole}
 
 -- Room at the base of a run, and new slots there.
 
@@ -39,13 +39,6 @@ put_at_base-is new zone = cases (run_spot (has_free (size new)) zone)
     cases : (o : Option RunSpot) → option_map tidy (option_map (with_run (low new)) o) ≡ option_map (at_base new) o
     cases None = refl
     cases (Some r) = refl
-
--- where no block counts as free the zone is seen as it is
-pub opened-whole : (nd : Sparing) → OpensNone nd → (zone : List Block) → opened nd zone ≡ zone
-opened-whole sparing.Nothing whole zone = refl
-opened-whole (sparing.One slot) whole zone = refl
-opened-whole (sparing.Two slot other) whole zone = refl
-opened-whole (sparing.Freed slot) whole zone = (λ i. map (λ b. whole b i) zone) ∙ map-id zone
 
 -- the search for p bytes at the base of a run, after the least number of purges that serves, for a block that takes them
 module _ (p : ℕ) (nd : Sparing) (whole : OpensNone nd) (zone : List Block) (k : ℕ)

@@ -2,11 +2,11 @@ use Rattle.heap_calls.proofs.Cited.{◌≡◌, ℕ, ◌+◌, ◌<◌, inr, zero,
 use Rattle.heap_calls.proofs.Cited.{refl, sym, ◌∙◌, ap, arith, option_or, IfSome, cond-true, nat_tests, Block, size, is_relocatable, count}
 use Rattle.heap_calls.proofs.Cited.{tidy, has_free, run_spot, spot, least, may_be_purged, place, grow_mover, FindsLowest, least_or_last}
 use Rattle.heap_calls.proofs.Cited.{serves, IsFewest, spared, opened, purged, most_purges, Sparing, fewest-last, least_or_last-at}
-use Rattle.heap_calls.proofs.Cited.{placed-is, tries, FindsPlacement, placement, placement_searches, FindsGrowth, Stays, grown}
+use Rattle.heap_calls.proofs.Cited.{placed-is, tries, FindsPlacement, placement, placement_searches, FindsGrowth, OpensNone, grown}
 use Rattle.heap_calls.proofs.Cited.{Placement, Growth, purges_for}
 use Rattle.block_store.proofs.Purged.Rising.{purged-all}
 use Rattle.heap_calls.proofs.Room.Searching.{count-tidy, count-none, count-some, placement-some}
-use Rattle.heap_calls.proofs.Sizes.Growth.{growth-some, opened-stays}
+use Rattle.heap_calls.proofs.Sizes.Growth.{growth-some, opened-whole}
 
 -- The least number of purges that serves.
 
@@ -123,11 +123,11 @@ module _ (p : ℕ) (n : Sparing) (zone : List Block) (whole : purged 0 n zone �
         (first placed found)
 
 -- a block that grows without a purge does so after the least number
-module _ (slot n : ℕ) (sparing : Sparing) (zone : List Block) (stays : Stays sparing (is_relocatable slot))
+module _ (slot n : ℕ) (sparing : Sparing) (zone : List Block) (stays : OpensNone sparing)
     (tidied : tidy zone ≡ zone)
   where
     pub growth-whole : purged 0 sparing zone ≡ zone
-    growth-whole = purged-first sparing zone tidied (opened-stays (is_relocatable slot) sparing zone stays)
+    growth-whole = purged-first sparing zone tidied (opened-whole sparing stays zone)
 
     pub growth-first : is_some (grow_mover (is_relocatable slot) (grown n (spot (is_relocatable slot) zone)) zone) ≡ true
         → 0 ≡ purges_for (λ z. is_some (grow_mover (is_relocatable slot) (grown n (spot (is_relocatable slot) zone)) z))

@@ -8,7 +8,7 @@ use Rattle.heap_calls.proofs.Cited.{run_at, Spot, raised, spot, spot_at, place, 
 use Rattle.heap_calls.proofs.Cited.{FindsLowestRun, spot-passes, total-append, free_sum-free, none-count, size-resized, filter-none}
 use Rattle.heap_calls.proofs.Cited.{none-append, has-count, place-room, run_spot-passes, run_at-parts, Loose, purged, spared, Sparing}
 use Rattle.heap_calls.proofs.Cited.{moved_away, Rest, IsRest, KeepsSlots, with_moves, with_placed, lowered_in_run, FindsPlacement, IsAt}
-use Rattle.heap_calls.proofs.Cited.{Placement, grown, Spares, Stays, FindsGrowth, IsToGrow, block_of, SameBlocks}
+use Rattle.heap_calls.proofs.Cited.{Placement, grown, Spares, OpensNone, FindsGrowth, IsToGrow, block_of, SameBlocks}
 use Rattle.heap_calls.proofs.Cited.{CanGrowUp, GrewUp, put_run, run_at-change, tidy-change, apart-settle, apart-high}
 use Rattle.heap_calls.proofs.Cited.{all-high, opened, purge, counted, some_and, Grow, is_same, lowered_by, purges_for, Packs, Sought}
 use Rattle.heap_calls.proofs.Cited.{Anchor, gone_from, Went, seek_growth, told_named, told_along}
@@ -16,7 +16,7 @@ use Rattle.std.proofs.lemmas.List.{append-nil}
 use Rattle.heap_calls.specs.declared.growing.Growth.TheVariants as grows
 use Rattle.heap_calls.proofs.Going.{went-none, went-some, gone-none, gone-some, goes-named}
 use Rattle.heap_calls.proofs.Same.Growing.{grown-named}
-use Rattle.heap_calls.proofs.Sizes.Growth.{opened-stays, opens-none, find-purged, find-tidy, spot-find, growth-stays}
+use Rattle.heap_calls.proofs.Sizes.Growth.{opened-whole, find-purged, find-tidy, spot-find, growth-stays}
 use Rattle.heap_calls.proofs.Numbering.Changing.{phys-some}
 use Rattle.block_store.proofs.Regroup.Regrouping.{changed}
 
@@ -460,7 +460,7 @@ module _ (number n p : ℕ) (zone zone1 : List Block) (at : ℕ) (o : Option Pla
 
 -- the block is the same after purges
 module _ (nd : Sparing) (number n k : ℕ) (zone : List Block) (spares : Spares nd (is_relocatable number))
-    (stays : Stays nd (is_relocatable number))
+    (stays : OpensNone nd)
   where
     pub purged-block : block_of number (purged k nd zone) ≡ block_of number zone
     purged-block =
@@ -502,7 +502,7 @@ module _ (nd : Sparing) (number n k : ℕ) (zone : List Block) (spares : Spares 
         ∙ ap (λ b. grow_mover (is_relocatable number) b zone1) (sym (purged-grown zone1 is))
 
 -- What the search for the growth of a block that may move comes to, after the least number of purges.
-module _ (nd : Sparing) (number n : ℕ) (zone : List Block) (stays : Stays nd (is_relocatable number))
+module _ (nd : Sparing) (number n : ℕ) (zone : List Block) (stays : OpensNone nd)
     (grows : IsToGrow (is_relocatable number) n zone) (k : ℕ)
     (least : k ≡ purges_for (λ z. is_some (grow_mover (is_relocatable number)
     (grown n (spot (is_relocatable number) zone)) z)) (spared nd) (opened nd zone))
@@ -524,7 +524,7 @@ module _ (nd : Sparing) (number n : ℕ) (zone : List Block) (stays : Stays nd (
         grown-named number n zone found.0 found.1
 
     whole : opened nd zone ≡ zone
-    whole = opened-stays (is_relocatable number) nd zone stays
+    whole = opened-whole nd stays zone
 
     least_is : k ≡ purges_for (λ z. is_some (grows_in (is_same new) z)) sp zone
     least_is = least ∙ ap (purges_for (λ z. is_some (grows_in (is_relocatable number) z)) sp) whole
@@ -543,7 +543,7 @@ module _ (nd : Sparing) (number n : ℕ) (zone : List Block) (stays : Stays nd (
 
     pub growth-told : (es : List Anchor) → is_some (grows_in (is_relocatable number) (purged k nd zone)) ≡ true
         → gone_from es nd k zone ≡ told_along es sp path zone
-    growth-told es is = goes-named es nd (opens-none (is_relocatable number) nd stays) k zone
+    growth-told es is = goes-named es nd stays k zone
         ∙ ap (told_named es) (sym (gone-some sp zone (Grow new) refl (λ z. refl) k least_is (ap is_some there ∙ is)))
 
     module _ (none : is_some (grows_in (is_relocatable number) (purged k nd zone)) ≡ false)

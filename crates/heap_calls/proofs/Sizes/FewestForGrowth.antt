@@ -3,7 +3,7 @@ use Rattle.heap_calls.proofs.Cited.{Option, Some, None, is_some, option_or, is_s
 use Rattle.heap_calls.proofs.Cited.{size, is_mover, is_relocatable, has, has_free, in_run, run_spot, Spot, spot, place, growth, taken}
 use Rattle.heap_calls.proofs.Cited.{grow_up, move_away, grow_last, grow_mover, least_or_last, serves, serves_block, smaller, IsFewest}
 use Rattle.heap_calls.proofs.Cited.{purged, most_purges, Sparing, fewest-either, fewest-last, least_or_last-at, placed-is, above-run}
-use Rattle.heap_calls.proofs.Cited.{Spares, Stays, grown}
+use Rattle.heap_calls.proofs.Cited.{Spares, OpensNone, grown}
 use Rattle.std.proofs.Common.{IsSomeAnd, IsTrue, MatchOption}
 use Rattle.block_store.proofs.Purged.Rising.{purged-all}
 use Rattle.heap_calls.proofs.Sizes.Growth.{block-stays}
@@ -21,7 +21,7 @@ three-ways None None c u v implies bu cv = cv ∙ ap (λ t. t || v) bu
 -- an unlocked block grows where it has a place of its own, or where its run has the bytes that it grows by
 module _ (slot n p d : ℕ) (sparing : Sparing) (zone : List Block)
     (takes : size (grown n (spot (is_relocatable slot) zone)) ≡ p) (positive : 0 < p)
-    (spares : Spares sparing (is_relocatable slot)) (stays : Stays sparing (is_relocatable slot))
+    (spares : Spares sparing (is_relocatable slot)) (stays : OpensNone sparing)
     (mover : IsSomeAnd (spot (is_relocatable slot) zone) (λ s. IsTrue (is_mover s.here)))
     (more : IsSomeAnd (spot (is_relocatable slot) zone)
     (λ s. growth (grown n (spot (is_relocatable slot) zone)) s ≡ d))

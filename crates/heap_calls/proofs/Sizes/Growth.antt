@@ -2,8 +2,8 @@ use Rattle.heap_calls.proofs.Cited.{◌≡◌, ℕ, ◌+◌, ◌-◌, ◌<◌, z
 use Rattle.heap_calls.proofs.Cited.{subst, cond, Option, Some, None, is_some, none-some, same_Some, find, option_map, option_or, IfSome}
 use Rattle.heap_calls.proofs.Cited.{IsSomeAnd, Block, is_purgeable, Free, size, add, tidy, has, has_free, run_spot, Spot, raised, spot}
 use Rattle.heap_calls.proofs.Cited.{place, may_be_purged, lowest_purged, growth, taken, grow_up, grow_mover, move_away, FindsLowestRun}
-use Rattle.heap_calls.proofs.Cited.{spared, opened, purged, FindsPlacement, FindsGrowth, Spares, Stays, Sparing, the_some, is_some-map}
-use Rattle.heap_calls.proofs.Cited.{not_some, Placement, Growth, add-joined, OpensNone}
+use Rattle.heap_calls.proofs.Cited.{spared, opened, purged, FindsPlacement, FindsGrowth, Spares, OpensNone, Sparing, the_some, is_some-map}
+use Rattle.heap_calls.proofs.Cited.{not_some, Placement, Growth, add-joined, map, map-id}
 use Rattle.block_store.specs.declared.sparing.Sparing.TheVariants as sparing
 use Rattle.heap_calls.specs.declared.growing.Growth.TheVariants as grows
 use Rattle.heap_calls.proofs.Room.Searching.{placement-some}
@@ -112,30 +112,24 @@ find-lowest_purged test sp none spares (suc k) (b ∷ bs) = cases (may_be_purged
     cases false e one more = ap (cond (test b) (Some b)) more
 
 -- a search that counts no block as Free looks at the zone as it is
-pub opened-stays : (test : Block → Bool) (n : Sparing) (zone : List Block) → Stays n test → opened n zone ≡ zone
-opened-stays test sparing.Nothing zone s = refl
-opened-stays test (sparing.One a) zone s = refl
-opened-stays test (sparing.Two a b) zone s = refl
-opened-stays test (sparing.Freed a) zone s = absurd s
-
-pub opens-none : (test : Block → Bool) (n : Sparing) → Stays n test → OpensNone n
-opens-none test sparing.Nothing s b = refl
-opens-none test (sparing.One a) s b = refl
-opens-none test (sparing.Two a b) s c = refl
-opens-none test (sparing.Freed a) s b = absurd s
+pub opened-whole : (nd : Sparing) → OpensNone nd → (zone : List Block) → opened nd zone ≡ zone
+opened-whole sparing.Nothing whole zone = refl
+opened-whole (sparing.One slot) whole zone = refl
+opened-whole (sparing.Two slot other) whole zone = refl
+opened-whole (sparing.Freed slot) whole zone = (λ i. map (λ b. whole b i) zone) ∙ map-id zone
 
 find-opened : (test : Block → Bool) (n : Sparing) → ((m : ℕ) → test (Free m) ≡ false) → (zone : List Block)
-    → Stays n test → find test (opened n zone) ≡ find test zone
-find-opened test n none zone s = ap (find test) (opened-stays test n zone s)
+    → OpensNone n → find test (opened n zone) ≡ find test zone
+find-opened test n none zone s = ap (find test) (opened-whole n s zone)
 
 -- a block that is spared is the same after purges
-pub find-purged : (test : Block → Bool) (n : Sparing) → ((m : ℕ) → test (Free m) ≡ false) → Spares n test → Stays n test
+pub find-purged : (test : Block → Bool) (n : Sparing) → ((m : ℕ) → test (Free m) ≡ false) → Spares n test → OpensNone n
     → (k : ℕ) (zone : List Block) → find test (purged k n zone) ≡ find test zone
 find-purged test n none spares stays k zone = find-tidy test none (lowest_purged k (spared n) (opened n zone))
     ∙ find-lowest_purged test (spared n) none spares k (opened n zone) ∙ find-opened test n none zone stays
 
 pub block-stays : (test : Block → Bool) (P : Block → Type 0) (n : Sparing) → ((m : ℕ) → test (Free m) ≡ false)
-    → Spares n test → Stays n test → (k : ℕ) (zone : List Block) → IsSomeAnd (spot test zone) (λ s. P s.here)
+    → Spares n test → OpensNone n → (k : ℕ) (zone : List Block) → IsSomeAnd (spot test zone) (λ s. P s.here)
     → IsSomeAnd (spot test (purged k n zone)) (λ s. P s.here)
 block-stays test P n none spares stays k zone h =
     by_here (spot test zone) (spot test (purged k n zone)) (spot-find test zone
@@ -148,7 +142,7 @@ block-stays test P n none spares stays k zone h =
     by_here (Some s) (Some t) e h = subst P (same_Some _ _ e) h
 
 pub growth-stays : (test : Block → Bool) (new : Block) (d : ℕ) (n : Sparing) → ((m : ℕ) → test (Free m) ≡ false)
-    → Spares n test → Stays n test → (k : ℕ) (zone : List Block) → IsSomeAnd (spot test zone) (λ s. growth new s ≡ d)
+    → Spares n test → OpensNone n → (k : ℕ) (zone : List Block) → IsSomeAnd (spot test zone) (λ s. growth new s ≡ d)
     → IsSomeAnd (spot test (purged k n zone)) (λ s. growth new s ≡ d)
 growth-stays test new d n none spares stays k zone h =
     block-stays test (λ b. size new - size b ≡ d) n none spares stays k zone h

@@ -1,4 +1,4 @@
-use Rattle.heap_calls.proofs.Cited.{◌≡◌, ℕ, ◌-◌, true, false, length, take, replicate, refl, ◌∙◌, ap, arith, length-append, length-take}
+use Rattle.heap_calls.proofs.Cited.{◌≡◌, ℕ, ◌-◌, true, false, length, take, replicate, ◌∙◌, ap, arith, length-append, length-take}
 use Rattle.heap_calls.proofs.Cited.{length-replicate, padded, Block, Free, Nonrelocatable, Masters, Relocatable, size, is_nonrelocatable}
 use Rattle.heap_calls.proofs.Cited.{resized}
 

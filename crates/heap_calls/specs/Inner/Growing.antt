@@ -7,7 +7,6 @@ use Rattle.block_store.specs.Grow.{growth, grow_up, grow_mover}
 use Rattle.block_store.specs.Find.{FindsLowestRun}
 use Rattle.block_store.specs.Sparing.{spared}
 use Rattle.block_store.specs.declared.sparing.Sparing.{Sparing}
-use Rattle.block_store.specs.declared.sparing.Sparing.TheVariants as sparing
 use Rattle.heap_calls.specs.Inner.Search.{FindsPlacement}
 use Rattle.heap_calls.specs.declared.growing.Growth.{Growth}
 use Rattle.heap_calls.specs.declared.growing.Growth.TheVariants as grows
@@ -32,13 +31,6 @@ FindsGrowth test new zone (Some (grows.Last run)) =
 -- The blocks that pass a test are not purged.
 abbrev pub Spares : Sparing → (Block → Bool) → Type 0
 Spares sparing test = (b : Block) → test b ≡ true → spared sparing b ≡ true
-
--- No block that is named in `Sparing` counts as free.
-abbrev pub Stays : Sparing → (Block → Bool) → Type 0
-Stays sparing.Nothing test = Unit {0}
-Stays (sparing.One slot) test = Unit {0}
-Stays (sparing.Two slot other) test = Unit {0}
-Stays (sparing.Freed slot) test = ⊥
 
 -- The block that passes a test is there, and is to grow to n bytes of content.
 abbrev pub IsToGrow : (Block → Bool) → ℕ → List Block → Type 0

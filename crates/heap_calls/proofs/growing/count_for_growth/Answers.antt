@@ -2,14 +2,14 @@ use Rattle.heap_calls.proofs.Cited.{◌≡◌, arith, sym, ◌∙◌, is_some, i
 use Rattle.heap_calls.proofs.Cited.{least_or_last-le, grown}
 use Rattle.heap_calls.proofs.Room.Searching.{most-le}
 use Rattle.heap_calls.proofs.Sizes.FewestForGrowth.{growth-fewest, growth-least, growth-fails, growth-never}
-use Rattle.heap_calls.proofs.Sizes.Growth.{opened-stays}
+use Rattle.heap_calls.proofs.Sizes.Growth.{opened-whole}
 use Rattle.heap_calls.proofs.growing.count_for_growth.Given.{Over}
 use Rattle.heap_calls.proofs.growing.count_for_growth.Goals.{In-Some, In-None}
 use Rattle.heap_calls.proofs.growing.count_for_growth.Goals as goal
 
 pub fewest_for_block-in_run-requires-clause-whole : goal.fewest_for_block-in_run-requires-clause-whole
 fewest_for_block-in_run-requires-clause-whole g c blocks =
-    opened-stays (is_relocatable c.args.number) c.args.sparing blocks c.requires.stays
+    opened-whole c.args.sparing c.requires.whole blocks
 
 -- the smaller of the two numbers is the least
 least : (g : Over) (c : In-Some g) → c.in-Some.purges
@@ -20,7 +20,7 @@ least : (g : Over) (c : In-Some g) → c.in-Some.purges
 least g c =
     let zone = g.S.BlockStore.zone c.args.store.now in
     growth-least c.args.number c.args.size c.args.bytes c.args.more c.args.sparing zone
-    c.requires.takes c.requires.positive c.requires.spared c.requires.stays c.requires.mover c.requires.more
+    c.requires.takes c.requires.positive c.requires.spared c.requires.whole c.requires.mover c.requires.more
     c.fewest_purges-for_place.result c.fewest_for_block-in_run.result c.fewest_purges-for_place.ensures
     c.fewest_for_block-in_run.ensures c.in-Some.purges (sym c.in-Some.ensures)
 
@@ -33,7 +33,7 @@ never : (g : Over) (c : In-None g) → most_purges c.args.sparing (g.S.BlockStor
 never g c =
     let zone = g.S.BlockStore.zone c.args.store.now in
     growth-never c.args.number c.args.size c.args.bytes c.args.more c.args.sparing zone
-    c.requires.takes c.requires.positive c.requires.spared c.requires.stays c.requires.mover c.requires.more
+    c.requires.takes c.requires.positive c.requires.spared c.requires.whole c.requires.mover c.requires.more
     c.fewest_purges-for_place.result c.fewest_for_block-in_run.result c.fewest_purges-for_place.ensures
     c.fewest_for_block-in_run.ensures (sym c.in-None.ensures)
 
@@ -41,7 +41,7 @@ pub returns-in-Some-clause-there : goal.returns-in-Some-clause-there
 returns-in-Some-clause-there g c =
     let zone = g.S.BlockStore.zone c.args.store.now in
     sym ((growth-fewest c.args.number c.args.size c.args.bytes c.args.more c.args.sparing zone
-    c.requires.takes c.requires.positive c.requires.spared c.requires.stays c.requires.mover c.requires.more
+    c.requires.takes c.requires.positive c.requires.spared c.requires.whole c.requires.mover c.requires.more
     c.fewest_purges-for_place.result c.fewest_for_block-in_run.result c.fewest_purges-for_place.ensures
     c.fewest_for_block-in_run.ensures c.in-Some.purges (sym c.in-Some.ensures)).there)
 
@@ -65,7 +65,7 @@ pub returns-in-None-clause-there : goal.returns-in-None-clause-there
 returns-in-None-clause-there g c =
     let zone = g.S.BlockStore.zone c.args.store.now in
     sym (growth-fails c.args.number c.args.size c.args.bytes c.args.more c.args.sparing zone
-    c.requires.takes c.requires.positive c.requires.spared c.requires.stays c.requires.mover c.requires.more
+    c.requires.takes c.requires.positive c.requires.spared c.requires.whole c.requires.mover c.requires.more
     c.fewest_purges-for_place.result c.fewest_for_block-in_run.result c.fewest_purges-for_place.ensures
     c.fewest_for_block-in_run.ensures (sym c.in-None.ensures) c.purgeable.result)
 

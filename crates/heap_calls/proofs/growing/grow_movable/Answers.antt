@@ -30,9 +30,9 @@ returns-in-Some-growth_now-clause-went g c =
     let new = grown c.args.bytes (spot (is_relocatable c.args.slot) zone) in
     let tidied = g.met.S.BlockStore.tidied c.args.store.now in
     let there = grows g (goal.at.returns-in-Some-growth_now-clause-went g c).After-carry_out in
-    let whole = growth-whole c.args.slot c.args.bytes c.args.sparing zone c.requires.stays tidied in
-    growth-went c.args.sparing c.args.slot c.args.bytes zone c.requires.stays c.requires.more 0
-    (growth-first c.args.slot c.args.bytes c.args.sparing zone c.requires.stays tidied there)
+    let whole = growth-whole c.args.slot c.args.bytes c.args.sparing zone c.requires.whole tidied in
+    growth-went c.args.sparing c.args.slot c.args.bytes zone c.requires.whole c.requires.more 0
+    (growth-first c.args.slot c.args.bytes c.args.sparing zone c.requires.whole tidied there)
     (g.S.BlockStore.zone c.carry_out.new.store)
     (ap (grow_mover (is_relocatable c.args.slot) new) whole ∙ c.in_ok-carry_out.ensures.ok) rest
     (g.S.BlockStore.rest c.carry_out.new.store)
@@ -45,17 +45,17 @@ returns-in-Some-growth_now-clause-hears g c =
     let tidied = g.met.S.BlockStore.tidied c.args.store.now in
     let there = grows g (goal.at.returns-in-Some-growth_now-clause-hears g c).After-carry_out in
     hears-none g.K.PurgeSink.told g.K.PurgeSink.waits g.K.PurgeSink.listens _ _ c.args.sink.now c.requires.idle
-    (sym (growth-told c.args.sparing c.args.slot c.args.bytes zone c.requires.stays c.requires.more 0
-    (growth-first c.args.slot c.args.bytes c.args.sparing zone c.requires.stays tidied there) c.args.names.now
+    (sym (growth-told c.args.sparing c.args.slot c.args.bytes zone c.requires.whole c.requires.more 0
+    (growth-first c.args.slot c.args.bytes c.args.sparing zone c.requires.whole tidied there) c.args.names.now
     (ap (λ z. is_some (grow_mover t (grown c.args.bytes (spot t zone)) z))
-    (growth-whole c.args.slot c.args.bytes c.args.sparing zone c.requires.stays tidied) ∙ there)))
+    (growth-whole c.args.slot c.args.bytes c.args.sparing zone c.requires.whole tidied) ∙ there)))
 
 -- It doesn't grow.
 
 pub returns-then-not-counted-clause-went : goal.returns-then-not-counted-clause-went
 returns-then-not-counted-clause-went g c =
     let counts = c.count_for_growth-counted in
-    growth-not_went c.args.sparing c.args.slot c.args.bytes (g.S.BlockStore.zone c.args.store.now) c.requires.stays
+    growth-not_went c.args.sparing c.args.slot c.args.bytes (g.S.BlockStore.zone c.args.store.now) c.requires.whole
     c.requires.more counts.result.purges counts.ensures.least
     (sym counts.ensures.there ∙ not-true counts.result.there c.if-not-counted.true)
     (g.S.BlockStore.rest c.args.store.now)
@@ -64,7 +64,7 @@ pub returns-then-not-counted-clause-hears : goal.returns-then-not-counted-clause
 returns-then-not-counted-clause-hears g c =
     let counts = c.count_for_growth-counted in
     hears-none g.K.PurgeSink.told g.K.PurgeSink.waits g.K.PurgeSink.listens _ _ c.args.sink.now c.requires.idle
-    (growth-untold c.args.sparing c.args.slot c.args.bytes (g.S.BlockStore.zone c.args.store.now) c.requires.stays
+    (growth-untold c.args.sparing c.args.slot c.args.bytes (g.S.BlockStore.zone c.args.store.now) c.requires.whole
     c.requires.more counts.result.purges counts.ensures.least
     (sym counts.ensures.there ∙ not-true counts.result.there c.if-not-counted.true) c.args.names.now)
 
@@ -76,7 +76,7 @@ takes-after g c =
     let zone = g.S.BlockStore.zone c.args.store.now in
     let fits : physical_size c.args.bytes ≡ Some c.in-Some.takes = sym c.phys.ensures ∙ c.in-Some.is in
     ap size_of (purged-grown c.args.sparing c.args.slot c.args.bytes c.count_for_growth-counted.result.purges zone
-    c.requires.spared c.requires.stays (g.S.BlockStore.zone c.purge_telling.new.store) c.in_ok-purge_telling.ensures.zone)
+    c.requires.spared c.requires.whole (g.S.BlockStore.zone c.purge_telling.new.store) c.in_ok-purge_telling.ensures.zone)
     ∙ grown-size c.args.slot c.args.bytes c.in-Some.takes zone c.requires.more fits
 
 pub growth_now-requires-2-clause-takes : goal.growth_now-requires-2-clause-takes
@@ -87,7 +87,7 @@ growth_now-requires-2-clause-more g c =
     let zone = g.S.BlockStore.zone c.args.store.now in
     let fits : physical_size c.args.bytes ≡ Some c.in-Some.takes = sym c.phys.ensures ∙ c.in-Some.is in
     purged-more c.args.sparing c.args.slot c.args.bytes c.count_for_growth-counted.result.purges zone
-    c.requires.spared c.requires.stays (g.S.BlockStore.zone c.purge_telling.new.store) (c.in-Some.takes - c.bytes_of.result)
+    c.requires.spared c.requires.whole (g.S.BlockStore.zone c.purge_telling.new.store) (c.in-Some.takes - c.bytes_of.result)
     c.in_ok-purge_telling.ensures.zone
     (grown-more c.args.slot c.args.bytes c.in-Some.takes c.bytes_of.result zone c.requires.more
     (grown-size c.args.slot c.args.bytes c.in-Some.takes zone c.requires.more fits) c.bytes_of.ensures)
@@ -97,13 +97,13 @@ unreachable-requires-in_default-growth_now-2 g c =
     let counts = c.count_for_growth-counted in
     true≢false (sym (sym counts.ensures.there ∙ not-false counts.result.there c.if-not-counted.false)
     ∙ ap is_some (purged-mover c.args.sparing c.args.slot c.args.bytes counts.result.purges
-    (g.S.BlockStore.zone c.args.store.now) c.requires.spared c.requires.stays (g.S.BlockStore.zone c.purge_telling.new.store)
+    (g.S.BlockStore.zone c.args.store.now) c.requires.spared c.requires.whole (g.S.BlockStore.zone c.purge_telling.new.store)
     c.in_ok-purge_telling.ensures.zone ∙ c.in_default-growth_now-2.ensures))
 
 pub carry_out-requires-2-clause-block : goal.carry_out-requires-2-clause-block
 carry_out-requires-2-clause-block g c =
     purged-grows c.args.sparing c.args.slot c.args.bytes c.count_for_growth-counted.result.purges
-    (g.S.BlockStore.zone c.args.store.now) c.requires.spared c.requires.stays (g.S.BlockStore.zone c.purge_telling.new.store)
+    (g.S.BlockStore.zone c.args.store.now) c.requires.spared c.requires.whole (g.S.BlockStore.zone c.purge_telling.new.store)
     c.in_ok-purge_telling.ensures.zone c.requires.more
 
 pub carry_out-requires-2-clause-takes : goal.carry_out-requires-2-clause-takes
@@ -120,10 +120,10 @@ returns-clause-went g c =
     let counts = c.count_for_growth-counted in
     let purged = c.in_ok-purge_telling.ensures.zone in
     let same = purged-grown c.args.sparing c.args.slot c.args.bytes counts.result.purges zone c.requires.spared
-    c.requires.stays zone1 purged in
-    growth-went c.args.sparing c.args.slot c.args.bytes zone c.requires.stays c.requires.more counts.result.purges
+    c.requires.whole zone1 purged in
+    growth-went c.args.sparing c.args.slot c.args.bytes zone c.requires.whole c.requires.more counts.result.purges
     counts.ensures.least (g.S.BlockStore.zone c.carry_out-2.new.store)
-    (purged-mover c.args.sparing c.args.slot c.args.bytes counts.result.purges zone c.requires.spared c.requires.stays
+    (purged-mover c.args.sparing c.args.slot c.args.bytes counts.result.purges zone c.requires.spared c.requires.whole
     zone1 purged ∙ c.in_ok-carry_out-2.ensures.ok) rest rest2
     (packs-after rest rest1 rest2 _ c.purge_telling.ensures.rest.moves
     (c.carry_out-2.ensures.moves ∙ ap (λ b. counted rest1.moves (lowered_by (Grow b) zone1)) same
@@ -146,6 +146,6 @@ returns-clause-hears g c =
     let counts = c.count_for_growth-counted in
     hears-as g.K.PurgeSink.told g.K.PurgeSink.waits g.K.PurgeSink.listens _ _ _ _ c.args.sink.now
     c.purge_telling.new.sink (λ done. search rules)
-    (growth-told c.args.sparing c.args.slot c.args.bytes (g.S.BlockStore.zone c.args.store.now) c.requires.stays
+    (growth-told c.args.sparing c.args.slot c.args.bytes (g.S.BlockStore.zone c.args.store.now) c.requires.whole
     c.requires.more counts.result.purges counts.ensures.least c.args.names.now
     (sym counts.ensures.there ∙ not-false counts.result.there c.if-not-counted.false)) c.purge_telling.ensures.hears
