@@ -116,12 +116,12 @@ pub use Rattle.heap_calls.specs.Inner.NewPointer.{IsNewPlace, Stands, fresh_nonr
 pub use Rattle.heap_calls.specs.Inner.NewSlot.{GainsSlots, HasMore, TakesSlot, seek_unused, some_left, zone_searches, zone_slotted}
 pub use Rattle.heap_calls.specs.Inner.Numbered.{Agrees, KeepsNonrelocatable, handle_number, heap_of, leads_to, memory_of, name_of}
 pub use Rattle.heap_calls.specs.Inner.Numbered.{no_number, number_from, pointer_number, points_to, role_of, state_of}
-pub use Rattle.heap_calls.specs.Inner.Packed.{KeepsAllButPlaced, Packs, content_moves, new_moves, placement_moves}
+pub use Rattle.heap_calls.specs.Inner.Packed.{KeepsAllButPlaced, Packs, content_moves, new_moves}
 pub use Rattle.heap_calls.specs.Inner.Pointing.{FindsHeld, target, target_at, target_of}
 pub use Rattle.heap_calls.specs.Inner.Reaching.{Reaches, sized_reply}
-pub use Rattle.heap_calls.specs.Inner.Search.{FindsPlacement, IsAt, placement, placement_searches, tries}
+pub use Rattle.heap_calls.specs.Inner.Search.{FindsPlacement, IsAt, tries}
 pub use Rattle.heap_calls.specs.Inner.Telling.{IsNumberOf, LeavesSlot, OpensNone, after_slot_gone, blocks_from, fresh_gone}
-pub use Rattle.heap_calls.specs.Inner.Telling.{from_spot, gone_from, gone_named, new_gone, placement_gone, renewed_gone}
+pub use Rattle.heap_calls.specs.Inner.Telling.{from_spot, gone_from, gone_named, new_gone, renewed_gone}
 pub use Rattle.heap_calls.specs.Inner.Telling.{zone_slot_gone}
 pub use Rattle.heap_calls.specs.Inner.Went.{Went, at_spot, seek_growth, seek_sized, seek_still, told_along, told_named}
 pub use Rattle.heap_calls.specs.Inside.{cast, cast_as, for_known, guarded_as, has_block, held_high, inside, is_owned, loosened, new_all}

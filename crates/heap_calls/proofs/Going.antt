@@ -9,6 +9,8 @@ use Rattle.heap_calls.proofs.Cited.{Gone, gone_named, gone_from, Went, told_name
 use Rattle.heap_calls.proofs.Cited.{written_in}
 use Rattle.heap_calls.proofs.Cited.{Refuses, is_relocatable, length_of, seek_longer, seek_still, spot_at}
 use Rattle.heap_calls.specs.Inner.Appending.{behind}
+use Rattle.heap_calls.proofs.Cited.{opened, opened_block, map, map-id, Free, false≢true}
+use Rattle.block_store.specs.declared.sparing.Sparing.TheVariants as sparing
 use Rattle.moves.specs.Moves as moves
 
 -- What a store did is what the path of its search does.
@@ -235,21 +237,51 @@ module _ (place n : ℕ) (sp : Block → Bool) (zone : List Block) (s : Spot) (a
             pub told-unpushed : (es : List Anchor) → told_along es sp (seek_still place n sp zone) zone ≡ []
             told-unpushed es = ap (λ (p : Sought). told_along es sp p zone) (push-is false is)
 
+-- a search sees each block first as it sees the zone
+pub opened-each : (sparing : Sparing) (zone : List Block) → opened sparing zone ≡ map (opened_block sparing) zone
+opened-each sparing.Nothing zone = sym (map-id zone)
+opened-each (sparing.One slot) zone = sym (map-id zone)
+opened-each (sparing.Two slot other) zone = sym (map-id zone)
+opened-each (sparing.Freed slot) zone = refl
+
+-- a block that may be purged doesn't count as free
+opened-goes : (sparing : Sparing) (b : Block) → may_be_purged (spared sparing) (opened_block sparing b) ≡ true
+    → opened_block sparing b ≡ b
+opened-goes sparing.Nothing b goes = refl
+opened-goes (sparing.One slot) b goes = refl
+opened-goes (sparing.Two slot other) b goes = refl
+opened-goes (sparing.Freed slot) b goes = cases (is_relocatable slot b) goes
+  where
+    cases : (t : Bool) → may_be_purged (λ b. false) (cond t (Free (size b)) b) ≡ true → cond t (Free (size b)) b ≡ b
+    cases true goes = absurd (false≢true goes)
+    cases false goes = refl
+
 -- What a store tells of the blocks that go is told by the numbers of their handles.
+goes-each : (es : List Anchor) (nd : Sparing) (k : ℕ) (bs : List Block)
+    → gone_from es nd k bs ≡ told_named es (lowest_gone k (spared nd) (map (opened_block nd) bs))
+goes-each es nd zero bs = refl
+goes-each es nd (suc k) [] = refl
+goes-each es nd (suc k) (b ∷ bs) = rw (goes-each es nd k bs, goes-each es nd (suc k) bs)
+    (cases (may_be_purged (spared nd) (opened_block nd b)) refl)
+  where
+    named : ℕ → List Gone
+    named k = told_named es (lowest_gone k (spared nd) (map (opened_block nd) bs))
+
+    cases : (t : Bool) → may_be_purged (spared nd) (opened_block nd b) ≡ t
+        → cond t (gone_named es b ++ named k) (named (suc k)) ≡ told_named es (cond t (opened_block nd b
+        ∷ lowest_gone k (spared nd) (map (opened_block nd) bs)) (lowest_gone (suc k) (spared nd) (map (opened_block nd) bs)))
+    cases true is = ap (λ b. gone_named es b ++ named k) (sym (opened-goes nd b is))
+    cases false is = refl
+
+pub goes-opened : (es : List Anchor) (nd : Sparing) (k : ℕ) (zone : List Block)
+    → gone_from es nd k zone ≡ told_named es (lowest_gone k (spared nd) (opened nd zone))
+goes-opened es nd k zone = goes-each es nd k zone
+    ∙ ap (λ z. told_named es (lowest_gone k (spared nd) z)) (sym (opened-each nd zone))
+
 pub goes-named : (es : List Anchor) (nd : Sparing) → OpensNone nd → (k : ℕ) (bs : List Block)
     → gone_from es nd k bs ≡ told_named es (lowest_gone k (spared nd) bs)
-goes-named es nd whole zero bs = refl
-goes-named es nd whole (suc k) [] = refl
-goes-named es nd whole (suc k) (b ∷ bs) = rw (goes-named es nd whole k bs, goes-named es nd whole (suc k) bs, whole b)
-    (cases (may_be_purged (spared nd) b))
-  where
-    named : ℕ → List Block → List Gone
-    named k bs = told_named es (lowest_gone k (spared nd) bs)
-
-    cases : (t : Bool) → cond t (gone_named es b ++ named k bs) (named (suc k) bs)
-        ≡ told_named es (cond t (b ∷ lowest_gone k (spared nd) bs) (lowest_gone (suc k) (spared nd) bs))
-    cases true = refl
-    cases false = refl
+goes-named es nd whole k bs = goes-each es nd k bs
+    ∙ ap (λ z. told_named es (lowest_gone k (spared nd) z)) ((λ i. map (λ b. whole b i) bs) ∙ map-id bs)
 
 -- the k lowest blocks are those of the first part, where so many may go there
 pub gone-first : (k : ℕ) (sp : Block → Bool) (first more : List Block) → k ≤ count_of sp first

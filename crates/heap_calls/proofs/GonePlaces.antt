@@ -1,132 +1,53 @@
-use Rattle.heap_calls.proofs.Cited.{◌≡◌, ℕ, ◌-◌, ◌<◌, zero, suc, Bool, true, false, not, ◌&&◌, List, [], ◌∷◌, ◌++◌, length, map, refl, sym}
-use Rattle.heap_calls.proofs.Cited.{◌∙◌, ap, cond, Option, Some, Err, is_some, slice_get, option_map, false≢true, map-id, length-map}
-use Rattle.heap_calls.proofs.Cited.{length-replicate, phys, padded, OsErr, is_some-map, Block, Free, size, is_relocatable, is_purgeable}
-use Rattle.heap_calls.proofs.Cited.{rename, rename_block, Spot, rename_spot, filled, place, least, may_be_purged, purge, count_of}
-use Rattle.heap_calls.proofs.Cited.{put_in_place, room, Slot, Rest, freed, has, spared, opened, purged, most_purges, opened_block, Sparing}
-use Rattle.heap_calls.proofs.Cited.{least-map, is_purgeable-rename, place-rename, purge-rename, freed-rename, Anchor, Log, State, Memory}
-use Rattle.heap_calls.proofs.Cited.{nothing, Gone, gone, gone_of, room_gone, found_gone, refill_gone, has_block, slot_of, fresh_block}
-use Rattle.heap_calls.proofs.Cited.{room_searches, handle_number, pointer_number, name_of, no_number, state_of, memory_of, placement}
-use Rattle.heap_calls.proofs.Cited.{placement_searches, tries, gone_named, gone_from, placement_gone, renewed_gone, ◌*◌, None, unwrap_or}
+use Rattle.heap_calls.proofs.Cited.{◌≡◌, ℕ, ◌<◌, Bool, false, List, [], ◌++◌, length, map, refl, sym}
+use Rattle.heap_calls.proofs.Cited.{◌∙◌, ap, cond, Option, Some, Err, is_some, slice_get, option_map, length-map}
+use Rattle.heap_calls.proofs.Cited.{length-replicate, phys, padded, OsErr, is_some-map, Block, size, is_relocatable}
+use Rattle.heap_calls.proofs.Cited.{rename, rename_block, filled, place}
+use Rattle.heap_calls.proofs.Cited.{put_in_place, Slot, Rest, freed, has, spared, opened, Sparing}
+use Rattle.heap_calls.proofs.Cited.{freed-rename, Anchor, Log, State, Memory}
+use Rattle.heap_calls.proofs.Cited.{nothing, Gone, room_gone, found_gone, refill_gone, has_block, slot_of, fresh_block}
+use Rattle.heap_calls.proofs.Cited.{handle_number, pointer_number, name_of, no_number, state_of, memory_of}
+use Rattle.heap_calls.proofs.Cited.{arith, renewed_gone, told_along, told_blocks, Put, Did, did, Sought, seek, seek-rename, did-rename}
+use Rattle.heap_calls.proofs.Cited.{size-rename, ◌*◌, None, unwrap_or}
 use Rattle.heap_calls.proofs.Cited.{Relocatable, no_flags, count, is_masters, freed-absent, slotted, slotted_zone, slot_gone, ready_gone}
 use Rattle.heap_calls.proofs.Cited.{block_gone, made_gone, zone_slotted, Agrees, fresh_gone, after_slot_gone, new_gone}
-use Rattle.block_store.specs.declared.sparing.Sparing.TheVariants as sparing
 use Rattle.heap_calls.specs.declared.anchor.Anchor.TheVariants.{Handle}
-use Rattle.heap_calls.proofs.NewBlocks.NewHandles.{tries-same}
-use Rattle.heap_calls.proofs.NewBlocks.NewSlots.{tries-map}
 use Rattle.heap_calls.proofs.Numbering.Answering.{handle_at-refused}
-use Rattle.heap_calls.proofs.Numbering.Looking.{count_of-rename}
 use Rattle.heap_calls.proofs.Numbering.Loosening.{handle_at-by}
 use Rattle.heap_calls.proofs.Numbering.Numbers.{Apart, is_relocatable-number}
 use Rattle.heap_calls.proofs.GoneBlocks.{slot_gone-is}
 use Rattle.heap_calls.proofs.NewBlocks.NewHandles.{slotted-is}
+use Rattle.heap_calls.proofs.Same.NewBlocks.{put-agrees}
+use Rattle.heap_calls.proofs.Went.{gone-alike, seek-names}
 
 -- What a sink is told of blocks that are purged for the place of a relocatable block.
 
--- a search sees each block first as it sees the zone
-pub opened-each : (sparing : Sparing) (zone : List Block) → opened sparing zone ≡ map (opened_block sparing) zone
-opened-each sparing.Nothing zone = sym (map-id zone)
-opened-each (sparing.One slot) zone = sym (map-id zone)
-opened-each (sparing.Two slot other) zone = sym (map-id zone)
-opened-each (sparing.Freed slot) zone = refl
-
--- a block that may be purged doesn't count as free
-opened-goes : (sparing : Sparing) (b : Block) → may_be_purged (spared sparing) (opened_block sparing b) ≡ true
-    → opened_block sparing b ≡ b
-opened-goes sparing.Nothing b goes = refl
-opened-goes (sparing.One slot) b goes = refl
-opened-goes (sparing.Two slot other) b goes = refl
-opened-goes (sparing.Freed slot) b goes = cases (is_relocatable slot b) goes
+-- the blocks that are purged for the place of a block, whatever it is named, where the names that a search spares in a
+-- heap are those of the slots that it spares in the store
+pub place_gone-is : (es : List Anchor) (sp sp' : Block → Bool)
+    → ((b : Block) → sp (rename_block (handle_number es) (pointer_number es) b) ≡ sp' b) → (a b : Block)
+    → size a ≡ size b → 0 < size b → (slots : ℕ → Slot) (zone : List Block)
+    → told_along es sp' (seek (Put a) sp' zone) zone
+    ≡ room_gone (length (map (name_of slots) es)) (put_in_place b) sp (rename (handle_number es) (pointer_number es) zone)
+place_gone-is es sp sp' same a b sized pos slots zone =
+    let f = handle_number es in
+    let g = pointer_number es in
+    let n = length (map (name_of slots) es) in
+    let z = rename f g zone in
+    let path = (seek (Put a) sp' zone).path in
+    ap (λ (k : ℕ). told_blocks k (rename f g (did sp' path zone).gone)) (sym (length-map es (name_of slots)))
+    ∙ sym ((put-agrees n sp b pos z).tells
+    ∙ ap (told_blocks n) (gone-alike sp (Put b) (Put (rename_block f g a)) (λ z. refl) (λ z. refl) sees z)
+    ∙ ap (λ (r : Sought). told_blocks n (did sp r.path z).gone) (seek-rename f g sp sp' same (Put a) tt zone)
+    ∙ ap (λ (d : Did). told_blocks n d.gone)
+    (did-rename f g sp sp' same path (seek-names f g sp' (Put a) tt zone) zone))
   where
-    cases : (t : Bool) → may_be_purged (λ b. false) (cond t (Free (size b)) b) ≡ true → cond t (Free (size b)) b ≡ b
-    cases true goes = absurd (false≢true goes)
-    cases false goes = refl
-
--- The names that a search spares in a heap are those of the slots that it spares in the store.
-module _ (es : List Anchor) (sp : Block → Bool) (sparing : Sparing)
-    (same : (b : Block) → sp (rename_block (handle_number es) (pointer_number es) b) ≡ spared sparing b)
-  where
-    abbrev f : ℕ → ℕ
-    f = handle_number es
-
-    abbrev g : ℕ → ℕ
-    g = pointer_number es
-
-    -- the blocks of a store that are purged are those of its heap, in the zone as the search sees it first
-    gone-each : (k : ℕ) (blocks : List Block)
-        → gone (length es) k sp (rename f g (map (opened_block sparing) blocks)) ≡ gone_from es sparing k blocks
-    gone-each zero blocks = refl
-    gone-each (suc k) [] = refl
-    gone-each (suc k) (b ∷ above) =
-        let seen = opened_block sparing b in
-        let test : may_be_purged sp (rename_block f g seen) ≡ may_be_purged (spared sparing) seen =
-        ap (λ t. t && not (sp (rename_block f g seen))) (is_purgeable-rename f g seen)
-        ∙ ap (λ t. is_purgeable seen && not t) (same seen) in
-        ap (λ t. cond t (gone_of (length es) (rename_block f g seen) ++ gone (length es) k sp
-        (rename f g (map (opened_block sparing) above)))
-        (gone (length es) (suc k) sp (rename f g (map (opened_block sparing) above)))) test
-        ∙ ap (λ l. cond (may_be_purged (spared sparing) seen) (gone_of (length es) (rename_block f g seen) ++ l)
-        (gone (length es) (suc k) sp (rename f g (map (opened_block sparing) above)))) (gone-each k above)
-        ∙ ap (λ l. cond (may_be_purged (spared sparing) seen)
-        (gone_of (length es) (rename_block f g seen) ++ gone_from es sparing k above) l) (gone-each (suc k) above)
-        ∙ here (may_be_purged (spared sparing) seen) refl (gone_from es sparing k above) (gone_from es sparing (suc k) above)
-      where
-        here : (t : Bool) → may_be_purged (spared sparing) (opened_block sparing b) ≡ t → (goes stays : List Gone)
-            → cond t (gone_of (length es) (rename_block f g (opened_block sparing b)) ++ goes) stays
-            ≡ cond t (gone_named es b ++ goes) stays
-        here true is goes stays = ap (λ b. gone_named es b ++ goes) (opened-goes sparing b is)
-        here false is goes stays = refl
-
-    pub gone-opened : (k : ℕ) (zone : List Block)
-        → gone (length es) k sp (rename f g (opened sparing zone)) ≡ gone_from es sparing k zone
-    gone-opened k zone = ap (λ z. gone (length es) k sp (rename f g z)) (opened-each sparing zone) ∙ gone-each k zone
-
-    -- a place, seen with numbers for slots
-    at-number : (p k : ℕ) (zone : List Block) → place p (purge k sp (rename f g (opened sparing zone)))
-        ≡ option_map (rename_spot f g) (place p (purged k sparing zone))
-    at-number p k zone = ap (place p) (purge-rename f g sp (spared sparing) same k (opened sparing zone))
-        ∙ place-rename f g p (purged k sparing zone)
-
-    -- there is a place in the heap where there is one in its store
-    pub placed-same : (new : Block) (zone : List Block)
-        → is_some (room (put_in_place new) sp (rename f g (opened sparing zone)))
-        ≡ is_some (placement (size new) sparing zone)
-    placed-same new zone =
-        let z = rename f g (opened sparing zone) in
-        ap is_some (least-map (filled new) (λ k. place (size new) (purge k sp z)) (count_of sp z))
-        ∙ is_some-map (filled new) (least (λ k. place (size new) (purge k sp z)) (count_of sp z))
-        ∙ ap (λ n. is_some (least (λ k. place (size new) (purge k sp z)) n))
-        (count_of-rename f g sp (spared sparing) same (opened sparing zone))
-        ∙ ap (λ (a : ℕ → Option Spot). is_some (least a (most_purges sparing zone)))
-        (λ i k. at-number (size new) k zone i)
-        ∙ ap is_some (least-map (rename_spot f g) (λ k. place (size new) (purged k sparing zone))
-        (most_purges sparing zone))
-        ∙ is_some-map (rename_spot f g) (placement (size new) sparing zone)
-
-    -- after as many searches
-    pub searches-same : (new : Block) (zone : List Block)
-        → room_searches (put_in_place new) sp (rename f g (opened sparing zone))
-        ≡ placement_searches (size new) sparing zone
-    searches-same new zone =
-        let z = rename f g (opened sparing zone) in
-        tries-map (filled new) (λ k. place (size new) (purge k sp z)) (count_of sp z)
-        ∙ ap (tries (λ k. place (size new) (purge k sp z)))
-        (count_of-rename f g sp (spared sparing) same (opened sparing zone))
-        ∙ tries-same (rename_spot f g) (λ k. place (size new) (purge k sp z))
-        (λ k. place (size new) (purged k sparing zone)) (λ k. at-number (size new) k zone) (most_purges sparing zone)
-
-    -- the blocks that are purged for the place of a new block
-    pub placement_gone-is : (new : Block) (slots : ℕ → Slot) (zone : List Block)
-        → placement_gone es (size new) sparing zone
-        ≡ room_gone (length (map (name_of slots) es)) (put_in_place new) sp (rename f g (opened sparing zone))
-    placement_gone-is new slots zone =
-        let z = rename f g (opened sparing zone) in
-        let many = searches-same new zone in
-        ap (λ t. cond t (gone_from es sparing (placement_searches (size new) sparing zone - 1) zone) [])
-        (sym (placed-same new zone))
-        ∙ ap (λ l. cond (is_some (room (put_in_place new) sp z)) l [])
-        (sym (gone-opened (placement_searches (size new) sparing zone - 1) zone)
-        ∙ ap (λ n. gone (length es) (n - 1) sp z) (sym many)
-        ∙ ap (λ n. gone n (room_searches (put_in_place new) sp z - 1) sp z) (sym (length-map es (name_of slots))))
+    sees : (y : List Block)
+        → is_some (put_in_place (rename_block (handle_number es) (pointer_number es) a) y) ≡ is_some (put_in_place b y)
+    sees y =
+        let c = rename_block (handle_number es) (pointer_number es) a in
+        is_some-map (filled c) (place (size c) y)
+        ∙ ap (λ n. is_some (place n y)) (size-rename (handle_number es) (pointer_number es) a ∙ sized)
+        ∙ sym (is_some-map (filled b) (place (size b) y))
 
 -- the blocks that are purged for a new block of n bytes for a handle, in a zone in which its old block is free
 abbrev pub put_gone : ℕ → ℕ → ℕ → List Block → List Gone
@@ -143,8 +64,8 @@ renewed_gone-is es h slot at apart small n slots zone =
     let g = pointer_number es in
     let all = length (map (name_of slots) es) in
     ap (λ l. cond (is_some (phys n)) l [])
-    (ap (λ p. placement_gone es p (sparing.Freed slot) zone) (sym (ap padded (length-replicate n 0)))
-    ∙ placement_gone-is es nothing (sparing.Freed slot) (λ b. refl) (fresh_block h n) slots zone
+    (place_gone-is es nothing nothing (λ b. refl) (fresh_block 0 n) (fresh_block h n) refl (omega arith) slots
+    (freed (is_relocatable slot) zone)
     ∙ ap (room_gone all (put_in_place (fresh_block h n)) nothing)
     (sym (freed-rename f g (is_relocatable h) (is_relocatable slot) (is_relocatable-number es h slot at apart small)
     zone)))
@@ -183,9 +104,10 @@ module _ (zone : List Block) (rest : Rest) (es : List Anchor) (masters : rest.al
         → fresh_gone es sparing (length bytes) ready ≡ block_gone sp bytes (state_of ready rest.slots es)
     fresh_gone-is bytes ready =
         let new : Block = Relocatable (length (map (name_of rest.slots) es)) no_flags bytes in
-        ap (λ l. cond (is_some (phys (length bytes))) l []) (placement_gone-is es sp sparing same new rest.slots ready
-        ∙ ap (λ z. room_gone (length (map (name_of rest.slots) es)) (put_in_place new) sp
-        (rename (handle_number es) (pointer_number es) z)) (closed ready))
+        ap (λ z. cond (is_some (phys (length bytes))) (told_along es (spared sparing)
+        (seek (Put (fresh_block 0 (length bytes))) (spared sparing) z) z) []) (closed ready)
+        ∙ ap (λ l. cond (is_some (phys (length bytes))) l []) (place_gone-is es sp (spared sparing) same
+        (fresh_block 0 (length bytes)) new (ap padded (length-replicate (length bytes) 0)) (omega arith) rest.slots ready)
 
     slotted_as : slotted sp (state_of zone rest.slots es)
         ≡ option_map (λ z. state_of z rest.slots es) (zone_slotted sparing rest.unused zone)

@@ -2,7 +2,7 @@ use Rattle.heap_calls.proofs.Cited.{◌≡◌, ◌++◌, ◌⊎◌, ◌∙◌, B
 use Rattle.heap_calls.proofs.Cited.{sym, ap, subst, Memory, CountedMemory, Gone, Tells, TellsNothing, IsIdle, Rests, Hears, Block, Rest}
 use Rattle.heap_calls.proofs.Cited.{IsRest, Halts, Stops}
 use Rattle.std.proofs.Common.{IsTrue, IsOk}
-use Rattle.std.proofs.lemmas.List.{append-nil}
+use Rattle.std.proofs.lemmas.List.{append-nil, append_assoc}
 use Rattle.heap_calls.specs.Left.{Step}
 
 -- What a sink hears, step by step.
@@ -32,6 +32,16 @@ pub hears-as : {A : Type 0} (told waits : A → List Gone → Type 0) (listens :
 hears-as told waits listens done done' blocks blocks' sink heard also same hears = record {
   tells = λ is on. subst (λ (l : List Gone). Tells told l sink heard) same (hears.tells (also is) on);
   rests = hears.rests;
+}
+
+-- The blocks of one step, and then those of another.
+pub hears-both : {A : Type 0} (told waits : A → List Gone → Type 0) (listens : A → Bool) (one two done : Type 0)
+    (blocks more : List Gone) (sink mid heard : A) → (done → one) → (done → two) → Hears told waits listens one blocks sink mid
+    → Hears told waits listens two more mid heard → Hears told waits listens done (blocks ++ more) sink heard
+hears-both told waits listens one two done blocks more sink mid heard first second a b = record {
+  tells = λ is on before was. subst (told heard) (append_assoc before blocks more)
+      (b.tells (second is) (a.rests.same ∙ on) (before ++ blocks) (a.tells (first is) on before was));
+  rests = record { idle = b.rests.idle; same = b.rests.same ∙ a.rests.same };
 }
 
 -- The same, where a sink is told only if it listens.

@@ -1,5 +1,5 @@
 use Rattle.heap_calls.proofs.Cited.{Went}
-use Rattle.heap_calls.proofs.Cited.{◌≡◌, ℕ, ◌+◌, ◌-◌, ◌*◌, Bool, true, false, List, [], ◌∷◌, ◌++◌, length, map, replicate}
+use Rattle.heap_calls.proofs.Cited.{◌≡◌, ℕ, ◌+◌, ◌*◌, Bool, true, false, List, [], ◌∷◌, ◌++◌, length, map, replicate}
 use Rattle.heap_calls.proofs.Cited.{Option, Some, None, refl, sym, ◌∙◌, ap, cond, arith, is_some, inl, inr, option_map, unwrap_or}
 use Rattle.heap_calls.proofs.Cited.{false_from_ne_true, length-map, length-replicate, phys, padded, is_some-map, Flags, Block}
 use Rattle.heap_calls.proofs.Cited.{Relocatable, size, count, is_masters, is_relocatable, rename, rename_block, no_flags, has}
@@ -7,21 +7,21 @@ use Rattle.heap_calls.proofs.Cited.{place, least, filled, purge, count_of, put_i
 use Rattle.heap_calls.proofs.Cited.{IsRest, KeepsSlots, with_slot, counted, spared, opened, Sparing, Nothing, map-none, least-map, Put, did}
 use Rattle.heap_calls.proofs.Cited.{Sought, no_room, seek, seek_slot, then_seek, if_fits, rename_sought, along-if, along-then}
 use Rattle.heap_calls.proofs.Cited.{along-seek, Names, PathNames, seek-rename, slot-rename, then-rename, State, Memory, Plain}
-use Rattle.heap_calls.proofs.Cited.{Handle, nothing, place_lowers, put_moves, Done, doing_silently, purges_made}
+use Rattle.heap_calls.proofs.Cited.{Handle, nothing, put_moves, Done, doing_silently, purges_made}
 use Rattle.heap_calls.proofs.Cited.{reply_of, is_unused, new_handle, new_empty_handle, new_inside, room_searches, Anchor, Log, IsFilling}
 use Rattle.heap_calls.proofs.Cited.{entered, number_of, fresh_block, HasNoRoom, IsPut, IsNewBlock, new_searches, place_searches}
 use Rattle.heap_calls.proofs.Cited.{ready_count, HasMore, TakesSlot, some_left, seek_unused, zone_slotted, zone_searches, state_of}
 use Rattle.heap_calls.proofs.Cited.{memory_of, name_of}
 use Rattle.heap_calls.proofs.Cited.{handle_number, pointer_number, Agrees, KeepsNonrelocatable, Packs, content_moves, new_moves}
-use Rattle.heap_calls.proofs.Cited.{placement_moves, placement_searches, tries, new_gone, zone_slot_gone}
+use Rattle.heap_calls.proofs.Cited.{new_gone, zone_slot_gone}
 use Rattle.heap_calls.specs.Rows.{given, made}
 use Rattle.heap_calls.proofs.GoneBlocks.{slot_gone-is}
 use Rattle.heap_calls.proofs.GonePlaces.{new_gone-is}
 use Rattle.heap_calls.proofs.NewBlocks.NewHandles.{names-more, agrees-more, unused-is}
-use Rattle.heap_calls.proofs.NewBlocks.NewSlots.{tries-map, slotted-after}
+use Rattle.heap_calls.proofs.NewBlocks.NewSlots.{slotted-after}
 use Rattle.heap_calls.proofs.Numbering.Changing.{number-now, zone-kept, names-now, agrees-now}
 use Rattle.heap_calls.proofs.Same.Agreeing.{on_some}
-use Rattle.heap_calls.proofs.Same.NewBlocks.{slot_after, slot_looks, slot-agrees, next, new-agrees, filling}
+use Rattle.heap_calls.proofs.Same.NewBlocks.{slot_after, slot_looks, slot-agrees, next, new-agrees, filling, sized-searches, sized-moves}
 use Rattle.heap_calls.proofs.Same.NewBlocks.{filled-same, new_empty_handle-same}
 use Rattle.heap_calls.proofs.Same.Silent.{filled-silent}
 use Rattle.heap_calls.proofs.Went.{given-is, path-names, slot-along, slot-names, seek-any, fits-rename}
@@ -159,23 +159,19 @@ module _ (sparing : Sparing) (closed : (z : List Block) → opened sparing z ≡
               ap (on_some zone (λ z. unwrap_or (after k z) z)) a ∙ ap (λ o. unwrap_or o zone') b,
             )
 
-        -- the searches and the moves for a place, by the block
-        place-looks : (k : ℕ) (z : List Block)
-            → placement_searches (padded n) sparing z ≡ room_searches (put_in_place (new k)) (spared sparing) z
-        place-looks k z =
-            ap (λ z. tries (λ j. place (padded n) (purge j (spared sparing) z)) (count_of (spared sparing) z)) (closed z)
-            ∙ ap (λ m. tries (λ j. place (padded m) (purge j (spared sparing) z)) (count_of (spared sparing) z)) (sym long)
-            ∙ sym (tries-map (filled (new k)) (λ j. place (size (new k)) (purge j (spared sparing) z))
-            (count_of (spared sparing) z))
+        -- the searches and the moves for a place see only the size of the block
+        sized : (k : ℕ) → size (fresh_block 0 n) ≡ size (new k)
+        sized k = ap padded (length-replicate n 0 ∙ sym long)
 
-        place-lowers : (k : ℕ) (z : List Block)
-            → placement_moves (padded n) sparing z ≡ put_moves (new k) (spared sparing) z
-        place-lowers k z =
-            ap (λ j. place_lowers (padded n) (purge (j - 1) (spared sparing) (opened sparing z))) (place-looks k z)
-            ∙ ap (λ z'. place_lowers (padded n) (purge (room_searches (put_in_place (new k)) (spared sparing) z - 1)
-            (spared sparing) z')) (closed z)
-            ∙ ap (λ m. place_lowers (padded m) (purge (room_searches (put_in_place (new k)) (spared sparing) z - 1)
-            (spared sparing) z)) (sym long)
+        place-looks : (k : ℕ) (z : List Block) → room_searches (put_in_place (fresh_block 0 n)) (spared sparing)
+            (opened sparing z) ≡ room_searches (put_in_place (new k)) (spared sparing) z
+        place-looks k z = ap (room_searches (put_in_place (fresh_block 0 n)) (spared sparing)) (closed z)
+            ∙ sized-searches (fresh_block 0 n) (new k) (sized k) (spared sparing) z
+
+        place-lowers : (k : ℕ) (z : List Block) → put_moves (fresh_block 0 n) (spared sparing) (opened sparing z)
+            ≡ put_moves (new k) (spared sparing) z
+        place-lowers k z = ap (put_moves (fresh_block 0 n) (spared sparing)) (closed z)
+            ∙ sized-moves (fresh_block 0 n) (new k) (sized k) (spared sparing) z
 
         ready-as : (f g : List Block → ℕ) → ((z : List Block) → f z ≡ g z) → (o : Option (List Block))
             → ready_count o (λ z. cond (is_some (phys n)) (f z) 0) ≡ on_some 0 (λ z. cond fits (g z) 0) o
@@ -193,10 +189,11 @@ module _ (sparing : Sparing) (closed : (z : List Block) → opened sparing z ≡
               looks = looks ∙ ap (λ j. j + ready_count (zone_slotted sparing rest.unused zone) (place_searches sparing n))
                   (slot_looks-is rest.unused) ∙ ap (λ j. slot_looks (spared sparing) unused zone + j)
                   (ap (λ o. ready_count o (place_searches sparing n)) (slot-is rest.unused)
-                  ∙ ready-as (placement_searches (padded n) sparing) (room_searches (put_in_place (new k)) (spared sparing))
+                  ∙ ready-as (λ z. room_searches (put_in_place (fresh_block 0 n)) (spared sparing) (opened sparing z))
+                  (room_searches (put_in_place (new k)) (spared sparing))
                   (place-looks k) first) ∙ a.looks;
               lowers = packs ∙ ap (counted rest.moves) (ap (λ o. ready_count o (content_moves sparing n))
-                  (slot-is rest.unused) ∙ ready-as (placement_moves (padded n) sparing)
+                  (slot-is rest.unused) ∙ ready-as (λ z. put_moves (fresh_block 0 n) (spared sparing) (opened sparing z))
                   (put_moves (new k) (spared sparing)) (place-lowers k) first
                   ∙ (let l = a.lowers in omega arith));
             }

@@ -6,3 +6,4 @@ pub mod Stretches
 pub mod SettlingRuns
 pub mod LeastSearches
 pub mod MoveCounts
+pub mod Places

@@ -37,6 +37,7 @@ fn add_block<S: BlockStore, K: PurgeSink>(
     sparing: Sparing,
     sink: &mut K,
 ) -> Result<Room, AllocError>
+    requires whole { OpensNone sparing }
     requires idle { IsIdle K.told K.waits sink.old }
     requires used { IsTrue (is_used ((S.rest store.old).slots slot)) }
     requires none { has (is_relocatable slot) (S.zone store.old) ≡ false }

@@ -1,25 +1,26 @@
 //! The search for room.
 
 ghost use Rattle.std.specs.Prelude.{◌≡◌, ◌+◌, ◌≤◌, ◌<◌, ℕ, false, true, List, MatchOption, Some};
-ghost use Rattle.std.specs.Prelude.{is_some, OnOk, OnErr, IfOk, IfSome, IsOk};
-ghost use Rattle.block_store.specs.Block.{Block, is_relocatable};
+ghost use Rattle.std.specs.Prelude.{is_some, OnErr, IfOk, IfSome, IsOk, if◌then◌else◌};
+ghost use Rattle.block_store.specs.Block.{Block, is_relocatable, size as size_of};
 ghost use Rattle.block_store.specs.Run.{has};
 ghost use Rattle.block_store.specs.Room.{place};
-ghost use Rattle.block_store.specs.Sparing.{opened, purged};
+ghost use Rattle.block_store.specs.Sparing.{opened, spared};
 ghost use Rattle.block_store.specs.Rest.{KeepsSlots};
 ghost use Rattle.heap_calls.specs.Gone.{IsIdle, Hears};
 ghost use Rattle.heap_calls.specs.Inner.Halting.{Unheard};
-ghost use Rattle.moves.specs.Moves.{place_lowers};
+ghost use Rattle.moves.specs.Moves.{Put, place_lowers};
+ghost use Rattle.moves.specs.Seeking.{seek};
+ghost use Rattle.heap_calls.specs.Inner.Making.{MakesRoom, HasRoomAt};
+ghost use Rattle.heap_calls.specs.Inner.Went.{told_along};
 ghost use Rattle.heap_calls.specs.Inner.Growing.{SameBlocks};
 ghost use Rattle.heap_calls.specs.Inner.Numbered.{KeepsNonrelocatable};
-ghost use Rattle.heap_calls.specs.Inner.Packed.{Packs, placement_moves};
-ghost use Rattle.heap_calls.specs.Inner.Telling.{placement_gone};
-ghost use Rattle.heap_calls.specs.Inner.Search.{FindsPlacement, IsAt, placement};
-ghost use Rattle.heap_calls.specs.Inner.Search.{placement_searches};
+ghost use Rattle.heap_calls.specs.Inner.Packed.{Packs};
+ghost use Rattle.heap_calls.specs.Inner.Search.{FindsPlacement, IsAt};
 ghost use Rattle.block_store.specs.declared.measures.TheConstants.{GREATEST_ZONE};
 
 use crate::anchor::Anchor;
-use crate::least::{Searched, count_for_run};
+use crate::least::count_for_run;
 use crate::sink::PurgeSink;
 use crate::telling::purge_telling;
 use block_store::{BlockStore, Sparing};
@@ -89,34 +90,13 @@ fn counts_as_free(sparing: Sparing) -> bool
 /// Finds where a relocatable block of `bytes` bytes is put without any purge. Where a block counts
 /// as free that isn't freed yet, no placement is found so.
 fn placement_at_once<S: BlockStore>(store: &S, bytes: u32, sparing: Sparing) -> Option<Placement>
-    requires { 0 < bytes }
     ensures found { IfSome result (λ p. FindsPlacement bytes (S.zone store.now) (Some p)) }
-    ensures least { IfSome result (λ p. placement bytes sparing (S.zone store.now)
-        ≡ place bytes (S.zone store.now)) }
-    ensures searches { IfSome result (λ p. 1
-        ≡ placement_searches bytes sparing (S.zone store.now)) }
-    ensures moves { IfSome result (λ p. placement_moves bytes sparing (S.zone store.now)
-        ≡ place_lowers bytes (S.zone store.now)) }
+    ensures whole { IfSome result (λ _. opened sparing (S.zone store.now) ≡ S.zone store.now) }
 {
     if counts_as_free(sparing) {
         return None;
     }
     placement_now(store, bytes)
-}
-
-/// Counts the purges after which a relocatable block of `bytes` bytes has a place: the least number
-/// that serves, or all that there can be where none serves. A block has a place where a run has its
-/// bytes.
-fn count_for_placement<S: BlockStore>(store: &S, bytes: u32, sparing: Sparing) -> Searched
-    requires { 0 < bytes }
-    ensures there { result.there
-        ≡ is_some (place bytes (purged result.purges sparing (S.zone store.now))) }
-    ensures least { placement bytes sparing (S.zone store.now) ≡ place bytes
-        (purged result.purges sparing (S.zone store.now)) }
-    ensures searches { result.purges + 1 ≡ placement_searches bytes sparing (S.zone store.now) }
-    ensures few { result.purges ≤ GREATEST_ZONE }
-{
-    count_for_run(store, bytes, sparing)
 }
 
 /// Makes room for a relocatable block of `bytes` bytes, where there is any, and returns its place;
@@ -131,21 +111,23 @@ pub fn make_room<S: BlockStore, K: PurgeSink>(
 ) -> Result<Room, AllocError>
     requires positive { 0 < bytes }
     requires idle { IsIdle K.told K.waits sink.old }
-    ensures place { IfOk result (λ r.
-        IsAt (placement bytes sparing (S.zone store.old)) (S.zone store.new) r.place) }
+    ensures went { IfOk result (λ r. MakesRoom bytes Put (spared sparing)
+        (opened sparing (S.zone store.old)) r
+        (if is_some r.place then S.zone store.new else opened sparing (S.zone store.old))
+        (S.rest store.old) (S.rest store.new)) }
     ensures none { IfOk result (λ r.
         MatchOption r.place (S.zone store.new ≡ S.zone store.old) (λ _. Unit {0})) }
-    ensures kept { (number : ℕ) → has (is_relocatable number) (S.zone store.old) ≡ false
-        → has (is_relocatable number) (S.zone store.new) ≡ false }
+    ensures room { IfOk result (λ r. HasRoomAt bytes r.place (S.zone store.new)) }
+    ensures kept { IfOk result (λ r. IfSome r.place (λ _. (number : ℕ)
+        → has (is_relocatable number) (opened sparing (S.zone store.old)) ≡ false
+        → has (is_relocatable number) (S.zone store.new) ≡ false)) }
     ensures nonrelocatable { KeepsNonrelocatable (S.zone store.old) (S.zone store.new) }
-    ensures searches { IfOk result (λ r. r.searches
-        ≡ placement_searches bytes sparing (S.zone store.old)) }
     ensures few { IfOk result (λ r. r.searches ≤ GREATEST_ZONE + 1) }
     ensures rest { KeepsSlots (S.rest store.old) (S.rest store.new) }
-    ensures moves { OnOk result (Packs (placement_moves bytes sparing (S.zone store.old))
-        (S.rest store.old) (S.rest store.new)) }
-    ensures hears { Hears K.told K.waits K.listens (IsOk result)
-        (placement_gone names.now bytes sparing (S.zone store.old)) sink.old sink.new }
+    ensures hears { (new : Block) → size_of new ≡ bytes → Hears K.told K.waits K.listens
+        (IsOk result) (told_along names.now (spared sparing)
+        (seek (Put new) (spared sparing) (opened sparing (S.zone store.old)))
+        (opened sparing (S.zone store.old))) sink.old sink.new }
     ensures halts { OnErr result (Unheard K.told K.listens (S.zone store.old) (S.rest store.old)
         (S.zone store.new) (S.rest store.new) sink.old sink.new) }
 {
@@ -156,7 +138,7 @@ pub fn make_room<S: BlockStore, K: PurgeSink>(
             searches: 1,
         });
     }
-    let counted = count_for_placement(store, bytes, sparing);
+    let counted = count_for_run(store, bytes, sparing);
     let searches = counted.purges + 1;
     if !counted.there {
         return Ok(Room {

@@ -5,11 +5,11 @@ use Rattle.heap_calls.proofs.Cited.{filter-append, padded, written, Flags, Spari
 use Rattle.heap_calls.proofs.Cited.{count, add, tidy, is_relocatable, is_nonrelocatable, no_flags, content_of, with_content, with_flags}
 use Rattle.heap_calls.proofs.Cited.{has, Spot, spot, spot_at, raised, filled, room, put_in_place, FindsLowest, spared, opened, total-tidy}
 use Rattle.heap_calls.proofs.Cited.{spot-is, spot-passes, filter-none, once-below, some_and, filter-tidy, spot-lowest, lowest, mapped}
-use Rattle.heap_calls.proofs.Cited.{placement, fresh_block, zone_with_block, IsFresh, IsReplaced, KeepsNonrelocatable}
+use Rattle.heap_calls.proofs.Cited.{fresh_block, zone_with_block, IsFresh, IsReplaced, KeepsNonrelocatable}
 use Rattle.std.proofs.lemmas.List.{append-nil}
 use Rattle.heap_calls.proofs.Numbering.Numbers.{leads_to-same}
 use Rattle.heap_calls.proofs.Numbering.Changing.{nonrelocatable-at}
-use Rattle.heap_calls.proofs.Room.Placements.{room-placement}
+use Rattle.heap_calls.proofs.Room.Placements.{placement, room-placement}
 use Rattle.heap_calls.proofs.Room.Staying.{nonrelocatable-spot, nonrelocatable-same, nonrelocatable-then}
 
 -- A new block that gets flags and bytes of its own is as one that was put in its place with them.

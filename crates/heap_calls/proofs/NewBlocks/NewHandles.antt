@@ -4,11 +4,11 @@ use Rattle.heap_calls.proofs.Cited.{option_map, Block, Masters, size, count, fre
 use Rattle.heap_calls.proofs.Cited.{rename, rename_block, is_mover, is_masters, tidy, low, movers, has_free, change_run, room, put_at_base}
 use Rattle.heap_calls.proofs.Cited.{Rest, spared, Sparing, size-rename, free_of-rename, free-rename, total-rename, filter-rename}
 use Rattle.heap_calls.proofs.Cited.{is_mover-rename, tidy-rename, change_run-rename, has_free-rename, room-rename, Log, Anchor, State}
-use Rattle.heap_calls.proofs.Cited.{Memory, used_slots, all_slots, uses_slot, more_masters, slotted, tries, some_left, nat_tests}
+use Rattle.heap_calls.proofs.Cited.{Memory, used_slots, all_slots, uses_slot, more_masters, slotted, some_left, nat_tests}
 use Rattle.heap_calls.proofs.Cited.{is_unused, cond, ◌+◌}
 use Rattle.heap_calls.proofs.Cited.{zone_slotted, HasMore, state_of, memory_of, name_of, handle_number, pointer_number}
 use Rattle.heap_calls.proofs.Cited.{KeepsNonrelocatable, Agrees}
-use Rattle.heap_calls.proofs.NewBlocks.NewSlots.{tries-map, slotted-after}
+use Rattle.heap_calls.proofs.NewBlocks.NewSlots.{slotted-after}
 use Rattle.heap_calls.proofs.Numbering.Changing.{names-same, masters-rename, es'}
 use Rattle.heap_calls.proofs.Same.NewBlocks.{slot_after}
 
@@ -46,11 +46,6 @@ pub put_at_base-rename : (f g : ℕ → ℕ) (new : Block) (bs : List Block)
 put_at_base-rename f g new bs =
     ap (λ p. option_map tidy (change_run (has_free p) (low (rename_block f g new)) (rename f g bs)))
     (size-rename f g new) ∙ low_run-rename f g (size new) new bs
-
--- as many are tried
-pub tries-same : {A B : Type 0} (h : A → B) (a : ℕ → Option B) (b : ℕ → Option A) → ((k : ℕ) → a k ≡ option_map h (b k))
-    → (n : ℕ) → tries a n ≡ tries b n
-tries-same h a b same n = ap (λ f. tries f n) (λ i k. same k i) ∙ tries-map h b n
 
 -- the names of a store that has more slots
 pub names-more : {zone : List Block} (rest more : Rest) (es : List Anchor) → Agrees zone rest es → HasMore rest more

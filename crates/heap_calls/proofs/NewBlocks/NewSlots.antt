@@ -1,10 +1,10 @@
-use Rattle.heap_calls.proofs.Cited.{◌≡◌, ℕ, ◌+◌, ◌<◌, zero, suc, Bool, true, false, List, [], refl, sym, ◌∙◌, ap, subst, cond, arith}
+use Rattle.heap_calls.proofs.Cited.{◌≡◌, ℕ, ◌+◌, ◌<◌, Bool, true, false, List, [], refl, sym, ◌∙◌, ap, subst, cond, arith}
 use Rattle.heap_calls.proofs.Cited.{Option, Some, None, is_some, is_some-map, option_map, unwrap_or, IfSome, IsSomeAnd, IsTrue}
 use Rattle.heap_calls.proofs.Cited.{some_and}
 use Rattle.heap_calls.proofs.Cited.{Block, Free, Masters, size, is_room, tidy, RunSpot, run_spot, run_at, has_free, with_run, low, Spot}
 use Rattle.heap_calls.proofs.Cited.{spot_at, filled}
 use Rattle.heap_calls.proofs.Cited.{purge, put_at_base, FindsLowestRun, least_or_last, serves, is_used, Rest, KeepsSlots, counted}
-use Rattle.heap_calls.proofs.Cited.{counted-none, KeepsAllButPlaced, spared, opened, purged, most_purges, Sparing, OpensNone, tries, Base}
+use Rattle.heap_calls.proofs.Cited.{counted-none, KeepsAllButPlaced, spared, opened, purged, most_purges, Sparing, OpensNone, Base}
 use Rattle.heap_calls.proofs.Cited.{did, moved, Sought, purges_for, seek, slot-refused, Went, told_along, told_named, gone_from, Anchor}
 use Rattle.heap_calls.proofs.Cited.{filled_at, HasRoomAt, HasMore, GainsSlots, some_left, seek_unused, zone_slotted, TakesSlot, IsAdded}
 use Rattle.heap_calls.proofs.Cited.{HasOnlySlot, HasNoRoom}
@@ -16,17 +16,6 @@ use Rattle.heap_calls.proofs.Same.NewBlocks.{slot_after, slot-agrees}
 use Rattle.heap_calls.proofs.Sizes.Growth.{opened-whole}
 
 -- Room at the base of a run, and new slots there.
-
-pub tries-map : {A B : Type 0} (f : A → B) (answer : ℕ → Option A) (n : ℕ)
-    → tries (λ k. option_map f (answer k)) n ≡ tries answer n
-tries-map f answer zero = refl
-tries-map f answer (suc n) = ap (λ m. cond (is_some (option_map f (answer 0))) 1 (m + 1))
-    (tries-map f (λ k. answer (suc k)) n) ∙ same f (answer 0) (tries (λ k. answer (suc k)) n)
-  where
-    same : {A B : Type 0} (f : A → B) (a : Option A) (m : ℕ) → ◌≡◌ {A = ℕ} (cond (is_some (option_map f a)) 1 (m + 1))
-        (cond (is_some a) 1 (m + 1))
-    same f None m = refl
-    same f (Some x) m = refl
 
 -- the zone with a block at the bottom of a run
 abbrev pub at_base : Block → RunSpot → List Block

@@ -1,8 +1,8 @@
 use Rattle.heap_calls.proofs.Cited.{◌≡◌, ℕ, ◌+◌, ◌<◌, inr, zero, suc, nat_lt, Bool, true, false, cond, Option, Some, None, is_some, List}
-use Rattle.heap_calls.proofs.Cited.{refl, sym, ◌∙◌, ap, arith, option_or, IfSome, cond-true, nat_tests, Block, size, is_relocatable, count}
+use Rattle.heap_calls.proofs.Cited.{refl, sym, ◌∙◌, ap, arith, option_or, cond-true, nat_tests, Block, size, is_relocatable, count}
 use Rattle.heap_calls.proofs.Cited.{tidy, has_free, run_spot, spot, least, may_be_purged, place, grow_mover, FindsLowest, least_or_last}
 use Rattle.heap_calls.proofs.Cited.{serves, IsFewest, spared, opened, purged, most_purges, Sparing, fewest-last, least_or_last-at}
-use Rattle.heap_calls.proofs.Cited.{placed-is, tries, FindsPlacement, placement, placement_searches, FindsGrowth, OpensNone, grown}
+use Rattle.heap_calls.proofs.Cited.{tries, FindsPlacement, FindsGrowth, OpensNone, grown}
 use Rattle.heap_calls.proofs.Cited.{Placement, Growth, purges_for}
 use Rattle.block_store.proofs.Purged.Rising.{purged-all}
 use Rattle.heap_calls.proofs.Room.Searching.{count-tidy, count-none, count-some, placement-some}
@@ -49,12 +49,6 @@ pub first-is : (test : ℕ → Bool) (n : ℕ) → test 0 ≡ true → 0 ≡ lea
 first-is test zero is = refl
 first-is test (suc n) is = sym (cond-true {A = ℕ} (test 0) 0 _ is)
 
-pub first-least : {A : Type 0} (answer : ℕ → Option A) (n : ℕ) → is_some (answer 0) ≡ true → least answer n ≡ answer 0
-first-least answer n is = least-of answer n 0 (first-is (λ k. is_some (answer k)) n is)
-
-pub first-tries : {A : Type 0} (answer : ℕ → Option A) (n : ℕ) → is_some (answer 0) ≡ true → 1 ≡ tries answer n
-first-tries answer n is = tries-of answer n 0 (first-is (λ k. is_some (answer k)) n is)
-
 -- a search that counts no block as Free sees a tidy zone as it stands
 pub purged-first : (n : Sparing) (zone : List Block) → tidy zone ≡ zone → opened n zone ≡ zone → purged 0 n zone ≡ zone
 purged-first n zone tidied same = ap tidy same ∙ tidied
@@ -69,12 +63,6 @@ module _ (p : ℕ) (n : Sparing) (zone : List Block) where
       → most_purges n zone ≡ least_or_last (serves p n zone) (most_purges n zone)
   run-never none = sym (least_or_last-at (serves p n zone) (most_purges n zone) (most_purges n zone) (omega arith)
       (λ j less. none j) (inr refl))
-
-  -- is the least after which a block has a place
-  pub placement-least : 0 < p → (k : ℕ) → k ≡ least_or_last (serves p n zone) (most_purges n zone)
-      → k ≡ least_or_last (λ j. is_some (place p (purged j n zone))) (most_purges n zone)
-  placement-least pos k e = e ∙ ap (λ (test : ℕ → Bool). least_or_last test (most_purges n zone))
-      (λ i j. (sym (placed-is p (purged j n zone) pos)) i)
 
 -- what a search for the next block to go tells
 pub next-goes : (n : Sparing) (zone : List Block) (r : Option ℕ)
@@ -104,23 +92,6 @@ pub growth-there : (test : Block → Bool) (new : Block) (zone : List Block) →
     → FindsGrowth test new zone o → is_some o ≡ is_some (grow_mover test new zone)
 growth-there test new zone pos None found = ap is_some (sym found)
 growth-there test new zone pos (Some g) found = sym (growth-some test new zone pos (Some g) found refl)
-
--- a place that is there without a purge is the one that is searched for
-module _ (p : ℕ) (n : Sparing) (zone : List Block) (whole : purged 0 n zone ≡ zone) (pos : 0 < p)
-  where
-    first : (placed : Placement) → FindsPlacement p zone (Some placed) → is_some (place p (purged 0 n zone)) ≡ true
-    first placed found = ap (λ z. is_some (place p z)) whole ∙ sym (placement-there p zone pos (Some placed) found)
-
-    pub once-least : (o : Option Placement) → FindsPlacement p zone o
-        → IfSome o (λ s. placement p n zone ≡ place p zone)
-    once-least None found = tt
-    once-least (Some placed) found = first-least (λ k. place p (purged k n zone)) (most_purges n zone)
-        (first placed found) ∙ ap (place p) whole
-
-    pub once-searches : (o : Option Placement) → FindsPlacement p zone o → IfSome o (λ s. 1 ≡ placement_searches p n zone)
-    once-searches None found = tt
-    once-searches (Some placed) found = first-tries (λ k. place p (purged k n zone)) (most_purges n zone)
-        (first placed found)
 
 -- a block that grows without a purge does so after the least number
 module _ (slot n : ℕ) (sparing : Sparing) (zone : List Block) (stays : OpensNone sparing)

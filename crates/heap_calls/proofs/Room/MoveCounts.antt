@@ -1,10 +1,11 @@
-use Rattle.heap_calls.proofs.Cited.{◌≡◌, ℕ, ◌+◌, ◌-◌, ◌≤◌, ◌<◌, Bool, true, ◌&&◌, List, refl, sym, ◌∙◌, ap, subst, cond, arith}
-use Rattle.heap_calls.proofs.Cited.{Option, Some, None, is_some, cond-true, option_map, option_or, IfSome, option_and_then, phys, padded}
+use Rattle.heap_calls.proofs.Cited.{◌≡◌, ℕ, ◌≤◌, ◌<◌, Bool, true, ◌&&◌, List, refl, sym, ◌∙◌, ap, subst, cond, arith}
+use Rattle.heap_calls.proofs.Cited.{Option, Some, None, is_some, cond-true, option_map, option_or, IfSome, option_and_then}
 use Rattle.heap_calls.proofs.Cited.{Block, size, is_relocatable, is_room, count, tidy, resized, RunSpot, run_spot, run_at, has, has_free}
-use Rattle.heap_calls.proofs.Cited.{settle, with_run, high, Spot, spot, spot-passes, place, growth, grow_up, purged, Rest, IsRest, counted}
-use Rattle.heap_calls.proofs.Cited.{with_moves, with_placed, lowered_in_run, Sparing, Placement, FindsGrowth, grown, Packs}
-use Rattle.heap_calls.proofs.Cited.{placement_moves, content_moves, FindsPlacement, placement_searches, counted-none, Grow, is_same}
-use Rattle.heap_calls.proofs.Cited.{lowered_by, lowered_in, place_lowers, last_lowers, growth_lowers, Result, OsErr, Log, Anchor, Memory, moving, memory_of}
+use Rattle.heap_calls.proofs.Cited.{settle, with_run, high, Spot, spot, spot-passes, place, growth, grow_up, Rest, IsRest, counted}
+use Rattle.heap_calls.proofs.Cited.{with_moves, with_placed, lowered_in_run, Placement, FindsGrowth, grown, Packs}
+use Rattle.heap_calls.proofs.Cited.{FindsPlacement, counted-none, Grow, is_same}
+use Rattle.heap_calls.proofs.Cited.{lowered_by, lowered_in, place_lowers, last_lowers, growth_lowers, Result, OsErr, Log, Anchor, Memory}
+use Rattle.heap_calls.proofs.Cited.{moving, memory_of}
 use Rattle.heap_calls.specs.declared.growing.Growth.TheVariants as grows
 use Rattle.heap_calls.specs.declared.search.Placement.TheVariants as see
 use Rattle.heap_calls.proofs.Same.Growing.{same-handle}
@@ -25,10 +26,6 @@ packs-run a b c n m before packed same = packed.moves ∙ ap (λ k. counted k n)
 pub packs-after : (a b c : Rest) (n : ℕ) → b.moves ≡ a.moves → Packs n b c → Packs n a c
 packs-after a b c n before packed = packed ∙ ap (λ k. counted k n) before
 
--- a search purges one time less than it looks
-pub searches-back : (k n : ℕ) → k + 1 ≡ n → n - 1 ≡ k
-searches-back k n e = omega (arith, e)
-
 -- A place.
 
 pub at-free : (p at : ℕ) (zone : List Block) → FindsPlacement p zone (Some (see.Free at)) → place_lowers p zone ≡ 0
@@ -47,23 +44,6 @@ no-place p zone pos none = cases (spot (is_room p) zone) (run_spot (has_free p) 
     cases (Some s) r is e = refl
     cases None None is e = refl
     cases None (Some r) is e = absurd (room-found p pos zone r is (tidy (with_run settle r)) refl e)
-
--- after as many purges as there are searches before the last
-pub placement-at : (p k : ℕ) (n : Sparing) (zone : List Block) → k + 1 ≡ placement_searches p n zone
-    → placement_moves p n zone ≡ place_lowers p (purged k n zone)
-placement-at p k n zone looks = ap (λ j. place_lowers p (purged j n zone))
-    (searches-back k (placement_searches p n zone) looks)
-
--- without any, where one search was made
-pub placement-once : (p : ℕ) (n : Sparing) (zone : List Block) (o : Option Placement) → purged 0 n zone ≡ zone
-    → IfSome o (λ s. 1 ≡ placement_searches p n zone) → IfSome o (λ s. placement_moves p n zone ≡ place_lowers p zone)
-placement-once p n zone None whole looks = tt
-placement-once p n zone (Some placed) whole looks = placement-at p 0 n zone looks ∙ ap (place_lowers p) whole
-
-pub content-at : (n bytes : ℕ) → is_some (phys n) ≡ true → bytes ≡ padded n → (nd : Sparing) (zone : List Block)
-    → placement_moves bytes nd zone ≡ content_moves nd n zone
-content-at n bytes fits is nd zone = ap (λ p. placement_moves p nd zone) is
-    ∙ sym (cond-true {A = ℕ} (is_some (phys n)) (placement_moves (padded n) nd zone) 0 fits)
 
 -- Growth.
 

@@ -196,7 +196,7 @@ module _ (spared : Block → Bool) (flags : Flags) (bytes : List ℕ) (fits : Bo
 -- searches for a block's place, and the moves that make it, see only the block's size
 module _ (a b : Block) (sized : size a ≡ size b) (spared : Block → Bool) (zone : List Block)
   where
-    sized-searches : room_searches (put_in_place a) spared zone ≡ room_searches (put_in_place b) spared zone
+    pub sized-searches : room_searches (put_in_place a) spared zone ≡ room_searches (put_in_place b) spared zone
     sized-searches = tries-same (λ k. put_in_place a (purge k spared zone)) (λ k. put_in_place b (purge k spared zone))
         (λ k. found (purge k spared zone)) (count_of spared zone)
       where
@@ -204,7 +204,7 @@ module _ (a b : Block) (sized : size a ≡ size b) (spared : Block → Bool) (zo
         found z = is_some-map (filled a) (place (size a) z) ∙ ap (λ n. is_some (place n z)) sized
             ∙ sym (is_some-map (filled b) (place (size b) z))
 
-    sized-moves : put_moves a spared zone ≡ put_moves b spared zone
+    pub sized-moves : put_moves a spared zone ≡ put_moves b spared zone
     sized-moves = ap (λ (k : ℕ). place_lowers (size a) (purge (k - 1) spared zone)) sized-searches
         ∙ ap (λ (n : ℕ). place_lowers n (purge (room_searches (put_in_place b) spared zone - 1) spared zone)) sized
 

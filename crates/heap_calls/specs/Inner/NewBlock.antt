@@ -1,6 +1,6 @@
 use Rattle.std.specs.Prelude.{◌≡◌, ℕ, ◌+◌, ◌⊎◌, true, false, Option, Some, None, List, replicate, is_some}
 use Rattle.std.specs.Prelude.{if◌then◌else◌}
-use Rattle.mac_words.specs.Size.{phys, padded}
+use Rattle.mac_words.specs.Size.{phys}
 use Rattle.block_store.specs.Block.{Block, Relocatable, no_flags, is_relocatable}
 use Rattle.block_store.specs.Run.{has}
 use Rattle.block_store.specs.Room.{room, put_in_place}
@@ -8,7 +8,7 @@ use Rattle.block_store.specs.Slot.{Unused, Used}
 use Rattle.block_store.specs.Rest.{Rest, KeepsSlots, with_slot}
 use Rattle.block_store.specs.Sparing.{spared, opened}
 use Rattle.block_store.specs.declared.sparing.Sparing.{Sparing}
-use Rattle.heap_calls.specs.Inner.Search.{placement_searches}
+use Rattle.heap_calls.specs.Searches.{room_searches}
 use Rattle.heap_calls.specs.Inner.NewSlot.{HasMore, zone_slotted, zone_searches}
 
 -- New blocks in a store.
@@ -23,7 +23,8 @@ zone_with_block sparing slot n zone = room (put_in_place (fresh_block slot n)) (
 
 -- The number of searches for the place of a new block.
 abbrev pub place_searches : Sparing → ℕ → List Block → ℕ
-place_searches sparing n zone = if is_some (phys n) then placement_searches (padded n) sparing zone else 0
+place_searches sparing n zone = if is_some (phys n)
+    then room_searches (put_in_place (fresh_block 0 n)) (spared sparing) (opened sparing zone) else 0
 
 -- The store's slots once a slot is unused again.
 abbrev pub given_back : ℕ → Rest → Rest

@@ -1,13 +1,12 @@
-use Rattle.std.specs.Prelude.{◌≡◌, ℕ, ◌-◌, List, is_some, if◌then◌else◌}
-use Rattle.mac_words.specs.Size.{phys, padded}
+use Rattle.std.specs.Prelude.{◌≡◌, ℕ, List, is_some, if◌then◌else◌}
+use Rattle.mac_words.specs.Size.{phys}
 use Rattle.block_store.specs.Block.{Block}
-use Rattle.block_store.specs.Sparing.{purged}
+use Rattle.block_store.specs.Sparing.{spared, opened}
 use Rattle.block_store.specs.Rest.{Rest, IsRest, counted}
 use Rattle.block_store.specs.declared.sparing.Sparing.{Sparing}
-use Rattle.moves.specs.Moves.{place_lowers}
-use Rattle.heap_calls.specs.Inner.NewBlock.{ready_count}
+use Rattle.heap_calls.specs.Inner.NewBlock.{fresh_block, ready_count}
 use Rattle.heap_calls.specs.Inner.NewSlot.{zone_slotted}
-use Rattle.heap_calls.specs.Inner.Search.{placement_searches}
+use Rattle.heap_calls.specs.Moves.{put_moves}
 
 -- How many blocks the packing of a store moves down, and that it places none.
 
@@ -23,13 +22,10 @@ PacksNone old new = new.moves ≡ old.moves
 abbrev pub KeepsAllButPlaced : Rest → Rest → Type 0
 KeepsAllButPlaced old new = IsRest (record old { placed = new.placed }) new
 
--- The moves for a relocatable block of p bytes, after as few purges as give it a place.
-abbrev pub placement_moves : ℕ → Sparing → List Block → ℕ
-placement_moves p sparing zone = place_lowers p (purged (placement_searches p sparing zone - 1) sparing zone)
-
 -- The moves for a relocatable block of n bytes of content.
 abbrev pub content_moves : Sparing → ℕ → List Block → ℕ
-content_moves sparing n zone = if is_some (phys n) then placement_moves (padded n) sparing zone else 0
+content_moves sparing n zone =
+    if is_some (phys n) then put_moves (fresh_block 0 n) (spared sparing) (opened sparing zone) else 0
 
 -- The moves for a new slot and its block of n bytes, by the number of slots that are unused.
 abbrev pub new_moves : Sparing → ℕ → ℕ → List Block → ℕ

@@ -1,10 +1,8 @@
 use Rattle.std.specs.Prelude.{◌≡◌, ℕ, ◌+◌, zero, suc, Option, Some, None, List, is_some, if◌then◌else◌}
 use Rattle.block_store.specs.Block.{is_room, Block}
 use Rattle.block_store.specs.Run.{has_free}
-use Rattle.block_store.specs.Room.{Spot, spot, spot_at, place, least}
+use Rattle.block_store.specs.Room.{Spot, spot, spot_at, place}
 use Rattle.block_store.specs.Find.{FindsLowest, FindsLowestRun}
-use Rattle.block_store.specs.Sparing.{purged, most_purges}
-use Rattle.block_store.specs.declared.sparing.Sparing.{Sparing}
 use Rattle.heap_calls.specs.declared.search.Placement.{Placement}
 use Rattle.heap_calls.specs.declared.search.Placement.TheVariants as see
 
@@ -12,14 +10,6 @@ use Rattle.heap_calls.specs.declared.search.Placement.TheVariants as see
 abbrev pub tries : {A : Type 0} → (ℕ → Option A) → ℕ → ℕ
 tries answer zero = 1
 tries answer (suc n) = if is_some (answer 0) then 1 else tries (λ k. answer (suc k)) n + 1
-
--- The place for a relocatable block of p bytes, after as few purges as serve.
-abbrev pub placement : ℕ → Sparing → List Block → Option Spot
-placement p sparing zone = least (λ k. place p (purged k sparing zone)) (most_purges sparing zone)
-
--- The number of searches for that place.
-abbrev pub placement_searches : ℕ → Sparing → List Block → ℕ
-placement_searches p sparing zone = tries (λ k. place p (purged k sparing zone)) (most_purges sparing zone)
 
 -- Where a relocatable block of p bytes is put in a zone: in the lowest free block that is large enough, else in the
 -- lowest run that has p free bytes.

@@ -1,6 +1,8 @@
 use Rattle.heap_calls.proofs.Cited.{inr, ◌∙◌, ℕ, Option, Some, sym, ap, subst, counted, arith, refl, TakesSlot, IsAdded, ready_count}
 use Rattle.heap_calls.proofs.Cited.{zone_slotted, ◌≡◌, content_moves}
 use Rattle.heap_calls.proofs.Cited.{new_moves, Packs}
+use Rattle.heap_calls.proofs.Cited.{◌++◌, Hears, new_gone, zone_slot_gone, after_slot_gone}
+use Rattle.heap_calls.proofs.Hearing.{hears-as, hears-both}
 use Rattle.heap_calls.proofs.NewBlocks.NewSlots.{only-slot, slotted-some, slotted-none}
 use Rattle.heap_calls.proofs.Room.MoveCounts.{packs-none, packs-after}
 use Rattle.heap_calls.proofs.new_block.new_block.Given.{Over}
@@ -94,3 +96,23 @@ returns-clause-answer g c =
         window = kept.window ∙ t.slots.window;
       };
     }
+
+-- what the sink hears, where a slot was taken
+heard : (g : Over) (c : In_ok-room g) → (done : Type 0) → Hears g.K.PurgeSink.told g.K.PurgeSink.waits g.K.PurgeSink.listens done
+    (new_gone c.args.names.now c.args.sparing c.args.size (g.S.BlockStore.rest c.args.store.now).unused
+    (g.S.BlockStore.zone c.args.store.now)) c.args.sink.now c.add_block.new.sink
+heard g c done =
+    let es = c.args.names.now in
+    let unused = (g.S.BlockStore.rest c.args.store.now).unused in
+    let zone = g.S.BlockStore.zone c.args.store.now in
+    hears-as g.K.PurgeSink.told g.K.PurgeSink.waits g.K.PurgeSink.listens done done _ _ _ _ (λ d. d)
+    (ap (λ o. zone_slot_gone es c.args.sparing unused zone ++ after_slot_gone es c.args.sparing c.args.size o)
+    (sym (ready g c)))
+    (hears-both g.K.PurgeSink.told g.K.PurgeSink.waits g.K.PurgeSink.listens _ _ done _ _ _ _ _ (λ d. refl) (λ d. refl)
+    c.in_ok-taken.ensures.hears c.in_ok-room.ensures.hears)
+
+pub returns-in_default-place-clause-hears : goal.returns-in_default-place-clause-hears
+returns-in_default-place-clause-hears g c = heard g (goal.at.returns-in_default-place-clause-hears g c).In_ok-room _
+
+pub returns-clause-hears : goal.returns-clause-hears
+returns-clause-hears g c = heard g (goal.at.returns-clause-hears g c).In_ok-room _
