@@ -96,8 +96,7 @@ pub use Rattle.heap_calls.specs.Gone.{Gone, Hears, IsIdle, Rests, Tells, TellsNo
 pub use Rattle.heap_calls.specs.Gone.{gone, gone_of, gone_unless, made_gone, purge_mem_gone, ready_gone, refill_gone, room_gone, slot_gone}
 pub use Rattle.heap_calls.specs.History.{after_calls}
 pub use Rattle.heap_calls.specs.Inner.Appending.{bytes_of, length_of, seek_longer, size_for}
-pub use Rattle.heap_calls.specs.Inner.Copied.{IsCopied, IsCopy}
-pub use Rattle.heap_calls.specs.Inner.Filling.{IsFilling, IsFresh, IsNext, IsRefilling, IsReplaced, IsSizeOf, owned_by, refilled}
+pub use Rattle.heap_calls.specs.Inner.Filling.{IsNext, IsRefilling, IsReplaced, IsSizeOf, owned_by, refilled}
 pub use Rattle.heap_calls.specs.Inner.Filling.{refilled_moves, refilled_searches, wanted_as}
 pub use Rattle.heap_calls.specs.Inner.Given.{FindsBlock, IsAnswer, KeepsMoves, KeepsNames, found, seen_flags, seen_in_run, seen_mover}
 pub use Rattle.heap_calls.specs.Inner.Given.{slot_at, slot_of}
@@ -110,18 +109,19 @@ pub use Rattle.heap_calls.specs.Inner.Loose.{renewed_searches}
 pub use Rattle.heap_calls.specs.Inner.Making.{HasRoomAt, MakesRoom, filled_at}
 pub use Rattle.heap_calls.specs.Inner.Munging.{HasBytes, exchanged, shifted, then_do}
 pub use Rattle.heap_calls.specs.Inner.Naming.{entered, number_of}
-pub use Rattle.heap_calls.specs.Inner.NewBlock.{HasNoRoom, HasOnlySlot, IsAdded, IsNewBlock, IsPut, fresh_block, given_back, new_searches}
-pub use Rattle.heap_calls.specs.Inner.NewBlock.{place_searches, ready_count, zone_with_block}
+pub use Rattle.heap_calls.specs.Inner.NewBlock.{IsFresh, KeepsTaken, MakesBlock, fresh_block, given_back, replaced, replaced_at}
+pub use Rattle.heap_calls.specs.Inner.NewBlock.{seek_block, seek_new}
 pub use Rattle.heap_calls.specs.Inner.NewPointer.{IsNewPlace, Stands, fresh_nonrelocatable, seek_pointer}
-pub use Rattle.heap_calls.specs.Inner.NewSlot.{GainsSlots, HasMore, TakesSlot, seek_unused, some_left, zone_searches, zone_slotted}
+pub use Rattle.heap_calls.specs.Inner.NewSlot.{GainsSlots, HasMore, HasSlot, IsTaken, TakesSlot, seek_unused, some_left}
+pub use Rattle.heap_calls.specs.Inner.NewSlot.{zone_slotted}
 pub use Rattle.heap_calls.specs.Inner.Numbered.{Agrees, KeepsNonrelocatable, handle_number, heap_of, leads_to, memory_of, name_of}
 pub use Rattle.heap_calls.specs.Inner.Numbered.{no_number, number_from, pointer_number, points_to, role_of, state_of}
-pub use Rattle.heap_calls.specs.Inner.Packed.{KeepsAllButPlaced, Packs, content_moves, new_moves}
+pub use Rattle.heap_calls.specs.Inner.Packed.{KeepsAllButPlaced, Packs}
 pub use Rattle.heap_calls.specs.Inner.Pointing.{FindsHeld, target, target_at, target_of}
 pub use Rattle.heap_calls.specs.Inner.Reaching.{Reaches, sized_reply}
 pub use Rattle.heap_calls.specs.Inner.Search.{FindsPlacement, IsAt, tries}
-pub use Rattle.heap_calls.specs.Inner.Telling.{IsNumberOf, LeavesSlot, OpensNone, after_slot_gone, blocks_from, fresh_gone}
-pub use Rattle.heap_calls.specs.Inner.Telling.{from_spot, gone_from, gone_named, new_gone, renewed_gone}
+pub use Rattle.heap_calls.specs.Inner.Telling.{IsNumberOf, LeavesSlot, OpensNone, blocks_from}
+pub use Rattle.heap_calls.specs.Inner.Telling.{from_spot, gone_from, gone_named, renewed_gone}
 pub use Rattle.heap_calls.specs.Inner.Telling.{zone_slot_gone}
 pub use Rattle.heap_calls.specs.Inner.Went.{Went, at_spot, seek_growth, seek_sized, seek_still, told_along, told_named}
 pub use Rattle.heap_calls.specs.Inside.{cast, cast_as, for_known, guarded_as, has_block, held_high, inside, is_owned, loosened, new_all}
@@ -162,6 +162,7 @@ pub use Rattle.heap_calls.specs.Table.{zone_left}
 pub use Rattle.heap_calls.specs.ToldGone.{StepTellsWhatGoes, TellsOfPurgeable, TellsWhatGoes, bytes_in, told_of}
 pub use Rattle.heap_calls.specs.declared.anchor.Anchor.{Anchor}
 pub use Rattle.heap_calls.specs.declared.anchor.Found.{Found}
+pub use Rattle.heap_calls.specs.declared.base.Taken.{Taken}
 pub use Rattle.heap_calls.specs.declared.filling.Filling.{Filling}
 pub use Rattle.heap_calls.specs.declared.growing.Growth.{Growth}
 pub use Rattle.heap_calls.specs.declared.growing_in_place.Grown.{Grown}

@@ -1,21 +1,17 @@
-use Rattle.heap_calls.proofs.Cited.{◌≡◌, ℕ, ◌<◌, Bool, false, List, [], ◌++◌, length, map, refl, sym}
-use Rattle.heap_calls.proofs.Cited.{◌∙◌, ap, cond, Option, Some, Err, is_some, slice_get, option_map, length-map}
-use Rattle.heap_calls.proofs.Cited.{length-replicate, phys, padded, OsErr, is_some-map, Block, size, is_relocatable}
+use Rattle.heap_calls.proofs.Cited.{◌≡◌, ℕ, ◌<◌, Bool, false, List, [], length, map, refl, sym}
+use Rattle.heap_calls.proofs.Cited.{◌∙◌, ap, cond, Some, Err, is_some, slice_get, length-map}
+use Rattle.heap_calls.proofs.Cited.{phys, OsErr, is_some-map, Block, size, is_relocatable}
 use Rattle.heap_calls.proofs.Cited.{rename, rename_block, filled, place}
-use Rattle.heap_calls.proofs.Cited.{put_in_place, Slot, Rest, freed, has, spared, opened, Sparing}
+use Rattle.heap_calls.proofs.Cited.{put_in_place, Slot, Rest, freed, has, freed-absent}
 use Rattle.heap_calls.proofs.Cited.{freed-rename, Anchor, Log, State, Memory}
 use Rattle.heap_calls.proofs.Cited.{nothing, Gone, room_gone, found_gone, refill_gone, has_block, slot_of, fresh_block}
 use Rattle.heap_calls.proofs.Cited.{handle_number, pointer_number, name_of, no_number, state_of, memory_of}
 use Rattle.heap_calls.proofs.Cited.{arith, renewed_gone, told_along, told_blocks, Put, Did, did, Sought, seek, seek-rename, did-rename}
-use Rattle.heap_calls.proofs.Cited.{size-rename, ◌*◌, None, unwrap_or}
-use Rattle.heap_calls.proofs.Cited.{Relocatable, no_flags, count, is_masters, freed-absent, slotted, slotted_zone, slot_gone, ready_gone}
-use Rattle.heap_calls.proofs.Cited.{block_gone, made_gone, zone_slotted, Agrees, fresh_gone, after_slot_gone, new_gone}
+use Rattle.heap_calls.proofs.Cited.{size-rename}
 use Rattle.heap_calls.specs.declared.anchor.Anchor.TheVariants.{Handle}
 use Rattle.heap_calls.proofs.Numbering.Answering.{handle_at-refused}
 use Rattle.heap_calls.proofs.Numbering.Loosening.{handle_at-by}
 use Rattle.heap_calls.proofs.Numbering.Numbers.{Apart, is_relocatable-number}
-use Rattle.heap_calls.proofs.GoneBlocks.{slot_gone-is}
-use Rattle.heap_calls.proofs.NewBlocks.NewHandles.{slotted-is}
 use Rattle.heap_calls.proofs.Same.NewBlocks.{put-agrees}
 use Rattle.heap_calls.proofs.Went.{gone-alike, seek-names}
 
@@ -93,45 +89,3 @@ refill_gone-none value zone rest es copy log h n code is same e =
     ∙ ap (λ r. found_gone r (λ k. put_gone (length (state_of zone rest.slots es).names) k.number n
     (state_of zone rest.slots es).zone))
     (handle_at-refused zone rest.slots es (Some h) code (ap (slot_of (Some h)) (sym same) ∙ e))
-
-module _ (zone : List Block) (rest : Rest) (es : List Anchor) (masters : rest.all ≡ 64 * count is_masters zone)
-    (agrees : Agrees zone rest es) (sp : Block → Bool) (sparing : Sparing)
-    (same : (b : Block) → sp (rename_block (handle_number es) (pointer_number es) b) ≡ spared sparing b)
-    (closed : (z : List Block) → opened sparing z ≡ z)
-  where
-    -- the blocks that are purged for a new block, where there is a slot
-    fresh_gone-is : (bytes : List ℕ) (ready : List Block)
-        → fresh_gone es sparing (length bytes) ready ≡ block_gone sp bytes (state_of ready rest.slots es)
-    fresh_gone-is bytes ready =
-        let new : Block = Relocatable (length (map (name_of rest.slots) es)) no_flags bytes in
-        ap (λ z. cond (is_some (phys (length bytes))) (told_along es (spared sparing)
-        (seek (Put (fresh_block 0 (length bytes))) (spared sparing) z) z) []) (closed ready)
-        ∙ ap (λ l. cond (is_some (phys (length bytes))) l []) (place_gone-is es sp (spared sparing) same
-        (fresh_block 0 (length bytes)) new (ap padded (length-replicate (length bytes) 0)) (omega arith) rest.slots ready)
-
-    slotted_as : slotted sp (state_of zone rest.slots es)
-        ≡ option_map (λ z. state_of z rest.slots es) (zone_slotted sparing rest.unused zone)
-    slotted_as = slotted-is zone rest es masters agrees sp sparing same
-
-    -- the blocks that are purged for a slot and a new block
-    pub new_gone-is : (bytes : List ℕ) → new_gone es sparing (length bytes) rest.unused zone
-        ≡ made_gone sp bytes (state_of zone rest.slots es)
-    new_gone-is bytes =
-        ap (λ l. l ++ after_slot_gone es sparing (length bytes) (zone_slotted sparing rest.unused zone))
-        (slot_gone-is zone rest es masters agrees sp sparing same)
-        ∙ ap (λ l. slot_gone sp (state_of zone rest.slots es) ++ l)
-        (ready (zone_slotted sparing rest.unused zone)
-        ∙ ap (λ o. ready_gone o (block_gone sp bytes)) (sym slotted_as))
-      where
-        ready : (o : Option (List Block)) → after_slot_gone es sparing (length bytes) o
-            ≡ ready_gone (option_map (λ z. state_of z rest.slots es) o) (block_gone sp bytes)
-        ready None = refl
-        ready (Some z) = fresh_gone-is bytes z
-
-    -- the zone with the slot
-    pub slotted_zone-is : (zone' : List Block) → zone_slotted sparing rest.unused zone ≡ Some zone'
-        → slotted_zone sp (state_of zone rest.slots es) ≡ rename (handle_number es) (pointer_number es) zone'
-    slotted_zone-is zone' is =
-        ap (λ (o : Option State). unwrap_or (option_map (λ (ready : State). ready.zone) o)
-        (rename (handle_number es) (pointer_number es) zone))
-        (slotted_as ∙ ap (option_map (λ z. state_of z rest.slots es)) is)

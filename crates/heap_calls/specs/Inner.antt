@@ -7,7 +7,6 @@ pub mod Growing
 pub mod NewSlot
 pub mod GrowingInPlace
 pub mod Pointing
-pub mod Copied
 pub mod Packed
 pub mod Least
 pub mod SearchLaws

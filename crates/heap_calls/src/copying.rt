@@ -1,24 +1,24 @@
 //! Copying blocks.
 
 ghost use Rattle.std.specs.Prelude.{◌≡◌, ◌≢◌, ◌⊎◌, ◌≤◌, length, true, Err, IfOk, OnOk, OnErr};
-ghost use Rattle.std.specs.Prelude.{IsErr, IsTrue, IsSomeAnd};
-ghost use Rattle.block_store.specs.Block.{content_of, is_relocatable};
+ghost use Rattle.std.specs.Prelude.{IsErr, IsTrue, IsSomeAnd, is_some, unwrap_or};
+ghost use Rattle.block_store.specs.Block.{Relocatable, content_of, is_relocatable, no_flags};
 ghost use Rattle.block_store.specs.Room.{spot};
 ghost use Rattle.block_store.specs.Slot.{is_used};
 ghost use Rattle.block_store.specs.declared.sparing.Sparing.TheVariants.{One};
 ghost use Rattle.heap_calls.specs.Busy.{barred, unless};
 ghost use Rattle.heap_calls.specs.Inner.Given.{IsAnswer, KeepsNames};
-ghost use Rattle.heap_calls.specs.Inner.Copied.{IsCopy};
 ghost use Rattle.heap_calls.specs.Gone.{IsIdle, gone_unless};
 ghost use Rattle.heap_calls.specs.Answer.{nothing};
 ghost use Rattle.heap_calls.specs.Rows.{hand_to_hand, pointer_to_hand, doing, doing_silently};
 ghost use Rattle.heap_calls.specs.Rows.{purges_made};
 ghost use Rattle.heap_calls.specs.Refused.{LeavesCopying};
-ghost use Rattle.heap_calls.specs.Inner.Telling.{new_gone, LeavesSlot};
-ghost use Rattle.heap_calls.specs.Inner.NewBlock.{new_searches};
-ghost use Rattle.heap_calls.specs.Inner.NewSlot.{HasMore};
+ghost use Rattle.heap_calls.specs.Inner.Appending.{bytes_of};
+ghost use Rattle.heap_calls.specs.Inner.Telling.{LeavesSlot};
+ghost use Rattle.heap_calls.specs.Inner.NewBlock.{fresh_block, seek_new};
+ghost use Rattle.heap_calls.specs.Inner.NewSlot.{HasMore, HasSlot};
+ghost use Rattle.heap_calls.specs.Inner.Went.{Went, told_along};
 ghost use Rattle.heap_calls.specs.Inner.Numbered.{KeepsNonrelocatable};
-ghost use Rattle.heap_calls.specs.Inner.Packed.{Packs, new_moves};
 ghost use Rattle.heap_calls.specs.Gone.{Hears};
 ghost use Rattle.heap_calls.specs.Left.{Stops, Unreserved, slot_step, copy_step};
 ghost use Rattle.std.specs.Prelude.{IsOk, Some};
@@ -151,16 +151,16 @@ fn copy_block<S: BlockStore, K: PurgeSink>(
     requires used { IsTrue (is_used ((S.rest store.old).slots source)) }
     requires size { IsSomeAnd (spot (is_relocatable source) (S.zone store.old))
         (λ s. length (content_of s.here) ≡ size) }
-    ensures answer { IfOk result (λ r. IsCopy source size (S.zone store.old)
-        (S.rest store.old) r.slot (S.zone store.new) (S.rest store.new)) }
+    ensures went { IfOk result (λ r. Went (is_relocatable source) (S.zone store.old)
+        (seek_new (One source) (S.rest store.old).unused size (Relocatable (unwrap_or r.slot 0)
+        no_flags (bytes_of (spot (is_relocatable source) (S.zone store.old)))) (S.zone store.old))
+        (is_some r.slot) r.searches (S.zone store.new) (S.rest store.old) (S.rest store.new)) }
+    ensures slot { IfOk result (λ r. HasSlot r.slot (S.rest store.old) (S.rest store.new)) }
     ensures nonrelocatable { KeepsNonrelocatable (S.zone store.old) (S.zone store.new) }
     ensures kept { OnErr result (HasMore (S.rest store.old) (S.rest store.new)) }
-    ensures searches { IfOk result (λ r. r.searches
-        ≡ new_searches (One source) size (S.rest store.old).unused (S.zone store.old)) }
-    ensures moves { IfOk result (λ _. Packs (new_moves (One source) size (S.rest store.old).unused
-        (S.zone store.old)) (S.rest store.old) (S.rest store.new)) }
-    ensures hears { Hears K.told K.waits K.listens (IsOk result) (new_gone names.now
-        (One source) size (S.rest store.old).unused (S.zone store.old)) sink.old sink.new }
+    ensures hears { Hears K.told K.waits K.listens (IsOk result) (told_along names.now
+        (is_relocatable source) (seek_new (One source) (S.rest store.old).unused size
+        (fresh_block 0 size) (S.zone store.old)) (S.zone store.old)) sink.old sink.new }
     ensures left { OnErr result (IsTrue S.TAKES_HOST
         ⊎ LeavesSlot K.told names.now (One source) (S.zone store.old)
         (S.rest store.old) (S.zone store.new) (S.rest store.new) sink.old sink.new) }

@@ -2,7 +2,7 @@
 
 ghost use Rattle.std.specs.Prelude.{◌≡◌, ◌≢◌, ◌⊎◌, ◌+◌, ◌<◌, ◌≤◌, true, false, Err, [], map};
 ghost use Rattle.std.specs.Prelude.{length, IfOk, OnOk, OnErr, IsErr, IsTrue, IsOk, Some, None};
-ghost use Rattle.std.specs.Prelude.{vec_len, vec_capacity};
+ghost use Rattle.std.specs.Prelude.{vec_len, vec_capacity, IfSome, is_some, unwrap_or};
 ghost use Rattle.heap_calls.specs.State.{Plain};
 ghost use Rattle.heap_calls.specs.Inside.{inside, has_block, new_inside, new_empty_inside};
 ghost use Rattle.heap_calls.specs.Inside.{refill_inside, resource_role, new_all};
@@ -11,17 +11,18 @@ ghost use Rattle.heap_calls.specs.Refused.{LeavesMasters};
 ghost use Rattle.heap_calls.specs.Gone.{Tells, TellsNothing, IsIdle, slot_gone, made_gone};
 ghost use Rattle.heap_calls.specs.Gone.{all_gone, refill_gone};
 ghost use Rattle.heap_calls.specs.Preloaded.{LeavesUnmade, MadeSome};
-ghost use Rattle.heap_calls.specs.Inner.Telling.{new_gone, renewed_gone, LeavesSlot};
+ghost use Rattle.heap_calls.specs.Inner.Telling.{renewed_gone, LeavesSlot};
 ghost use Rattle.heap_calls.specs.Inner.Given.{IsAnswer, KeepsMoves, KeepsNames};
-ghost use Rattle.heap_calls.specs.Inner.Filling.{IsSizeOf, IsFresh, IsReplaced, IsFilling};
+ghost use Rattle.heap_calls.specs.Inner.Filling.{IsSizeOf, IsReplaced};
 ghost use Rattle.heap_calls.specs.Inner.Filling.{IsRefilled, refilled_moves, owned_by, wanted_as};
 ghost use Rattle.heap_calls.specs.Inner.Filling.{IsNext};
 ghost use Rattle.heap_calls.specs.Inner.Loose.{IsRenewed, renewed_moves};
-ghost use Rattle.heap_calls.specs.Inner.NewBlock.{IsNewBlock, new_searches};
-ghost use Rattle.heap_calls.specs.Inner.NewSlot.{HasMore};
+ghost use Rattle.heap_calls.specs.Inner.NewBlock.{MakesBlock, IsFresh, fresh_block, seek_new};
+ghost use Rattle.heap_calls.specs.Inner.NewSlot.{HasMore, HasSlot};
+ghost use Rattle.heap_calls.specs.Inner.Went.{Went, told_along};
 ghost use Rattle.heap_calls.specs.Inner.Numbered.{Agrees, KeepsNonrelocatable, memory_of};
-ghost use Rattle.heap_calls.specs.Inner.Packed.{Packs, new_moves};
-ghost use Rattle.block_store.specs.Block.{is_relocatable};
+ghost use Rattle.heap_calls.specs.Inner.Packed.{Packs};
+ghost use Rattle.block_store.specs.Block.{Relocatable, is_relocatable};
 ghost use Rattle.block_store.specs.Rest.{IsRest};
 ghost use Rattle.block_store.specs.Run.{has};
 ghost use Rattle.block_store.specs.Slot.{is_used};
@@ -249,19 +250,21 @@ fn new_block_for<S: BlockStore, K: PurgeSink>(
     sink: &mut K,
 ) -> Result<Taken, AllocError>
     requires idle { IsIdle K.told K.waits sink.old }
-    ensures hears { Hears K.told K.waits K.listens (IsOk result) (new_gone names.now Nothing
-        (length bytes.now) (S.rest store.old).unused (S.zone store.old)) sink.old sink.new }
+    ensures hears { Hears K.told K.waits K.listens (IsOk result) (told_along names.now nothing
+        (seek_new Nothing (S.rest store.old).unused (length bytes.now)
+        (fresh_block 0 (length bytes.now)) (S.zone store.old)) (S.zone store.old))
+        sink.old sink.new }
     ensures left { OnErr result (IsTrue S.TAKES_HOST
         ⊎ LeavesSlot K.told names.now Nothing (S.zone store.old)
         (S.rest store.old) (S.zone store.new) (S.rest store.new) sink.old sink.new) }
-    ensures answer { IfOk result (λ r. IsNewBlock Nothing (length bytes.now) (S.zone store.old)
-        (S.rest store.old) r.slot (S.zone store.new) (S.rest store.new)) }
+    ensures went { IfOk result (λ r. MakesBlock nothing (length bytes.now)
+        (seek_new Nothing (S.rest store.old).unused (length bytes.now)) (S.zone store.old) r
+        (S.zone store.new) (S.rest store.old) (S.rest store.new)) }
+    ensures fresh { IfOk result (λ r. IfSome r.slot
+        (λ slot. IsFresh slot (length bytes.now) (S.zone store.new))) }
+    ensures slot { IfOk result (λ r. HasSlot r.slot (S.rest store.old) (S.rest store.new)) }
     ensures kept { OnErr result (HasMore (S.rest store.old) (S.rest store.new)) }
     ensures nonrelocatable { KeepsNonrelocatable (S.zone store.old) (S.zone store.new) }
-    ensures searches { IfOk result (λ r. r.searches ≡ new_searches Nothing (length bytes.now)
-        (S.rest store.old).unused (S.zone store.old)) }
-    ensures moves { IfOk result (λ _. Packs (new_moves Nothing (length bytes.now)
-        (S.rest store.old).unused (S.zone store.old)) (S.rest store.old) (S.rest store.new)) }
     ensures host { IsErr result → IsTrue S.TAKES_HOST ⊎ (K.listens sink.old ≡ true) }
 {
     let size = size_of(bytes);
@@ -280,19 +283,20 @@ pub fn fill_block<S: BlockStore, K: PurgeSink>(
     sink: &mut K,
 ) -> Result<Taken, AllocError>
     requires idle { IsIdle K.told K.waits sink.old }
-    ensures hears { Hears K.told K.waits K.listens (IsOk result) (new_gone names.now Nothing
-        (length bytes.now) (S.rest store.old).unused (S.zone store.old)) sink.old sink.new }
+    ensures hears { Hears K.told K.waits K.listens (IsOk result) (told_along names.now nothing
+        (seek_new Nothing (S.rest store.old).unused (length bytes.now)
+        (fresh_block 0 (length bytes.now)) (S.zone store.old)) (S.zone store.old))
+        sink.old sink.new }
     ensures left { OnErr result (IsTrue S.TAKES_HOST
         ⊎ LeavesSlot K.told names.now Nothing (S.zone store.old)
         (S.rest store.old) (S.zone store.new) (S.rest store.new) sink.old sink.new) }
-    ensures answer { IfOk result (λ r. IsFilling flags bytes.now (S.zone store.old)
-        (S.rest store.old) r.slot (S.zone store.new) (S.rest store.new)) }
+    ensures went { IfOk result (λ r. Went nothing (S.zone store.old)
+        (seek_new Nothing (S.rest store.old).unused (length bytes.now)
+        (Relocatable (unwrap_or r.slot 0) flags bytes.now) (S.zone store.old))
+        (is_some r.slot) r.searches (S.zone store.new) (S.rest store.old) (S.rest store.new)) }
+    ensures slot { IfOk result (λ r. HasSlot r.slot (S.rest store.old) (S.rest store.new)) }
     ensures kept { OnErr result (HasMore (S.rest store.old) (S.rest store.new)) }
     ensures nonrelocatable { KeepsNonrelocatable (S.zone store.old) (S.zone store.new) }
-    ensures searches { IfOk result (λ r. r.searches ≡ new_searches Nothing (length bytes.now)
-        (S.rest store.old).unused (S.zone store.old)) }
-    ensures moves { IfOk result (λ _. Packs (new_moves Nothing (length bytes.now)
-        (S.rest store.old).unused (S.zone store.old)) (S.rest store.old) (S.rest store.new)) }
     ensures host { IsErr result → IsTrue S.TAKES_HOST ⊎ (K.listens sink.old ≡ true) }
 {
     let made = new_block_for(store, names, bytes, sink)?;

@@ -6,10 +6,10 @@ use Rattle.heap_calls.proofs.Cited.{freed-absent, Anchor, Log, Room, State, Memo
 use Rattle.heap_calls.proofs.Cited.{silent, searching, moving, handle_at, has_block, refill, refill_searches, refill_moves, refill_inside}
 use Rattle.heap_calls.proofs.Cited.{for_known, slot_of, put_moves, room_searches, IsFresh, IsReplaced, IsRefilling, refilled}
 use Rattle.heap_calls.proofs.Cited.{refilled_searches, refilled_moves, renewed, renewed_searches, renewed_moves, fresh_block}
-use Rattle.heap_calls.proofs.Cited.{zone_with_block, state_of, memory_of, handle_number, pointer_number, sized_reply}
+use Rattle.heap_calls.proofs.Cited.{state_of, memory_of, handle_number, pointer_number, sized_reply}
 use Rattle.block_store.specs.declared.sparing.Sparing.TheVariants as sparing
 use Rattle.heap_calls.proofs.Made.{no_room-alike}
-use Rattle.heap_calls.proofs.Filled.Replaced.{new-fresh, put-replaced}
+use Rattle.heap_calls.proofs.Filled.Replaced.{new-fresh, put-replaced, zone_with_block}
 use Rattle.heap_calls.proofs.Numbering.Changing.{silent-kept, unmoved, unmoved-is}
 use Rattle.heap_calls.proofs.Numbering.Answering.{handle_at-refused}
 use Rattle.heap_calls.proofs.Numbering.Looking.{room_searches-rename}

@@ -5,7 +5,7 @@ use Rattle.heap_calls.proofs.Cited.{filter-append, padded, written, Flags, Spari
 use Rattle.heap_calls.proofs.Cited.{count, add, tidy, is_relocatable, is_nonrelocatable, no_flags, content_of, with_content, with_flags}
 use Rattle.heap_calls.proofs.Cited.{has, Spot, spot, spot_at, raised, filled, room, put_in_place, FindsLowest, spared, opened, total-tidy}
 use Rattle.heap_calls.proofs.Cited.{spot-is, spot-passes, filter-none, once-below, some_and, filter-tidy, spot-lowest, lowest, mapped}
-use Rattle.heap_calls.proofs.Cited.{fresh_block, zone_with_block, IsFresh, IsReplaced, KeepsNonrelocatable}
+use Rattle.heap_calls.proofs.Cited.{fresh_block, IsFresh, IsReplaced, replaced, KeepsNonrelocatable}
 use Rattle.std.proofs.lemmas.List.{append-nil}
 use Rattle.heap_calls.proofs.Numbering.Numbers.{leads_to-same}
 use Rattle.heap_calls.proofs.Numbering.Changing.{nonrelocatable-at}
@@ -13,10 +13,6 @@ use Rattle.heap_calls.proofs.Room.Placements.{placement, room-placement}
 use Rattle.heap_calls.proofs.Room.Staying.{nonrelocatable-spot, nonrelocatable-same, nonrelocatable-then}
 
 -- A new block that gets flags and bytes of its own is as one that was put in its place with them.
-
--- the block of a slot with other flags and bytes
-abbrev pub replaced : ℕ → Flags → List ℕ → Block → Block
-replaced slot flags x b = cond (is_relocatable slot b) (Relocatable slot flags x) b
 
 add-replaced : (slot : ℕ) (flags : Flags) (x : List ℕ) (b : Block) (bs : List Block)
     → add (replaced slot flags x b) (map (replaced slot flags x) bs) ≡ map (replaced slot flags x) (add b bs)
@@ -58,7 +54,7 @@ none-replaced slot flags x (b ∷ bs) e =
     ∙ ap (λ l. b ∷ l) (none-replaced slot flags x bs parts.1)
 
 -- the new block of a slot, put in its place with other flags and bytes
-filled-replaced : (slot : ℕ) (flags : Flags) (x y : List ℕ) (s : Spot) → length x ≡ length y
+pub filled-replaced : (slot : ℕ) (flags : Flags) (x y : List ℕ) (s : Spot) → padded (length x) ≡ padded (length y)
     → has (is_relocatable slot) s.below ≡ false → has (is_relocatable slot) s.above ≡ false
     → map (replaced slot flags x) (filled (Relocatable slot no_flags y) s) ≡ filled (Relocatable slot flags x) s
 filled-replaced slot flags x y s same below above =
@@ -70,7 +66,7 @@ filled-replaced slot flags x y s same below above =
     ∷ map (replaced slot flags x) s.above)) (leads_to-same slot)
     ∙ ap (λ l. tidy (s.below ++ Relocatable slot flags x ∷ Free left ∷ l))
     (none-replaced slot flags x s.above above)
-    ∙ ap (λ n. tidy (s.below ++ Relocatable slot flags x ∷ Free (size s.here - padded n) ∷ s.above)) (sym same)
+    ∙ ap (λ n. tidy (s.below ++ Relocatable slot flags x ∷ Free (size s.here - n) ∷ s.above)) (sym same)
   where
     left : ℕ
     left = size s.here - size (Relocatable slot no_flags y)
@@ -89,6 +85,52 @@ spot-replaced slot flags x zone s is once =
     (none-replaced slot flags x s.below none.0)
     ∙ ap (λ t. s.below ++ cond t (Relocatable slot flags x) s.here ∷ map (replaced slot flags x) s.above) passes
     ∙ ap (λ l. s.below ++ Relocatable slot flags x ∷ l) (none-replaced slot flags x s.above none.1)
+
+-- a new block that is put into a free one, below which its slot has none
+filled-here : (slot n : ℕ) (s : Spot) → has (is_relocatable slot) s.below ≡ false
+    → option_map (λ (s : Spot). s.here) (spot (is_relocatable slot) (filled (fresh_block slot n) s))
+    ≡ Some (fresh_block slot n)
+filled-here slot n s below =
+    let new = fresh_block slot n in
+    let left = size s.here - size new in
+    spot-lowest (is_relocatable slot) (filled new s)
+    ∙ ap lowest (filter-tidy (is_relocatable slot) (λ n. refl) (s.below ++ new ∷ Free left ∷ s.above)
+    ∙ filter-append (is_relocatable slot) s.below (new ∷ Free left ∷ s.above))
+    ∙ ap (λ l. lowest (l ++ filter (is_relocatable slot) (new ∷ Free left ∷ s.above)))
+    (filter-none (is_relocatable slot) s.below below)
+    ∙ ap (λ t. lowest (cond t (new ∷ filter (is_relocatable slot) s.above) (filter (is_relocatable slot) s.above)))
+    (leads_to-same slot)
+
+pub filled-fresh : (slot n : ℕ) (s : Spot) → has (is_relocatable slot) s.below ≡ false
+    → IsFresh slot n (filled (fresh_block slot n) s)
+filled-fresh slot n s below =
+    cases (spot (is_relocatable slot) (filled (fresh_block slot n) s)) (filled-here slot n s below)
+  where
+    cases : (o : Option Spot) → option_map (λ (s : Spot). s.here) o ≡ Some (fresh_block slot n)
+        → IsSomeAnd o (λ s. s.here ≡ fresh_block slot n)
+    cases None e = absurd (none-some _ e)
+    cases (Some s) e = same_Some _ _ e
+
+-- a new block in a zone: with its own flags and bytes it is as it is, and with others it is as it is with those written
+module _ (slot n : ℕ) (zone : List Block) (fresh : IsFresh slot n zone) (once : count (is_relocatable slot) zone ≤ 1)
+  where
+    there : (s : Spot) × (spot (is_relocatable slot) zone ≡ Some s) × (s.here ≡ fresh_block slot n)
+    there = some_and (spot (is_relocatable slot) zone) (λ s. s.here ≡ fresh_block slot n) fresh
+
+    pub fresh-own : map (replaced slot no_flags (replicate n 0)) zone ≡ zone
+    fresh-own = spot-replaced slot no_flags (replicate n 0) zone there.0 there.1 once
+        ∙ ap (λ b. there.0.below ++ b ∷ there.0.above) (sym there.2) ∙ sym (spot-is (is_relocatable slot) zone there.0 there.1)
+
+    pub fresh-replaced : (flags : Flags) (x : List ℕ) (zone' : List Block) → IsReplaced slot flags x zone zone'
+        → zone' ≡ map (replaced slot flags x) zone
+    fresh-replaced flags x zone' done =
+        let P : Option Spot → Type 0 = λ o. IfSome o (λ s. zone' ≡ s.below ++ Relocatable slot flags x ∷ s.above) in
+        let now : P (Some there.0) = subst P there.1 done in
+        now ∙ sym (spot-replaced slot flags x zone there.0 there.1 once)
+
+-- the zone with a new block where there is room, after as few purges as serve
+abbrev pub zone_with_block : Sparing → ℕ → ℕ → List Block → Option (List Block)
+zone_with_block sparing slot n zone = room (put_in_place (fresh_block slot n)) (spared sparing) (opened sparing zone)
 
 -- a new block that was put in its place
 module _ (sparing : Sparing) (n slot : ℕ) (ready zone1 : List Block)
@@ -113,44 +155,22 @@ module _ (sparing : Sparing) (n slot : ℕ) (ready zone1 : List Block)
         (omega (arith, once, same)) in
         (none.0, none.1)
 
-    -- it is there
-    pub new-here : option_map (λ (s : Spot). s.here) (spot (is_relocatable slot) zone1) ≡ Some new
-    new-here =
-        let s = found.0 in
-        let left = size s.here - size new in
-        spot-lowest (is_relocatable slot) zone1
-        ∙ ap (λ z. lowest (filter (is_relocatable slot) z)) (sym found.2)
-        ∙ ap lowest (filter-tidy (is_relocatable slot) (λ n. refl) (s.below ++ new ∷ Free left ∷ s.above)
-        ∙ filter-append (is_relocatable slot) s.below (new ∷ Free left ∷ s.above))
-        ∙ ap (λ l. lowest (l ++ filter (is_relocatable slot) (new ∷ Free left ∷ s.above)))
-        (filter-none (is_relocatable slot) s.below alone.0)
-        ∙ ap (λ t. lowest (cond t (new ∷ filter (is_relocatable slot) s.above) (filter (is_relocatable slot) s.above)))
-        (leads_to-same slot)
-
     pub new-fresh : IsFresh slot n zone1
-    new-fresh = cases (spot (is_relocatable slot) zone1) new-here
-      where
-        cases : (o : Option Spot) → option_map (λ (s : Spot). s.here) o ≡ Some new
-            → IsSomeAnd o (λ s. s.here ≡ fresh_block slot n)
-        cases None e = absurd (none-some _ e)
-        cases (Some s) e = same_Some _ _ e
+    new-fresh = subst (IsFresh slot n) found.2 (filled-fresh slot n found.0 alone.0)
 
     -- and with other flags and bytes, it is as if it had been put there with them
     pub put-replaced : (flags : Flags) (x : List ℕ) (zone' : List Block) → length x ≡ n
         → IsReplaced slot flags x zone1 zone'
         → room (put_in_place (Relocatable slot flags x)) (spared sparing) (opened sparing ready) ≡ Some zone'
     put-replaced flags x zone' long done =
-        let there = some_and (spot (is_relocatable slot) zone1) (λ s. s.here ≡ fresh_block slot n) new-fresh in
-        let P : Option Spot → Type 0 = λ o. IfSome o (λ s. zone' ≡ s.below ++ Relocatable slot flags x ∷ s.above) in
-        let now : P (Some there.0) = subst P there.1 done in
         room-placement (Relocatable slot flags x) sparing ready
-        ∙ ap (λ k. option_map (filled (Relocatable slot flags x)) (placement (padded k) sparing ready)) same
+        ∙ ap (λ k. option_map (filled (Relocatable slot flags x)) (placement k sparing ready)) same
         ∙ ap (option_map (filled (Relocatable slot flags x))) found.1
         ∙ ap Some (sym (filled-replaced slot flags x (replicate n 0) found.0 same alone.0 alone.1)
-        ∙ ap (map (replaced slot flags x)) found.2 ∙ spot-replaced slot flags x zone1 there.0 there.1 once ∙ sym now)
+        ∙ ap (map (replaced slot flags x)) found.2 ∙ sym (fresh-replaced slot n zone1 new-fresh once flags x zone' done))
       where
-        same : length x ≡ length {A = ℕ} (replicate n 0)
-        same = long ∙ sym (length-replicate n 0)
+        same : padded (length x) ≡ padded (length {A = ℕ} (replicate n 0))
+        same = ap padded (long ∙ sym (length-replicate n 0))
 
 -- another block at the spot of a place
 pub spot_at-changed : (place : ℕ) (bs : List Block) (s : Spot) (b : Block) → spot_at place bs ≡ Some s

@@ -1,10 +1,11 @@
 use Rattle.heap_calls.proofs.Cited.{◌≡◌, ◌⊎◌, Some, ℕ, ◌*◌, List, length, inl, inr, refl, sym, ◌∙◌, ap, subst, Block, count, is_masters}
 use Rattle.heap_calls.proofs.Cited.{rename, Rest, IsRest, Nothing, Anchor, Log, Memory, CountedMemory, nothing, Gone, Tells, TellsNothing}
 use Rattle.heap_calls.proofs.Cited.{slot_gone, made_gone, LeavesUnmade, LeavesMasters, slotted_zone, memory_of, heap_of, handle_number}
-use Rattle.heap_calls.proofs.Cited.{pointer_number, Agrees, zone_slotted, HasMore, zone_slot_gone, new_gone, LeavesSlot}
+use Rattle.heap_calls.proofs.Cited.{pointer_number, Agrees, zone_slotted, HasMore, zone_slot_gone, told_along, seek_new, fresh_block}
+use Rattle.heap_calls.proofs.Cited.{LeavesSlot}
 use Rattle.heap_calls.proofs.GoneBlocks.{slot_gone-is}
-use Rattle.heap_calls.proofs.GonePlaces.{new_gone-is, slotted_zone-is}
-use Rattle.heap_calls.proofs.NewBlocks.NewHandles.{kept-still}
+use Rattle.heap_calls.proofs.Made.{filled-gone}
+use Rattle.heap_calls.proofs.NewBlocks.NewHandles.{kept-still, slotted_zone-is}
 use Rattle.heap_calls.proofs.Numbering.Changing.{memory-same}
 use Rattle.heap_calls.proofs.Numbering.Memories.{memory_as, placings_as, counted_as}
 
@@ -14,12 +15,13 @@ module _ {A : Type 0} (told : A → List Gone → Type 0) (value : Memory) (zone
     (es copy : List Anchor) (log : Log) (masters : rest.all ≡ 64 * count is_masters zone)
     (is : memory_of zone rest es log ≡ value) (agrees : Agrees zone rest es) (copied : copy ≡ es) (before after : A)
   where
-    pub made-told : (bytes : List ℕ) → Tells told (new_gone copy Nothing (length bytes) rest.unused zone) before after
+    pub made-told : (bytes : List ℕ) → Tells told (told_along copy nothing (seek_new Nothing rest.unused (length bytes)
+        (fresh_block 0 (length bytes)) zone) zone) before after
         → Tells told (made_gone nothing bytes value.heap) before after
     made-told bytes was =
         subst (λ (l : List Gone). Tells told l before after)
-        (ap (λ (e : List Anchor). new_gone e Nothing (length bytes) rest.unused zone) copied
-        ∙ new_gone-is zone rest es masters agrees nothing Nothing (λ b. refl) (λ z. refl) bytes
+        (ap (λ (e : List Anchor). told_along e nothing (seek_new Nothing rest.unused (length bytes)
+        (fresh_block 0 (length bytes)) zone) zone) copied ∙ filled-gone zone rest es masters agrees bytes
         ∙ ap (λ (m : Memory). made_gone nothing bytes m.heap) is) was
 
     -- where no slot was taken
@@ -39,8 +41,7 @@ module _ {A : Type 0} (told : A → List Gone → Type 0) (value : Memory) (zone
       kept-still value zone zone' rest rest' es es' log is now agrees more still
           ∙ ap (λ z. record value { heap = record value.heap { zone = z } })
           (ap (λ (l : List Anchor). rename (handle_number l) (pointer_number l) zone') now
-          ∙ sym (slotted_zone-is zone rest es masters agrees nothing Nothing (λ b. refl) (λ z. refl) zone'
-          slotted)
+          ∙ sym (slotted_zone-is zone rest es masters agrees nothing Nothing (λ b. refl) zone' slotted)
           ∙ ap (λ (m : Memory). slotted_zone nothing m.heap) is),
       subst (λ (l : List Gone). Tells told l before after)
           (ap (λ (e : List Anchor). zone_slot_gone e Nothing rest.unused zone) copied

@@ -1,24 +1,23 @@
 use Rattle.heap_calls.proofs.Cited.{Went}
 use Rattle.heap_calls.proofs.Cited.{◌≡◌, ℕ, ◌*◌, ◌≤◌, ◌<◌, zero, suc, Bool, true, false, List, [], ◌∷◌, ◌++◌, length, refl, sym, ◌∙◌, ap}
-use Rattle.heap_calls.proofs.Cited.{subst, cond, arith, Option, Some, None, is_some, slice_get, Ok, Err, option_map, ok_or, IfSome}
+use Rattle.heap_calls.proofs.Cited.{subst, cond, arith, Option, Some, None, is_some, slice_get, Ok, Err, option_map, ok_or}
 use Rattle.heap_calls.proofs.Cited.{unwrap_or, none-some, le-leb, phys, padded, OsErr, NIL_HANDLE, Block, Relocatable, count, is_masters}
-use Rattle.heap_calls.proofs.Cited.{sizes, is_relocatable, no_flags, content_of, rename, rename_block, Spot, spot, rename_spot, room}
-use Rattle.heap_calls.proofs.Cited.{put_in_place, has, is_used, Rest, counted, GREATEST_ZONE, spot-passes, Put, seek, no_room, State}
+use Rattle.heap_calls.proofs.Cited.{sizes, is_relocatable, no_flags, content_of, rename, rename_block, Spot, spot, rename_spot}
+use Rattle.heap_calls.proofs.Cited.{has, is_used, Rest, counted, GREATEST_ZONE, spot-passes, Put, seek, State}
 use Rattle.heap_calls.proofs.Cited.{Memory, Held, look_up, copying_zone, copy_slot_gone, found_gone, slot_gone, doing_silently, purges_made}
-use Rattle.heap_calls.proofs.Cited.{purged_by, next_block, hand_to_hand, Anchor, Found, Log, IsCopy, slot_of, entered, number_of}
-use Rattle.heap_calls.proofs.Cited.{new_searches, zone_slotted, state_of, memory_of, handle_number, pointer_number, no_number, Agrees}
-use Rattle.heap_calls.proofs.Cited.{Packs, new_moves, new_gone, zone_slot_gone}
+use Rattle.heap_calls.proofs.Cited.{next_block, hand_to_hand, Anchor, Found, Log, slot_of, entered, number_of}
+use Rattle.heap_calls.proofs.Cited.{zone_slotted, state_of, memory_of, handle_number, pointer_number, no_number, Agrees}
+use Rattle.heap_calls.proofs.Cited.{zone_slot_gone, HasSlot, bytes_of, seek_new, fresh_block, told_along, length-replicate}
 use Rattle.block_store.specs.declared.sparing.Sparing.TheVariants as sparing
 use Rattle.heap_calls.specs.Rows.{refused, for_found, made}
 use Rattle.heap_calls.specs.declared.anchor.Anchor.TheVariants.{Handle}
 use Rattle.heap_calls.proofs.GoneBlocks.{slot_gone-is}
-use Rattle.heap_calls.proofs.GonePlaces.{new_gone-is, slotted_zone-is}
 use Rattle.heap_calls.proofs.Cited.{some_left}
-use Rattle.heap_calls.proofs.Made.{Slotted, seek_new, new-slotted, takes-kept, unmade-follows, made-follows}
-use Rattle.heap_calls.proofs.Made.{made-agrees, made-is}
+use Rattle.heap_calls.proofs.Made.{made-agrees, made-is, made-gone}
+use Rattle.heap_calls.proofs.NewBlocks.Seeking.{seek_made}
+use Rattle.heap_calls.proofs.NewBlocks.NewHandles.{slotted_zone-is}
 use Rattle.heap_calls.proofs.Numbering.Answering.{slot_of-ok, look_up-by, held, content_of-rename, place-small, header-fits}
 use Rattle.heap_calls.proofs.Numbering.Numbers.{is_relocatable-number}
-use Rattle.heap_calls.proofs.Same.NewBlocks.{made-same}
 
 -- HandToHand.
 
@@ -68,12 +67,6 @@ pub record Copied (zone : List Block) (es : List Anchor) (handle : Option ℕ) (
   pub long : length (content_of a.here) ≡ n
   pub few : n ≤ GREATEST_ZONE
 
-pub copied-slotted : (source n : ℕ) (slot : Option ℕ) (zone zone' : List Block) (rest rest' : Rest)
-    → IsCopy source n zone rest slot zone' rest' → Slotted slot rest rest'
-copied-slotted source n None zone zone' rest rest' h = new-slotted (sparing.One source) n None zone zone' rest rest' h
-copied-slotted source n (Some slot) zone zone' rest rest' p =
-    takes-kept slot rest p.mid rest' (new-slotted (sparing.One source) n (Some slot) zone p.made rest p.mid p.put) p.kept
-
 module _ (zone : List Block) (rest : Rest) (es : List Anchor) (masters : rest.all ≡ 64 * count is_masters zone)
     (agrees : Agrees zone rest es) (handle : Option ℕ) (f : Found) (n : ℕ) (k : Copied zone es handle f n)
   where
@@ -115,42 +108,31 @@ module _ (zone : List Block) (rest : Rest) (es : List Anchor) (masters : rest.al
         stays None = k.at
         stays (Some j) = get-push es (Handle j false) f.number (Handle f.slot f.guarded) k.at
 
-        pub copied-answer : IsCopy f.slot n zone rest slot zone' rest'
-            → m ≡ new_searches (sparing.One f.slot) n rest.unused zone
-            → Packs (new_moves (sparing.One f.slot) n rest.unused zone) rest rest'
+        pub copied-answer : HasSlot slot rest rest' → Went (is_relocatable f.slot) zone
+            (seek_new (sparing.One f.slot) rest.unused n (Relocatable (unwrap_or slot 0) no_flags
+            (bytes_of (spot (is_relocatable f.slot) zone))) zone) (is_some slot) m zone' rest rest'
             → doing_silently (hand_to_hand handle) value ≡ (
               number_of slot es,
               memory_of zone' rest' (entered slot es) (record log { searches = counted log.searches m }),
             )
-        copied-answer made looks packs =
-            let slotted = copied-slotted f.slot n slot zone zone' rest rest' made in
-            let apart = made-agrees zone rest es masters agrees fresh rest' zone (λ j. refl) slot slotted in
+        copied-answer had did =
+            let apart = made-agrees zone rest es masters agrees fresh rest' zone (λ j. refl) slot had in
+            let P : List ℕ → Bool → Type 0 = λ x t. Went (is_relocatable f.slot) zone
+            (seek_made (is_relocatable f.slot) (some_left rest.unused) (Relocatable (unwrap_or slot 0) no_flags x) t zone)
+            (is_some slot) m zone' rest rest' in
             made-is zone rest es masters agrees fresh rest' log value is zone' own (is_relocatable f.slot)
-            (hand_to_hand handle) m slot slotted
+            (hand_to_hand handle) m slot had
             (is_relocatable-number (entered slot es) f.number f.slot (stays slot) apart.apart k.small) no_flags bytes true
-            row (follows_by slot made)
-          where
-            follows_by : (slot : Option ℕ) → IsCopy f.slot n zone rest slot zone' rest'
-                → Went (is_relocatable f.slot) zone (seek_new (is_relocatable f.slot) (some_left rest.unused)
-                (Relocatable (unwrap_or slot 0) no_flags bytes) true zone) (is_some slot) m zone' rest rest'
-            follows_by None h = unmade-follows (sparing.One f.slot) (λ z. refl) zone rest no_flags bytes n k.long true
-                (sym (fits n refl)) zone' rest' h m looks packs
-            follows_by (Some j) p =
-                let Q : Option Spot → Type 0 = λ o. IfSome o (λ t. room
-                (put_in_place (Relocatable j no_flags (content_of t.here))) (is_relocatable f.slot) p.put.ready
-                ≡ Some zone') in
-                let there : Q (Some k.a) = subst Q k.block p.copied in
-                made-follows (sparing.One f.slot) (λ z. refl) zone rest no_flags bytes n k.long true
-                (sym (fits n refl)) zone' rest' j p.made p.mid p.put there m looks packs
+            row (subst (P bytes) (fits n refl) (subst (λ x. P x (is_some (phys n))) (ap bytes_of k.block) did))
 
     -- what is purged, for the master pointer and for the block
-    pub copied-gone : new_gone es (sparing.One f.slot) n rest.unused zone ≡ purges_made (hand_to_hand handle) s
+    pub copied-gone : told_along es (is_relocatable f.slot) (seek_new (sparing.One f.slot) rest.unused n
+        (fresh_block 0 n) zone) zone ≡ purges_made (hand_to_hand handle) s
     copied-gone =
-        ap (λ m. new_gone es (sparing.One f.slot) m rest.unused zone) (sym k.long)
-        ∙ new_gone-is zone rest es masters agrees own (sparing.One f.slot) spares (λ z. refl) bytes
-        ∙ (made-same own no_flags bytes (is_some (phys (length bytes))) s).tells
-        ∙ ap (λ (t : Bool). purged_by (made own (λ z. cond t (seek (Put (next_block bytes s)) own z) no_room) s) s)
-        (fits (length bytes) k.long) ∙ sym (ap (λ d. purged_by d s) row)
+        ap (λ t. told_along es (is_relocatable f.slot) (seek_made (is_relocatable f.slot) (some_left rest.unused)
+        (fresh_block 0 n) t zone) zone) (fits n refl)
+        ∙ made-gone zone rest es masters agrees own (is_relocatable f.slot) spares (hand_to_hand handle) (fresh_block 0 n)
+        (next_block bytes s) true (ap padded (length-replicate n 0 ∙ sym k.long)) row
 
     -- for the master pointer, and the zone that is left then
     pub copy_slot_gone-is : zone_slot_gone es (sparing.One f.slot) rest.unused zone ≡ copy_slot_gone handle s
@@ -162,4 +144,4 @@ module _ (zone : List Block) (rest : Rest) (es : List Anchor) (masters : rest.al
         → copying_zone (look_up handle s) s ≡ rename (handle_number es) (pointer_number es) zone'
     copying_zone-is zone' ready =
         ap (λ r. copying_zone r s) found
-        ∙ slotted_zone-is zone rest es masters agrees own (sparing.One f.slot) spares (λ z. refl) zone' ready
+        ∙ slotted_zone-is zone rest es masters agrees own (sparing.One f.slot) spares zone' ready

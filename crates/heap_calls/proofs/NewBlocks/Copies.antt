@@ -1,14 +1,16 @@
-use Rattle.heap_calls.proofs.Cited.{◌≡◌, ℕ, ◌+◌, ◌≤◌, zero, suc, true, false, ◌==◌, List, ◌∷◌, ◌++◌, length, take, drop, refl, sym, ◌∙◌, ap}
-use Rattle.heap_calls.proofs.Cited.{subst, arith, Option, Some, None, filter, option_map, IfSome, IsSomeAnd, IsTrue, none-some, same_Some}
-use Rattle.heap_calls.proofs.Cited.{false_from_ne_true, Decides-eqb, length-replicate, take-length, drop-length, Block, Masters}
-use Rattle.heap_calls.proofs.Cited.{Relocatable, count, is_relocatable, no_flags, content_of, with_content, written, Spot, spot, spot_at}
-use Rattle.heap_calls.proofs.Cited.{room, put_in_place, FindsLowest, Unused, is_used, Rest, IsRest, some_and, zone_slotted, fresh_block}
-use Rattle.heap_calls.proofs.Cited.{IsPut, IsNewBlock, IsCopied, filter-room_base, filter-room_place, here-same}
+use Rattle.heap_calls.proofs.Cited.{◌≡◌, ℕ, ◌+◌, ◌≤◌, Bool, true, false, ◌==◌, List, ◌∷◌, ◌++◌, length, take, drop, refl, sym, ◌∙◌, ap}
+use Rattle.heap_calls.proofs.Cited.{subst, cond, arith, Option, Some, None, is_some, unwrap_or, filter, option_map, IfSome, IsSomeAnd}
+use Rattle.heap_calls.proofs.Cited.{IsTrue, none-some, same_Some, false_from_ne_true, false≢true, Decides-eqb, length-replicate}
+use Rattle.heap_calls.proofs.Cited.{take-length, drop-length, phys, Block, Masters, Relocatable, count, is_relocatable, no_flags}
+use Rattle.heap_calls.proofs.Cited.{content_of, with_content, written, Spot, spot, spot_at, room, put_in_place, FindsLowest}
+use Rattle.heap_calls.proofs.Cited.{Unused, is_used, Rest, IsRest, some_and, fresh_block, filter-room_base, filter-room_place, here-same}
+use Rattle.heap_calls.proofs.Cited.{IsFresh, HasSlot, MakesBlock, Taken, seek_new, some_left, bytes_of, replaced_at, Went}
 use Rattle.std.proofs.lemmas.List.{append-nil}
 use Rattle.block_store.specs.declared.sparing.Sparing.TheVariants as sparing
-use Rattle.heap_calls.proofs.Filled.Replaced as replacing
-use Rattle.heap_calls.proofs.NewBlocks.NewSlots.{slotted-after}
-use Rattle.heap_calls.proofs.Filled.Replaced.{put-replaced}
+use Rattle.heap_calls.proofs.Filled.Replaced.{fresh-replaced}
+use Rattle.heap_calls.proofs.NewBlocks.Placing.{makes-with, makes-own}
+use Rattle.heap_calls.proofs.Same.Agreeing.{on_some}
+use Rattle.heap_calls.proofs.Same.NewBlocks.{slot_after, new-agrees}
 
 -- A copy of a block: a new block of as many bytes 0, into which the bytes are written.
 
@@ -20,88 +22,101 @@ written-over n x y long long' =
     ∙ drop-length y)
     ∙ append-nil x
 
--- what holds of the block of a slot that is found
-here-of : (slot : ℕ) (zone : List Block) (t : Spot) (b : Block) → spot (is_relocatable slot) zone ≡ Some t
-    → option_map (λ (s : Spot). s.here) (spot (is_relocatable slot) zone) ≡ Some b → t.here ≡ b
-here-of slot zone t b is e = same_Some _ _ (sym (ap (option_map (λ (s : Spot). s.here)) is) ∙ e)
+-- no block could be made
+pub copy-none : (source n : ℕ) (zone zone1 : List Block) (rest rest1 : Rest) (made : Taken) → made.slot ≡ None
+    → MakesBlock (is_relocatable source) n (seek_new (sparing.One source) rest.unused n) zone made zone1 rest rest1
+    → IsSomeAnd (spot (is_relocatable source) zone) (λ s. length (content_of s.here) ≡ n) → Went (is_relocatable source) zone
+    (seek_new (sparing.One source) rest.unused n (Relocatable (unwrap_or made.slot 0) no_flags
+    (bytes_of (spot (is_relocatable source) zone))) zone) (is_some made.slot) made.searches zone1 rest rest1
+copy-none source n zone zone1 rest rest1 made is makes sized =
+    let block = some_and (spot (is_relocatable source) zone) (λ s. length (content_of s.here) ≡ n) sized in
+    let x = bytes_of (spot (is_relocatable source) zone) in
+    makes-with (is_relocatable source) n (seek_new (sparing.One source) rest.unused n) zone made zone1 rest rest1 makes
+    no_flags x (ap (λ o. phys (length (bytes_of o))) block.1 ∙ ap phys block.2) zone1 rest1
+    (sym (ap (λ o. replaced_at o no_flags x zone1) is)) refl
 
 -- a new block beside the one that is copied
-module _ (source n slot : ℕ) (zone : List Block) (rest : Rest) (zone1 : List Block) (rest1 : Rest)
-    (p : IsPut (sparing.One source) n slot zone rest zone1 rest1)
-    (used : IsTrue (is_used (rest.slots source))) (once : count (is_relocatable slot) zone1 ≤ 1)
+module _ (source n slot : ℕ) (zone zone1 : List Block) (rest rest1 : Rest) (made : Taken) (is : made.slot ≡ Some slot)
+    (makes : MakesBlock (is_relocatable source) n (seek_new (sparing.One source) rest.unused n) zone made zone1 rest rest1)
+    (fresh : IfSome made.slot (λ k. IsFresh k n zone1)) (had : HasSlot made.slot rest rest1)
+    (used : IsTrue (is_used (rest.slots source))) (once : (k : ℕ) → count (is_relocatable k) zone1 ≤ 1)
+    (sized : IsSomeAnd (spot (is_relocatable source) zone) (λ s. length (content_of s.here) ≡ n))
   where
+    abbrev mine : Block → Bool
+    mine = is_relocatable source
+
     abbrev new : Block
     new = fresh_block slot n
 
     other : (slot == source) ≡ false
-    other = false_from_ne_true (slot == source) (λ e. clash (ap p.more.slots (sym ((Decides-eqb slot source).0 e))
-        ∙ p.was))
-      where
-        clash : p.more.slots source ≡ Unused → ⊥
-        clash unused = let f : true ≡ false = sym used ∙ ap is_used (sym (p.has_more.slots source used) ∙ unused) in cc
-
-    ready-kept : (m : ℕ) → zone_slotted (sparing.One source) m zone ≡ Some p.ready
-        → filter (is_relocatable source) p.ready ≡ filter (is_relocatable source) zone
-    ready-kept zero e = filter-room_base (is_relocatable source) (is_relocatable source) (λ n. refl) (λ b is. is)
-        Masters refl zone p.ready (sym (slotted-after (sparing.One source) 0 zone) ∙ e)
-    ready-kept (suc m) e = ap (filter (is_relocatable source)) (sym (same_Some _ _ e))
+    other =
+        let t = subst (λ (o : Option ℕ). HasSlot o rest rest1) is had in
+        let clash : t.more.slots source ≡ Unused → ⊥ = λ unused. let f : true ≡ false = sym used ∙ ap is_used
+        (sym (t.has_more.slots source used) ∙ unused) in cc in
+        false_from_ne_true (slot == source) (λ e. clash (ap t.more.slots (sym ((Decides-eqb slot source).0 e)) ∙ t.was))
 
     -- the one that is copied is what it was
-    pub source-here : option_map (λ (s : Spot). s.here) (spot (is_relocatable source) zone1)
-        ≡ option_map (λ (s : Spot). s.here) (spot (is_relocatable source) zone)
-    source-here =
-        here-same (is_relocatable source) zone zone1
-        (filter-room_place (is_relocatable source) (is_relocatable source) (λ n. refl) (λ b is. is) new other p.ready
-        zone1 p.put ∙ ready-kept rest.unused p.slotted)
+    kept : filter mine zone1 ≡ filter mine zone
+    kept =
+        let w = subst (λ (o : Option ℕ). Went mine zone (seek_new (sparing.One source) rest.unused n
+        (fresh_block (unwrap_or o 0) n) zone) (is_some o) made.searches zone1 rest rest1) is
+        (makes-own mine n (seek_new (sparing.One source) rest.unused n) zone made zone1 rest rest1 makes fresh once) in
+        let a = new-agrees 0 mine (some_left rest.unused) new (omega arith) (is_some (phys n)) zone in
+        both (some_left rest.unused) (slot_after mine (some_left rest.unused) zone) refl (a.finds ∙ sym w.finds)
+        (a.leaves ∙ sym w.leaves)
+      where
+        after : List Block → Option (List Block)
+        after z = cond (is_some (phys n)) (room (put_in_place new) mine z) None
 
-    -- the new one is there
-    pub new-here : option_map (λ (s : Spot). s.here) (spot (is_relocatable slot) zone1) ≡ Some new
-    new-here = replacing.new-here (sparing.One source) n slot p.ready zone1 p.put once
+        slotted : (u : Bool) (ready : List Block) → slot_after mine u zone ≡ Some ready
+            → filter mine ready ≡ filter mine zone
+        slotted true ready e = ap (filter mine) (sym (same_Some _ _ e))
+        slotted false ready e = filter-room_base mine mine (λ n. refl) (λ b is. is) Masters refl zone ready e
 
-    -- and with the bytes written into it, it is as if it had been put there with them
-    pub copy-put : (x : List ℕ) (t : Spot) (zone' : List Block) → length x ≡ n
-        → spot (is_relocatable slot) zone1 ≡ Some t → zone' ≡ t.below ++ with_content x t.here ∷ t.above
-        → room (put_in_place (Relocatable slot no_flags x)) (is_relocatable source) p.ready ≡ Some zone'
-    copy-put x t zone' long is done =
-        let P : Option Spot → Type 0 = λ o. IfSome o (λ s. zone' ≡ s.below ++ Relocatable slot no_flags x ∷ s.above) in
-        put-replaced (sparing.One source) n slot p.ready zone1 p.put once no_flags x zone' long
-        (subst P (sym is) (done ∙ ap (λ b. t.below ++ with_content x b ∷ t.above)
-        (here-of slot zone1 t new is new-here)))
+        placed : (ready : List Block) (t : Bool) (o : Option (List Block)) → room (put_in_place new) mine ready ≡ o
+            → is_some (cond t o None) ≡ true → unwrap_or (cond t o None) ready ≡ zone1 → filter mine zone1 ≡ filter mine ready
+        placed ready true (Some z) e f g =
+            filter-room_place mine mine (λ n. refl) (λ b is. is) new other ready zone1 (e ∙ ap Some g)
+        placed ready true None e f g = absurd (false≢true f)
+        placed ready false o e f g = absurd (false≢true f)
 
--- the bytes of both blocks, and what comes of the copy
-module _ (source n slot : ℕ) (zone : List Block) (rest : Rest) (zone1 : List Block) (rest1 : Rest) (o : Option ℕ)
-    (is_slot : o ≡ Some slot) (answer : IsNewBlock (sparing.One source) n zone rest o zone1 rest1)
-    (used : IsTrue (is_used (rest.slots source))) (once : count (is_relocatable slot) zone1 ≤ 1)
-    (sized : IsSomeAnd (spot (is_relocatable source) zone) (λ s. length (content_of s.here) ≡ n))
-  where
-    put : IsPut (sparing.One source) n slot zone rest zone1 rest1
-    put = let P : Option ℕ → Type 0 = λ o. IsNewBlock (sparing.One source) n zone rest o zone1 rest1 in
-        let q : P (Some slot) = subst P is_slot answer in q
+        both : (u : Bool) (o : Option (List Block)) → slot_after mine u zone ≡ o
+            → on_some false (λ z. is_some (after z)) o ≡ true → on_some zone (λ z. unwrap_or (after z) z) o ≡ zone1
+            → filter mine zone1 ≡ filter mine zone
+        both u None e f g = absurd (false≢true f)
+        both u (Some ready) e f g =
+            placed ready (is_some (phys n)) (room (put_in_place new) mine ready) refl f g ∙ slotted u ready e
 
-    block : (s : Spot) × (spot (is_relocatable source) zone ≡ Some s) × (length (content_of s.here) ≡ n)
-    block = some_and (spot (is_relocatable source) zone) (λ s. length (content_of s.here) ≡ n) sized
+    block : (s : Spot) × (spot mine zone ≡ Some s) × (length (content_of s.here) ≡ n)
+    block = some_and (spot mine zone) (λ s. length (content_of s.here) ≡ n) sized
 
-    source-block : option_map (λ (s : Spot). s.here) (spot (is_relocatable source) zone1) ≡ Some block.0.here
-    source-block = source-here source n slot zone rest zone1 rest1 put used once
-        ∙ ap (option_map (λ (s : Spot). s.here)) block.1
+    source-here : option_map (λ (s : Spot). s.here) (spot mine zone1) ≡ Some block.0.here
+    source-here = here-same mine zone zone1 kept ∙ ap (option_map (λ (s : Spot). s.here)) block.1
 
-    new-block : option_map (λ (s : Spot). s.here) (spot (is_relocatable slot) zone1) ≡ Some (fresh_block slot n)
-    new-block = new-here source n slot zone rest zone1 rest1 put used once
+    source-is : (t : Spot) → spot mine zone1 ≡ Some t → t.here ≡ block.0.here
+    source-is t e = same_Some _ _ (sym (ap (option_map (λ (s : Spot). s.here)) e) ∙ source-here)
 
-    pub source-there : spot (is_relocatable source) zone1 ≡ None → ⊥
-    source-there none = none-some _ (sym (ap (option_map (λ (s : Spot). s.here)) none) ∙ source-block)
+    source-long : (t : Spot) → spot mine zone1 ≡ Some t → length (content_of t.here) ≡ n
+    source-long t e = ap (λ b. length (content_of b)) (source-is t e) ∙ block.2
 
-    pub new-there : spot (is_relocatable slot) zone1 ≡ None → ⊥
-    new-there none = none-some _ (sym (ap (option_map (λ (s : Spot). s.here)) none) ∙ new-block)
+    new-made : IsFresh slot n zone1
+    new-made = subst (λ (o : Option ℕ). IfSome o (λ k. IsFresh k n zone1)) is fresh
 
-    source-long : (t : Spot) → spot (is_relocatable source) zone1 ≡ Some t → length (content_of t.here) ≡ n
-    source-long t is = ap (λ b. length (content_of b)) (here-of source zone1 t block.0.here is source-block) ∙ block.2
+    new-is : (t : Spot) → spot (is_relocatable slot) zone1 ≡ Some t → t.here ≡ new
+    new-is t e = let P : Option Spot → Type 0 = λ o. IsSomeAnd o (λ s. s.here ≡ new) in
+        let h : P (Some t) = subst P e new-made in h
 
     new-long : (t : Spot) → spot (is_relocatable slot) zone1 ≡ Some t → length (content_of t.here) ≡ n
-    new-long t is = ap (λ b. length (content_of b)) (here-of slot zone1 t (fresh_block slot n) is new-block)
-        ∙ length-replicate n 0
+    new-long t e = ap (λ b. length (content_of b)) (new-is t e) ∙ length-replicate n 0
 
-    pub may-read : (from : ℕ) → FindsLowest (is_relocatable source) zone1 (Some from)
+    pub source-there : spot mine zone1 ≡ None → ⊥
+    source-there none = none-some _ (sym (ap (option_map (λ (s : Spot). s.here)) none) ∙ source-here)
+
+    pub new-there : spot (is_relocatable slot) zone1 ≡ None → ⊥
+    new-there none = let P : Option Spot → Type 0 = λ o. IsSomeAnd o (λ s. s.here ≡ new) in
+        let h : P None = subst P none new-made in h
+
+    pub may-read : (from : ℕ) → FindsLowest mine zone1 (Some from)
         → IsSomeAnd (spot_at from zone1) (λ s. n ≤ length (content_of s.here))
     may-read from found =
         let P : Option Spot → Type 0 = λ o. IsSomeAnd o (λ s. n ≤ length (content_of s.here)) in
@@ -113,40 +128,39 @@ module _ (source n slot : ℕ) (zone : List Block) (rest : Rest) (zone1 : List B
         let P : Option Spot → Type 0 = λ o. IsSomeAnd o (λ s. 0 + n ≤ length (content_of s.here)) in
         subst P (sym found.2) (let e = new-long found.0 found.1 in omega (arith, e))
 
-    pub copy-done : (from to : ℕ) (zone' : List Block) (rest' : Rest)
-        → FindsLowest (is_relocatable source) zone1 (Some from) → FindsLowest (is_relocatable slot) zone1 (Some to)
-        → IfSome (spot_at from zone1) (λ t. IfSome (spot_at to zone1)
-        (λ s. zone' ≡ s.below ++ with_content (written 0 (take n (content_of t.here)) (content_of s.here)) s.here
-        ∷ s.above))
-        → IsRest rest1 rest' → IsCopied source n slot zone rest zone' rest'
-    copy-done from to zone' rest' a b h kept = record {
-      made = zone1;
-      mid = rest1;
-      put = put;
-      copied = (let Q : Option Spot → Type 0 = λ o. IfSome o (λ s. room
-          (put_in_place (Relocatable slot no_flags (content_of s.here))) (is_relocatable source) put.ready ≡ Some zone')
-          in subst Q (sym block.1) there);
-      kept = kept;
-    }
+    -- once the bytes are written
+    module _ (zone' : List Block) (rest' : Rest) (now : IsRest rest1 rest')
       where
-        P : Option Spot → Type 0
-        P o = IfSome o (λ t. IfSome (spot_at to zone1) (λ s. zone' ≡ s.below
+        pub copy-went : (from to : ℕ) → FindsLowest mine zone1 (Some from)
+            → FindsLowest (is_relocatable slot) zone1 (Some to) → IfSome (spot_at from zone1)
+            (λ t. IfSome (spot_at to zone1) (λ s. zone' ≡ s.below
             ++ with_content (written 0 (take n (content_of t.here)) (content_of s.here)) s.here ∷ s.above))
+            → Went mine zone (seek_new (sparing.One source) rest.unused n (Relocatable (unwrap_or made.slot 0) no_flags
+            (bytes_of (spot mine zone))) zone) (is_some made.slot) made.searches zone' rest rest'
+        copy-went from to a b h =
+            let x = content_of block.0.here in
+            let bytes = ap bytes_of block.1 in
+            let P : Option Spot → Type 0 = λ o. IfSome o (λ s. zone' ≡ s.below ++ Relocatable slot no_flags x ∷ s.above) in
+            let done = fresh-replaced slot n zone1 new-made (once slot) no_flags x zone' (subst P (sym b.1) over) in
+            makes-with mine n (seek_new (sparing.One source) rest.unused n) zone made zone1 rest rest1 makes no_flags
+            (bytes_of (spot mine zone)) (ap (λ y. phys (length y)) bytes ∙ ap phys block.2) zone' rest'
+            (done ∙ sym (ap (λ y. replaced_at made.slot no_flags y zone1) bytes
+            ∙ ap (λ o. replaced_at o no_flags x zone1) is)) now.moves
+          where
+            P : Option Spot → Type 0
+            P o = IfSome o (λ t. IfSome (spot_at to zone1) (λ s. zone' ≡ s.below
+                ++ with_content (written 0 (take n (content_of t.here)) (content_of s.here)) s.here ∷ s.above))
 
-        Q : Option Spot → Type 0
-        Q o = IfSome o (λ s. zone' ≡ s.below ++ with_content (written 0 (take n (content_of a.0.here))
-            (content_of s.here)) s.here ∷ s.above)
+            Q : Option Spot → Type 0
+            Q o = IfSome o (λ s. zone' ≡ s.below ++ with_content (written 0 (take n (content_of a.0.here))
+                (content_of s.here)) s.here ∷ s.above)
 
-        done : zone' ≡ b.0.below ++ with_content (content_of block.0.here) b.0.here ∷ b.0.above
-        done =
-            let first : P (Some a.0) = subst P a.2 h in
-            let second : Q (Some b.0) = subst Q b.2 first in
-            second
-            ∙ ap (λ l. b.0.below ++ with_content l b.0.here ∷ b.0.above)
-            (written-over n (content_of a.0.here) (content_of b.0.here) (source-long a.0 a.1) (new-long b.0 b.1)
-            ∙ ap content_of (here-of source zone1 a.0 block.0.here a.1 source-block))
-
-        there : room (put_in_place (Relocatable slot no_flags (content_of block.0.here))) (is_relocatable source)
-            put.ready ≡ Some zone'
-        there = copy-put source n slot zone rest zone1 rest1 put used once (content_of block.0.here) b.0 zone' block.2
-            b.1 done
+            over : zone' ≡ b.0.below ++ Relocatable slot no_flags (content_of block.0.here) ∷ b.0.above
+            over =
+                let first : P (Some a.0) = subst P a.2 h in
+                let second : Q (Some b.0) = subst Q b.2 first in
+                second
+                ∙ ap (λ l. b.0.below ++ with_content l b.0.here ∷ b.0.above)
+                (written-over n (content_of a.0.here) (content_of b.0.here) (source-long a.0 a.1) (new-long b.0 b.1)
+                ∙ ap content_of (source-is a.0 a.1))
+                ∙ ap (λ c. b.0.below ++ with_content (content_of block.0.here) c ∷ b.0.above) (new-is b.0 b.1)

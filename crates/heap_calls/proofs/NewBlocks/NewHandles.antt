@@ -5,7 +5,7 @@ use Rattle.heap_calls.proofs.Cited.{rename, rename_block, is_mover, is_masters, 
 use Rattle.heap_calls.proofs.Cited.{Rest, spared, Sparing, size-rename, free_of-rename, free-rename, total-rename, filter-rename}
 use Rattle.heap_calls.proofs.Cited.{is_mover-rename, tidy-rename, change_run-rename, has_free-rename, room-rename, Log, Anchor, State}
 use Rattle.heap_calls.proofs.Cited.{Memory, used_slots, all_slots, uses_slot, more_masters, slotted, some_left, nat_tests}
-use Rattle.heap_calls.proofs.Cited.{is_unused, cond, ◌+◌}
+use Rattle.heap_calls.proofs.Cited.{is_unused, cond, ◌+◌, slotted_zone, unwrap_or}
 use Rattle.heap_calls.proofs.Cited.{zone_slotted, HasMore, state_of, memory_of, name_of, handle_number, pointer_number}
 use Rattle.heap_calls.proofs.Cited.{KeepsNonrelocatable, Agrees}
 use Rattle.heap_calls.proofs.NewBlocks.NewSlots.{slotted-after}
@@ -108,6 +108,13 @@ module _ (zone : List Block) (rest : Rest) (es : List Anchor) (masters : rest.al
             (room-rename f g sp (spared sparing) (put_at_base Masters) (put_at_base Masters) same
             (put_at_base-rename f g Masters) zone) ∙ renamed (room (put_at_base Masters) (spared sparing) zone)
         cases (suc n) = refl
+
+    pub slotted_zone-is : (sp : Block → Bool) (sparing : Sparing)
+        → ((b : Block) → sp (rename_block f g b) ≡ spared sparing b) → (zone' : List Block)
+        → zone_slotted sparing rest.unused zone ≡ Some zone' → slotted_zone sp s ≡ rename f g zone'
+    slotted_zone-is sp sparing same zone' is =
+        ap (λ (o : Option State). unwrap_or (option_map (λ (ready : State). ready.zone) o) (rename f g zone))
+        (slotted-is sp sparing same ∙ ap (option_map (λ z. state_of z rest.slots es)) is)
 
 -- all but the zone is what it was, where the host had no memory, and how many blocks were moved
 pub kept-memory : (value : Memory) (zone zone' : List Block) (rest rest' : Rest) (es es' : List Anchor) (log : Log)

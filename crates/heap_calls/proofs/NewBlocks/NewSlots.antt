@@ -3,12 +3,13 @@ use Rattle.heap_calls.proofs.Cited.{Option, Some, None, is_some, is_some-map, op
 use Rattle.heap_calls.proofs.Cited.{some_and}
 use Rattle.heap_calls.proofs.Cited.{Block, Free, Masters, size, is_room, tidy, RunSpot, run_spot, run_at, has_free, with_run, low, Spot}
 use Rattle.heap_calls.proofs.Cited.{spot_at, filled}
-use Rattle.heap_calls.proofs.Cited.{purge, put_at_base, FindsLowestRun, least_or_last, serves, is_used, Rest, KeepsSlots, counted}
+use Rattle.heap_calls.proofs.Cited.{purge, put_at_base, FindsLowestRun, least_or_last, serves, is_used, Rest, IsRest, KeepsSlots, counted}
 use Rattle.heap_calls.proofs.Cited.{counted-none, KeepsAllButPlaced, spared, opened, purged, most_purges, Sparing, OpensNone, Base}
-use Rattle.heap_calls.proofs.Cited.{did, moved, Sought, purges_for, seek, slot-refused, Went, told_along, told_named, gone_from, Anchor}
-use Rattle.heap_calls.proofs.Cited.{filled_at, HasRoomAt, HasMore, GainsSlots, some_left, seek_unused, zone_slotted, TakesSlot, IsAdded}
-use Rattle.heap_calls.proofs.Cited.{HasOnlySlot, HasNoRoom}
-use Rattle.heap_calls.proofs.Going.{went-refused, went-none, went-some, gone-none, gone-some, goes-named}
+use Rattle.heap_calls.proofs.Cited.{did, moved, Sought, purges_for, seek, Went, told_along, told_named, gone_from, Anchor}
+use Rattle.heap_calls.proofs.Cited.{filled_at, HasRoomAt, HasMore, GainsSlots, some_left, seek_unused, zone_slotted, TakesSlot, HasSlot}
+use Rattle.heap_calls.proofs.Cited.{IsTaken}
+use Rattle.heap_calls.proofs.Cited.{KeepsTaken}
+use Rattle.heap_calls.proofs.Going.{went-none, went-some, gone-none, gone-some, goes-named}
 use Rattle.heap_calls.proofs.Numbering.Changing.{slots_kept}
 use Rattle.heap_calls.proofs.Room.Packing.{base-found, free-filled}
 use Rattle.heap_calls.proofs.Room.Placements.{slot-back}
@@ -172,22 +173,6 @@ went-slot nd zone zone1 zone2 zone' rest rest1 rest2 rest' found had n none same
           zone).lowered) still;
     })
 
--- what the search for an unused slot found
-module _ (nd : Sparing) (k : ℕ) (zone : List Block) (o : Option ℕ) {n : ℕ} {zone' : List Block} {rest rest' : Rest}
-    (w : Went (spared nd) zone (seek_unused nd k zone) (is_some o) n zone' rest rest')
-  where
-    abbrev left : List Block
-    left = (did (spared nd) (seek_unused nd k zone).path zone).zone
-
-    pub slotted-some : (slot : ℕ) → o ≡ Some slot → zone_slotted nd k zone ≡ Some zone'
-    slotted-some slot is = ap (λ t. cond t (Some left) None) (sym w.finds ∙ ap is_some is) ∙ ap Some (sym w.leaves)
-
-    pub slotted-none : o ≡ None → (zone_slotted nd k zone ≡ None) × (zone' ≡ zone)
-    slotted-none is = (
-      ap (λ t. cond t (Some left) None) (sym w.finds ∙ ap is_some is),
-      went-refused (slot-refused (spared nd) (some_left k) zone) w (ap is_some is),
-    )
-
 pub slotted-after : (nd : Sparing) (k : ℕ) (zone : List Block)
     → zone_slotted nd k zone ≡ slot_after (spared nd) (some_left k) zone
 slotted-after nd k zone =
@@ -211,19 +196,61 @@ more-kept rest more rest' has kept = record {
   window = kept.window ∙ has.window;
 }
 
--- a slot could be had, but no block
-pub only-slot : (sparing : Sparing) (n slot : ℕ) (zone zone1 zone' : List Block) (rest rest1 rest' : Rest)
-    (o p : Option ℕ) → o ≡ Some slot → p ≡ None → zone_slotted sparing rest.unused zone ≡ Some zone1
-    → TakesSlot o rest zone1 rest1 → IsAdded sparing slot n zone1 rest1 p zone' rest'
-    → HasOnlySlot sparing n zone rest zone' rest'
-only-slot sparing n slot zone zone1 zone' rest rest1 rest' o p some none ready taken added =
-    let P : Option ℕ → Type 0 = λ o. TakesSlot o rest zone1 rest1 in
-    let Q : Option ℕ → Type 0 = λ p. IsAdded sparing slot n zone1 rest1 p zone' rest' in
-    let t : P (Some slot) = subst P some taken in
-    let a : Q None = subst Q none added in
-    let R : List Block → Type 0 = λ z. (slot : ℕ) × HasNoRoom sparing slot n z in
-    let no_room : R zone1 = (slot, a.0) in (
-      ready ∙ ap Some (sym a.1),
-      more-kept rest t.more rest' t.has_more (slot-back t.more rest1 rest' slot t.was t.one t.slots a.2),
-      subst R (sym a.1) no_room,
-    )
+pub kept-more : (rest rest' : Rest) → KeepsSlots rest rest' → HasMore rest rest'
+kept-more rest rest' now = record {
+  slots = λ k used. now.slots k;
+  counts = omega (arith, now.unused, now.all);
+  grows = omega (arith, now.all);
+  window = now.window;
+}
+
+pub taken-kept : (slot : ℕ) (rest mid rest' : Rest) → IsTaken slot rest mid → KeepsSlots mid rest' → IsTaken slot rest rest'
+taken-kept slot rest mid rest' t now = record {
+  more = t.more;
+  has_more = t.has_more;
+  was = t.was;
+  one = omega (arith, t.one, now.unused);
+  slots = record {
+    slots = λ k. now.slots k ∙ t.slots.slots k;
+    unused = refl;
+    all = now.all ∙ t.slots.all;
+    moves = refl;
+    placed = refl;
+    window = now.window ∙ t.slots.window;
+  };
+}
+
+pub has-kept : (o : Option ℕ) (rest mid rest' : Rest) → HasSlot o rest mid → IsRest mid rest' → HasSlot o rest rest'
+has-kept o rest mid rest' has now = cases o has
+  where
+    kept : KeepsSlots mid rest'
+    kept = record {
+      slots = λ k. now.slots k;
+      unused = now.unused;
+      all = now.all;
+      moves = refl;
+      placed = refl;
+      window = now.window;
+    }
+
+    cases : (o : Option ℕ) → HasSlot o rest mid → HasSlot o rest rest'
+    cases None more = more-kept rest mid rest' more kept
+    cases (Some slot) t = taken-kept slot rest mid rest' t kept
+
+-- the slot that was taken, and then that of the new block
+pub taken-slot : (slot : Option ℕ) (zone' : List Block) (rest rest' : Rest) → TakesSlot slot rest zone' rest'
+    → HasSlot slot rest rest'
+taken-slot None zone' rest rest' h = kept-more rest rest' h
+taken-slot (Some slot) zone' rest rest' h = h.0
+
+pub slot-kept : (o made : Option ℕ) (slot : ℕ) (zone1 : List Block) (rest rest1 rest' : Rest) → o ≡ Some slot
+    → TakesSlot o rest zone1 rest1 → KeepsTaken slot made rest1 rest' → HasSlot made rest rest'
+slot-kept o made slot zone1 rest rest1 rest' is took kept = cases made kept
+  where
+    t : IsTaken slot rest rest1
+    t = let P : Option ℕ → Type 0 = λ o. TakesSlot o rest zone1 rest1 in
+        let h : P (Some slot) = subst P is took in h.0
+
+    cases : (made : Option ℕ) → KeepsTaken slot made rest1 rest' → HasSlot made rest rest'
+    cases None back = more-kept rest t.more rest' t.has_more (slot-back t.more rest1 rest' slot t.was t.one t.slots back)
+    cases (Some k) kept = subst (λ (k : ℕ). IsTaken k rest rest') (sym kept.0) (taken-kept slot rest rest1 rest' t kept.1)

@@ -1,12 +1,11 @@
 use Rattle.std.specs.Prelude.{◌≡◌, ℕ, Bool, ◌⊎◌, Option, Some, None, Result, Ok, Err, List, ◌∷◌, ◌++◌, length}
 use Rattle.std.specs.Prelude.{replicate, is_some, if◌then◌else◌, MatchOption}
-use Rattle.std.specs.Option.{IfSome, IsSomeAnd}
+use Rattle.std.specs.Option.{IfSome}
 use Rattle.mac_words.specs.Size.{phys}
 use Rattle.block_store.specs.declared.flags.Flags.{Flags}
-use Rattle.block_store.specs.declared.sparing.Sparing.TheVariants.{Nothing}
 use Rattle.block_store.specs.Block.{Block, Relocatable, is_relocatable, no_flags}
 use Rattle.block_store.specs.Room.{room, put_in_place, spot}
-use Rattle.block_store.specs.Rest.{Rest, IsRest, KeepsSlots}
+use Rattle.block_store.specs.Rest.{Rest, KeepsSlots}
 use Rattle.heap_calls.specs.State.{State, Resource, Memory}
 use Rattle.heap_calls.specs.Answer.{nothing}
 use Rattle.heap_calls.specs.Inside.{cast, resource_role, new_inside, number_if}
@@ -15,7 +14,6 @@ use Rattle.heap_calls.specs.Searches.{room_searches}
 use Rattle.heap_calls.specs.declared.filling.Filling.{Filling}
 use Rattle.heap_calls.specs.declared.search.Room.{Room}
 use Rattle.heap_calls.specs.declared.refusal.Refusal.{Refusal}
-use Rattle.heap_calls.specs.Inner.NewBlock.{fresh_block, IsPut, IsNewBlock}
 
 -- Blocks with given flags and bytes.
 
@@ -23,29 +21,10 @@ use Rattle.heap_calls.specs.Inner.NewBlock.{fresh_block, IsPut, IsNewBlock}
 abbrev pub IsSizeOf : ℕ → ℕ → Type 0
 IsSizeOf wanted n = (n ≡ wanted) ⊎ ((phys n ≡ None) × (phys wanted ≡ None))
 
--- The block of a slot is there, and is new.
-abbrev pub IsFresh : ℕ → ℕ → List Block → Type 0
-IsFresh slot n zone = IsSomeAnd (spot (is_relocatable slot) zone) (λ s. s.here ≡ fresh_block slot n)
-
 -- The block of a slot has these flags and bytes in place of its own.
 abbrev pub IsReplaced : ℕ → Flags → List ℕ → List Block → List Block → Type 0
 IsReplaced slot flags x zone zone' = IfSome (spot (is_relocatable slot) zone) (λ s.
     zone' ≡ s.below ++ Relocatable slot flags x ∷ s.above)
-
--- A new block was put in its place, and the zone is what it would be had a block with these flags and bytes been put
--- there.
-pub record IsFilled (flags : Flags) (x : List ℕ) (slot : ℕ) (zone : List Block) (rest : Rest) (zone' : List Block)
-    (rest' : Rest) : Type 0 where
-  pub made : List Block
-  pub mid : Rest
-  pub put : IsPut Nothing (length x) slot zone rest made mid
-  pub filled : room (put_in_place (Relocatable slot flags x)) nothing put.ready ≡ Some zone'
-  pub kept : IsRest mid rest'
-
--- The slot of a new block with these flags and bytes; `None` where none could be made.
-abbrev pub IsFilling : Flags → List ℕ → List Block → Rest → Option ℕ → List Block → Rest → Type 0
-IsFilling flags x zone rest (Some slot) zone' rest' = IsFilled flags x slot zone rest zone' rest'
-IsFilling flags x zone rest None zone' rest' = IsNewBlock Nothing (length x) zone rest None zone' rest'
 
 -- The zone with a block of these flags and bytes for a name that has none; `None` where there is no room.
 abbrev pub refilled : ℕ → Flags → List ℕ → List Block → Option (List Block)

@@ -26,10 +26,6 @@ abbrev pub zone_slotted : Sparing → ℕ → List Block → Option (List Block)
 zone_slotted sparing n zone = if (seek_unused sparing n zone).found
     then Some (did (spared sparing) (seek_unused sparing n zone).path zone).zone else None
 
--- The number of searches for an unused slot.
-abbrev pub zone_searches : Sparing → ℕ → List Block → ℕ
-zone_searches sparing n zone = (did (spared sparing) (seek_unused sparing n zone).path zone).searches
-
 -- A store has more slots than it had, all the new ones unused.
 pub record HasMore (rest more : Rest) : Type 0 where
   pub slots : (number : ℕ) → IsTrue (is_used (rest.slots number)) → more.slots number ≡ rest.slots number
@@ -42,17 +38,20 @@ abbrev pub GainsSlots : {T : Type 0} → Option T → Rest → Rest → Type 0
 GainsSlots None rest rest' = KeepsSlots rest rest'
 GainsSlots (Some place) rest rest' = HasMore rest rest' × (rest'.unused ≡ rest.unused + SLOTS_A_BLOCK)
 
--- An unused slot was taken for a new handle, which the store had or got with a new master pointer block, and it has no
--- block.
-pub record IsTaken (slot : ℕ) (rest : Rest) (zone' : List Block) (rest' : Rest) : Type 0 where
+-- An unused slot was taken for a new handle, which the store had or got with a new master pointer block.
+pub record IsTaken (slot : ℕ) (rest rest' : Rest) : Type 0 where
   pub more : Rest
   pub has_more : HasMore rest more
   pub was : more.slots slot ≡ Unused
   pub one : rest'.unused + 1 ≡ more.unused
   pub slots : KeepsSlots (with_slot slot (Used false) rest'.unused more) rest'
-  pub none : has (is_relocatable slot) zone' ≡ false
 
--- The slot that was taken; `None` where no slot is unused, and then they are what they were.
+-- The slot that was taken, which has no block; `None` where no slot is unused, and then they are what they were.
 abbrev pub TakesSlot : Option ℕ → Rest → List Block → Rest → Type 0
 TakesSlot None rest zone' rest' = KeepsSlots rest rest'
-TakesSlot (Some slot) rest zone' rest' = IsTaken slot rest zone' rest'
+TakesSlot (Some slot) rest zone' rest' = IsTaken slot rest rest' × (has (is_relocatable slot) zone' ≡ false)
+
+-- The slot of a new block; `None` where no block could be made, and then the store may have more slots.
+abbrev pub HasSlot : Option ℕ → Rest → Rest → Type 0
+HasSlot None rest rest' = HasMore rest rest'
+HasSlot (Some slot) rest rest' = IsTaken slot rest rest'

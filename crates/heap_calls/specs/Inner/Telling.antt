@@ -9,6 +9,7 @@ use Rattle.block_store.specs.declared.sparing.Sparing.TheVariants.{Freed}
 use Rattle.mac_words.specs.Size.{phys}
 use Rattle.moves.specs.Moves.{Put}
 use Rattle.moves.specs.Seeking.{seek}
+use Rattle.heap_calls.specs.Answer.{nothing}
 use Rattle.heap_calls.specs.Gone.{Gone, gone_of, Tells, TellsNothing}
 use Rattle.heap_calls.specs.Inner.Numbered.{handle_number, pointer_number}
 use Rattle.heap_calls.specs.Inner.NewSlot.{seek_unused, zone_slotted, HasMore}
@@ -53,24 +54,10 @@ zone_slot_gone entries sparing n zone = told_along entries (spared sparing) (see
 abbrev pub OpensNone : Sparing → Type 0
 OpensNone sparing = (b : Block) → opened_block sparing b ≡ b
 
--- The blocks of a store that are purged for a new block of n bytes.
-abbrev pub fresh_gone : List Anchor → Sparing → ℕ → List Block → List Gone
-fresh_gone entries sparing n zone = if is_some (phys n) then told_along entries (spared sparing)
-    (seek (Put (fresh_block 0 n)) (spared sparing) (opened sparing zone)) (opened sparing zone) else []
-
--- The same, where there is an unused slot.
-abbrev pub after_slot_gone : List Anchor → Sparing → ℕ → Option (List Block) → List Gone
-after_slot_gone entries sparing n None = []
-after_slot_gone entries sparing n (Some ready) = fresh_gone entries sparing n ready
-
--- The blocks of a store that are purged for an unused slot, and then for a new block of n bytes.
-abbrev pub new_gone : List Anchor → Sparing → ℕ → ℕ → List Block → List Gone
-new_gone entries sparing n unused zone = zone_slot_gone entries sparing unused zone
-    ++ after_slot_gone entries sparing n (zone_slotted sparing unused zone)
-
 -- The blocks of a store that are purged for a new block of n bytes for a slot, whose old block counts as free.
 abbrev pub renewed_gone : List Anchor → ℕ → ℕ → List Block → List Gone
-renewed_gone entries slot n zone = fresh_gone entries (Freed slot) n zone
+renewed_gone entries slot n zone = if is_some (phys n) then told_along entries nothing
+    (seek (Put (fresh_block 0 n)) nothing (opened (Freed slot) zone)) (opened (Freed slot) zone) else []
 
 -- What is left of a store and a sink where the sink finds the host out of memory as a slot is taken for a new block,
 -- and the block's place is sought: all as it was; or the slot is unused again, and the master pointer block that was

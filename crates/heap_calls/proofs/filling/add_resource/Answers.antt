@@ -2,7 +2,7 @@ use Rattle.heap_calls.proofs.Cited.{rules, ◌≡◌, ℕ, true, Option, Some, N
 use Rattle.heap_calls.proofs.Cited.{made_gone, new_inside, entered, number_of, memory_of, Agrees}
 use Rattle.heap_calls.proofs.Filled.Unmade.{made-told, left-unmade}
 use Rattle.heap_calls.proofs.Filled.Adding.{added-agrees, added-next, not-added}
-use Rattle.heap_calls.proofs.Made.{made-agrees, filled-slotted, filled-answer}
+use Rattle.heap_calls.proofs.Made.{made-agrees, filled-answer}
 use Rattle.heap_calls.proofs.NewBlocks.NewHandles.{agrees-more}
 use Rattle.heap_calls.proofs.filling.add_resource.Given.{Over}
 use Rattle.heap_calls.proofs.filling.add_resource.Goals.{After-count}
@@ -20,10 +20,7 @@ agrees g c o is =
     let store = c.args.store.now in
     rw (← is) (made-agrees (g.S.BlockStore.zone store) (g.S.BlockStore.rest store) _ (g.met.S.BlockStore.masters store)
     c.requires.agrees (g.met.S.BlockStore.no_block store) (g.S.BlockStore.rest c.fill_block.new.store) _
-    c.fill_block.ensures.nonrelocatable c.in_ok-made.made.slot
-    (filled-slotted c.args.flags c.args.bytes.now c.in_ok-made.made.slot (g.S.BlockStore.zone store)
-    (g.S.BlockStore.zone c.fill_block.new.store) (g.S.BlockStore.rest store) (g.S.BlockStore.rest c.fill_block.new.store)
-    c.in_ok-made.ensures.answer))
+    c.fill_block.ensures.nonrelocatable c.in_ok-made.made.slot c.in_ok-made.ensures.slot)
 
 -- the answer, with no role as yet
 plain : (g : Over) (c : After-count g) (o : Option ℕ) → c.in_ok-made.made.slot ≡ o
@@ -42,8 +39,7 @@ plain g c o is =
     rw (← is, c.count.ensures) (filled-answer zone rest es (g.met.S.BlockStore.masters store) c.requires.agrees
     (g.met.S.BlockStore.no_block store) c.args.log.now (memory_of zone rest es c.args.log.now) refl
     (g.S.BlockStore.zone c.fill_block.new.store) (g.S.BlockStore.rest c.fill_block.new.store) c.in_ok-made.made.slot
-    c.in_ok-made.made.searches c.args.flags c.args.bytes.now c.in_ok-made.ensures.answer
-    c.in_ok-made.ensures.searches c.in_ok-made.ensures.moves)
+    c.in_ok-made.made.searches c.args.flags c.args.bytes.now c.in_ok-made.ensures.slot c.in_ok-made.ensures.went)
 
 pub returns-in_default-clause-agrees : goal.returns-in_default-clause-agrees
 returns-in_default-clause-agrees g c =

@@ -1,12 +1,13 @@
 use Rattle.heap_calls.proofs.Cited.{◌≡◌, List, length, refl, sym, ◌∙◌, ap, arith, inl, inr, Some, Err, slice_get, subst, length-map}
 use Rattle.heap_calls.proofs.Cited.{err_from_is_err_and, NIL_HANDLE, rename, content_of, One, Anchor, Memory, look_up, copying_zone, Gone}
 use Rattle.heap_calls.proofs.Cited.{Tells, copy_slot_gone, Hears, hand_to_hand, doing_silently, purges_made, KeepsNames, slot_of, entered}
-use Rattle.heap_calls.proofs.Cited.{name_of, state_of, memory_of, handle_number, pointer_number, Agrees, zone_slot_gone, new_gone}
+use Rattle.heap_calls.proofs.Cited.{name_of, state_of, memory_of, handle_number, pointer_number, Agrees, zone_slot_gone, told_along}
+use Rattle.heap_calls.proofs.Cited.{seek_new, fresh_block, is_relocatable}
 use Rattle.heap_calls.specs.declared.anchor.Anchor.TheVariants.{Handle}
 use Rattle.heap_calls.specs.Rows.{refused}
 use Rattle.heap_calls.proofs.Hearing.{hears-as, hears-none, stops-at-once, stops-on-the-way}
 use Rattle.heap_calls.proofs.Made.{made-agrees}
-use Rattle.heap_calls.proofs.NewBlocks.CopiedHandles.{Copied, copy-nil, copy-none, slot-in, source-few, copied-slotted, copied-answer}
+use Rattle.heap_calls.proofs.NewBlocks.CopiedHandles.{Copied, copy-nil, copy-none, slot-in, source-few, copied-answer}
 use Rattle.heap_calls.proofs.NewBlocks.CopiedHandles.{copied-gone, copy_slot_gone-is, copying_zone-is}
 use Rattle.heap_calls.proofs.NewBlocks.NewHandles.{agrees-more, kept-memory, kept-still}
 use Rattle.heap_calls.proofs.Numbering.Answering.{at_place, look_up-refused}
@@ -101,10 +102,7 @@ agrees g c =
     let store = c.self.inside.store in
     made-agrees (g.S.BlockStore.zone store) (g.S.BlockStore.rest store) _ (g.met.S.BlockStore.masters store)
     c.self.invariant (g.met.S.BlockStore.no_block store) (g.S.BlockStore.rest c.copy_block.new.store) _
-    c.copy_block.ensures.nonrelocatable c.in_ok-made.made.slot
-    (copied-slotted c.in_ok-found.found.slot _ c.in_ok-made.made.slot (g.S.BlockStore.zone store) (g.S.BlockStore.zone
-    c.copy_block.new.store)
-    (g.S.BlockStore.rest store) (g.S.BlockStore.rest c.copy_block.new.store) c.in_ok-made.ensures.answer)
+    c.copy_block.ensures.nonrelocatable c.in_ok-made.made.slot c.in_ok-made.ensures.slot
 
 pub overflow_cast-size : goal.overflow_cast-size
 overflow_cast-size g c = let few = (source g c).few in omega arith
@@ -129,7 +127,7 @@ told g c from =
     (g.met.S.BlockStore.masters a.store) c.self.invariant c.args.handle c.in_ok-found.found _ from
     (g.met.S.BlockStore.no_block a.store) a.log c.args.self.now.memory (memory_as c.self.view_is)
     (g.S.BlockStore.zone c.copy_block.new.store) (g.S.BlockStore.rest c.copy_block.new.store) c.in_ok-made.made.slot
-    c.in_ok-made.made.searches c.in_ok-made.ensures.answer c.in_ok-made.ensures.searches c.in_ok-made.ensures.moves)
+    c.in_ok-made.made.searches c.in_ok-made.ensures.slot c.in_ok-made.ensures.went)
 
 pub returns-in_err-name_handle-clause-answer : goal.returns-in_err-name_handle-clause-answer
 returns-in_err-name_handle-clause-answer g c =
@@ -205,7 +203,8 @@ heard g c from done =
     let zone = g.S.BlockStore.zone a.store in
     let rest = g.S.BlockStore.rest a.store in
     let f = c.in_ok-found.found in
-    let same = ap (λ (e : List Anchor). new_gone e (One f.slot) (length c.bytes.result.now) rest.unused zone)
+    let same = ap (λ (e : List Anchor). told_along e (is_relocatable f.slot) (seek_new (One f.slot) rest.unused
+    (length c.bytes.result.now) (fresh_block 0 (length c.bytes.result.now)) zone) zone)
     (c.deref-2.ensures.value ∙ c.in_ok-reserve.ensures.items)
     ∙ copied-gone zone rest a.names.items (g.met.S.BlockStore.masters a.store) c.self.invariant c.args.handle f _ from
     ∙ ap (λ (m : Memory). purges_made (hand_to_hand c.args.handle) m.heap) (memory_as c.self.view_is) in

@@ -2,7 +2,7 @@ use Rattle.heap_calls.proofs.Cited.{◌≡◌, inl, inr, refl, ◌∙◌, arith,
 use Rattle.heap_calls.proofs.Cited.{new_inside, KeepsNames, entered, name_of, memory_of, Agrees}
 use Rattle.heap_calls.proofs.Hearing.{stops-at-once, stops-on-the-way}
 use Rattle.heap_calls.proofs.Filled.Unmade.{made-told, heap-unmade}
-use Rattle.heap_calls.proofs.Made.{made-agrees, filled-slotted, filled-answer}
+use Rattle.heap_calls.proofs.Made.{made-agrees, filled-answer}
 use Rattle.heap_calls.proofs.NewBlocks.NewHandles.{agrees-more, kept-memory}
 use Rattle.heap_calls.proofs.Numbering.Memories.{memory_as, reply-as}
 use Rattle.heap_calls.proofs.heap.Heap.fill_handle.Given.{Over}
@@ -27,10 +27,7 @@ agrees g c =
     let store = c.self.inside.store in
     made-agrees (g.S.BlockStore.zone store) (g.S.BlockStore.rest store) _ (g.met.S.BlockStore.masters store)
     c.self.invariant (g.met.S.BlockStore.no_block store) (g.S.BlockStore.rest c.fill_block.new.store) _
-    c.fill_block.ensures.nonrelocatable c.in_ok-made.made.slot
-    (filled-slotted c.args.flags c.args.bytes.now c.in_ok-made.made.slot (g.S.BlockStore.zone store) (g.S.BlockStore.zone
-    c.fill_block.new.store)
-    (g.S.BlockStore.rest store) (g.S.BlockStore.rest c.fill_block.new.store) c.in_ok-made.ensures.answer)
+    c.fill_block.ensures.nonrelocatable c.in_ok-made.made.slot c.in_ok-made.ensures.slot
 
 pub invariant_of-self-2 : goal.invariant_of-self-2
 invariant_of-self-2 g c = rw (c.name_handle.ensures.entered, c.in_ok-reserve.ensures.items)
@@ -54,7 +51,7 @@ told g c =
     (g.met.S.BlockStore.masters a.store) c.self.invariant (g.met.S.BlockStore.no_block a.store) a.log
     c.args.self.now.memory (memory_as c.self.view_is) (g.S.BlockStore.zone c.fill_block.new.store)
     (g.S.BlockStore.rest c.fill_block.new.store) c.in_ok-made.made.slot c.in_ok-made.made.searches c.args.flags
-    c.args.bytes.now c.in_ok-made.ensures.answer c.in_ok-made.ensures.searches c.in_ok-made.ensures.moves)
+    c.args.bytes.now c.in_ok-made.ensures.slot c.in_ok-made.ensures.went)
 
 pub returns-in_err-name_handle-clause-answer : goal.returns-in_err-name_handle-clause-answer
 returns-in_err-name_handle-clause-answer g c =

@@ -1,8 +1,9 @@
 use Rattle.heap_calls.proofs.Cited.{◌≡◌, List, refl, ◌∙◌, ap, arith, length-map, err_from_is_err_and, Nothing, Anchor, new_empty_handle}
 use Rattle.heap_calls.proofs.Cited.{doing_silently, purges_made, Hears, KeepsMoves, entered, name_of, memory_of, Agrees, zone_slot_gone}
 use Rattle.heap_calls.proofs.Hearing.{hears-as, stops-at-once, stops-halted}
-use Rattle.heap_calls.proofs.Made.{made-agrees, taken-slotted, empty-answer, empty-gone}
+use Rattle.heap_calls.proofs.Made.{made-agrees, empty-answer, empty-gone}
 use Rattle.heap_calls.proofs.NewBlocks.NewHandles.{agrees-more, kept-still}
+use Rattle.heap_calls.proofs.NewBlocks.NewSlots.{taken-slot}
 use Rattle.heap_calls.proofs.Numbering.Changing.{heap-same}
 use Rattle.heap_calls.proofs.Numbering.Memories.{memory_as, reply-as}
 use Rattle.heap_calls.proofs.heap.Heap.make_empty_handle.Given.{Over}
@@ -17,7 +18,7 @@ agrees g c =
     made-agrees (g.S.BlockStore.zone store) (g.S.BlockStore.rest store) _ (g.met.S.BlockStore.masters store)
     c.self.invariant (g.met.S.BlockStore.no_block store) (g.S.BlockStore.rest c.make_slot.new.store) _
     c.make_slot.ensures.nonrelocatable c.in_ok-taken.taken.slot
-    (taken-slotted _ _ _ _ c.in_ok-taken.ensures.slot)
+    (taken-slot _ _ _ _ c.in_ok-taken.ensures.slot)
 
 pub returns-in_err-reserve-clause-stops : goal.returns-in_err-reserve-clause-stops
 returns-in_err-reserve-clause-stops g c host =

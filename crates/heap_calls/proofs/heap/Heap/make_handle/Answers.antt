@@ -1,9 +1,11 @@
 use Rattle.heap_calls.proofs.Cited.{◌≡◌, List, inl, inr, refl, ◌∙◌, ap, arith, length-map, err_from_is_err_and, Nothing, Anchor, new_handle}
-use Rattle.heap_calls.proofs.Cited.{doing_silently, purges_made, Hears, KeepsNames, entered, name_of, memory_of, Agrees, new_gone}
+use Rattle.heap_calls.proofs.Cited.{doing_silently, purges_made, Hears, KeepsNames, entered, name_of, memory_of, Agrees, told_along}
+use Rattle.heap_calls.proofs.Cited.{seek_new, fresh_block, nothing}
 use Rattle.heap_calls.proofs.Hearing.{hears-as, stops-at-once, stops-on-the-way}
 use Rattle.heap_calls.proofs.Filled.Unmade.{heap-unmade}
-use Rattle.heap_calls.proofs.Made.{made-agrees, new-slotted, new_handle-answer, new_handle-gone}
+use Rattle.heap_calls.proofs.Made.{made-agrees, new_handle-answer, new_handle-gone}
 use Rattle.heap_calls.proofs.NewBlocks.NewHandles.{agrees-more, kept-memory}
+use Rattle.heap_calls.proofs.NewBlocks.Placing.{makes-own}
 use Rattle.heap_calls.proofs.Numbering.Memories.{memory_as, reply-as}
 use Rattle.heap_calls.proofs.heap.Heap.make_handle.Given.{Over}
 use Rattle.heap_calls.proofs.heap.Heap.make_handle.Goals.{After-name_handle}
@@ -27,9 +29,7 @@ agrees g c =
     let store = c.self.inside.store in
     made-agrees (g.S.BlockStore.zone store) (g.S.BlockStore.rest store) _ (g.met.S.BlockStore.masters store)
     c.self.invariant (g.met.S.BlockStore.no_block store) (g.S.BlockStore.rest c.new_block.new.store) _
-    c.new_block.ensures.nonrelocatable c.in_ok-made.made.slot
-    (new-slotted Nothing c.args.size c.in_ok-made.made.slot (g.S.BlockStore.zone store) (g.S.BlockStore.zone c.new_block.new.store)
-    (g.S.BlockStore.rest store) (g.S.BlockStore.rest c.new_block.new.store) c.in_ok-made.ensures.answer)
+    c.new_block.ensures.nonrelocatable c.in_ok-made.made.slot c.in_ok-made.ensures.slot
 
 pub invariant_of-self-2 : goal.invariant_of-self-2
 invariant_of-self-2 g c = rw (c.name_handle.ensures.entered, c.in_ok-reserve.ensures.items)
@@ -53,7 +53,10 @@ told g c =
     (g.met.S.BlockStore.masters a.store) c.self.invariant (g.met.S.BlockStore.no_block a.store) a.log
     c.args.self.now.memory (memory_as c.self.view_is) (g.S.BlockStore.zone c.new_block.new.store)
     (g.S.BlockStore.rest c.new_block.new.store) c.in_ok-made.made.slot c.in_ok-made.made.searches c.args.size
-    c.in_ok-made.ensures.answer c.in_ok-made.ensures.searches c.in_ok-made.ensures.moves)
+    c.in_ok-made.ensures.slot (makes-own nothing c.args.size (seek_new Nothing (g.S.BlockStore.rest a.store).unused
+    c.args.size) (g.S.BlockStore.zone a.store) c.in_ok-made.made (g.S.BlockStore.zone c.new_block.new.store)
+    (g.S.BlockStore.rest a.store) (g.S.BlockStore.rest c.new_block.new.store) c.in_ok-made.ensures.went
+    c.in_ok-made.ensures.fresh (g.met.S.BlockStore.once c.new_block.new.store)))
 
 pub returns-in_err-name_handle-clause-answer : goal.returns-in_err-name_handle-clause-answer
 returns-in_err-name_handle-clause-answer g c =
@@ -90,7 +93,8 @@ heard g c done =
     let a = c.self.inside in
     let zone = g.S.BlockStore.zone a.store in
     let rest = g.S.BlockStore.rest a.store in
-    let same = ap (λ (e : List Anchor). new_gone e Nothing c.args.size rest.unused zone)
+    let same = ap (λ (e : List Anchor). told_along e nothing (seek_new Nothing rest.unused c.args.size
+    (fresh_block 0 c.args.size) zone) zone)
     (c.deref.ensures.value ∙ c.in_ok-reserve.ensures.items)
     ∙ new_handle-gone zone rest a.names.items (g.met.S.BlockStore.masters a.store) c.self.invariant
     (g.met.S.BlockStore.no_block a.store) a.log c.args.self.now.memory (memory_as c.self.view_is) c.args.size in

@@ -1,0 +1,171 @@
+use Rattle.heap_calls.proofs.Cited.{◌≡◌, ℕ, false, List, length, refl, sym, ◌∙◌, ap, subst, cond, Option, Some, None, is_some, IfSome}
+use Rattle.heap_calls.proofs.Cited.{◌∷◌, replicate, IsTrue, cond-true, or_parts, list_any-append, map, phys, padded, Flags, Block}
+use Rattle.heap_calls.proofs.Cited.{Relocatable, size, is_room, is_relocatable, has, Spot, spot_at, spot_at-is, filled, Rest, spared}
+use Rattle.heap_calls.proofs.Cited.{opened}
+use Rattle.heap_calls.proofs.Cited.{Sparing, OpensNone, Put, Sought, no_room, seek, Went, filled_at, HasRoomAt, MakesRoom, Room, some_and}
+use Rattle.heap_calls.proofs.Cited.{fresh_block, replaced, replaced_at, seek_block, seek_new, some_left, MakesBlock, IsFresh, Taken}
+use Rattle.heap_calls.proofs.Cited.{inl, inr, true, IsSizeOf, Result, Ok, Err, IfOk, false≢true, length-replicate, no_flags, count}
+use Rattle.heap_calls.proofs.Cited.{unwrap_or, Bool, ◌≤◌, cond-false, Anchor, told_along}
+use Rattle.heap_calls.proofs.Filled.Replaced.{filled-replaced, filled-fresh, fresh-own}
+use Rattle.heap_calls.proofs.Going.{went-nowhere}
+use Rattle.heap_calls.proofs.NewBlocks.NewSlots.{room-at, went-filled}
+use Rattle.heap_calls.proofs.NewBlocks.Seeking.{seek_made}
+use Rattle.heap_calls.proofs.Numbering.Changing.{phys-some}
+use Rattle.heap_calls.proofs.Room.Places.{went-there}
+use Rattle.heap_calls.proofs.Sizes.Growth.{opened-whole}
+
+-- A new block that is put into the room that was made for it.
+
+module _ (sparing : Sparing) (whole : OpensNone sparing) (n p : ℕ) (fits : phys n ≡ Some p) (zone zone1 : List Block)
+    (rest rest1 : Rest) (room : Room) (went : MakesRoom p Put (spared sparing) (opened sparing zone) room
+    (cond (is_some room.place) zone1 (opened sparing zone)) rest rest1)
+  where
+    sized : (x : List ℕ) → phys (length x) ≡ phys n → padded (length x) ≡ p
+    sized x long = sym (phys-some (length x) p (long ∙ fits)).1
+
+    goes : (new : Block) → size new ≡ p → Went (spared sparing) zone (seek_block sparing n new zone) (is_some room.place)
+        room.searches (filled_at new room.place (cond (is_some room.place) zone1 zone)) rest rest1
+    goes new long =
+        let P : Sought → Type 0 = λ q. Went (spared sparing) zone q (is_some room.place) room.searches
+        (filled_at new room.place (cond (is_some room.place) zone1 zone)) rest rest1 in
+        let Q : List Block → Type 0 = λ z. Went (spared sparing) z (seek (Put new) (spared sparing) z)
+        (is_some room.place) room.searches (filled_at new room.place (cond (is_some room.place) zone1 z)) rest rest1 in
+        subst P (sym (cond-true {A = Sought} (is_some (phys n)) (seek (Put new) (spared sparing) zone) no_room
+        (ap is_some fits))) (subst Q (opened-whole sparing whole zone) (went new long))
+
+    -- what the sink hears
+    pub block-told : (es : List Anchor) (new : Block)
+        → told_along es (spared sparing) (seek (Put new) (spared sparing) (opened sparing zone)) (opened sparing zone)
+        ≡ told_along es (spared sparing) (seek_block sparing n new zone) zone
+    block-told es new = ap (λ z. told_along es (spared sparing) (seek (Put new) (spared sparing) z) z)
+        (opened-whole sparing whole zone) ∙ ap (λ r. told_along es (spared sparing) r zone) (sym (cond-true {A = Sought}
+        (is_some (phys n)) (seek (Put new) (spared sparing) zone) no_room (ap is_some fits)))
+
+    -- there was none
+    pub makes-none : room.place ≡ None → (zone' : List Block) (rest' : Rest) → zone' ≡ zone → rest'.moves ≡ rest1.moves
+        → MakesBlock (spared sparing) n (seek_block sparing n) zone (record { slot = None; searches = room.searches }) zone'
+        rest rest'
+    makes-none is zone' rest' same still flags x long =
+        let new = Relocatable 0 flags x in
+        let P : Option ℕ → Type 0 = λ o. Went (spared sparing) zone (seek_block sparing n new zone) (is_some o)
+        room.searches (filled_at new o (cond (is_some o) zone1 zone)) rest rest1 in
+        let w : P None = subst P is (goes new (sized x long)) in
+        record { finds = w.finds; leaves = same ∙ w.leaves; looks = w.looks; lowers = still ∙ w.lowers }
+
+    -- there was some
+    module _ (slot place : ℕ) (is : room.place ≡ Some place) (wide : HasRoomAt p room.place zone1)
+        (none : has (is_relocatable slot) zone1 ≡ false) (zone' : List Block)
+        (done : IfSome (spot_at place zone1) (λ s. zone' ≡ filled (fresh_block slot n) s))
+      where
+        there : (s : Spot) × (spot_at place zone1 ≡ Some s) × IsTrue (is_room p s.here)
+        there = some_and (spot_at place zone1) (λ s. IsTrue (is_room p s.here)) (room-at p room.place place zone1 is wide)
+
+        now : zone' ≡ filled (fresh_block slot n) there.0
+        now = let P : Option Spot → Type 0 = λ o. IfSome o (λ s. zone' ≡ filled (fresh_block slot n) s) in
+            let h : P (Some there.0) = subst P there.1 done in h
+
+        alone : (has (is_relocatable slot) there.0.below ≡ false) × (has (is_relocatable slot) there.0.above ≡ false)
+        alone =
+            let s = there.0 in
+            let t = is_relocatable slot in
+            let parts = or_parts (has t s.below) (has t (s.here ∷ s.above)) (sym (list_any-append t s.below (s.here ∷ s.above))
+            ∙ ap (has t) (spot_at-is place zone1 s there.1) ∙ none) in
+            (parts.0, (or_parts (t s.here) (has t s.above) parts.1).1)
+
+        pub makes-fresh : IsFresh slot n zone'
+        makes-fresh = subst (IsFresh slot n) (sym now) (filled-fresh slot n there.0 alone.0)
+
+        pub makes-some : (rest' : Rest) → rest'.moves ≡ rest1.moves → MakesBlock (spared sparing) n (seek_block sparing n)
+            zone (record { slot = Some slot; searches = room.searches }) zone' rest rest'
+        makes-some rest' still flags x long =
+            let new = Relocatable slot flags x in
+            let same : map (replaced slot flags x) zone' ≡ filled new there.0 = ap (map (replaced slot flags x)) now
+            ∙ filled-replaced slot flags x (replicate n 0) there.0 (sized x long ∙ sym (sized (replicate n 0)
+            (ap phys (length-replicate n 0)))) alone.0 alone.1 in
+            let P : Option Spot → Type 0 = λ o. IfSome o (λ s. map (replaced slot flags x) zone' ≡ filled new s) in
+            let w = went-filled new room.place zone1
+            (went-there new room.place place is zone1 zone (goes new (sized x long))) p place is wide
+            (map (replaced slot flags x) zone') (subst P (sym there.1) same) rest' still in
+            subst (λ (o : Option ℕ). Went (spared sparing) zone (seek_block sparing n new zone) (is_some o) room.searches
+            (map (replaced slot flags x) zone') rest rest') is w
+
+-- no block can have the size
+pub makes-large : (sparing : Sparing) (n : ℕ) (zone zone' : List Block) (rest rest' : Rest) → phys n ≡ None → zone' ≡ zone
+    → rest'.moves ≡ rest.moves → MakesBlock (spared sparing) n (seek_block sparing n) zone
+    (record { slot = None; searches = 0 }) zone' rest rest'
+makes-large sparing n zone zone' rest rest' large same still flags x long =
+    let w = subst (λ (p : Sought). Went (spared sparing) zone p false 0 zone rest rest) (sym (cond-false {A = Sought}
+    (is_some (phys n)) (seek (Put (Relocatable 0 flags x)) (spared sparing) zone) no_room (ap is_some large)))
+    (went-nowhere (spared sparing) zone rest) in
+    record { finds = w.finds; leaves = same ∙ w.leaves; looks = w.looks; lowers = still ∙ w.lowers }
+
+-- with other flags and bytes written into the block that was made, and with its own
+module _ (sp : Block → Bool) (n : ℕ) (search : Block → List Block → Sought) (zone : List Block) (made : Taken)
+    (zone1 : List Block) (rest rest1 : Rest) (makes : MakesBlock sp n search zone made zone1 rest rest1)
+  where
+    pub makes-with : (flags : Flags) (x : List ℕ) → phys (length x) ≡ phys n → (zone' : List Block) (rest' : Rest)
+        → zone' ≡ replaced_at made.slot flags x zone1 → rest'.moves ≡ rest1.moves → Went sp zone
+        (search (Relocatable (unwrap_or made.slot 0) flags x) zone) (is_some made.slot) made.searches zone' rest rest'
+    makes-with flags x long zone' rest' same still =
+        let w = makes flags x long in
+        record { finds = w.finds; leaves = same ∙ w.leaves; looks = w.looks; lowers = still ∙ w.lowers }
+
+    pub makes-own : IfSome made.slot (λ k. IsFresh k n zone1) → ((k : ℕ) → count (is_relocatable k) zone1 ≤ 1) → Went sp
+        zone (search (fresh_block (unwrap_or made.slot 0) n) zone) (is_some made.slot) made.searches zone1 rest rest1
+    makes-own fresh once = makes-with no_flags (replicate n 0) (ap phys (length-replicate n 0)) zone1 rest1
+        (own made.slot fresh) refl
+      where
+        own : (o : Option ℕ) → IfSome o (λ k. IsFresh k n zone1) → zone1 ≡ replaced_at o no_flags (replicate n 0) zone1
+        own None h = refl
+        own (Some k) h = sym (fresh-own k n zone1 h (once k))
+
+-- A block of n bytes is one of m, where both are too many for any block, or n is m.
+module _ (sparing : Sparing) (unused n m : ℕ) (same : IsSizeOf m n) (zone : List Block)
+  where
+    alike : phys n ≡ phys m
+    alike = elim same [
+      | inl e ↦ ap phys e
+      | inr both ↦ both.0 ∙ sym both.1
+    ]
+
+    -- so is the search for it
+    sized-is : (new : Block) → seek_new sparing unused n new zone ≡ seek_new sparing unused m new zone
+    sized-is new = ap (λ (o : Option ℕ). seek_made (spared sparing) (some_left unused) new (is_some o) zone) alike
+
+    pub told-sized : (es : List Anchor) → told_along es (spared sparing) (seek_new sparing unused n (fresh_block 0 n) zone) zone
+        ≡ told_along es (spared sparing) (seek_new sparing unused m (fresh_block 0 m) zone) zone
+    told-sized es = elim same [
+      | inl e ↦ ap (λ (k : ℕ). told_along es (spared sparing) (seek_new sparing unused k (fresh_block 0 k) zone) zone) e
+      | inr both ↦ ap (λ (r : Sought). told_along es (spared sparing) r zone) (large n (fresh_block 0 n) both.0
+          ∙ sym (large m (fresh_block 0 m) both.1))
+    ]
+      where
+        large : (k : ℕ) (new : Block) → phys k ≡ None
+            → seek_new sparing unused k new zone ≡ seek_made (spared sparing) (some_left unused) (fresh_block 0 0) false zone
+        large k new none = ap (λ (o : Option ℕ). seek_made (spared sparing) (some_left unused) new (is_some o) zone) none
+
+    module _ (zone1 : List Block) (rest rest1 : Rest)
+      where
+        abbrev Makes : ℕ → Taken → Type 0
+        Makes k made = MakesBlock (spared sparing) k (seek_new sparing unused k) zone made zone1 rest rest1
+
+        pub makes-sized : {E : Type 0} (r : Result Taken E) → IfOk r (Makes n) → IfOk r (Makes m)
+        makes-sized (Err e) makes = tt
+        makes-sized (Ok made) makes = λ flags x long.
+            let new = Relocatable (unwrap_or made.slot 0) flags x in
+            subst (λ (p : Sought). Went (spared sparing) zone p (is_some made.slot) made.searches
+            (replaced_at made.slot flags x zone1) rest rest1) (sized-is new) (makes flags x (long ∙ sym alike))
+
+        pub fresh-sized : {E : Type 0} (r : Result Taken E) → IfOk r (λ made. IfSome made.slot (λ k. IsFresh k n zone1))
+            → IfOk r (λ made. IfSome made.slot (λ k. is_some (phys n) ≡ true))
+            → IfOk r (λ made. IfSome made.slot (λ k. IsFresh k m zone1))
+        fresh-sized (Err e) fresh fits = tt
+        fresh-sized (Ok made) fresh fits = cases made.slot fresh fits
+          where
+            cases : (o : Option ℕ) → IfSome o (λ k. IsFresh k n zone1) → IfSome o (λ k. is_some (phys n) ≡ true)
+                → IfSome o (λ k. IsFresh k m zone1)
+            cases None fresh fits = tt
+            cases (Some k) fresh fits = elim same [
+              | inl e ↦ subst (λ (j : ℕ). IsFresh k j zone1) e fresh
+              | inr both ↦ absurd (false≢true (sym (ap is_some both.0) ∙ fits))
+            ]
