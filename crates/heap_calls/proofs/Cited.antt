@@ -6,7 +6,7 @@ pub use Rattle.block_store.proofs.Nonrelocatable.Counts.{not_nonrelocatable-relo
 pub use Rattle.block_store.proofs.Nonrelocatable.Placing.{spot_at-below}
 pub use Rattle.block_store.proofs.Plain.Counters.{counted-none}
 pub use Rattle.block_store.proofs.Plain.Options.{map-none, some_and, the_some}
-pub use Rattle.block_store.proofs.Plain.Trials.{fewest-either, fewest-last, least-map, least-some, least_or_last-at, least_or_last-fails}
+pub use Rattle.block_store.proofs.Plain.Trials.{fewest-either, fewest-last, least-map, least_or_last-at, least_or_last-fails}
 pub use Rattle.block_store.proofs.Plain.Trials.{least_or_last-le, least_or_last-none}
 pub use Rattle.block_store.proofs.Purged.Purges.{sizes-lowest_purged}
 pub use Rattle.block_store.proofs.Purged.Rising.{purge-all}
@@ -15,7 +15,7 @@ pub use Rattle.block_store.proofs.Regroup.AllLowered.{settled_lowered, settled_n
 pub use Rattle.block_store.proofs.Regroup.HavingRoom.{place-room, room-settled}
 pub use Rattle.block_store.proofs.Regroup.MostRoom.{most-placed, no_more-placed, place-some, placed-is, room-largest}
 pub use Rattle.block_store.proofs.Regroup.NextRuns.{first-run, next-higher, next-settled, run-edge, sizes-settled}
-pub use Rattle.block_store.proofs.Regroup.Packed.{once-below}
+pub use Rattle.block_store.proofs.Regroup.Packed.{once-below, tidy-below}
 pub use Rattle.block_store.proofs.Regroup.Parts.{AreParts, in-parts}
 pub use Rattle.block_store.proofs.Regroup.Regrouping.{all-high, apart-high, apart-settle, put_run, run_at-change, tidy-change}
 pub use Rattle.block_store.proofs.Regroup.RoomAbove.{above-run}
@@ -27,11 +27,11 @@ pub use Rattle.block_store.proofs.Regroup.Still.{still-settled}
 pub use Rattle.block_store.proofs.Renamed.GrowRenaming.{resized-rename}
 pub use Rattle.block_store.proofs.Renamed.Renaming.{change_run-rename, filter-rename, free-rename, free_of-rename, freed-rename, has-rename}
 pub use Rattle.block_store.proofs.Renamed.Renaming.{has_free-rename, is_mover-rename, is_purgeable-rename, is_room-rename, joined-rename}
-pub use Rattle.block_store.proofs.Renamed.Renaming.{others-rename, place-rename, purge-rename, put_in_place-rename, rename_run_spot}
-pub use Rattle.block_store.proofs.Renamed.Renaming.{rename_stretch, room-rename, run_spot-rename, segments-rename, settle-rename}
-pub use Rattle.block_store.proofs.Renamed.Renaming.{size-rename, spot-rename, tidy-rename, total-rename}
+pub use Rattle.block_store.proofs.Renamed.Renaming.{others-rename, purge-rename, put_in_place-rename, rename_run_spot, rename_stretch}
+pub use Rattle.block_store.proofs.Renamed.Renaming.{room-rename, run_spot-rename, segments-rename, settle-rename, size-rename, spot-rename}
+pub use Rattle.block_store.proofs.Renamed.Renaming.{tidy-rename, total-rename}
 pub use Rattle.block_store.proofs.Walks.Telling.{size-seen}
-pub use Rattle.block_store.proofs.Zone.Absence.{freed-absent, none-filter, none-free, none-lowest_purged, none-purged, none-settled}
+pub use Rattle.block_store.proofs.Zone.Absence.{freed-absent, none-filter, none-free, none-lowest_purged, none-settled}
 pub use Rattle.block_store.proofs.Zone.Aligned.{spot_at-is}
 pub use Rattle.block_store.proofs.Zone.Alike.{Alike, alike-append, alike-based, alike-changed, alike-compacted, alike-cons, alike-freed}
 pub use Rattle.block_store.proofs.Zone.Alike.{alike-high, alike-purged, alike-put, alike-refl, alike-room, alike-then, alike-tidy, locks}
@@ -96,8 +96,8 @@ pub use Rattle.heap_calls.specs.Gone.{Gone, Hears, IsIdle, Rests, Tells, TellsNo
 pub use Rattle.heap_calls.specs.Gone.{gone, gone_of, gone_unless, made_gone, purge_mem_gone, ready_gone, refill_gone, room_gone, slot_gone}
 pub use Rattle.heap_calls.specs.History.{after_calls}
 pub use Rattle.heap_calls.specs.Inner.Appending.{bytes_of, length_of, seek_longer, size_for}
-pub use Rattle.heap_calls.specs.Inner.Filling.{IsNext, IsRefilling, IsReplaced, IsSizeOf, owned_by, refilled}
-pub use Rattle.heap_calls.specs.Inner.Filling.{refilled_moves, refilled_searches, wanted_as}
+pub use Rattle.heap_calls.specs.Inner.Filling.{IsNext, IsRefilling, IsReplaced, IsSizeOf, owned_by, refilled, refilled_moves}
+pub use Rattle.heap_calls.specs.Inner.Filling.{refilled_searches, wanted_as}
 pub use Rattle.heap_calls.specs.Inner.Given.{FindsBlock, IsAnswer, KeepsMoves, KeepsNames, found, seen_flags, seen_in_run, seen_mover}
 pub use Rattle.heap_calls.specs.Inner.Given.{slot_at, slot_of}
 pub use Rattle.heap_calls.specs.Inner.Growing.{CanGrowUp, FindsGrowth, GrewUp, IsToGrow, SameBlocks, Spares, block_of, grown}
@@ -109,20 +109,18 @@ pub use Rattle.heap_calls.specs.Inner.Loose.{renewed_searches}
 pub use Rattle.heap_calls.specs.Inner.Making.{HasRoomAt, MakesRoom, filled_at}
 pub use Rattle.heap_calls.specs.Inner.Munging.{HasBytes, exchanged, shifted, then_do}
 pub use Rattle.heap_calls.specs.Inner.Naming.{entered, number_of}
-pub use Rattle.heap_calls.specs.Inner.NewBlock.{IsFresh, KeepsTaken, MakesBlock, fresh_block, given_back, replaced, replaced_at}
-pub use Rattle.heap_calls.specs.Inner.NewBlock.{seek_block, seek_new}
+pub use Rattle.heap_calls.specs.Inner.NewBlock.{IsFresh, KeepsTaken, MakesBlock, fresh_block, given_back, replaced, replaced_at, seek_block}
+pub use Rattle.heap_calls.specs.Inner.NewBlock.{seek_new}
 pub use Rattle.heap_calls.specs.Inner.NewPointer.{IsNewPlace, Stands, fresh_nonrelocatable, seek_pointer}
-pub use Rattle.heap_calls.specs.Inner.NewSlot.{GainsSlots, HasMore, HasSlot, IsTaken, TakesSlot, seek_unused, some_left}
-pub use Rattle.heap_calls.specs.Inner.NewSlot.{zone_slotted}
+pub use Rattle.heap_calls.specs.Inner.NewSlot.{GainsSlots, HasMore, HasSlot, IsTaken, TakesSlot, seek_unused, some_left, zone_slotted}
 pub use Rattle.heap_calls.specs.Inner.Numbered.{Agrees, KeepsNonrelocatable, handle_number, heap_of, leads_to, memory_of, name_of}
 pub use Rattle.heap_calls.specs.Inner.Numbered.{no_number, number_from, pointer_number, points_to, role_of, state_of}
 pub use Rattle.heap_calls.specs.Inner.Packed.{KeepsAllButPlaced, Packs}
 pub use Rattle.heap_calls.specs.Inner.Pointing.{FindsHeld, target, target_at, target_of}
 pub use Rattle.heap_calls.specs.Inner.Reaching.{Reaches, sized_reply}
 pub use Rattle.heap_calls.specs.Inner.Search.{FindsPlacement, IsAt, tries}
-pub use Rattle.heap_calls.specs.Inner.Telling.{IsNumberOf, LeavesSlot, OpensNone, blocks_from}
-pub use Rattle.heap_calls.specs.Inner.Telling.{from_spot, gone_from, gone_named, renewed_gone}
-pub use Rattle.heap_calls.specs.Inner.Telling.{zone_slot_gone}
+pub use Rattle.heap_calls.specs.Inner.Telling.{IsNumberOf, LeavesSlot, OpensNone, blocks_from, from_spot, gone_from, gone_named}
+pub use Rattle.heap_calls.specs.Inner.Telling.{renewed_gone, zone_slot_gone}
 pub use Rattle.heap_calls.specs.Inner.Went.{Went, at_spot, seek_growth, seek_sized, seek_still, told_along, told_named}
 pub use Rattle.heap_calls.specs.Inside.{cast, cast_as, for_known, guarded_as, has_block, held_high, inside, is_owned, loosened, new_all}
 pub use Rattle.heap_calls.specs.Inside.{new_empty, new_empty_inside, new_filled, new_inside, number_if, owned_as, refill, refill_inside}
@@ -205,7 +203,7 @@ pub use Rattle.std.proofs.Math.Path.{fun_ext}
 pub use Rattle.std.proofs.Math.Seq.{drop-append_seam, drop-length, take-append_seam, take-length}
 pub use Rattle.std.proofs.lemmas.Bool.{and_parts, cond-false, cond-true, false_from_ne_true, false≢true, le-leb, leb-false, leb-true}
 pub use Rattle.std.proofs.lemmas.Bool.{lt-leb, not-false, not-true, or_parts, true≢false}
-pub use Rattle.std.proofs.lemmas.Bool.Decides.{Decides-eqb, Decides-like, Decides-ltb, nat_tests, same_from_decides}
+pub use Rattle.std.proofs.lemmas.Bool.Decides.{Decides-eqb, Decides-like, nat_tests, same_from_decides}
 pub use Rattle.std.proofs.lemmas.List.{at_drop_more, drop-append-le, drop_all, drop_more, length-append, length-drop, length-map}
 pub use Rattle.std.proofs.lemmas.List.{length-replicate, length-take, length-take-le, map-append, map-id, map-set, map_push, take-append-le}
 pub use Rattle.std.proofs.lemmas.List.{take-take, take_all, take_more, take_rest}

@@ -4,7 +4,7 @@ use Rattle.heap_calls.proofs.Cited.{cond-true, cond-false, nat_tests, option_map
 use Rattle.heap_calls.proofs.Cited.{Nonrelocatable, Masters, Relocatable, size, sizes, free_sum, free, is_room, add, tidy, has}
 use Rattle.heap_calls.proofs.Cited.{has_free, in_run, movers, low, with_run, RunSpot, run_raised, lowest_run, run_spot, run_at, segments}
 use Rattle.heap_calls.proofs.Cited.{joined, Stretch, raised, spot_at, total-tidy, has-tidy, tidy-tidy, barrier-alone, run_spot-passes}
-use Rattle.heap_calls.proofs.Cited.{AreParts, in-parts, Spot, filled, spot_at-is, false≢true}
+use Rattle.heap_calls.proofs.Cited.{AreParts, in-parts, Spot, filled, spot_at-is, false≢true, tidy-below}
 use Rattle.heap_calls.proofs.Room.Searching.{at_run}
 
 -- two Free blocks below others
@@ -218,10 +218,6 @@ base-found p place zone after pos found h =
     (subst P (sym is) (low-filled p found.0 pos (closed-below (has_free p) zone found.0 found.1)))
 
 -- a free block at the lower end of a free block leaves the zone as it is
-tidy-below : (below xs ys : List Block) → tidy xs ≡ tidy ys → tidy (below ++ xs) ≡ tidy (below ++ ys)
-tidy-below [] xs ys e = e
-tidy-below (b ∷ below) xs ys e = ap (add b) (tidy-below below xs ys e)
-
 pub free-filled : (p place : ℕ) (zone : List Block) (s : Spot) → tidy zone ≡ zone → spot_at place zone ≡ Some s
     → is_room p s.here ≡ true → filled (Free p) s ≡ zone
 free-filled p place zone s tidied at wide =
