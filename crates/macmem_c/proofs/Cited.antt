@@ -24,16 +24,12 @@ pub use Rattle.fork_commands.specs.declared.pair.Place.{Place}
 pub use Rattle.fork_edits.specs.Resources.{rows}
 pub use Rattle.fork_edits.specs.View.{view_row}
 pub use Rattle.fork_format.specs.Content.{Content}
-pub use Rattle.heap_calls.specs.Asked.{Asked, BlockMove, CompactMem, CopyOf, DisposeHandle, DisposePtr, EmptyHandle, FreeMem, GetHandleSize}
-pub use Rattle.heap_calls.specs.Asked.{GetPtrSize, HGetState, HLock, HLockHi, HNoPurge, HPurge, HSetState, HUnlock, HandAndHand, HandToHand}
-pub use Rattle.heap_calls.specs.Asked.{HandleZone, MaxBlock, MaxMem, MoreMasters, MoveHHi, NewEmptyHandle, NewHandle, NewPtr, PtrAndHand}
-pub use Rattle.heap_calls.specs.Asked.{PtrToXHand, PtrZone, PurgeMem, Put, PutPtr, ReallocateHandle, RecoverHandle, ReserveMem}
-pub use Rattle.heap_calls.specs.Asked.{SetHandleSize, SetPtrSize, Zeros, telling, told_as}
+pub use Rattle.heap_calls.specs.Asked.{Asked, CompactMem, FreeMem, HGetState, MaxBlock, MaxMem, RecoverHandle, telling, told_as}
 pub use Rattle.heap_calls.specs.Gone.{Gone}
 pub use Rattle.heap_calls.specs.Inner.Given.{IsAnswer}
 pub use Rattle.heap_calls.specs.Left.{DidAStep, DidNothing, Step}
 pub use Rattle.heap_calls.specs.State.{CountedMemory, Memory, fresh_memory}
-pub use Rattle.heap_calls.specs.Table.{done, served}
+pub use Rattle.heap_calls.specs.Table.{served}
 pub use Rattle.heap_calls.specs.declared.refusal.Refusal.{Refusal}
 pub use Rattle.heap_calls.specs.declared.refusal.Refusal.TheVariants.{Code}
 pub use Rattle.lint.specs.Faults.{script_faults}

@@ -1,11 +1,23 @@
-use Rattle.std.specs.Prelude.{◌≡◌, ℕ, ℤ, Option, Some, None, List, length}
+use Rattle.std.specs.Prelude.{◌≡◌, ℕ, ℤ, Option, Some, None, Result, List, length}
 use Rattle.mac_words.specs.Told.{Told, Given, Number, Numbers, Offset, Bytes}
-use Rattle.heap_calls.specs.Asked.{Asked}
-use Rattle.heap_calls.specs.State.{CountedMemory}
+use Rattle.mac_words.specs.declared.code.OsErr.{OsErr}
+use Rattle.heap_calls.specs.Asked.{Asked, Zeros, CopyOf, telling}
+use Rattle.heap_calls.specs.Asked as asked
+use Rattle.heap_calls.specs.State.{Memory, CountedMemory}
+use Rattle.heap_calls.specs.Inner.Given.{IsAnswer}
+use Rattle.heap_calls.specs.declared.refusal.Refusal.{Refusal}
 use Rattle.heap_calls.specs.Table.{served}
 use Rattle.applications.specs.Trying.{code_told}
 use Rattle.desk.specs.Lying.{LieAs}
 use Rattle.macmem_c.specs.Delivered.{laid_over}
+use Rattle.macmem_c.specs.declared.calls.Change.{Change}
+use Rattle.macmem_c.specs.declared.calls.Change.TheVariants as change
+use Rattle.macmem_c.specs.declared.calls.Question.{Question}
+use Rattle.macmem_c.specs.declared.calls.Question.TheVariants as question
+use Rattle.macmem_c.specs.declared.calls.Fitting.{Fitting}
+use Rattle.macmem_c.specs.declared.calls.Fitting.TheVariants as fit
+use Rattle.macmem_c.specs.declared.calls.Making.{Making}
+use Rattle.macmem_c.specs.declared.calls.Making.TheVariants as make
 
 -- What C gets of a call of the Memory Manager's table. Inside Macintosh: Memory, chapter 2, "Memory Manager Routines".
 
@@ -64,3 +76,49 @@ is_shown told before count after new_count = (after ≡ before) × (new_count �
 abbrev pub IsShown : Asked → Option CountedMemory → List ℕ → ℕ → List ℕ → ℕ → Type 0
 IsShown asked None before count after new_count = Unit {0}
 IsShown asked (Some heap) before count after new_count = is_shown (served asked heap.memory).0 before count after new_count
+
+-- The calls of the table, by the kinds in which they are made.
+abbrev pub changing : Change → Option ℕ → Asked
+changing change.DisposeHandle name = asked.DisposeHandle name
+changing change.EmptyHandle name = asked.EmptyHandle name
+changing change.HLock name = asked.HLock name
+changing change.HUnlock name = asked.HUnlock name
+changing change.HPurge name = asked.HPurge name
+changing change.HNoPurge name = asked.HNoPurge name
+changing change.MoveHHi name = asked.MoveHHi name
+changing change.HLockHi name = asked.HLockHi name
+changing (change.HSetState state) name = asked.HSetState name state
+changing change.DisposePtr name = asked.DisposePtr name
+changing (change.BlockMove start to offset count) name = asked.BlockMove name start (Some to) offset count
+changing (change.Put from bytes) name = asked.Put name from bytes.now
+changing (change.PutPtr from bytes) name = asked.PutPtr name from bytes.now
+
+abbrev pub asking : Question → Option ℕ → Asked
+asking question.GetHandleSize name = asked.GetHandleSize name
+asking question.HandleZone name = asked.HandleZone name
+asking question.GetPtrSize name = asked.GetPtrSize name
+asking question.PtrZone name = asked.PtrZone name
+asking question.Where name = asked.Where name
+
+abbrev pub fitting : Fitting → Asked
+fitting (fit.SetHandleSize handle size) = asked.SetHandleSize (Some handle) size
+fitting (fit.ReallocateHandle handle size) = asked.ReallocateHandle (Some handle) size
+fitting (fit.HandAndHand from to) = asked.HandAndHand (Some from) (Some to)
+fitting (fit.PtrAndHand handle bytes) = asked.PtrAndHand (Some handle) bytes.now
+fitting (fit.PtrToXHand handle bytes) = asked.PtrToXHand (Some handle) bytes.now
+fitting (fit.SetPtrSize pointer size) = asked.SetPtrSize (Some pointer) size
+fitting (fit.PurgeMem size) = asked.PurgeMem size
+fitting (fit.ReserveMem size) = asked.ReserveMem size
+fitting fit.MoreMasters = asked.MoreMasters
+
+abbrev pub making : Making → Asked
+making (make.NewHandle size) = asked.NewHandle (Zeros size)
+making make.NewEmptyHandle = asked.NewEmptyHandle
+making (make.HandToHand handle) = asked.HandToHand (Some handle)
+making (make.PtrToHand bytes) = asked.NewHandle (CopyOf bytes.now)
+making (make.NewPtr size) = asked.NewPtr size
+
+-- What a method answers and leaves is the row of the table; nothing is said where the host is out of memory.
+abbrev pub AnswersRow : {T : Type 0} → Asked → (T → Told) → Memory → Result T Refusal → Memory → Type 0
+AnswersRow {T} call tell before result after = (r : Result T OsErr × Memory) × (served call before ≡ telling tell r)
+    × IsAnswer r result after

@@ -4,10 +4,10 @@ ghost use Rattle.std.specs.Prelude.{◌≡◌, IsSome, IfSome, Some};
 ghost use Rattle.heap_calls.specs.Asked.{Put, Show, PutPtr, ShowPtr, Where};
 ghost use Rattle.macmem_c.specs.Called.{Serves, number_after, IsImage, IsShown};
 
-use crate::codes::{code_of, number_of};
+use crate::calls::{Change, Question};
 use crate::delivering::{deliver, show_in};
 use crate::kept::Kept;
-use crate::zone::Zone;
+use crate::kept_calls::{ask, change};
 use std::alloc::Global;
 
 /// Writes bytes into a handle's block, from the offset `from` on.
@@ -22,12 +22,7 @@ pub extern "C" fn macmem_put(
     requires { IsSome zone.old.heap }
     ensures { Serves (Put (Some handle) from bytes.now) zone.old.heap zone.new.heap result }
 {
-    let mut boxed = zone.take(alloc);
-    let inside: &mut Zone = &mut boxed;
-    let heap = &mut inside.heap;
-    let done = heap.put(Some(handle), from, bytes);
-    *zone = Kept::of(boxed);
-    code_of(done)
+    change(alloc, zone, Change::Put(from, bytes), handle)
 }
 
 /// Copies the bytes of a handle's block, as many as there is room for, and gives their number.
@@ -62,12 +57,7 @@ pub extern "C" fn macmem_put_ptr(
     requires { IsSome zone.old.heap }
     ensures { Serves (PutPtr (Some pointer) from bytes.now) zone.old.heap zone.new.heap result }
 {
-    let mut boxed = zone.take(alloc);
-    let inside: &mut Zone = &mut boxed;
-    let heap = &mut inside.heap;
-    let done = heap.put_pointer(Some(pointer), from, bytes);
-    *zone = Kept::of(boxed);
-    code_of(done)
+    change(alloc, zone, Change::PutPtr(from, bytes), pointer)
 }
 
 /// Copies the bytes of a pointer's block, as many as there is room for, and gives their number.
@@ -97,10 +87,7 @@ pub extern "C" fn macmem_where(alloc: Global, zone: &mut Kept, name: usize, plac
     ensures served { Serves (Where (Some name)) zone.old.heap zone.new.heap result }
     ensures number { place.new ≡ number_after (Where (Some name)) zone.old.heap place.old }
 {
-    let boxed = zone.take(alloc);
-    let told = boxed.heap.place_of(Some(name));
-    *zone = Kept::of(boxed);
-    number_of(told, place)
+    ask(alloc, zone, Question::Where, name, place)
 }
 
 /// Copies the bytes of the zone as they lie, headers, contents and master pointers, as many as

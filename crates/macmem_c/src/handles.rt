@@ -8,10 +8,9 @@ ghost use Rattle.heap_calls.specs.Asked.{HandAndHand, PtrAndHand, HandleZone, Ze
 ghost use Rattle.macmem_c.specs.Codes.{host_memory};
 ghost use Rattle.macmem_c.specs.Called.{Serves, number_after};
 
-use crate::codes::{code_in, code_of, number_in, number_of};
+use crate::calls::{Change, Fitting, Making, Question};
 use crate::kept::Kept;
-use crate::zone::Zone;
-use heap_calls::NoSink;
+use crate::kept_calls::{ask, change, fit, make};
 use std::alloc::Global;
 
 /// `NewHandle`: allocates a relocatable block of `size` bytes, all 0, and gives a handle to it.
@@ -30,12 +29,7 @@ pub extern "C" fn macmem_new_handle(
     ensures host { result ≡ host_memory
         → (zone.new.heap ≡ zone.old.heap) × (handle.new ≡ handle.old) }
 {
-    let mut boxed = zone.take(alloc);
-    let inside: &mut Zone = &mut boxed;
-    let heap = &mut inside.heap;
-    let made = heap.new_handle(size, &mut NoSink);
-    *zone = Kept::of(boxed);
-    number_in(made, handle)
+    make(alloc, zone, Making::NewHandle(size), handle)
 }
 
 /// `NewEmptyHandle`: gives a handle with no block.
@@ -49,12 +43,7 @@ pub extern "C" fn macmem_new_empty_handle(alloc: Global, zone: &mut Kept, handle
     ensures host { result ≡ host_memory
         → (zone.new.heap ≡ zone.old.heap) × (handle.new ≡ handle.old) }
 {
-    let mut boxed = zone.take(alloc);
-    let inside: &mut Zone = &mut boxed;
-    let heap = &mut inside.heap;
-    let made = heap.new_empty_handle(&mut NoSink);
-    *zone = Kept::of(boxed);
-    number_in(made, handle)
+    make(alloc, zone, Making::NewEmptyHandle, handle)
 }
 
 /// `DisposeHandle`: disposes of a handle and its block.
@@ -63,12 +52,7 @@ pub extern "C" fn macmem_dispose_handle(alloc: Global, zone: &mut Kept, handle: 
     requires { IsSome zone.old.heap }
     ensures { Serves (DisposeHandle (Some handle)) zone.old.heap zone.new.heap result }
 {
-    let mut boxed = zone.take(alloc);
-    let inside: &mut Zone = &mut boxed;
-    let heap = &mut inside.heap;
-    let done = heap.dispose_handle(Some(handle));
-    *zone = Kept::of(boxed);
-    code_of(done)
+    change(alloc, zone, Change::DisposeHandle, handle)
 }
 
 /// `GetHandleSize`: gives the logical size in bytes of a handle's block.
@@ -83,12 +67,7 @@ pub extern "C" fn macmem_get_handle_size(
     ensures served { Serves (GetHandleSize (Some handle)) zone.old.heap zone.new.heap result }
     ensures number { size.new ≡ number_after (GetHandleSize (Some handle)) zone.old.heap size.old }
 {
-    let mut boxed = zone.take(alloc);
-    let inside: &mut Zone = &mut boxed;
-    let heap = &mut inside.heap;
-    let told = heap.get_handle_size(Some(handle));
-    *zone = Kept::of(boxed);
-    number_of(told, size)
+    ask(alloc, zone, Question::GetHandleSize, handle, size)
 }
 
 /// `HandleZone`: gives the place of the zone of a handle, its offset from its own start: 0.
@@ -103,12 +82,7 @@ pub extern "C" fn macmem_handle_zone(
     ensures served { Serves (HandleZone (Some handle)) zone.old.heap zone.new.heap result }
     ensures number { place.new ≡ number_after (HandleZone (Some handle)) zone.old.heap place.old }
 {
-    let mut boxed = zone.take(alloc);
-    let inside: &mut Zone = &mut boxed;
-    let heap = &mut inside.heap;
-    let told = heap.handle_zone(Some(handle));
-    *zone = Kept::of(boxed);
-    number_of(told, place)
+    ask(alloc, zone, Question::HandleZone, handle, place)
 }
 
 /// `SetHandleSize`: changes the logical size of a handle's block; new bytes are 0.
@@ -124,12 +98,7 @@ pub extern "C" fn macmem_set_handle_size(
         → Serves (SetHandleSize (Some handle) size) zone.old.heap zone.new.heap result }
     ensures host { result ≡ host_memory → zone.new.heap ≡ zone.old.heap }
 {
-    let mut boxed = zone.take(alloc);
-    let inside: &mut Zone = &mut boxed;
-    let heap = &mut inside.heap;
-    let done = heap.set_handle_size(Some(handle), size, &mut NoSink);
-    *zone = Kept::of(boxed);
-    code_in(done)
+    fit(alloc, zone, Fitting::SetHandleSize(handle, size))
 }
 
 /// `ReallocateHandle`: gives a handle a new block of `size` bytes, all 0.
@@ -145,12 +114,7 @@ pub extern "C" fn macmem_reallocate_handle(
         → Serves (ReallocateHandle (Some handle) size) zone.old.heap zone.new.heap result }
     ensures host { result ≡ host_memory → zone.new.heap ≡ zone.old.heap }
 {
-    let mut boxed = zone.take(alloc);
-    let inside: &mut Zone = &mut boxed;
-    let heap = &mut inside.heap;
-    let done = heap.reallocate_handle(Some(handle), size, &mut NoSink);
-    *zone = Kept::of(boxed);
-    code_in(done)
+    fit(alloc, zone, Fitting::ReallocateHandle(handle, size))
 }
 
 /// `EmptyHandle`: purges a handle's block.
@@ -159,12 +123,7 @@ pub extern "C" fn macmem_empty_handle(alloc: Global, zone: &mut Kept, handle: us
     requires { IsSome zone.old.heap }
     ensures { Serves (EmptyHandle (Some handle)) zone.old.heap zone.new.heap result }
 {
-    let mut boxed = zone.take(alloc);
-    let inside: &mut Zone = &mut boxed;
-    let heap = &mut inside.heap;
-    let done = heap.empty_handle(Some(handle));
-    *zone = Kept::of(boxed);
-    code_of(done)
+    change(alloc, zone, Change::EmptyHandle, handle)
 }
 
 /// `HandToHand`: gives a handle to a copy of a handle's block.
@@ -182,12 +141,7 @@ pub extern "C" fn macmem_hand_to_hand(
         → copy.new ≡ number_after (HandToHand (Some handle)) zone.old.heap copy.old }
     ensures host { result ≡ host_memory → (zone.new.heap ≡ zone.old.heap) × (copy.new ≡ copy.old) }
 {
-    let mut boxed = zone.take(alloc);
-    let inside: &mut Zone = &mut boxed;
-    let heap = &mut inside.heap;
-    let made = heap.hand_to_hand(Some(handle), &mut NoSink);
-    *zone = Kept::of(boxed);
-    number_in(made, copy)
+    make(alloc, zone, Making::HandToHand(handle), copy)
 }
 
 /// `HandAndHand`: appends the bytes of one handle's block to another's.
@@ -203,12 +157,7 @@ pub extern "C" fn macmem_hand_and_hand(
         → Serves (HandAndHand (Some from) (Some to)) zone.old.heap zone.new.heap result }
     ensures host { result ≡ host_memory → zone.new.heap ≡ zone.old.heap }
 {
-    let mut boxed = zone.take(alloc);
-    let inside: &mut Zone = &mut boxed;
-    let heap = &mut inside.heap;
-    let done = heap.hand_and_hand(Some(from), Some(to), &mut NoSink);
-    *zone = Kept::of(boxed);
-    code_in(done)
+    fit(alloc, zone, Fitting::HandAndHand(from, to))
 }
 
 /// `PtrToHand`: allocates a relocatable block with a copy of bytes, and gives a handle to it.
@@ -227,12 +176,7 @@ pub extern "C" fn macmem_ptr_to_hand(
     ensures host { result ≡ host_memory
         → (zone.new.heap ≡ zone.old.heap) × (handle.new ≡ handle.old) }
 {
-    let mut boxed = zone.take(alloc);
-    let inside: &mut Zone = &mut boxed;
-    let heap = &mut inside.heap;
-    let made = heap.pointer_to_hand(bytes, &mut NoSink);
-    *zone = Kept::of(boxed);
-    number_in(made, handle)
+    make(alloc, zone, Making::PtrToHand(bytes), handle)
 }
 
 /// `PtrAndHand`: appends bytes to a handle's block.
@@ -248,10 +192,5 @@ pub extern "C" fn macmem_ptr_and_hand(
         → Serves (PtrAndHand (Some handle) bytes.now) zone.old.heap zone.new.heap result }
     ensures host { result ≡ host_memory → zone.new.heap ≡ zone.old.heap }
 {
-    let mut boxed = zone.take(alloc);
-    let inside: &mut Zone = &mut boxed;
-    let heap = &mut inside.heap;
-    let done = heap.pointer_and_hand(Some(handle), bytes, &mut NoSink);
-    *zone = Kept::of(boxed);
-    code_in(done)
+    fit(alloc, zone, Fitting::PtrAndHand(handle, bytes))
 }

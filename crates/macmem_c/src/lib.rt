@@ -2,6 +2,7 @@
 #![tactic(auto)]
 
 mod bytes;
+mod calls;
 mod codes;
 mod delivering;
 mod described;
@@ -9,6 +10,7 @@ mod faults;
 mod forks;
 mod handles;
 mod kept;
+mod kept_calls;
 mod keys;
 mod linted;
 mod loose;

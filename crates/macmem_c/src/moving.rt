@@ -6,8 +6,10 @@ ghost use Rattle.heap_calls.specs.Munging.{Like, Many};
 ghost use Rattle.macmem_c.specs.Codes.{host_memory};
 ghost use Rattle.macmem_c.specs.Called.{Serves, number_after, offset_after};
 
-use crate::codes::{HOST_MEMORY, code_in, code_of, handle_of, offset_in, offset_of};
+use crate::calls::{Change, Fitting};
+use crate::codes::{HOST_MEMORY, handle_of, offset_in, offset_of};
 use crate::kept::Kept;
+use crate::kept_calls::{change, fit};
 use crate::zone::Zone;
 use heap_calls::NoSink;
 use mac_words::Target;
@@ -50,12 +52,8 @@ pub extern "C" fn macmem_block_move(
     ensures { Serves (BlockMove (Some from) start (Some to) offset count)
         zone.old.heap zone.new.heap result }
 {
-    let mut boxed = zone.take(alloc);
-    let inside: &mut Zone = &mut boxed;
-    let heap = &mut inside.heap;
-    let done = heap.block_move(Some(from), start, Some(to), offset, count);
-    *zone = Kept::of(boxed);
-    code_of(done)
+    let call = Change::BlockMove(start, to, offset, count);
+    change(alloc, zone, call, from)
 }
 
 /// `PtrToXHand`: replaces the bytes of a handle's block with other bytes; the block gets their size.
@@ -71,12 +69,7 @@ pub extern "C" fn macmem_ptr_to_x_hand(
         → Serves (PtrToXHand (Some handle) bytes.now) zone.old.heap zone.new.heap result }
     ensures host { result ≡ host_memory → zone.new.heap ≡ zone.old.heap }
 {
-    let mut boxed = zone.take(alloc);
-    let inside: &mut Zone = &mut boxed;
-    let heap = &mut inside.heap;
-    let done = heap.pointer_to_x_hand(Some(handle), bytes, &mut NoSink);
-    *zone = Kept::of(boxed);
-    code_in(done)
+    fit(alloc, zone, Fitting::PtrToXHand(handle, bytes))
 }
 
 /// Returns a copy of bytes that are sought.

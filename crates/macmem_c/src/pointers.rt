@@ -5,10 +5,9 @@ ghost use Rattle.heap_calls.specs.Asked.{NewPtr, DisposePtr, GetPtrSize, SetPtrS
 ghost use Rattle.macmem_c.specs.Codes.{host_memory};
 ghost use Rattle.macmem_c.specs.Called.{Serves, number_after};
 
-use crate::codes::{code_in, code_of, number_in, number_of};
+use crate::calls::{Change, Fitting, Making, Question};
 use crate::kept::Kept;
-use crate::zone::Zone;
-use heap_calls::NoSink;
+use crate::kept_calls::{ask, change, fit, make};
 use std::alloc::Global;
 
 /// `NewPtr`: allocates a nonrelocatable block of `size` bytes, all 0, and gives a pointer to it.
@@ -27,12 +26,7 @@ pub extern "C" fn macmem_new_ptr(
     ensures host { result ≡ host_memory
         → (zone.new.heap ≡ zone.old.heap) × (pointer.new ≡ pointer.old) }
 {
-    let mut boxed = zone.take(alloc);
-    let inside: &mut Zone = &mut boxed;
-    let heap = &mut inside.heap;
-    let made = heap.new_pointer(size, &mut NoSink);
-    *zone = Kept::of(boxed);
-    number_in(made, pointer)
+    make(alloc, zone, Making::NewPtr(size), pointer)
 }
 
 /// `DisposePtr`: disposes of a pointer and its block.
@@ -41,12 +35,7 @@ pub extern "C" fn macmem_dispose_ptr(alloc: Global, zone: &mut Kept, pointer: us
     requires { IsSome zone.old.heap }
     ensures { Serves (DisposePtr (Some pointer)) zone.old.heap zone.new.heap result }
 {
-    let mut boxed = zone.take(alloc);
-    let inside: &mut Zone = &mut boxed;
-    let heap = &mut inside.heap;
-    let done = heap.dispose_pointer(Some(pointer));
-    *zone = Kept::of(boxed);
-    code_of(done)
+    change(alloc, zone, Change::DisposePtr, pointer)
 }
 
 /// `GetPtrSize`: gives the logical size in bytes of a pointer's block.
@@ -61,12 +50,7 @@ pub extern "C" fn macmem_get_ptr_size(
     ensures served { Serves (GetPtrSize (Some pointer)) zone.old.heap zone.new.heap result }
     ensures number { size.new ≡ number_after (GetPtrSize (Some pointer)) zone.old.heap size.old }
 {
-    let mut boxed = zone.take(alloc);
-    let inside: &mut Zone = &mut boxed;
-    let heap = &mut inside.heap;
-    let told = heap.get_pointer_size(Some(pointer));
-    *zone = Kept::of(boxed);
-    number_of(told, size)
+    ask(alloc, zone, Question::GetPtrSize, pointer, size)
 }
 
 /// `PtrZone`: gives the place of the zone of a pointer's block, its offset from its own start: 0.
@@ -81,12 +65,7 @@ pub extern "C" fn macmem_ptr_zone(
     ensures served { Serves (PtrZone (Some pointer)) zone.old.heap zone.new.heap result }
     ensures number { place.new ≡ number_after (PtrZone (Some pointer)) zone.old.heap place.old }
 {
-    let mut boxed = zone.take(alloc);
-    let inside: &mut Zone = &mut boxed;
-    let heap = &mut inside.heap;
-    let told = heap.pointer_zone(Some(pointer));
-    *zone = Kept::of(boxed);
-    number_of(told, place)
+    ask(alloc, zone, Question::PtrZone, pointer, place)
 }
 
 /// `SetPtrSize`: changes the logical size of a pointer's block; new bytes are 0.
@@ -102,10 +81,5 @@ pub extern "C" fn macmem_set_ptr_size(
         → Serves (SetPtrSize (Some pointer) size) zone.old.heap zone.new.heap result }
     ensures host { result ≡ host_memory → zone.new.heap ≡ zone.old.heap }
 {
-    let mut boxed = zone.take(alloc);
-    let inside: &mut Zone = &mut boxed;
-    let heap = &mut inside.heap;
-    let done = heap.set_pointer_size(Some(pointer), size, &mut NoSink);
-    *zone = Kept::of(boxed);
-    code_in(done)
+    fit(alloc, zone, Fitting::SetPtrSize(pointer, size))
 }

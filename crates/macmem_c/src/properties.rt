@@ -5,8 +5,10 @@ ghost use Rattle.heap_calls.specs.Asked.{HLock, HUnlock, HPurge, HNoPurge, HGetS
 ghost use Rattle.heap_calls.specs.Asked.{MoveHHi, HLockHi};
 ghost use Rattle.macmem_c.specs.Called.{Serves, number_after};
 
-use crate::codes::{code_of, state_of};
+use crate::calls::Change;
+use crate::codes::state_of;
 use crate::kept::Kept;
+use crate::kept_calls::change;
 use crate::zone::Zone;
 use std::alloc::Global;
 
@@ -16,12 +18,7 @@ pub extern "C" fn macmem_h_lock(alloc: Global, zone: &mut Kept, handle: usize) -
     requires { IsSome zone.old.heap }
     ensures { Serves (HLock (Some handle)) zone.old.heap zone.new.heap result }
 {
-    let mut boxed = zone.take(alloc);
-    let inside: &mut Zone = &mut boxed;
-    let heap = &mut inside.heap;
-    let done = heap.h_lock(Some(handle));
-    *zone = Kept::of(boxed);
-    code_of(done)
+    change(alloc, zone, Change::HLock, handle)
 }
 
 /// `HUnlock`: unlocks a handle's block.
@@ -30,12 +27,7 @@ pub extern "C" fn macmem_h_unlock(alloc: Global, zone: &mut Kept, handle: usize)
     requires { IsSome zone.old.heap }
     ensures { Serves (HUnlock (Some handle)) zone.old.heap zone.new.heap result }
 {
-    let mut boxed = zone.take(alloc);
-    let inside: &mut Zone = &mut boxed;
-    let heap = &mut inside.heap;
-    let done = heap.h_unlock(Some(handle));
-    *zone = Kept::of(boxed);
-    code_of(done)
+    change(alloc, zone, Change::HUnlock, handle)
 }
 
 /// `HPurge`: makes a handle's block purgeable.
@@ -44,12 +36,7 @@ pub extern "C" fn macmem_h_purge(alloc: Global, zone: &mut Kept, handle: usize) 
     requires { IsSome zone.old.heap }
     ensures { Serves (HPurge (Some handle)) zone.old.heap zone.new.heap result }
 {
-    let mut boxed = zone.take(alloc);
-    let inside: &mut Zone = &mut boxed;
-    let heap = &mut inside.heap;
-    let done = heap.h_purge(Some(handle));
-    *zone = Kept::of(boxed);
-    code_of(done)
+    change(alloc, zone, Change::HPurge, handle)
 }
 
 /// `HNoPurge`: makes a handle's block unpurgeable.
@@ -58,12 +45,7 @@ pub extern "C" fn macmem_h_no_purge(alloc: Global, zone: &mut Kept, handle: usiz
     requires { IsSome zone.old.heap }
     ensures { Serves (HNoPurge (Some handle)) zone.old.heap zone.new.heap result }
 {
-    let mut boxed = zone.take(alloc);
-    let inside: &mut Zone = &mut boxed;
-    let heap = &mut inside.heap;
-    let done = heap.h_no_purge(Some(handle));
-    *zone = Kept::of(boxed);
-    code_of(done)
+    change(alloc, zone, Change::HNoPurge, handle)
 }
 
 /// `HGetState`: gives the properties of a handle's block as bits: 128 where it is locked, 64 where
@@ -99,12 +81,7 @@ pub extern "C" fn macmem_h_set_state(
     requires { IsSome zone.old.heap }
     ensures { Serves (HSetState (Some handle) state) zone.old.heap zone.new.heap result }
 {
-    let mut boxed = zone.take(alloc);
-    let inside: &mut Zone = &mut boxed;
-    let heap = &mut inside.heap;
-    let done = heap.h_set_state(Some(handle), state);
-    *zone = Kept::of(boxed);
-    code_of(done)
+    change(alloc, zone, Change::HSetState(state), handle)
 }
 
 /// `MoveHHi`: moves a handle's block as high as it goes.
@@ -113,12 +90,7 @@ pub extern "C" fn macmem_move_h_hi(alloc: Global, zone: &mut Kept, handle: usize
     requires { IsSome zone.old.heap }
     ensures { Serves (MoveHHi (Some handle)) zone.old.heap zone.new.heap result }
 {
-    let mut boxed = zone.take(alloc);
-    let inside: &mut Zone = &mut boxed;
-    let heap = &mut inside.heap;
-    let done = heap.move_h_hi(Some(handle));
-    *zone = Kept::of(boxed);
-    code_of(done)
+    change(alloc, zone, Change::MoveHHi, handle)
 }
 
 /// `HLockHi`: moves a handle's block as high as it goes, and locks it.
@@ -127,10 +99,5 @@ pub extern "C" fn macmem_h_lock_hi(alloc: Global, zone: &mut Kept, handle: usize
     requires { IsSome zone.old.heap }
     ensures { Serves (HLockHi (Some handle)) zone.old.heap zone.new.heap result }
 {
-    let mut boxed = zone.take(alloc);
-    let inside: &mut Zone = &mut boxed;
-    let heap = &mut inside.heap;
-    let done = heap.h_lock_hi(Some(handle));
-    *zone = Kept::of(boxed);
-    code_of(done)
+    change(alloc, zone, Change::HLockHi, handle)
 }

@@ -7,8 +7,10 @@ ghost use Rattle.heap_calls.specs.Asked.{MaxMem, ReserveMem, MoreMasters, MemErr
 ghost use Rattle.macmem_c.specs.Codes.{host_memory};
 ghost use Rattle.macmem_c.specs.Called.{Serves, number_after, AreNumbers};
 
-use crate::codes::{code_in, measure_in};
+use crate::calls::Fitting;
+use crate::codes::measure_in;
 use crate::kept::Kept;
+use crate::kept_calls::fit;
 use crate::zone::Zone;
 use heap_calls::NoSink;
 use std::alloc::Global;
@@ -90,12 +92,7 @@ pub extern "C" fn macmem_purge_mem(alloc: Global, zone: &mut Kept, size: u32) ->
         → Serves (PurgeMem size) zone.old.heap zone.new.heap result }
     ensures host { result ≡ host_memory → zone.new.heap ≡ zone.old.heap }
 {
-    let mut boxed = zone.take(alloc);
-    let inside: &mut Zone = &mut boxed;
-    let heap = &mut inside.heap;
-    let done = heap.purge_mem(size, &mut NoSink);
-    *zone = Kept::of(boxed);
-    code_in(done)
+    fit(alloc, zone, Fitting::PurgeMem(size))
 }
 
 /// `MaxMem`: purges all purgeable blocks, compacts the zone, and gives the logical size of the
@@ -123,12 +120,7 @@ pub extern "C" fn macmem_reserve_mem(alloc: Global, zone: &mut Kept, size: u32) 
         → Serves (ReserveMem size) zone.old.heap zone.new.heap result }
     ensures host { result ≡ host_memory → zone.new.heap ≡ zone.old.heap }
 {
-    let mut boxed = zone.take(alloc);
-    let inside: &mut Zone = &mut boxed;
-    let heap = &mut inside.heap;
-    let done = heap.reserve_mem(size, &mut NoSink);
-    *zone = Kept::of(boxed);
-    code_in(done)
+    fit(alloc, zone, Fitting::ReserveMem(size))
 }
 
 /// `MoreMasters`: allocates a block of 64 master pointers.
@@ -138,12 +130,7 @@ pub extern "C" fn macmem_more_masters(alloc: Global, zone: &mut Kept) -> i32
     ensures served { result ≢ host_memory → Serves MoreMasters zone.old.heap zone.new.heap result }
     ensures host { result ≡ host_memory → zone.new.heap ≡ zone.old.heap }
 {
-    let mut boxed = zone.take(alloc);
-    let inside: &mut Zone = &mut boxed;
-    let heap = &mut inside.heap;
-    let done = heap.more_masters(&mut NoSink);
-    *zone = Kept::of(boxed);
-    code_in(done)
+    fit(alloc, zone, Fitting::MoreMasters)
 }
 
 /// `MemError`: returns the result code of the last call that sets one.

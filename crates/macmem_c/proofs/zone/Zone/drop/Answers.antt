@@ -1,4 +1,4 @@
-use Rattle.macmem_c.proofs.Cited.{◌≡◌, ◌∙◌, [], ap, length, refl, Site, whole_home, whole_there}
+use Rattle.macmem_c.proofs.Cited.{◌∙◌, [], ap, length, refl, Site, whole_home, whole_there}
 use Rattle.macmem_c.proofs.zone.Zone.drop.Goals as goal
 
 -- the window of the zone's part is out
