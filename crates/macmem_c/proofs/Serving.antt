@@ -4,7 +4,6 @@ use Rattle.macmem_c.proofs.Cited.{to_z, of_z, to_z-of_z, ◌≢◌, ◌⊎◌, f
 use Rattle.macmem_c.proofs.Cited.{telling, served, Gone, Step, DidNothing, DidAStep, IsAnswer, Refusal, Code, code_told, host_memory}
 use Rattle.macmem_c.proofs.Cited.{code_of, code_in, number_of, number_in, Serves, number_or, number_after}
 use Rattle.std.proofs.Common.{Option, None}
-use Rattle.macmem_c.specs.Called.{AnswersRow}
 use Rattle.heap_calls.specs.Left.{Stops}
 use Rattle.heap_calls.specs.declared.refusal.Refusal.TheVariants.{HostMemory}
 
@@ -118,14 +117,3 @@ pub same-kept : {A : Type 0} (told : A → List Gone → Type 0) (keeps : Memory
     → Stops false told (λ _. false) keeps ⊥ first before after sink heard → now ≡ kept
 same-kept told keeps first before after kept now sink heard was is stops =
     is ∙ ap Some (stopped-same told keeps first before after sink heard stops) ∙ sym was
-
--- a method that was called for a call answers the row of the call
-pub row-answers : {T : Type 0} (asked call : Asked) (tell : T → Told) (r : Result T OsErr × Memory) (was before : CountedMemory)
-    (result given : Result T Refusal) (now after : Memory) → call ≡ asked → was ≡ before
-    → served asked was.memory ≡ telling tell r → result ≡ given → now ≡ after → IsAnswer r given after
-    → AnswersRow call tell before.memory result now
-row-answers asked call tell r was before result given now after is same row told left answer = (
-  r,
-  ap (λ (a : Asked). served a before.memory) is ∙ ap (λ (m : CountedMemory). served asked m.memory) (sym same) ∙ row,
-  subst (λ x. IsAnswer r x now) (sym told) (subst (IsAnswer r given) (sym left) answer),
-)

@@ -7,9 +7,9 @@ ghost use Rattle.heap_calls.specs.Asked.{told_as};
 ghost use Rattle.heap_calls.specs.declared.refusal.Refusal.TheVariants as refusal;
 ghost use Rattle.macmem_c.specs.Called.{AnswersRow, changing, asking, fitting, making};
 
-use crate::zone::Zone;
-use heap_calls::{NoSink, Refusal};
+use heap_calls::{Heap, NoSink, Refusal};
 use mac_words::OsErr;
+use raw_zone::RawZone;
 
 /// A call on what a handle or a pointer names that returns no value, and takes no host memory.
 #[derive(Clone, Copy)]
@@ -63,85 +63,83 @@ pub enum Making<'a> {
     NewPtr(u32),
 }
 
-impl Zone {
-    /// Makes a call that returns no value.
-    pub fn change(&mut self, call: Change<'_>, name: usize) -> Result<(), OsErr>
-        ensures { served (changing call.entry (Some name)) self.old.memory
-            ≡ (told_as done result, self.new.memory) }
-    {
-        let name = Some(name);
-        let heap = &mut self.heap;
-        match call {
-            Change::DisposeHandle => heap.dispose_handle(name),
-            Change::EmptyHandle => heap.empty_handle(name),
-            Change::HLock => heap.h_lock(name),
-            Change::HUnlock => heap.h_unlock(name),
-            Change::HPurge => heap.h_purge(name),
-            Change::HNoPurge => heap.h_no_purge(name),
-            Change::MoveHHi => heap.move_h_hi(name),
-            Change::HLockHi => heap.h_lock_hi(name),
-            Change::HSetState(state) => heap.h_set_state(name, state),
-            Change::DisposePtr => heap.dispose_pointer(name),
-            Change::BlockMove(start, to, offset, count) => {
-                heap.block_move(name, start, Some(to), offset, count)
-            }
-            Change::Put(from, bytes) => heap.put(name, from, bytes),
-            Change::PutPtr(from, bytes) => heap.put_pointer(name, from, bytes),
+/// Makes a call that returns no value.
+pub fn apply(heap: &mut Heap<RawZone>, call: Change<'_>, name: usize) -> Result<(), OsErr>
+    ensures answer { served (changing call.entry (Some name)) heap.old.memory
+        ≡ (told_as done result, heap.new.memory) }
+    ensures lies { heap.new.memory.window ≡ heap.old.memory.window }
+{
+    let name = Some(name);
+    match call {
+        Change::DisposeHandle => heap.dispose_handle(name),
+        Change::EmptyHandle => heap.empty_handle(name),
+        Change::HLock => heap.h_lock(name),
+        Change::HUnlock => heap.h_unlock(name),
+        Change::HPurge => heap.h_purge(name),
+        Change::HNoPurge => heap.h_no_purge(name),
+        Change::MoveHHi => heap.move_h_hi(name),
+        Change::HLockHi => heap.h_lock_hi(name),
+        Change::HSetState(state) => heap.h_set_state(name, state),
+        Change::DisposePtr => heap.dispose_pointer(name),
+        Change::BlockMove(start, to, offset, count) => {
+            heap.block_move(name, start, Some(to), offset, count)
         }
+        Change::Put(from, bytes) => heap.put(name, from, bytes),
+        Change::PutPtr(from, bytes) => heap.put_pointer(name, from, bytes),
     }
+}
 
-    /// Makes a call that returns a number of a block.
-    pub fn ask(&mut self, call: Question, name: usize) -> Result<u32, OsErr>
-        ensures { served (asking call (Some name)) self.old.memory
-            ≡ (told_as Number result, self.new.memory) }
-    {
-        let name = Some(name);
-        let heap = &mut self.heap;
-        match call {
-            Question::GetHandleSize => heap.get_handle_size(name),
-            Question::HandleZone => heap.handle_zone(name),
-            Question::GetPtrSize => heap.get_pointer_size(name),
-            Question::PtrZone => heap.pointer_zone(name),
-            Question::Where => heap.place_of(name),
-        }
+/// Makes a call that returns a number of a block.
+pub fn ask(heap: &mut Heap<RawZone>, call: Question, name: usize) -> Result<u32, OsErr>
+    ensures answer { served (asking call (Some name)) heap.old.memory
+        ≡ (told_as Number result, heap.new.memory) }
+    ensures lies { heap.new.memory.window ≡ heap.old.memory.window }
+{
+    let name = Some(name);
+    match call {
+        Question::GetHandleSize => heap.get_handle_size(name),
+        Question::HandleZone => heap.handle_zone(name),
+        Question::GetPtrSize => heap.get_pointer_size(name),
+        Question::PtrZone => heap.pointer_zone(name),
+        Question::Where => heap.place_of(name),
     }
+}
 
-    /// Makes a call that seeks room. Where the host is out of memory, the zone is as it was.
-    pub fn fit(&mut self, call: Fitting<'_>) -> Result<(), Refusal>
-        ensures answer { AnswersRow (fitting call.entry) done self.old.memory result self.new.memory }
-        ensures host { result ≡ Err refusal.HostMemory → self.new ≡ self.old }
-    {
-        let heap = &mut self.heap;
-        let sink = &mut NoSink;
-        match call {
-            Fitting::SetHandleSize(handle, size) => heap.set_handle_size(Some(handle), size, sink),
-            Fitting::ReallocateHandle(handle, size) => {
-                heap.reallocate_handle(Some(handle), size, sink)
-            }
-            Fitting::HandAndHand(from, to) => heap.hand_and_hand(Some(from), Some(to), sink),
-            Fitting::PtrAndHand(handle, bytes) => heap.pointer_and_hand(Some(handle), bytes, sink),
-            Fitting::PtrToXHand(handle, bytes) => heap.pointer_to_x_hand(Some(handle), bytes, sink),
-            Fitting::SetPtrSize(pointer, size) => heap.set_pointer_size(Some(pointer), size, sink),
-            Fitting::PurgeMem(size) => heap.purge_mem(size, sink),
-            Fitting::ReserveMem(size) => heap.reserve_mem(size, sink),
-            Fitting::MoreMasters => heap.more_masters(sink),
+/// Makes a call that seeks room. Where the host is out of memory, the heap is as it was.
+pub fn fit(heap: &mut Heap<RawZone>, call: Fitting<'_>) -> Result<(), Refusal>
+    ensures answer { AnswersRow (fitting call.entry) done heap.old.memory result heap.new.memory }
+    ensures host { result ≡ Err refusal.HostMemory → heap.new ≡ heap.old }
+    ensures lies { heap.new.memory.window ≡ heap.old.memory.window }
+{
+    let sink = &mut NoSink;
+    match call {
+        Fitting::SetHandleSize(handle, size) => heap.set_handle_size(Some(handle), size, sink),
+        Fitting::ReallocateHandle(handle, size) => {
+            heap.reallocate_handle(Some(handle), size, sink)
         }
+        Fitting::HandAndHand(from, to) => heap.hand_and_hand(Some(from), Some(to), sink),
+        Fitting::PtrAndHand(handle, bytes) => heap.pointer_and_hand(Some(handle), bytes, sink),
+        Fitting::PtrToXHand(handle, bytes) => heap.pointer_to_x_hand(Some(handle), bytes, sink),
+        Fitting::SetPtrSize(pointer, size) => heap.set_pointer_size(Some(pointer), size, sink),
+        Fitting::PurgeMem(size) => heap.purge_mem(size, sink),
+        Fitting::ReserveMem(size) => heap.reserve_mem(size, sink),
+        Fitting::MoreMasters => heap.more_masters(sink),
     }
+}
 
-    /// Makes a call that makes a handle or a pointer, and returns its number. Where the host is out
-    /// of memory, the zone is as it was.
-    pub fn make(&mut self, call: Making<'_>) -> Result<usize, Refusal>
-        ensures answer { AnswersRow (making call.entry) Given self.old.memory result self.new.memory }
-        ensures host { result ≡ Err refusal.HostMemory → self.new ≡ self.old }
-    {
-        let heap = &mut self.heap;
-        let sink = &mut NoSink;
-        match call {
-            Making::NewHandle(size) => heap.new_handle(size, sink),
-            Making::NewEmptyHandle => heap.new_empty_handle(sink),
-            Making::HandToHand(handle) => heap.hand_to_hand(Some(handle), sink),
-            Making::PtrToHand(bytes) => heap.pointer_to_hand(bytes, sink),
-            Making::NewPtr(size) => heap.new_pointer(size, sink),
-        }
+/// Makes a call that makes a handle or a pointer, and returns its number. Where the host is out of
+/// memory, the heap is as it was.
+pub fn make(heap: &mut Heap<RawZone>, call: Making<'_>) -> Result<usize, Refusal>
+    ensures answer { AnswersRow (making call.entry) Given heap.old.memory result heap.new.memory }
+    ensures host { result ≡ Err refusal.HostMemory → heap.new ≡ heap.old }
+    ensures lies { heap.new.memory.window ≡ heap.old.memory.window }
+{
+    let sink = &mut NoSink;
+    match call {
+        Making::NewHandle(size) => heap.new_handle(size, sink),
+        Making::NewEmptyHandle => heap.new_empty_handle(sink),
+        Making::HandToHand(handle) => heap.hand_to_hand(Some(handle), sink),
+        Making::PtrToHand(bytes) => heap.pointer_to_hand(bytes, sink),
+        Making::NewPtr(size) => heap.new_pointer(size, sink),
     }
 }

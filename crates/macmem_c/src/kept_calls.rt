@@ -4,7 +4,7 @@ ghost use Rattle.std.specs.Prelude.{◌≡◌, ◌≢◌, IsSome, Some};
 ghost use Rattle.macmem_c.specs.Codes.{host_memory};
 ghost use Rattle.macmem_c.specs.Called.{Serves, number_after, changing, asking, fitting, making};
 
-use crate::calls::{Change, Fitting, Making, Question};
+use crate::calls::{self, Change, Fitting, Making, Question};
 use crate::codes::{code_in, code_of, number_in, number_of};
 use crate::kept::Kept;
 use crate::zone::Zone;
@@ -17,7 +17,8 @@ pub fn change(alloc: Global, zone: &mut Kept, call: Change<'_>, name: usize) -> 
 {
     let mut boxed = zone.take(alloc);
     let inside: &mut Zone = &mut boxed;
-    let done = inside.change(call, name);
+    let heap = &mut inside.heap;
+    let done = calls::apply(heap, call, name);
     *zone = Kept::of(boxed);
     code_of(done)
 }
@@ -30,7 +31,8 @@ pub fn ask(alloc: Global, zone: &mut Kept, call: Question, name: usize, number: 
 {
     let mut boxed = zone.take(alloc);
     let inside: &mut Zone = &mut boxed;
-    let told = inside.ask(call, name);
+    let heap = &mut inside.heap;
+    let told = calls::ask(heap, call, name);
     *zone = Kept::of(boxed);
     number_of(told, number)
 }
@@ -44,7 +46,8 @@ pub fn fit(alloc: Global, zone: &mut Kept, call: Fitting<'_>) -> i32
 {
     let mut boxed = zone.take(alloc);
     let inside: &mut Zone = &mut boxed;
-    let done = inside.fit(call);
+    let heap = &mut inside.heap;
+    let done = calls::fit(heap, call);
     *zone = Kept::of(boxed);
     code_in(done)
 }
@@ -61,7 +64,8 @@ pub fn make(alloc: Global, zone: &mut Kept, call: Making<'_>, number: &mut usize
 {
     let mut boxed = zone.take(alloc);
     let inside: &mut Zone = &mut boxed;
-    let made = inside.make(call);
+    let heap = &mut inside.heap;
+    let made = calls::make(heap, call);
     *zone = Kept::of(boxed);
     number_in(made, number)
 }
