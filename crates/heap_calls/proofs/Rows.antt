@@ -1,6 +1,7 @@
 pub mod Found
 pub mod Reads
 pub mod Kinds
+pub mod Shapes
 pub mod Along
 pub mod Weighing
 pub mod Standing

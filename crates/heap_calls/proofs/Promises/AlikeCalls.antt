@@ -13,7 +13,7 @@ use Rattle.heap_calls.proofs.Cited.{alike-changed, alike-high, alike-compacted, 
 use Rattle.heap_calls.specs.State as names
 use Rattle.heap_calls.specs.Answer as calls
 use Rattle.moves.proofs.Steady.{Stays}
-use Rattle.heap_calls.proofs.Rows.Kinds.{by-kind}
+use Rattle.heap_calls.proofs.Rows.Shapes.{by-kind}
 use Rattle.heap_calls.proofs.Rows.Along.{row-along}
 use Rattle.heap_calls.proofs.Rows.Standing.{allows-stays, row-steady, written-size}
 use Rattle.heap_calls.specs.Asked as asked

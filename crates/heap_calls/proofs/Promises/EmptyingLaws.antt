@@ -16,7 +16,7 @@ use Rattle.std.specs.Prelude.{is_some}
 use Rattle.heap_calls.specs.State as names
 use Rattle.heap_calls.specs.Answer as calls
 use Rattle.heap_calls.specs.Purging as purging
-use Rattle.heap_calls.proofs.Rows.Kinds.{by-kind}
+use Rattle.heap_calls.proofs.Rows.Shapes.{by-kind}
 use Rattle.heap_calls.proofs.Rows.Along.{row-along}
 use Rattle.heap_calls.proofs.Rows.Weighing.{Renews, allows-weighs, none-lost}
 use Rattle.heap_calls.specs.Asked as asked

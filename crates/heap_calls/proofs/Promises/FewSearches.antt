@@ -1,22 +1,22 @@
-use Rattle.heap_calls.proofs.Cited.{◌≡◌, ℕ, ◌+◌, ◌≤◌, ◌<◌, ◌^◌, zero, suc, Bool, true, false, ◌||◌, List, [], ◌∷◌, ◌++◌, length, refl, sym}
-use Rattle.heap_calls.proofs.Cited.{◌∙◌, ap, cond, map, arith, Option, Some, None, Result, Ok, Err, replicate, nat_lt, option_map}
-use Rattle.heap_calls.proofs.Cited.{option_or, if◌then◌else◌, phys, OsErr, Block, Free, Nonrelocatable, Masters, Relocatable, size, count}
-use Rattle.heap_calls.proofs.Cited.{fresh, is_masters, is_relocatable, is_nonrelocatable, no_flags, content_of, Stretch, Segments, in_run}
-use Rattle.heap_calls.proofs.Cited.{has_free, segments, runs, Spot, spot, put_at_base, put_in_place, purge, lowest_purged, may_be_purged}
-use Rattle.heap_calls.proofs.Cited.{count_of, least, room, freed, beyond, has_room, runs_settled, counted, spot-is, joined-segments}
-use Rattle.heap_calls.proofs.Cited.{joined-is, least_or_last-le, State, Memory, used_slots, all_slots, Held, nothing, look_up, handle_at}
-use Rattle.heap_calls.proofs.Cited.{slotted, more_masters, pointed_at, is_loose, purgeable, tries, room_searches, slot_searches}
-use Rattle.heap_calls.proofs.Cited.{ready_searches, block_searches, stretches, compact_mem_searches, Asked, answered, Row, row, answer_of}
-use Rattle.heap_calls.proofs.Cited.{searches_of, counted-none, row_searches, append-nil, subst, ℤ, nat_le, ◌-◌, PURGED, PROFILE, total}
+use Rattle.heap_calls.proofs.Cited.{◌≡◌, ℕ, ◌+◌, ◌≤◌, ◌<◌, ◌^◌, zero, suc, Bool, true, false, List, [], ◌∷◌, ◌++◌, length, refl, sym, ◌∙◌}
+use Rattle.heap_calls.proofs.Cited.{ap, cond, map, arith, Option, Some, None, Ok, replicate, nat_lt, option_map, option_or, phys, Block}
+use Rattle.heap_calls.proofs.Cited.{Free, Nonrelocatable, Masters, Relocatable, size, count, fresh, is_masters, is_relocatable}
+use Rattle.heap_calls.proofs.Cited.{is_nonrelocatable, no_flags, Stretch, Segments, in_run, has_free, segments, runs, Spot, spot}
+use Rattle.heap_calls.proofs.Cited.{put_at_base, put_in_place, purge, lowest_purged, may_be_purged, count_of, least, room, freed, beyond}
+use Rattle.heap_calls.proofs.Cited.{has_room, runs_settled, counted, spot-is, joined-segments, joined-is, least_or_last-le, State, Memory}
+use Rattle.heap_calls.proofs.Cited.{used_slots, all_slots, Held, nothing, look_up, handle_at, slotted, more_masters, purgeable, tries}
+use Rattle.heap_calls.proofs.Cited.{room_searches, slot_searches, ready_searches, block_searches, stretches, compact_mem_searches, Asked}
+use Rattle.heap_calls.proofs.Cited.{answered, Row, row, answer_of, searches_of, counted-none, row_searches, append-nil, subst, total}
 use Rattle.heap_calls.proofs.Cited.{resized, total-append, Move, Put, Base, Drop, Write, Did, did, Sought, no_room, seek, if_fits}
 use Rattle.heap_calls.proofs.Cited.{seek_slot, seek_size, seek_resized, around, did-append, Refuses, seek-refused, fits-refused, seek-few}
-use Rattle.heap_calls.proofs.Cited.{resized-few, work, is_unused, tidied, freed-is, unless-le, based-le, found_in, behind, Occurrence}
+use Rattle.heap_calls.proofs.Cited.{resized-few, work, is_unused, tidied, freed-is, unless-le, based-le}
 use Rattle.std.specs.Prelude.{is_some}
 use Rattle.heap_calls.specs.Table as table
 use Rattle.heap_calls.specs.Asked as asked
 use Rattle.heap_calls.specs.Rows as rows
 use Rattle.heap_calls.proofs.Same.NewBlocks.{made-same}
 use Rattle.heap_calls.proofs.Same.Resizing.{held-spot, pointer-spot}
+use Rattle.heap_calls.proofs.Rows.Shapes.{ForPath, Shapes, by-shape}
 
 -- A call searches for room no more often than once for each block and once more.
 
@@ -187,12 +187,6 @@ base-few new zone masters =
     let most = goes-le nothing zone masters in
     omega arith
 
--- searches for what was found
-found-few : {A T : Type 0} (r : Result A OsErr) (s : State) (call : A → rows.Done T) (most : ℕ)
-    → ((k : A) → r ≡ Ok k → (work (call k) s).searches ≤ most) → (work (rows.for_found r s call) s).searches ≤ most
-found-few (Err code) s call most few = omega arith
-found-few (Ok k) s call most few = few k refl
-
 -- a handle's block, or a pointer's
 handle-few : (handle : Option ℕ) (s : State) (held : Held) → look_up handle s ≡ Ok held → (sp : Block → Bool) (n : ℕ)
     → (did sp (seek_size n sp s.zone held.at).path s.zone).searches ≤ length s.zone + 1
@@ -204,11 +198,6 @@ sized-few : (to : Option ℕ) (s : State) (held : Held) → look_up to s ≡ Ok 
 sized-few to s held e sp n i x =
     subst (λ (k : ℕ). k ≤ length s.zone + 1)
     (sym (written-few sp held.number i x (seek_size n sp s.zone held.at) s.zone)) (handle-few to s held e sp n)
-
-append-few : (to : Option ℕ) (s : State) (held : Held) → look_up to s ≡ Ok held → (sp : Block → Bool) (x : List ℕ)
-    → (work (rows.append sp held x s) s).searches ≤ length s.zone + 1
-append-few to s held e sp x =
-    let len = length (content_of held.at.here) in sized-few to s held e sp (len + length x) len x
 
 -- searches that are made only in one case
 pub only-if : (t : Bool) (n most : ℕ) → n ≤ most → cond t n 0 ≤ most
@@ -256,109 +245,82 @@ made-few sp bytes fits s masters =
     (λ r. only-if fits (block_searches sp bytes r) (count_of sp r.zone + 1)
     (room-few (put_in_place (Relocatable (length r.names) no_flags bytes)) sp r.zone)))
 
+-- each path
+shapes-few : (a : Asked) (s : State) → 0 < count is_masters s.zone
+    → Shapes (λ (T : Type 0) d. (work d s).searches ≤ length s.zone + 1) s a
+shapes-few a s masters = record {
+  refuses = λ T code. omega arith;
+  makes = λ sp fits bytes. made-few sp bytes fits s masters;
+  empties = empty (is_unused s);
+  points = λ fits bytes. point fits (Nonrelocatable (length s.names) bytes);
+  masters = base-few Masters s.zone masters;
+  reserves = λ p. base-few (Free p) s.zone masters;
+  nowhere = omega arith;
+  sizes = λ handle held e n. handle-few handle s held e (is_relocatable held.number) n;
+  pointers = λ pointer held e n.
+      size-few nothing n s.zone held.at (is_nonrelocatable held.number) (pointer-spot pointer s held e);
+  writes = λ sp handle held e spares n i x within. sized-few handle s held e sp n i x;
+  replies = λ T U value d few. few;
+  rests = λ T value sp. omega arith;
+  renews = λ h n is loose. subst (λ (k : ℕ). k ≤ length s.zone + 1)
+      (sym (freed-few h (again h n) (fits-refused nothing n _ (seek-refused nothing (new h n) (freed (is_relocatable h)
+      s.zone))) s.zone)) (looks h n (is_some (phys n)));
+}
+  where
+    empty : (t : Bool) → (did nothing (seek_slot t nothing s.zone).path s.zone).searches ≤ length s.zone + 1
+    empty true = omega arith
+    empty false = base-few Masters s.zone masters
+
+    point : (t : Bool) (new : Block) → (did nothing (cond t (seek (Base new) nothing s.zone) no_room).path s.zone).searches
+        ≤ length s.zone + 1
+    point true new = base-few new s.zone masters
+    point false new = omega arith
+
+    new : ℕ → ℕ → Move
+    new h n = Put (Relocatable h no_flags (replicate n 0))
+
+    again : ℕ → ℕ → Sought
+    again h n = if_fits n (seek (new h n) nothing (freed (is_relocatable h) s.zone))
+
+    looks : (h n : ℕ) (t : Bool) → (did nothing (cond t (seek (new h n) nothing (freed (is_relocatable h) s.zone))
+        no_room).path (freed (is_relocatable h) s.zone)).searches ≤ length s.zone + 1
+    looks h n true =
+        let goes : Block → ℕ = λ b. cond {A = ℕ} (may_be_purged nothing b) 1 0 in
+        let r = seek-few nothing (new h n) (λ z. refl) (freed (is_relocatable h) s.zone) in
+        let u = unless-le (is_relocatable h) goes s.zone in
+        let g = goes-le nothing s.zone masters in
+        omega (arith, freed-is goes (λ m. refl) (is_relocatable h) s.zone)
+    looks h n false = omega arith
+
+-- so it does in each row that is a path; no other row searches, but those of CompactMem and PurgeMem
+abbrev seeks : Row → Bool
+seeks (table.Seeks bar tell searches gone call) = true
+seeks (table.Compacts moves searches call) = true
+seeks (table.Leaves left r) = seeks r
+seeks r = false
+
+few-by : (r : Row) (s : State) (most : ℕ) → seeks r ≡ false → ForPath (λ (T : Type 0) d. (work d s).searches ≤ most) r s
+    → searches_of r s ≤ most
+few-by (table.Plain bar tell call) s most e few = omega arith
+few-by (table.Quiet bar tell call) s most e few = omega arith
+few-by (table.Does bar tell does) s most e few = few
+few-by (table.Seeks bar tell searches gone call) s most e few = let f : true ≡ false = e in cc
+few-by (table.Compacts moves searches call) s most e few = let f : true ≡ false = e in cc
+few-by table.PurgesAll s most e few = omega arith
+few-by table.LastCode s most e few = omega arith
+few-by (table.Leaves left r) s most e few = few-by r s most e few
+
 -- the row of a call searches at most once more than there are blocks, where one is a Masters block
 pub row_few : (a : Asked) (m : Memory) → 0 < count is_masters m.heap.zone
     → row_searches a m.heap ≤ length m.heap.zone + 1
-row_few (asked.NewHandle x) m masters =
-    made-few nothing (asked.new_bytes x) (is_some (phys (asked.new_size x))) m.heap masters
-row_few asked.NewEmptyHandle m masters = cases (is_unused m.heap)
-  where
-    cases : (t : Bool) → (did nothing (seek_slot t nothing m.heap.zone).path m.heap.zone).searches
-        ≤ length m.heap.zone + 1
-    cases true = omega arith
-    cases false = base-few Masters m.heap.zone masters
-row_few (asked.SetHandleSize handle n) m masters =
-    found-few (look_up handle m.heap) m.heap _ (length m.heap.zone + 1)
-    (λ held e. handle-few handle m.heap held e (is_relocatable held.number) n)
-row_few (asked.ReallocateHandle handle n) m masters =
-    found-few (handle_at handle m.heap) m.heap _ (length m.heap.zone + 1)
-    (λ k e. cases k.number (is_loose (spot (is_relocatable k.number) m.heap.zone)))
-  where
-    zone : List Block
-    zone = m.heap.zone
-
-    again : ℕ → Sought
-    again j = if_fits n (seek (Put (Relocatable j no_flags (replicate n 0))) nothing (freed (is_relocatable j) zone))
-
-    looks : (j : ℕ) (t : Bool) → (did nothing (cond t (seek (Put (Relocatable j no_flags (replicate n 0))) nothing
-        (freed (is_relocatable j) zone)) no_room).path (freed (is_relocatable j) zone)).searches ≤ length zone + 1
-    looks j true =
-        let goes : Block → ℕ = λ b. cond {A = ℕ} (may_be_purged nothing b) 1 0 in
-        let r = seek-few nothing (Put (Relocatable j no_flags (replicate n 0))) (λ z. refl) (freed (is_relocatable j)
-        zone) in
-        let u = unless-le (is_relocatable j) goes zone in
-        let g = goes-le nothing zone masters in
-        omega (arith, freed-is goes (λ m. refl) (is_relocatable j) zone)
-    looks j false = omega arith
-
-    cases : (j : ℕ) (t : Bool) → (work (cond t (rows.changed nothing (around (Drop j ∷ []) [] (again j)) m.heap)
-        (rows.refused PURGED m.heap)) m.heap).searches ≤ length zone + 1
-    cases j true = subst (λ (k : ℕ). k ≤ length zone + 1)
-        (sym (freed-few j (again j) (fits-refused nothing n _ (seek-refused nothing
-        (Put (Relocatable j no_flags (replicate n 0))) (freed (is_relocatable j) zone))) zone))
-        (looks j (is_some (phys n)))
-    cases j false = omega arith
-row_few (asked.HandToHand handle) m masters =
-    found-few (look_up handle m.heap) m.heap _ (length m.heap.zone + 1)
-    (λ held e. made-few (is_relocatable held.number) (content_of held.at.here) true m.heap masters)
-row_few (asked.HandAndHand from to) m masters =
-    found-few (look_up from m.heap) m.heap _ (length m.heap.zone + 1)
-    (λ a is. found-few (look_up to m.heap) m.heap _ (length m.heap.zone + 1)
-    (λ b e. append-few to m.heap b e (λ block. is_relocatable a.number block || is_relocatable b.number block)
-    (content_of a.at.here)))
-row_few (asked.PtrAndHand handle x) m masters =
-    found-few (look_up handle m.heap) m.heap _ (length m.heap.zone + 1)
-    (λ held e. append-few handle m.heap held e (is_relocatable held.number) x)
-row_few (asked.PtrToXHand handle x) m masters =
-    found-few (look_up handle m.heap) m.heap _ (length m.heap.zone + 1)
-    (λ held e. sized-few handle m.heap held e (is_relocatable held.number) (length x) 0 x)
-row_few (asked.Munger handle i old x) m masters =
-    found-few (look_up handle m.heap) m.heap (λ held. call held (nat_le i (length (content_of held.at.here))))
-    (length m.heap.zone + 1) (λ held e. by_test held e (nat_le i (length (content_of held.at.here))))
-  where
-    call : Held → Bool → rows.Done ℤ
-    call held t =
-        if t then rows.replaced (is_relocatable held.number) held (found_in old i (content_of held.at.here)) x m.heap
-        else rows.refused PROFILE m.heap
-
-    by_found : (held : Held) → look_up handle m.heap ≡ Ok held → (o : Option Occurrence)
-        → (work (rows.replaced (is_relocatable held.number) held o x m.heap) m.heap).searches ≤ length m.heap.zone + 1
-    by_found held e None = omega arith
-    by_found held e (Some f) =
-        sized-few handle m.heap held e (is_relocatable held.number)
-        (length (content_of held.at.here) - f.count + length x) f.at (x ++ behind f (content_of held.at.here))
-
-    by_test : (held : Held) → look_up handle m.heap ≡ Ok held → (t : Bool)
-        → (work (call held t) m.heap).searches ≤ length m.heap.zone + 1
-    by_test held e true = by_found held e (found_in old i (content_of held.at.here))
-    by_test held e false = omega arith
-row_few (asked.NewPtr n) m masters = cases (is_some (phys n))
-  where
-    new : Block
-    new = Nonrelocatable (length m.heap.names) (replicate n 0)
-
-    cases : (t : Bool) → (did nothing (cond t (seek (Base new) nothing m.heap.zone) no_room).path m.heap.zone).searches
-        ≤ length m.heap.zone + 1
-    cases true = base-few new m.heap.zone masters
-    cases false = omega arith
-row_few (asked.SetPtrSize pointer n) m masters =
-    found-few (pointed_at pointer m.heap) m.heap _ (length m.heap.zone + 1)
-    (λ held e. size-few nothing n m.heap.zone held.at (is_nonrelocatable held.number)
-    (pointer-spot pointer m.heap held e))
 row_few (asked.CompactMem n) m masters = compact-few n m.heap
 row_few (asked.PurgeMem n) m masters =
     let zone = m.heap.zone in
     let l = least_or_last-le (λ k. has_room (phys n) (purge k nothing zone)) (purgeable zone) in
     let g = goes-le nothing zone masters in
     omega arith
-row_few (asked.ReserveMem n) m masters = cases (phys n)
-  where
-    cases : (o : Option ℕ) → (did nothing (rows.room_for o m.heap.zone).path m.heap.zone).searches
-        ≤ length m.heap.zone + 1
-    cases None = omega arith
-    cases (Some p) = base-few (Free p) m.heap.zone masters
-row_few asked.MoreMasters m masters = base-few Masters m.heap.zone masters
-row_few a m masters = omega arith
+row_few a m masters =
+    few-by (row a) m.heap (length m.heap.zone + 1) refl (by-shape _ m.heap a (shapes-few a m.heap masters))
 
 -- and counts its searches
 searched-by : (r : Row) (m : Memory) → (answer_of r m).1.log.searches

@@ -1,7 +1,7 @@
 use Rattle.heap_calls.proofs.Cited.{◌≡◌, ℕ, ◌<◌, Bool, true, false, not, ◌&&◌, ◌||◌, List, length, Option, Some, None, Ok, refl, sym, subst}
 use Rattle.heap_calls.proofs.Cited.{slice_get, and_parts, slice_get_within, Block, Free, Nonrelocatable, Masters, Relocatable, is_mover}
 use Rattle.heap_calls.proofs.Cited.{is_relocatable, is_nonrelocatable, spot, Base, Refuses, seek-refused, State, Meaning, Handle, Pointer}
-use Rattle.heap_calls.proofs.Cited.{Disposed, Held, look_up, held_at, known_as, nothing}
+use Rattle.heap_calls.proofs.Cited.{not-true, Disposed, Held, look_up, held_at, known_as, nothing}
 use Rattle.heap_calls.specs.Rows as rows
 use Rattle.heap_calls.proofs.Promises.Knowing.{look_up-spot}
 
@@ -26,10 +26,6 @@ look_up-within (Some h) s held e =
 -- what is spared is not purged
 pub spared-stays : (t b : Bool) → (t && not b) ≡ true → b ≡ false
 spared-stays t b e = not-true b (and_parts t (not b) e).1
-  where
-    not-true : (b : Bool) → not b ≡ true → b ≡ false
-    not-true true e = let f : false ≡ true = e in cc
-    not-true false e = refl
 
 pub or-false : (a b : Bool) → (a || b) ≡ false → b ≡ false
 or-false true b e = let f : true ≡ false = e in cc

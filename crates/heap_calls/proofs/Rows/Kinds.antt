@@ -1,6 +1,5 @@
-use Rattle.heap_calls.proofs.Cited.{◌≡◌, ℕ, Bool, true, false, List, [], Option, Some, None, refl, sym, Told, OsErr, Block, State, Memory}
-use Rattle.heap_calls.proofs.Cited.{gone_unless, Asked, Done, Bar, Row, row, may_purge, bar_of, barred_by, gone_of_row}
-use Rattle.heap_calls.specs.Asked as asked
+use Rattle.heap_calls.proofs.Cited.{◌≡◌, Bool, true, false, List, [], Option, Some, None, refl, sym, Told, OsErr, Block, State, Memory}
+use Rattle.heap_calls.proofs.Cited.{gone_unless, Done, Bar, Row, may_purge, bar_of, barred_by, gone_of_row}
 use Rattle.heap_calls.specs.Table.{purged_by}
 use Rattle.heap_calls.specs.Table as table
 
@@ -24,27 +23,6 @@ of-path P does leaves (table.Seeks bar tell searches gone call) path = let f : f
 of-path P does leaves (table.Compacts moves searches call) path = let f : false ≡ true = path in cc
 of-path P does leaves table.PurgesAll path = let f : false ≡ true = path in cc
 of-path P does leaves table.LastCode path = let f : false ≡ true = path in cc
-
--- each call is a path, or purges nothing, or is PurgeMem or MaxMem
-pub by-kind : (P : Asked → Type 0) → ((a : Asked) → has_path (row a) ≡ true → P a)
-    → ((n : ℕ) → P (asked.PurgeMem n)) → P asked.MaxMem → ((a : Asked) → may_purge (row a) ≡ false → P a)
-    → (a : Asked) → P a
-by-kind P path purge max rest (asked.NewHandle x) = path (asked.NewHandle x) refl
-by-kind P path purge max rest asked.NewEmptyHandle = path asked.NewEmptyHandle refl
-by-kind P path purge max rest (asked.SetHandleSize handle n) = path (asked.SetHandleSize handle n) refl
-by-kind P path purge max rest (asked.ReallocateHandle handle n) = path (asked.ReallocateHandle handle n) refl
-by-kind P path purge max rest (asked.HandToHand handle) = path (asked.HandToHand handle) refl
-by-kind P path purge max rest (asked.HandAndHand from to) = path (asked.HandAndHand from to) refl
-by-kind P path purge max rest (asked.PtrAndHand handle x) = path (asked.PtrAndHand handle x) refl
-by-kind P path purge max rest (asked.PtrToXHand handle x) = path (asked.PtrToXHand handle x) refl
-by-kind P path purge max rest (asked.Munger handle i old x) = path (asked.Munger handle i old x) refl
-by-kind P path purge max rest (asked.NewPtr n) = path (asked.NewPtr n) refl
-by-kind P path purge max rest (asked.SetPtrSize pointer n) = path (asked.SetPtrSize pointer n) refl
-by-kind P path purge max rest (asked.ReserveMem n) = path (asked.ReserveMem n) refl
-by-kind P path purge max rest asked.MoreMasters = path asked.MoreMasters refl
-by-kind P path purge max rest (asked.PurgeMem n) = purge n
-by-kind P path purge max rest asked.MaxMem = max
-by-kind P path purge max rest a = rest a refl
 
 -- a call that purges nothing tells of nothing
 pub none-by : (r : Row) (s : State) → may_purge r ≡ false → purged_by r s ≡ []

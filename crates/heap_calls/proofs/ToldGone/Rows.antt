@@ -9,7 +9,7 @@ use Rattle.heap_calls.proofs.Cited.{Refill, stepped, gone_at, Gone, gone_of, roo
 use Rattle.heap_calls.proofs.Cited.{refill_gone, Weighs, PutsNone}
 use Rattle.heap_calls.specs.State as names
 use Rattle.heap_calls.specs.Table.{purged_by}
-use Rattle.heap_calls.proofs.Rows.Kinds.{by-kind}
+use Rattle.heap_calls.proofs.Rows.Shapes.{by-kind}
 use Rattle.heap_calls.proofs.Rows.Along.{row-along}
 use Rattle.heap_calls.proofs.Rows.Weighing.{allows-weighs, allows-puts}
 use Rattle.heap_calls.proofs.Rows.Telling.{path-row-even}

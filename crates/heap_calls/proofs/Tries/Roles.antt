@@ -1,18 +1,19 @@
 use Rattle.heap_calls.proofs.Cited.{◌≡◌, ℕ, ◌+◌, ◌/◌, ◌%◌, zero, suc, Bool, true, false, ◌==◌, List, [], ◌∷◌, ◌++◌, length, refl, sym, ◌∙◌}
-use Rattle.heap_calls.proofs.Cited.{ap, subst, cond, arith, Option, Some, None, Result, Ok, Err, nat_le, slice_get, slice_set, ℤ, take}
-use Rattle.heap_calls.proofs.Cited.{drop, Decides-eqb, option_map, ok_or, OsErr, NIL_HANDLE, LOCKED, PROFILE, PURGED, Flags, Block}
-use Rattle.heap_calls.proofs.Cited.{is_mover, is_relocatable, is_nonrelocatable, content_of, with_content, tidy, written, Spot, spot, freed}
-use Rattle.heap_calls.proofs.Cited.{State, Memory, Plain, Resource, SystemResource, Meaning, Handle, Pointer, Disposed, Answer, Held}
-use Rattle.heap_calls.proofs.Cited.{nothing, refused, disposed_of, change_flags, hoisted, look_up, known_as, handle_at}
-use Rattle.heap_calls.proofs.Cited.{for_found, written_at, pointed, pointed_at, dispose_pointer, block_named, moved_into}
-use Rattle.heap_calls.proofs.Cited.{emptied_at, is_loose, Asked, answered, Done, heap_after, Sought, served, resource_meant}
-use Rattle.heap_calls.proofs.Cited.{resource_role_at, if◌then◌else◌, found_in, Occurrence}
+use Rattle.heap_calls.proofs.Cited.{ap, subst, cond, arith, Option, Some, None, Result, Ok, Err, nat_le, slice_get, slice_set, take, drop}
+use Rattle.heap_calls.proofs.Cited.{Decides-eqb, option_map, ok_or, OsErr, NIL_HANDLE, LOCKED, PROFILE, PURGED, Flags, is_mover}
+use Rattle.heap_calls.proofs.Cited.{is_relocatable, is_nonrelocatable, content_of, with_content, tidy, written, Spot, spot, freed, State}
+use Rattle.heap_calls.proofs.Cited.{Memory, Plain, Resource, SystemResource, Meaning, Handle, Pointer, Disposed, Answer, Held, refused}
+use Rattle.heap_calls.proofs.Cited.{disposed_of, change_flags, hoisted, look_up, known_as, handle_at, for_found, written_at, pointed}
+use Rattle.heap_calls.proofs.Cited.{pointed_at, dispose_pointer, block_named, moved_into, emptied_at, Asked, answered, heap_after, served}
+use Rattle.heap_calls.proofs.Cited.{resource_meant, resource_role_at, Row, row, answer_of, ◌||◌}
 use Rattle.heap_calls.specs.Answer as calls
-use Rattle.heap_calls.specs.Rows as rows
 use Rattle.heap_calls.specs.Asked as asked
 use Rattle.heap_calls.proofs.Promises.Knowing.{pushed}
 use Rattle.heap_calls.proofs.Tries.Gating.{served-holds}
-use Rattle.heap_calls.proofs.Rows.Reads.{reads-same}
+use Rattle.heap_calls.proofs.Rows.Reads.{reads, reads-same}
+use Rattle.heap_calls.proofs.Rows.Shapes.{ForPath, Shapes, by-shape}
+use Rattle.heap_calls.proofs.Rows.Kinds.{has_path}
+use Rattle.heap_calls.specs.Table as table
 
 -- No call of the Memory Manager makes a resource's handle, changes its role, or disposes of it.
 
@@ -123,21 +124,40 @@ emptied-keeps k (Some at) s = by_mover (is_mover at.here)
 flags-keep : (change : Flags → Flags) (handle : Option ℕ) (s : State) → Keeps s (change_flags change handle s).1
 flags-keep change handle s = found-keeps (look_up handle s) s _ (λ held h. refl)
 
--- the path of a call leaves the names, or gives a number that is no resource's
-done-found : {A T : Type 0} (r : Result A OsErr) (s : State) (call : A → Done T)
-    → ((k : A) → Keeps s (heap_after (call k) s)) → Keeps s (heap_after (rows.for_found r s call) s)
-done-found (Err why) s call each h = refl
-done-found (Ok k) s call each h = each k h
-
+-- a number that is given is no resource's
 given-keeps : (name : Meaning) → resource_meant (Some name) ≡ None → (t : Bool) (s : State) (h : ℕ)
     → resource_meant (slice_get (cond t (s.names ++ name ∷ []) s.names) h) ≡ resource_meant (slice_get s.names h)
 given-keeps name none true s h = push-none s.names h name none
 given-keeps name none false s h = refl
 
-again-keeps : (t : Bool) (sp : Block → Bool) (r : Sought) (code : OsErr) (s : State)
-    → Keeps s (heap_after (cond t (rows.changed sp r s) (rows.refused code s)) s)
-again-keeps true sp r code s h = refl
-again-keeps false sp r code s h = refl
+-- the path of a call leaves the names, or gives such a number
+shapes-keep : (a : Asked) (s : State) → Shapes (λ (T : Type 0) d. Keeps s (heap_after d s)) s a
+shapes-keep a s = record {
+  refuses = λ T code h. refl;
+  makes = λ sp fits bytes. given-keeps (Handle Plain) refl _ s;
+  empties = given-keeps (Handle Plain) refl _ s;
+  points = λ fits bytes. given-keeps Pointer refl _ s;
+  masters = same-keeps s;
+  reserves = λ p. same-keeps s;
+  nowhere = same-keeps s;
+  sizes = λ handle held e n h. refl;
+  pointers = λ pointer held e n h. refl;
+  writes = λ sp handle held e spares n i x within h. refl;
+  replies = λ T U value d keeps. keeps;
+  rests = λ T value sp h. refl;
+  renews = λ h n is loose j. refl;
+}
+
+path-keeps : (r : Row) (m : Memory) → has_path r ≡ true → ForPath (λ (T : Type 0) d. Keeps m.heap (heap_after d m.heap)) r m.heap
+    → Keeps m.heap (answer_of r m).1.heap
+path-keeps (table.Does bar tell does) m e keeps = keeps
+path-keeps (table.Leaves left r) m e keeps = path-keeps r m e keeps
+path-keeps (table.Plain bar tell call) m e keeps = let f : false ≡ true = e in cc
+path-keeps (table.Quiet bar tell call) m e keeps = let f : false ≡ true = e in cc
+path-keeps (table.Seeks bar tell searches gone call) m e keeps = let f : false ≡ true = e in cc
+path-keeps (table.Compacts moves searches call) m e keeps = let f : false ≡ true = e in cc
+path-keeps table.PurgesAll m e keeps = let f : false ≡ true = e in cc
+path-keeps table.LastCode m e keeps = let f : false ≡ true = e in cc
 
 moved-keeps : (handle : Option ℕ) (s : State) → Keeps s (calls.move_h_hi handle s).1
 moved-keeps handle s =
@@ -191,15 +211,14 @@ unpointed-keeps (Some p) s = by_name (slice_get s.names p) refl
     by_name (Some Pointer) is h = by_spot is (spot (is_nonrelocatable p) s.zone) h
     by_name (Some Disposed) is h = refl
 
+-- one of two is so, and the first isn't
+other-so : (x y : Bool) → (x || y) ≡ true → x ≡ false → y ≡ true
+other-so true y some none = let f : true ≡ false = none in cc
+other-so false y some none = some
+
 -- each call's row
 row-keeps : (a : Asked) (m : Memory) → Keeps m.heap (answered a m).1.heap
-row-keeps (asked.NewHandle x) m = given-keeps (Handle Plain) refl _ m.heap
-row-keeps asked.NewEmptyHandle m = given-keeps (Handle Plain) refl _ m.heap
 row-keeps (asked.DisposeHandle handle) m = disposed-keeps handle m.heap
-row-keeps (asked.SetHandleSize handle n) m = done-found (look_up handle m.heap) m.heap _ (λ held h. refl)
-row-keeps (asked.ReallocateHandle handle n) m =
-    done-found (handle_at handle m.heap) m.heap _
-    (λ k. again-keeps (is_loose (spot (is_relocatable k.number) m.heap.zone)) nothing _ PURGED m.heap)
 row-keeps (asked.EmptyHandle handle) m =
     found-keeps (handle_at handle m.heap) m.heap _
     (λ k. emptied-keeps k.number (spot (is_relocatable k.number) m.heap.zone) m.heap)
@@ -211,30 +230,6 @@ row-keeps (asked.HSetState handle byte) m =
     flags-keep (λ f. record { locked = byte / 128 % 2 == 1; purgeable = byte / 64 % 2 == 1 }) handle m.heap
 row-keeps (asked.MoveHHi handle) m = moved-keeps handle m.heap
 row-keeps (asked.HLockHi handle) m = locked_high-keeps handle m.heap
-row-keeps (asked.HandToHand handle) m =
-    done-found (look_up handle m.heap) m.heap _
-    (λ held. given-keeps (Handle Plain) refl _ m.heap)
-row-keeps (asked.HandAndHand from to) m =
-    done-found (look_up from m.heap) m.heap _ (λ a. done-found (look_up to m.heap) m.heap _ (λ b h. refl))
-row-keeps (asked.PtrAndHand handle x) m = done-found (look_up handle m.heap) m.heap _ (λ held h. refl)
-row-keeps (asked.PtrToXHand handle x) m = done-found (look_up handle m.heap) m.heap _ (λ held h. refl)
-row-keeps (asked.Munger handle i old x) m =
-    done-found (look_up handle m.heap) m.heap (λ held. call held (nat_le i (length (content_of held.at.here))))
-    (λ held. by_test held (nat_le i (length (content_of held.at.here))))
-  where
-    call : Held → Bool → rows.Done ℤ
-    call held t =
-        if t then rows.replaced (is_relocatable held.number) held (found_in old i (content_of held.at.here)) x m.heap
-        else rows.refused PROFILE m.heap
-
-    by_found : (held : Held) (o : Option Occurrence)
-        → Keeps m.heap (heap_after (rows.replaced (is_relocatable held.number) held o x m.heap) m.heap)
-    by_found held None h = refl
-    by_found held (Some f) h = refl
-
-    by_test : (held : Held) (t : Bool) → Keeps m.heap (heap_after (call held t) m.heap)
-    by_test held true = by_found held (found_in old i (content_of held.at.here))
-    by_test held false = λ h. refl
 row-keeps (asked.BlockMove from i to j n) m =
     found-keeps (block_named from m.heap) m.heap (λ a. for_found (block_named to m.heap) m.heap (moved_into i j n a m.heap))
     (λ a. found-keeps (block_named to m.heap) m.heap (moved_into i j n a m.heap)
@@ -244,19 +239,22 @@ row-keeps (asked.BlockMove from i to j n) m =
         (written_at j (take n (drop i (content_of a.at.here))) b.at m.heap) (refused PROFILE m.heap)).1
     by_test a b true = written-keeps j (take n (drop i (content_of a.at.here))) b.at m.heap
     by_test a b false = λ h. refl
-row-keeps (asked.NewPtr n) m = given-keeps Pointer refl _ m.heap
 row-keeps (asked.DisposePtr pointer) m = unpointed-keeps pointer m.heap
-row-keeps (asked.SetPtrSize pointer n) m = done-found (pointed_at pointer m.heap) m.heap _ (λ held h. refl)
 row-keeps (asked.CompactMem n) m = same-keeps m.heap
 row-keeps (asked.PurgeMem n) m = same-keeps m.heap
 row-keeps asked.MaxMem m = same-keeps m.heap
-row-keeps (asked.ReserveMem n) m = same-keeps m.heap
-row-keeps asked.MoreMasters m = same-keeps m.heap
 row-keeps (asked.Put handle i x) m =
     found-keeps (look_up handle m.heap) m.heap _ (λ held. written-keeps i x held.at m.heap)
 row-keeps (asked.PutPtr pointer i x) m =
     found-keeps (pointed_at pointer m.heap) m.heap _ (λ held. written-keeps i x held.at m.heap)
-row-keeps a m = subst (Keeps m.heap) (sym (reads-same a refl m)) (same-keeps m.heap)
+row-keeps a m = by_reads (reads a) refl (either a refl)
+  where
+    either : (b : Asked) → (reads b || has_path (row b)) ≡ true → reads b ≡ false → has_path (row b) ≡ true
+    either b some none = other-so (reads b) (has_path (row b)) some none
+
+    by_reads : (t : Bool) → reads a ≡ t → (reads a ≡ false → has_path (row a) ≡ true) → Keeps m.heap (answered a m).1.heap
+    by_reads true e path = subst (Keeps m.heap) (sym (reads-same a e m)) (same-keeps m.heap)
+    by_reads false e path = path-keeps (row a) m (path e) (by-shape _ m.heap a (shapes-keep a m.heap))
 
 -- a number is a resource's handle after a try just where it was before, in the same role
 pub served-roles : (a : Asked) (m : Memory) (h : ℕ)
