@@ -1,5 +1,6 @@
 pub mod Found
 pub mod Reads
+pub mod Effects
 pub mod Kinds
 pub mod Shapes
 pub mod Along

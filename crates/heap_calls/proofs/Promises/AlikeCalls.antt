@@ -1,26 +1,18 @@
-use Rattle.heap_calls.proofs.Cited.{◌≡◌, ℕ, ◌+◌, ◌/◌, ◌%◌, ◌≤◌, Bool, true, false, ◌==◌, List, ◌∷◌, ◌++◌, length, slice_set, refl, sym, ◌∙◌}
-use Rattle.heap_calls.proofs.Cited.{ap, subst, cond, Option, Some, None, Result, Ok, Err, nat_le, nat_lt, take, drop, leb-true, same_Some}
-use Rattle.heap_calls.proofs.Cited.{option_map, unwrap_or, if◌then◌else◌, phys, OsErr, LOCKED, PROFILE, PURGED, Flags, Block, Free}
-use Rattle.heap_calls.proofs.Cited.{Nonrelocatable, Masters, Relocatable, size, sizes, is_mover, is_relocatable, is_nonrelocatable}
-use Rattle.heap_calls.proofs.Cited.{content_of, with_content, tidy, resized, written, in_run, change_run, has, high, runs, Spot, spot}
-use Rattle.heap_calls.proofs.Cited.{put_at_base, room, freed, runs_settled, settled, spot-is, spot-passes, State, Memory, Role}
-use Rattle.heap_calls.proofs.Cited.{Plain, Resource, SystemResource, used_slots, all_slots, Answer, Held, nothing, refused}
-use Rattle.heap_calls.proofs.Cited.{disposed_of, flagged, change_flags, hoisted, move_h_hi, look_up, handle_at, for_found}
-use Rattle.heap_calls.proofs.Cited.{written_at, slotted, more_masters, pointed_at, block_named, moved_into, emptied_at, is_loose}
-use Rattle.heap_calls.proofs.Cited.{blocks_purged, purgeable, purged_all, Asked, answered, row, may_purge, OneBlockEach, map-some, stands}
-use Rattle.heap_calls.proofs.Cited.{Alike, alike-refl, alike-then, alike-append, alike-cons, alike-tidy, alike-purged, alike-freed}
-use Rattle.heap_calls.proofs.Cited.{alike-changed, alike-high, alike-compacted, alike-based, alike-room}
-use Rattle.heap_calls.specs.State as names
+use Rattle.heap_calls.proofs.Cited.{◌≡◌, ℕ, ◌+◌, ◌≤◌, Bool, true, false, List, ◌∷◌, ◌++◌, length, refl, sym, ◌∙◌, ap, subst, cond, Option}
+use Rattle.heap_calls.proofs.Cited.{Some, None, nat_lt, same_Some, option_map, unwrap_or, phys, Flags, Block, Free, Nonrelocatable, Masters}
+use Rattle.heap_calls.proofs.Cited.{Relocatable, size, sizes, is_relocatable, is_nonrelocatable, content_of, with_content, tidy, resized}
+use Rattle.heap_calls.proofs.Cited.{written, in_run, change_run, has, high, runs, Spot, spot, put_at_base, room, freed, runs_settled}
+use Rattle.heap_calls.proofs.Cited.{settled, spot-is, spot-passes, State, Memory, used_slots, all_slots, nothing, flagged, change_flags}
+use Rattle.heap_calls.proofs.Cited.{hoisted, slotted, more_masters, is_loose, blocks_purged, purgeable, purged_all, Asked, answered, row}
+use Rattle.heap_calls.proofs.Cited.{OneBlockEach, map-some, stands, Alike, alike-refl, alike-then, alike-append, alike-cons, alike-tidy}
+use Rattle.heap_calls.proofs.Cited.{alike-purged, alike-freed, alike-changed, alike-high, alike-compacted, alike-based, alike-room}
 use Rattle.heap_calls.specs.Answer as calls
 use Rattle.moves.proofs.Steady.{Stays}
 use Rattle.heap_calls.proofs.Rows.Shapes.{by-kind}
 use Rattle.heap_calls.proofs.Rows.Along.{row-along}
 use Rattle.heap_calls.proofs.Rows.Standing.{allows-stays, row-steady, written-size}
-use Rattle.heap_calls.specs.Asked as asked
-use Rattle.heap_calls.proofs.Promises.Knowing.{look_up-spot, pointed_at-spot}
-use Rattle.heap_calls.proofs.Promises.Knowing.{handle_at-name}
-use Rattle.heap_calls.proofs.Rows.Reads.{quiet-same}
-use Rattle.heap_calls.proofs.Promises.NamedBlocks.{named-spot}
+use Rattle.heap_calls.proofs.Rows.Effects as effects
+use Rattle.heap_calls.proofs.Rows.Effects.{Effect, effect_of, Changes, by-effect, by-quiet}
 
 -- What each call leaves of the lowest block that passes a test, where no block of a run does.
 
@@ -43,17 +35,15 @@ abbrev pub LeavesFlags : (Block → Bool) → List Block → ℕ → (Flags → 
 LeavesFlags seen zone k change = (at : Spot) → spot (is_relocatable k) zone ≡ Some at
     → seen at.here ≡ seen (flagged change at.here)
 
--- a call that disposes of a block or changes its flags leaves what is seen
+-- an effect that disposes of a block or changes its flags leaves what is seen, and so does a call of that effect
+abbrev pub LeavesBy : (Block → Bool) → List Block → Effect → Type 0
+LeavesBy seen zone (effects.Disposed (Some k)) = (b : Block) → is_relocatable k b ≡ true → seen b ≡ false
+LeavesBy seen zone (effects.DisposedPointer (Some p)) = (b : Block) → is_nonrelocatable p b ≡ true → seen b ≡ false
+LeavesBy seen zone (effects.Flagged (Some k) change) = LeavesFlags seen zone k change
+LeavesBy seen zone e = Unit {0}
+
 abbrev pub Leaves : (Block → Bool) → List Block → Asked → Type 0
-Leaves seen zone (asked.DisposeHandle (Some k)) = (b : Block) → is_relocatable k b ≡ true → seen b ≡ false
-Leaves seen zone (asked.DisposePtr (Some p)) = (b : Block) → is_nonrelocatable p b ≡ true → seen b ≡ false
-Leaves seen zone (asked.HLock (Some k)) = LeavesFlags seen zone k (λ f. record f { locked = true })
-Leaves seen zone (asked.HUnlock (Some k)) = LeavesFlags seen zone k (λ f. record f { locked = false })
-Leaves seen zone (asked.HPurge (Some k)) = LeavesFlags seen zone k (λ f. record f { purgeable = true })
-Leaves seen zone (asked.HNoPurge (Some k)) = LeavesFlags seen zone k (λ f. record f { purgeable = false })
-Leaves seen zone (asked.HSetState (Some k) byte) = LeavesFlags seen zone k
-    (λ f. record { locked = byte / 128 % 2 == 1; purgeable = byte / 64 % 2 == 1 })
-Leaves seen zone asked = Unit {0}
+Leaves seen zone a = LeavesBy seen zone (effect_of a)
 
 -- a block of a handle that may move or be emptied isn't seen
 abbrev pub LeavesLoose : (Block → Bool) → List Block → Type 0
@@ -81,10 +71,6 @@ module _ (seen : Block → Bool) (steady : Steady seen)
     same : (zone : List Block) → Alike seen zone zone
     same zone = alike-refl seen rigid zone
 
-    -- a state that is as it was
-    unmoved : (s t : State) → t ≡ s → Alike seen s.zone t.zone
-    unmoved s t e = subst (λ (x : State). Alike seen s.zone x.zone) (sym e) (same s.zone)
-
     -- one block in place of another of as many bytes, seen as that
     alike-swapped : (zone : List Block) (s : Spot) (new : Block) → zone ≡ s.below ++ s.here ∷ s.above
         → seen s.here ≡ seen new → size s.here ≡ size new → Alike seen zone (s.below ++ new ∷ s.above)
@@ -109,19 +95,16 @@ module _ (seen : Block → Bool) (steady : Steady seen)
             (alike-base sp Masters steady.masters s.zone zone made))
 
     -- other flags
+    alike-flagged : (change : Flags → Flags) (k : ℕ) (zone : List Block) → LeavesFlags seen zone k change → (at : Spot)
+        → spot (is_relocatable k) zone ≡ Some at → Alike seen zone (at.below ++ flagged change at.here ∷ at.above)
+    alike-flagged change k zone kept at found =
+        alike-swapped zone at (flagged change at.here) (spot-is (is_relocatable k) zone at found) (kept at found)
+        (flagged-size change at.here)
+
     pub alike-flags : (change : Flags → Flags) (k : ℕ) (s : State) → LeavesFlags seen s.zone k change
         → Alike seen s.zone (change_flags change (Some k) s).1.zone
-    alike-flags change k s kept = by_spot (look_up (Some k) s) (λ held is. (look_up-spot k s held is).0)
-      where
-        by_spot : (r : Result Held OsErr) → ((held : Held) → r ≡ Ok held
-            → spot (is_relocatable k) s.zone ≡ Some held.at)
-            → Alike seen s.zone (for_found {T = Unit {0}} r s (λ held.
-            (Ok tt, record s { zone = held.at.below ++ flagged change held.at.here ∷ held.at.above }))).1.zone
-        by_spot (Err code) found = same s.zone
-        by_spot (Ok held) found =
-            let at = held.at in
-            alike-swapped s.zone at (flagged change at.here) (spot-is (is_relocatable k) s.zone at (found held refl))
-            (kept at (found held refl)) (flagged-size change at.here)
+    alike-flags change k s kept = by-effect (λ t. Alike seen s.zone t.zone) (effects.Flagged (Some k) change) s
+        (same s.zone) (alike-flagged change k s.zone kept)
 
     alike-hoisted : (k : ℕ) (zone : List Block) → Alike seen zone (hoisted k zone)
     alike-hoisted k zone = cases (change_run (has (is_relocatable k)) (high (is_relocatable k)) zone)
@@ -133,53 +116,6 @@ module _ (seen : Block → Bool) (steady : Steady seen)
         cases None a = same zone
         cases (Some z) a = alike-then seen rigid zone z (tidy z) (a z refl) (alike-tidy seen rigid z)
 
-    alike-move : (handle : Option ℕ) (s : State) → Alike seen s.zone (move_h_hi handle s).1.zone
-    alike-move handle s = by_spot (look_up handle s)
-      where
-        by_mover : (k : ℕ) (t : Bool) → Alike seen s.zone (cond t
-            (let done : Answer (Unit {0}) = (Ok tt, record s { zone = hoisted k s.zone }) in
-            done) (refused LOCKED s)).1.zone
-        by_mover k true = alike-hoisted k s.zone
-        by_mover k false = same s.zone
-
-        by_spot : (r : Result Held OsErr) → Alike seen s.zone (for_found {T = Unit {0}} r s
-            (λ held. if is_mover held.at.here then (Ok tt, record s { zone = hoisted held.number s.zone })
-            else refused LOCKED s)).1.zone
-        by_spot (Err code) = same s.zone
-        by_spot (Ok held) = by_mover held.number (is_mover held.at.here)
-
-    -- HLockHi: what was moved and is locked wasn't seen
-    pub alike-locked_high : (k : ℕ) (s : State) → LeavesLoose seen s.zone
-        → Alike seen s.zone (calls.h_lock_hi (Some k) s).1.zone
-    alike-locked_high k s loose = by_spot (look_up (Some k) s) (λ held is. (look_up-spot k s held is).0)
-      where
-        lock : Flags → Flags
-        lock f = record f { locked = true }
-
-        moved : ℕ → Bool → Answer (Unit {0})
-        moved j t = cond t (Ok tt, record s { zone = hoisted j s.zone }) (refused LOCKED s)
-
-        by_mover : (j : ℕ) (at : Spot) → spot (is_relocatable k) s.zone ≡ Some at → (t : Bool) → is_mover at.here ≡ t
-            → Alike seen s.zone (for_found (moved j t).0 s (λ (u : Unit {0}). change_flags lock (Some k)
-            (moved j t).1)).1.zone
-        by_mover j at found true mover =
-            let now : State = record s { zone = hoisted j s.zone } in
-            let apart = loose k (ap is_loose found ∙ mover) in
-            alike-then seen rigid s.zone now.zone (change_flags lock (Some k) now).1.zone (alike-hoisted j s.zone)
-            (alike-flags lock k now (λ spot found.
-            let is = spot-passes (is_relocatable k) now.zone spot found in
-            apart spot.here is ∙ sym (apart (flagged lock spot.here) (flagged-number lock k spot.here ∙ is))))
-        by_mover j at found false mover = same s.zone
-
-        by_spot : (r : Result Held OsErr) → ((held : Held) → r ≡ Ok held
-            → spot (is_relocatable k) s.zone ≡ Some held.at)
-            → Alike seen s.zone (for_found (for_found {T = Unit {0}} r s
-            (λ held. moved held.number (is_mover held.at.here))).0 s
-            (λ (u : Unit {0}). change_flags lock (Some k) (for_found {T = Unit {0}} r s
-            (λ held. moved held.number (is_mover held.at.here))).1)).1.zone
-        by_spot (Err code) found = same s.zone
-        by_spot (Ok held) found = by_mover held.number held.at (found held refl) (is_mover held.at.here) refl
-
     -- bytes that are put into a block
     alike-written : (i : ℕ) (x : List ℕ) (zone : List Block) (at : Spot) → zone ≡ at.below ++ at.here ∷ at.above
         → i + length x ≤ length (content_of at.here)
@@ -189,120 +125,40 @@ module _ (seen : Block → Bool) (steady : Steady seen)
         alike-swapped zone at new is (steady.filled (written i x (content_of at.here)) at.here)
         (written-size i x at.here fits)
 
-    alike-put_at : (test : Block → Bool) (i : ℕ) (x : List ℕ) (s : State) (at : Spot) → spot test s.zone ≡ Some at
-        → Alike seen s.zone (written_at i x at s).1.zone
-    alike-put_at test i x s at found = by_test (nat_le (i + length x) (length (content_of at.here))) refl
-      where
-        by_test : (t : Bool) → nat_le (i + length x) (length (content_of at.here)) ≡ t
-            → Alike seen s.zone (cond t (let done : Answer (Unit {0}) = (
-              Ok tt,
-              record s {
-                zone = at.below ++ with_content (written i x (content_of at.here)) at.here
-                    ∷ at.above;
-              },
-            ) in done) (refused PROFILE s)).1.zone
-        by_test true e = alike-written i x s.zone at (spot-is test s.zone at found)
-            (leb-true (i + length x) (length (content_of at.here)) e)
-        by_test false e = same s.zone
-
     -- blocks that aren't seen are gone
     pub alike-gone : (test : Block → Bool) → ((b : Block) → test b ≡ true → seen b ≡ false) → (zone : List Block)
         → Alike seen zone (tidy (freed test zone))
     alike-gone test apart zone = alike-then seen rigid zone (freed test zone) (tidy (freed test zone))
         (alike-freed seen rigid test apart zone) (alike-tidy seen rigid (freed test zone))
 
-    -- what was found is dealt with
-    alike-found : {A T : Type 0} (r : Result A OsErr) (s : State) (answer : A → Answer T)
-        → ((k : A) → r ≡ Ok k → Alike seen s.zone (answer k).1.zone) → Alike seen s.zone (for_found r s answer).1.zone
-    alike-found (Err code) s answer each = same s.zone
-    alike-found (Ok k) s answer each = each k refl
+    -- each effect
+    alike-changes : (e : Effect) (s : State) → LeavesLoose seen s.zone → LeavesBy seen s.zone e
+        → Changes (λ t. Alike seen s.zone t.zone) s e
+    alike-changes (effects.Flagged (Some k) change) s loose leaves = alike-flagged change k s.zone leaves
+    alike-changes (effects.Hoisted (Some k)) s loose leaves = λ at found mover. alike-hoisted k s.zone
+    alike-changes (effects.LockedHigh (Some k)) s loose leaves = λ at found mover.
+        let now : State = record s { zone = hoisted k s.zone } in
+        let apart = loose k (ap is_loose found ∙ mover) in
+        alike-then seen rigid s.zone now.zone (change_flags lock (Some k) now).1.zone (alike-hoisted k s.zone)
+        (alike-flags lock k now (λ spot found.
+        let is = spot-passes (is_relocatable k) now.zone spot found in
+        apart spot.here is ∙ sym (apart (flagged lock spot.here) (flagged-number lock k spot.here ∙ is))))
+      where
+        lock : Flags → Flags
+        lock f = record f { locked = true }
+    alike-changes (effects.Disposed (Some k)) s loose leaves = λ is. alike-gone (is_relocatable k) leaves s.zone
+    alike-changes (effects.DisposedPointer (Some p)) s loose leaves = λ is. alike-gone (is_nonrelocatable p) leaves s.zone
+    alike-changes (effects.Emptied (Some k)) s loose leaves = λ at found mover.
+        alike-gone (is_relocatable k) (loose k (ap is_loose found ∙ mover)) s.zone
+    alike-changes (effects.Compacted n) s loose leaves = alike-compacted seen rigid (runs_settled (phys n) s.zone) s.zone
+    alike-changes (effects.Written call only) s loose leaves = λ at i x is fits. alike-written i x s.zone at is fits
+    alike-changes e s loose leaves = tt
 
-    -- each call that is no path
-    alike-quiet : (a : Asked) (m : Memory) → may_purge (row a) ≡ false → LeavesLoose seen m.heap.zone
-        → Leaves seen m.heap.zone a → Alike seen m.heap.zone (answered a m).1.heap.zone
-    alike-quiet (asked.DisposeHandle None) m quiet loose leaves = same m.heap.zone
-    alike-quiet (asked.DisposeHandle (Some k)) m quiet loose leaves =
-        alike-found (handle_at (Some k) m.heap) m.heap (λ found. disposed_of found.role found.number m.heap)
-        (λ found is. subst (λ (j : ℕ). Alike seen m.heap.zone (disposed_of found.role j m.heap).1.zone)
-        (sym (handle_at-name k m.heap found is).1) (by_role found.role))
-      where
-        by_role : (role : Role) → Alike seen m.heap.zone (disposed_of role k m.heap).1.zone
-        by_role Plain = alike-gone (is_relocatable k) leaves m.heap.zone
-        by_role Resource = same m.heap.zone
-        by_role SystemResource = same m.heap.zone
-    alike-quiet (asked.EmptyHandle handle) m quiet loose leaves =
-        alike-found (handle_at handle m.heap) m.heap (λ k. emptied_at k.number
-        (spot (is_relocatable k.number) m.heap.zone) m.heap) (λ k is. by_spot k.number
-        (spot (is_relocatable k.number) m.heap.zone) refl)
-      where
-        by_mover : (j : ℕ) (at : Spot) → spot (is_relocatable j) m.heap.zone ≡ Some at → (t : Bool)
-            → is_mover at.here ≡ t → Alike seen m.heap.zone (cond t
-            (let gone : Answer (Unit {0}) = (
-              Ok tt,
-              record m.heap {
-                zone = tidy
-                    (freed (is_relocatable j) m.heap.zone);
-              },
-            ) in gone) (refused PURGED m.heap)).1.zone
-        by_mover j at found true mover = alike-gone (is_relocatable j) (loose j (ap is_loose found ∙ mover)) m.heap.zone
-        by_mover j at found false mover = same m.heap.zone
-
-        by_spot : (j : ℕ) (o : Option Spot) → spot (is_relocatable j) m.heap.zone ≡ o
-            → Alike seen m.heap.zone (emptied_at j o m.heap).1.zone
-        by_spot j None found = same m.heap.zone
-        by_spot j (Some at) found = by_mover j at found (is_mover at.here) refl
-    alike-quiet (asked.HLock None) m quiet loose leaves = same m.heap.zone
-    alike-quiet (asked.HLock (Some k)) m quiet loose leaves =
-        alike-flags (λ f. record f { locked = true }) k m.heap leaves
-    alike-quiet (asked.HUnlock None) m quiet loose leaves = same m.heap.zone
-    alike-quiet (asked.HUnlock (Some k)) m quiet loose leaves =
-        alike-flags (λ f. record f { locked = false }) k m.heap leaves
-    alike-quiet (asked.HPurge None) m quiet loose leaves = same m.heap.zone
-    alike-quiet (asked.HPurge (Some k)) m quiet loose leaves =
-        alike-flags (λ f. record f { purgeable = true }) k m.heap leaves
-    alike-quiet (asked.HNoPurge None) m quiet loose leaves = same m.heap.zone
-    alike-quiet (asked.HNoPurge (Some k)) m quiet loose leaves =
-        alike-flags (λ f. record f { purgeable = false }) k m.heap leaves
-    alike-quiet (asked.HSetState None byte) m quiet loose leaves = same m.heap.zone
-    alike-quiet (asked.HSetState (Some k) byte) m quiet loose leaves =
-        alike-flags (λ f. record { locked = byte / 128 % 2 == 1; purgeable = byte / 64 % 2 == 1 }) k m.heap leaves
-    alike-quiet (asked.MoveHHi handle) m quiet loose leaves = alike-move handle m.heap
-    alike-quiet (asked.HLockHi None) m quiet loose leaves = same m.heap.zone
-    alike-quiet (asked.HLockHi (Some k)) m quiet loose leaves = alike-locked_high k m.heap loose
-    alike-quiet (asked.DisposePtr None) m quiet loose leaves = same m.heap.zone
-    alike-quiet (asked.DisposePtr (Some p)) m quiet loose leaves =
-        alike-found (pointed_at (Some p) m.heap) m.heap (λ held. (
-          Ok tt,
-          record {
-            zone = tidy (freed (is_nonrelocatable held.number) m.heap.zone);
-            names = slice_set m.heap.names
-                held.number names.Disposed;
-          },
-        ))
-        (λ held is. subst (λ (j : ℕ). Alike seen m.heap.zone (tidy (freed (is_nonrelocatable j) m.heap.zone)))
-        (sym (pointed_at-spot p m.heap held is).1) (alike-gone (is_nonrelocatable p) leaves m.heap.zone))
-    alike-quiet (asked.CompactMem n) m quiet loose leaves =
-        alike-compacted seen rigid (runs_settled (phys n) m.heap.zone) m.heap.zone
-    alike-quiet (asked.Put None i x) m quiet loose leaves = same m.heap.zone
-    alike-quiet (asked.Put (Some k) i x) m quiet loose leaves =
-        alike-found (look_up (Some k) m.heap) m.heap (λ held. written_at i x held.at m.heap)
-        (λ held is. alike-put_at (is_relocatable k) i x m.heap held.at (look_up-spot k m.heap held is).0)
-    alike-quiet (asked.PutPtr None i x) m quiet loose leaves = same m.heap.zone
-    alike-quiet (asked.PutPtr (Some p) i x) m quiet loose leaves =
-        alike-found (pointed_at (Some p) m.heap) m.heap (λ held. written_at i x held.at m.heap)
-        (λ held is. alike-put_at (is_nonrelocatable p) i x m.heap held.at (pointed_at-spot p m.heap held is).0)
-    alike-quiet (asked.BlockMove from i to j n) m quiet loose leaves =
-        alike-found (block_named from m.heap) m.heap
-        (λ a. for_found (block_named to m.heap) m.heap (moved_into i j n a m.heap))
-        (λ a is. alike-found (block_named to m.heap) m.heap (moved_into i j n a m.heap)
-        (λ b e. by_test a b (named-spot to m.heap b e) (nat_le (i + n) (length (content_of a.at.here)))))
-      where
-        by_test : (a b : Held) → ((test : Block → Bool) × (spot test m.heap.zone ≡ Some b.at)) → (t : Bool)
-            → Alike seen m.heap.zone (cond {A = Answer (Unit {0})} t
-            (written_at j (take n (drop i (content_of a.at.here))) b.at m.heap) (refused PROFILE m.heap)).1.zone
-        by_test a b there true = alike-put_at there.0 j (take n (drop i (content_of a.at.here))) m.heap b.at there.1
-        by_test a b there false = same m.heap.zone
-    alike-quiet a m quiet loose leaves = unmoved m.heap (answered a m).1.heap (quiet-same a refl quiet m)
+    -- what was moved and is locked by HLockHi wasn't seen
+    pub alike-locked_high : (k : ℕ) (s : State) → LeavesLoose seen s.zone
+        → Alike seen s.zone (calls.h_lock_hi (Some k) s).1.zone
+    alike-locked_high k s loose = by-effect (λ t. Alike seen s.zone t.zone) (effects.LockedHigh (Some k)) s (same s.zone)
+        (alike-changes (effects.LockedHigh (Some k)) s loose tt)
 
     -- each call
     pub alike-answered : (a : Asked) (m : Memory) → OneBlockEach m.heap.zone → LeavesLoose seen m.heap.zone
@@ -319,4 +175,5 @@ module _ (seen : Block → Bool) (steady : Steady seen)
         alike-then seen rigid m.heap.zone left (settled (length (runs left)) left)
         (alike-purged seen rigid (purgeable m.heap.zone) nothing m.heap.zone)
         (alike-compacted seen rigid (length (runs left)) left))
-        (λ b quiet. alike-quiet b m quiet loose) a
+        (λ b quiet leaves. by-quiet (λ t. Alike seen m.heap.zone t.zone) b m quiet (same m.heap.zone)
+        (alike-changes (effect_of b) m.heap loose leaves)) a
