@@ -1,6 +1,6 @@
-use Rattle.heap_calls.proofs.Cited.{◌≡◌, ◌+◌, Bool, true, false, ◌||◌, length, Result, Ok, Err, refl, cond, OsErr, sizes, content_of, State}
+use Rattle.heap_calls.proofs.Cited.{◌≡◌, ◌+◌, Bool, true, false, length, Result, Ok, Err, refl, cond, OsErr, sizes, content_of, State}
 use Rattle.heap_calls.proofs.Cited.{Memory, Answer, look_up, handle_at, for_found, on_block, place_in, pointed_at, block_named, is_resource}
-use Rattle.heap_calls.proofs.Cited.{block_bits, Asked, answered, row, may_purge}
+use Rattle.heap_calls.proofs.Cited.{block_bits, Asked, answered}
 use Rattle.heap_calls.specs.Asked as asked
 
 -- The calls that only look at the heap.
@@ -54,13 +54,3 @@ reads-same (asked.ShowPtr pointer) e m = found-same (pointed_at pointer m.heap) 
 reads-same (asked.Where name) e m = found-same (block_named name m.heap) m.heap
     (λ held. (Ok (sizes held.at.below + 16), m.heap)) (λ held. refl)
 reads-same a e m = let f : false ≡ true = e in cc
-
--- and so does a call that may not purge, where those that may are told apart
-pub quiet-same : (a : Asked) → (reads a || may_purge (row a)) ≡ true → may_purge (row a) ≡ false → (m : Memory)
-    → (answered a m).1.heap ≡ m.heap
-quiet-same a either quiet m = cases (reads a) refl (may_purge (row a)) quiet either
-  where
-    cases : (t : Bool) → reads a ≡ t → (u : Bool) → u ≡ false → (t || u) ≡ true → (answered a m).1.heap ≡ m.heap
-    cases true is u off e = reads-same a is m
-    cases false is true off e = let f : true ≡ false = off in cc
-    cases false is false off e = let f : false ≡ true = e in cc

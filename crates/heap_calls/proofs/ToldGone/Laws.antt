@@ -1,26 +1,26 @@
-use Rattle.heap_calls.proofs.Cited.{◌≡◌, ℕ, ◌+◌, ◌≤◌, ◌<◌, ◌/◌, ◌%◌, Bool, true, false, ◌&&◌, ◌||◌, ◌==◌, List, [], ◌∷◌, ◌++◌, refl, sym}
-use Rattle.heap_calls.proofs.Cited.{◌∙◌, ap, subst, cond, arith, Option, Some, None, Result, Ok, Err, ◌⊎◌, inl, inr, length, nat_lt}
-use Rattle.heap_calls.proofs.Cited.{is_some, replicate, cond-true, cond-false, Decides-eqb, nat_tests, bytes_eq-Decides, bytes_eq}
-use Rattle.heap_calls.proofs.Cited.{if◌then◌else◌, OsErr, PURGED, Told, phys, Flags, Block, Free, Nonrelocatable, Masters, Relocatable}
-use Rattle.heap_calls.proofs.Cited.{sizes, total, count, is_purgeable, is_relocatable, is_nonrelocatable, with_content, resized, no_flags}
-use Rattle.heap_calls.proofs.Cited.{has, spot, freed, GREATEST_ZONE, count-none, has-count, unless, freed-is, State, Memory, Known}
-use Rattle.heap_calls.proofs.Cited.{handle_at, nothing, is_loose, Asked, answered, row, keep_code, gate, gated, notes, takes_block, Gone}
-use Rattle.heap_calls.proofs.Cited.{gone_of, gone_unless, refill_gone, gone_in, told_of, bytes_in, TellsWhatGoes, TellsOfPurgeable}
-use Rattle.heap_calls.proofs.Cited.{StepTellsWhatGoes, has_block, refill_inside, released_as, cast_as, Step, NewFilled, NewEmpty, Refill}
-use Rattle.heap_calls.proofs.Cited.{Release, Cast, stepped, gone_at, step_disposes, Put, Drop, seek, if_fits, around, again-most, work}
-use Rattle.heap_calls.proofs.Cited.{told_blocks}
+use Rattle.heap_calls.proofs.Cited.{◌≡◌, ℕ, ◌+◌, ◌≤◌, ◌<◌, Bool, true, false, ◌&&◌, ◌||◌, ◌==◌, List, [], ◌∷◌, ◌++◌, refl, sym, ◌∙◌, ap}
+use Rattle.heap_calls.proofs.Cited.{subst, cond, arith, Option, Some, None, Result, Ok, Err, ◌⊎◌, inl, inr, length, nat_lt, is_some}
+use Rattle.heap_calls.proofs.Cited.{replicate, cond-true, cond-false, Decides-eqb, nat_tests, bytes_eq-Decides, bytes_eq, if◌then◌else◌}
+use Rattle.heap_calls.proofs.Cited.{OsErr, PURGED, Told, phys, Flags, Block, Free, Nonrelocatable, Masters, Relocatable, sizes, total}
+use Rattle.heap_calls.proofs.Cited.{count, is_purgeable, is_relocatable, resized, no_flags, has, spot, freed, GREATEST_ZONE, count-none}
+use Rattle.heap_calls.proofs.Cited.{has-count, unless, freed-is, State, Memory, Known, handle_at, nothing, is_loose, Asked, answered, row}
+use Rattle.heap_calls.proofs.Cited.{keep_code, gate, gated, notes, takes_block, Gone, gone_of, gone_unless, refill_gone, gone_in, told_of}
+use Rattle.heap_calls.proofs.Cited.{bytes_in, TellsWhatGoes, TellsOfPurgeable, StepTellsWhatGoes, has_block, refill_inside, released_as}
+use Rattle.heap_calls.proofs.Cited.{cast_as, Step, NewFilled, NewEmpty, Refill, Release, Cast, stepped, gone_at, step_disposes, Put, Drop}
+use Rattle.heap_calls.proofs.Cited.{seek, if_fits, around, again-most, work, told_blocks}
 use Rattle.heap_calls.specs.Asked as asked
 use Rattle.heap_calls.proofs.Gates.Served.{served-gated}
-pub use Rattle.moves.proofs.Told.{weight, by_bytes, weighed}
 use Rattle.heap_calls.specs.Rows as rows
 use Rattle.heap_calls.proofs.Rows.Kinds.{none-by, gated-by}
 use Rattle.heap_calls.proofs.Rows.Telling.{path-told}
+use Rattle.heap_calls.proofs.Rows.Weighing.{Renews}
 use Rattle.heap_calls.proofs.Promises.Knowing.{handle_at-name}
-use Rattle.heap_calls.proofs.Promises.EmptyingLaws.{Unseen, Spares, purges, of-quiet, of-gone, is_of, is_of-rises}
-use Rattle.heap_calls.proofs.Promises.EmptyingLaws.{renewed-there}
+use Rattle.heap_calls.proofs.Promises.EmptyingLaws.{Unseen, purges, of-quiet, of-gone, is_of, is_of-filled}
+use Rattle.heap_calls.proofs.Promises.EmptyingLaws.{other-unseen, spares-others, renewed-there}
 use Rattle.heap_calls.proofs.ToldGone.Sums.{Adds}
 use Rattle.heap_calls.proofs.ToldGone.Bounds.{told-most, step-most}
 use Rattle.heap_calls.proofs.ToldGone.Rows.{row_gone, rows-even, filled_step-even, empty_step-even, refill_step-even}
+pub use Rattle.moves.proofs.Told.{weight, by_bytes, weighed}
 
 -- What a call tells of a handle is what the handle loses.
 
@@ -85,39 +85,15 @@ only (y ∷ more) (x ∷ others) after once least (inr most) each false some gon
     ap (λ (l : List (List ℕ)). y ∷ l) none_more ∙ ap (λ (z : List ℕ). z ∷ []) same
     ∙ ap (λ (l : List (List ℕ)). x ∷ l) (sym none_other)
 
--- the block of another handle, or of a pointer
-other-unseen : (h k : ℕ) → (k == h) ≡ false → Unseen (is_of h) (is_relocatable k)
-other-unseen h k other (Free n) e = refl
-other-unseen h k other (Nonrelocatable id content) e = refl
-other-unseen h k other Masters e = refl
-other-unseen h k other (Relocatable id flags content) e =
-    cond-false (id == h) 1 0 (ap (λ j. j == h) ((Decides-eqb id k).0 e) ∙ other)
-
-pointer-unseen : (h p : ℕ) → Unseen (is_of h) (is_nonrelocatable p)
-pointer-unseen h p (Free n) e = refl
-pointer-unseen h p (Nonrelocatable id content) e = refl
-pointer-unseen h p Masters e = refl
-pointer-unseen h p (Relocatable id flags content) e = let f : false ≡ true = e in cc
-
 -- whether a call takes a handle's block away, or puts another in its place
 abbrev lets_go : ℕ → Asked → Bool
 lets_go h (asked.ReallocateHandle (Some k) n) = k == h
 lets_go h a = takes_block h a
 
 -- a call that lets no block of a handle go
-spares-others : (h : ℕ) (a : Asked) → lets_go h a ≡ false → Spares (is_of h) a
-spares-others h (asked.DisposeHandle (Some k)) keeps = other-unseen h k keeps
-spares-others h (asked.EmptyHandle (Some k)) keeps = other-unseen h k keeps
-spares-others h (asked.ReallocateHandle (Some k) n) keeps = other-unseen h k keeps
-spares-others h (asked.DisposePtr (Some p)) keeps = pointer-unseen h p
-spares-others h (asked.HLock handle) keeps = is_of-rises h (λ f. record f { locked = true })
-spares-others h (asked.HUnlock handle) keeps = is_of-rises h (λ f. record f { locked = false })
-spares-others h (asked.HPurge handle) keeps = is_of-rises h (λ f. record f { purgeable = true })
-spares-others h (asked.HNoPurge handle) keeps = is_of-rises h (λ f. record f { purgeable = false })
-spares-others h (asked.HSetState handle byte) keeps = is_of-rises h
-    (λ f. record { locked = byte / 128 % 2 == 1; purgeable = byte / 64 % 2 == 1 })
-spares-others h (asked.HLockHi handle) keeps = is_of-rises h (λ f. record f { locked = true })
-spares-others h a keeps = tt
+renews-others : (h : ℕ) (a : Asked) → lets_go h a ≡ false → Renews (is_of h) a
+renews-others h (asked.ReallocateHandle (Some k) n) keeps = other-unseen h k keeps
+renews-others h a keeps = tt
 
 -- or takes none away
 spares-takes : (h : ℕ) (a : Asked) → lets_go h a ≡ false → takes_block h a ≡ false
@@ -131,12 +107,6 @@ is_of-sized h k (Free m) = refl
 is_of-sized h k (Nonrelocatable id content) = refl
 is_of-sized h k Masters = refl
 is_of-sized h k (Relocatable id flags content) = refl
-
-is_of-filled : (h : ℕ) (x : List ℕ) (b : Block) → is_of h b ≡ is_of h (with_content x b)
-is_of-filled h x (Free m) = refl
-is_of-filled h x (Nonrelocatable id content) = refl
-is_of-filled h x Masters = refl
-is_of-filled h x (Relocatable id flags content) = refl
 
 -- a call that purges nothing tells of nothing
 row-none : (a : Asked) (s : State) → purges a ≡ false → row_gone a s ≡ []
@@ -170,10 +140,11 @@ module _ (h : ℕ) (m : Memory) (within : h < length m.heap.names)
             let even = rows-even m (is_of h) (λ k. refl) refl (λ id content. refl) fresh
             (λ l. many (told_of h l)) refl (told-adds (λ x. 1) h)
             (λ b goes. told-one (λ x. 1) h (length m.heap.names) within b) (is_of-sized h) (is_of-filled h) once small a e
-            (spares-others h a keeps) in
+            (renews-others h a keeps) in
             (omega (arith, even), inr (omega (arith, even)))
         by_purging false e =
-            let le = of-quiet (is_of h) (λ k. refl) (is_of-filled h) a m e (spares-others h a keeps) in
+            let le = of-quiet (is_of h) (λ k. refl) (is_of-filled h) a m e
+            (spares-others h a (spares-takes h a keeps)) in
             (omega arith, inl (ap (told_of h) (row-none a m.heap e)))
 
     -- nothing is told of a handle whose block a call lets go

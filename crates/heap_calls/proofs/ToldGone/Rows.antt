@@ -11,11 +11,10 @@ use Rattle.heap_calls.specs.State as names
 use Rattle.heap_calls.specs.Table.{purged_by}
 use Rattle.heap_calls.proofs.Rows.Shapes.{by-kind}
 use Rattle.heap_calls.proofs.Rows.Along.{row-along}
-use Rattle.heap_calls.proofs.Rows.Weighing.{allows-weighs, allows-puts}
+use Rattle.heap_calls.proofs.Rows.Weighing.{Renews, allows-weighs, allows-puts}
 use Rattle.heap_calls.proofs.Rows.Telling.{path-row-even}
-use Rattle.heap_calls.proofs.Promises.EmptyingLaws.{renews}
 use Rattle.heap_calls.proofs.Promises.Knowing.{handle_at-name}
-use Rattle.heap_calls.proofs.Promises.EmptyingLaws.{Unseen, Spares, purges}
+use Rattle.heap_calls.proofs.Promises.EmptyingLaws.{Unseen, purges}
 use Rattle.heap_calls.proofs.Steps.Ways.{slotted_sparing-names}
 use Rattle.heap_calls.proofs.ToldGone.Sums.{Adds, put-alike}
 use Rattle.heap_calls.proofs.ToldGone.Changes.{purged-even, put-even, slot-even}
@@ -116,13 +115,13 @@ module _ (m : Memory) (of : Block → ℕ) (none : (k : ℕ) → of (Free k) ≡
         none_ready (Some r) = nil
 
     -- each call that may purge
-    pub rows-even : (a : Asked) → purges a ≡ true → Spares of a
+    pub rows-even : (a : Asked) → purges a ≡ true → Renews of a
         → total of (answered a m).1.heap.zone + told (row_gone a m.heap) ≡ total of m.heap.zone
-    rows-even a = by-kind (λ b. purges b ≡ true → Spares of b
+    rows-even a = by-kind (λ b. purges b ≡ true → Renews of b
         → total of (answered b m).1.heap.zone + told (row_gone b m.heap) ≡ total of m.heap.zone)
         (λ b path purging own. path-row-even of none told nil adds m goes (row b) path
-        (row-along (λ sp. PutsNone of) m.heap b (allows-puts of none masters pointers b m.heap fresh (renews of b own)))
-        (row-along (λ sp. Weighs of) m.heap b (allows-weighs of sized filled b m.heap once (renews of b own))))
+        (row-along (λ sp. PutsNone of) m.heap b (allows-puts of none masters pointers b m.heap fresh own))
+        (row-along (λ sp. Weighs of) m.heap b (allows-weighs of sized filled b m.heap once own)))
         (λ k purging own. purged-even (length m.heap.names) of none masters told nil adds goes sized nothing
         (blocks_purged (phys k) m.heap.zone) m.heap.zone)
         (λ purging own.

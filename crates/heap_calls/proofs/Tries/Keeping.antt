@@ -5,9 +5,11 @@ use Rattle.heap_calls.proofs.Cited.{more_masters, blocks_purged, Asked, answered
 use Rattle.heap_calls.proofs.Cited.{copying_zone, zone_left, staying_of, staying, LessStaysLater, RefusedKeepsNoMore, KeepsBytes}
 use Rattle.heap_calls.proofs.Cited.{KeepsMasters}
 use Rattle.heap_calls.specs.Asked as asked
-use Rattle.heap_calls.proofs.Promises.AlikeCalls.{Leaves, never, steady-never, alike-answered}
+use Rattle.heap_calls.proofs.Promises.AlikeCalls.{LeavesBy, never, steady-never, alike-answered}
 use Rattle.heap_calls.proofs.Promises.EmptyingLaws.{masters, of-answered, masters-goes, masters-sized, masters-filled}
-use Rattle.heap_calls.proofs.Promises.EmptyingLaws.{masters-spared}
+use Rattle.heap_calls.proofs.Promises.EmptyingLaws.{masters-renewed, masters-spared}
+use Rattle.heap_calls.proofs.Rows.Effects as effects
+use Rattle.heap_calls.proofs.Rows.Effects.{Effect, effect_of}
 use Rattle.heap_calls.proofs.Tries.Gating.{served-holds, served-refused}
 use Rattle.heap_calls.proofs.Tries.Parting.{no-free, less_stays}
 
@@ -60,34 +62,25 @@ served_less_later a m code tells later same few rose =
     let less = less_stays (served a m).1.heap.zone later same few rose in
     omega arith
 
-leaves-never : (zone : List Block) (a : Asked) → Leaves never zone a
-leaves-never zone (asked.DisposeHandle None) = tt
-leaves-never zone (asked.DisposeHandle (Some k)) = λ b e. refl
-leaves-never zone (asked.DisposePtr None) = tt
-leaves-never zone (asked.DisposePtr (Some p)) = λ b e. refl
-leaves-never zone (asked.HLock None) = tt
-leaves-never zone (asked.HLock (Some k)) = λ at e. refl
-leaves-never zone (asked.HUnlock None) = tt
-leaves-never zone (asked.HUnlock (Some k)) = λ at e. refl
-leaves-never zone (asked.HPurge None) = tt
-leaves-never zone (asked.HPurge (Some k)) = λ at e. refl
-leaves-never zone (asked.HNoPurge None) = tt
-leaves-never zone (asked.HNoPurge (Some k)) = λ at e. refl
-leaves-never zone (asked.HSetState None byte) = tt
-leaves-never zone (asked.HSetState (Some k) byte) = λ at e. refl
-leaves-never zone a = tt
+leaves-never : (zone : List Block) (e : Effect) → LeavesBy never zone e
+leaves-never zone (effects.Disposed (Some k)) = λ b is. refl
+leaves-never zone (effects.DisposedPointer (Some p)) = λ b is. refl
+leaves-never zone (effects.Flagged (Some k) change) = λ at found. refl
+leaves-never zone e = tt
 
 -- no call changes how many bytes a zone has
 pub sizes-answered : (a : Asked) (m : Memory) → OneBlockEach m.heap.zone
     → sizes (answered a m).1.heap.zone ≡ sizes m.heap.zone
 sizes-answered a m once =
-    sym (alike-answered never steady-never a m once (λ k loose b is. refl) (λ x. refl) (leaves-never m.heap.zone a)).0
+    sym (alike-answered never steady-never a m once (λ k loose b is. refl) (λ x. refl)
+    (leaves-never m.heap.zone (effect_of a))).0
 
 -- or lets a block of master pointers go
 pub masters-answered : (a : Asked) (m : Memory) → OneBlockEach m.heap.zone
     → count is_masters m.heap.zone ≤ count is_masters (answered a m).1.heap.zone
 masters-answered a m once =
-    of-answered masters (λ n. refl) masters-goes masters-sized masters-filled a m once (masters-spared a)
+    of-answered masters (λ n. refl) masters-goes masters-sized masters-filled a m once (masters-renewed a)
+    (λ quiet. masters-spared (effect_of a))
 
 -- and so through each try
 pub served_bytes : (a : Asked) (m : Memory) → KeepsBytes a m
