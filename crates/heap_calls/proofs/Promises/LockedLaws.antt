@@ -5,8 +5,10 @@ use Rattle.heap_calls.proofs.Cited.{with_content, resized, in_run, Spot, spot, s
 use Rattle.heap_calls.proofs.Cited.{flagged, is_loose, Asked, answered, is_locked, locked_place, releases, OneBlockEach, StaysLocked, apart}
 use Rattle.heap_calls.proofs.Cited.{stands-is, locks, stands-none}
 use Rattle.heap_calls.specs.Asked as asked
+use Rattle.heap_calls.proofs.Rows.Effects as effects
+use Rattle.heap_calls.proofs.Rows.Effects.{Effect, effect_of}
 use Rattle.heap_calls.proofs.Promises.KnownChanges.{none-spot}
-use Rattle.heap_calls.proofs.Promises.AlikeCalls.{Steady, LeavesFlags, Leaves, LeavesLoose, flagged-number}
+use Rattle.heap_calls.proofs.Promises.AlikeCalls.{Steady, LeavesFlags, LeavesBy, LeavesLoose, flagged-number}
 use Rattle.heap_calls.proofs.Promises.AlikeCalls.{alike-answered}
 
 -- No call moves or empties a locked block, unless it releases it.
@@ -145,58 +147,69 @@ still-locked h change kept Masters e = e
 still-locked h change kept (Relocatable id flags content) e = let both = and_parts (id == h) flags.locked e in
     rw (both.0, kept flags both.1) refl
 
--- a call on another handle
-another : (h k : ℕ) (R : Type 0) → (k == h) ≡ false → k ≡ h → R
-another h k R other same = let f : true ≡ false = sym ((Decides-eqb k h).1 same) ∙ other in cc
+-- a change that leaves each lock
+abbrev keeps_lock : (Flags → Flags) → Bool
+keeps_lock change = (change (record { locked = true; purgeable = true })).locked
+    && (change (record { locked = true; purgeable = false })).locked
 
-leaves-locked : (h place : ℕ) (zone : List Block) → OneBlockEach zone → locked_place h zone ≡ Some place → (a : Asked)
-    → releases h a ≡ false → Leaves (is_locked h) zone a
-leaves-locked h place zone once is (asked.DisposeHandle None) keeps = tt
-leaves-locked h place zone once is (asked.DisposeHandle (Some k)) keeps = other-unlocked h k keeps
-leaves-locked h place zone once is (asked.DisposePtr None) keeps = tt
-leaves-locked h place zone once is (asked.DisposePtr (Some p)) keeps = unlocked
+locks-still : (change : Flags → Flags) → keeps_lock change ≡ true → (f : Flags) → f.locked ≡ true → (change f).locked ≡ true
+locks-still change kept f = cases f.locked f.purgeable (and_parts
+    (change (record { locked = true; purgeable = true })).locked
+    (change (record { locked = true; purgeable = false })).locked kept)
+  where
+    cases : (l p : Bool) → ((change (record { locked = true; purgeable = true })).locked ≡ true)
+        × ((change (record { locked = true; purgeable = false })).locked ≡ true)
+        → l ≡ true → (change (record { locked = l; purgeable = p })).locked ≡ true
+    cases true true both e = both.0
+    cases true false both e = both.1
+    cases false p both e = let f : false ≡ true = e in cc
+
+-- whether an effect disposes of a handle, or may unlock its block: one that does is that of a call that releases it
+abbrev is_name : ℕ → Option ℕ → Bool
+is_name h None = false
+is_name h (Some k) = k == h
+
+abbrev releases_by : ℕ → Effect → Bool
+releases_by h (effects.Disposed handle) = is_name h handle
+releases_by h (effects.Flagged handle change) = not (keeps_lock change) && is_name h handle
+releases_by h e = false
+
+set-releases : (t u : Bool) → (u && not t) ≡ false → (not (t && t) && u) ≡ false
+set-releases true u e = refl
+set-releases false true e = e
+set-releases false false e = e
+
+releases-effect : (h : ℕ) (a : Asked) → releases h a ≡ false → releases_by h (effect_of a) ≡ false
+releases-effect h (asked.DisposeHandle (Some k)) keeps = keeps
+releases-effect h (asked.HUnlock (Some k)) keeps = keeps
+releases-effect h (asked.HSetState None byte) keeps = set-releases (byte / 128 % 2 == 1) false keeps
+releases-effect h (asked.HSetState (Some k) byte) keeps = set-releases (byte / 128 % 2 == 1) (k == h) keeps
+releases-effect h a keeps = refl
+
+leaves-locked : (h place : ℕ) (zone : List Block) → OneBlockEach zone → locked_place h zone ≡ Some place → (e : Effect)
+    → releases_by h e ≡ false → LeavesBy (is_locked h) zone e
+leaves-locked h place zone once is (effects.Disposed (Some k)) keeps = other-unlocked h k keeps
+leaves-locked h place zone once is (effects.DisposedPointer (Some p)) keeps = unlocked
   where
     unlocked : (b : Block) → is_nonrelocatable p b ≡ true → is_locked h b ≡ false
     unlocked (Free n) e = refl
     unlocked (Nonrelocatable id content) e = refl
     unlocked Masters e = refl
     unlocked (Relocatable id flags content) e = let f : false ≡ true = e in cc
-leaves-locked h place zone once is (asked.HLock None) keeps = tt
-leaves-locked h place zone once is (asked.HLock (Some k)) keeps =
-    flags-locked h place zone once is k (λ f. record f { locked = true })
-    (λ same b. still-locked h (λ f. record f { locked = true }) (λ f e. refl) b)
-leaves-locked h place zone once is (asked.HUnlock None) keeps = tt
-leaves-locked h place zone once is (asked.HUnlock (Some k)) keeps =
-    flags-locked h place zone once is k (λ f. record f { locked = false })
-    (λ same b e. another h k (is_locked h (flagged (λ f. record f { locked = false }) b) ≡ true) keeps same)
-leaves-locked h place zone once is (asked.HPurge None) keeps = tt
-leaves-locked h place zone once is (asked.HPurge (Some k)) keeps =
-    flags-locked h place zone once is k (λ f. record f { purgeable = true })
-    (λ same b. still-locked h (λ f. record f { purgeable = true }) (λ f e. e) b)
-leaves-locked h place zone once is (asked.HNoPurge None) keeps = tt
-leaves-locked h place zone once is (asked.HNoPurge (Some k)) keeps =
-    flags-locked h place zone once is k (λ f. record f { purgeable = false })
-    (λ same b. still-locked h (λ f. record f { purgeable = false }) (λ f e. e) b)
-leaves-locked h place zone once is (asked.HSetState None byte) keeps = tt
-leaves-locked h place zone once is (asked.HSetState (Some k) byte) keeps =
-    flags-locked h place zone once is k set (λ same b. still-locked h set
-    (λ f e. locks_too (byte / 128 % 2 == 1) (released same)) b)
+leaves-locked h place zone once is (effects.Flagged (Some k) change) keeps =
+    flags-locked h place zone once is k change
+    (λ same. still-locked h change (locks-still change (kept (keeps_lock change) ((Decides-eqb k h).1 same) keeps)))
   where
-    set : Flags → Flags
-    set f = record { locked = byte / 128 % 2 == 1; purgeable = byte / 64 % 2 == 1 }
-
-    released : k ≡ h → not (byte / 128 % 2 == 1) ≡ false
-    released same = ap (λ t. t && not (byte / 128 % 2 == 1)) (sym ((Decides-eqb k h).1 same)) ∙ keeps
-
-    locks_too : (t : Bool) → not t ≡ false → t ≡ true
-    locks_too true e = refl
-    locks_too false e = let f : true ≡ false = e in cc
-leaves-locked h place zone once is a keeps = tt
+    kept : (t : Bool) → (k == h) ≡ true → (not t && (k == h)) ≡ false → t ≡ true
+    kept true own e = refl
+    kept false own e = sym e ∙ own
+leaves-locked h place zone once is e keeps = tt
 
 pub stays-locked : (a : Asked) (m : Memory) → OneBlockEach m.heap.zone → StaysLocked a m
 stays-locked a m once h place keeps is =
     let zone = m.heap.zone in
     let z = (answered a m).1.heap.zone in
     let alike = alike-answered (is_locked h) (steady-locked h) a m once (loose-unlocked h place zone once is)
-    (λ x. refl) (leaves-locked h place zone once is a keeps) in
+    (λ x. refl) (leaves-locked h place zone once is (effect_of a)
+    (releases-effect h a keeps)) in
     stands-is (is_locked h) z ∙ sym alike.1 ∙ sym (stands-is (is_locked h) zone) ∙ is

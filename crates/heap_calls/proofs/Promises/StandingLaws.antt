@@ -1,11 +1,12 @@
-use Rattle.heap_calls.proofs.Cited.{◌≡◌, ℕ, ◌/◌, ◌%◌, ◌≤◌, Bool, true, false, ◌==◌, List, length, refl, sym, ◌∙◌, ap, subst, Some, None}
-use Rattle.heap_calls.proofs.Cited.{Decides-eqb, none-some, Flags, Block, Free, Nonrelocatable, Masters, Relocatable, count}
-use Rattle.heap_calls.proofs.Cited.{is_nonrelocatable, with_content, resized, in_run, not_nonrelocatable-relocatable, State, Memory}
-use Rattle.heap_calls.proofs.Cited.{flagged, Asked, answered, OneBlockEach, pointer_place, disposes, NextIsNew, StaysNonrelocatable}
-use Rattle.heap_calls.proofs.Cited.{stands-is, stands-none}
+use Rattle.heap_calls.proofs.Cited.{◌≡◌, ℕ, ◌≤◌, Bool, true, false, ◌==◌, List, length, refl, sym, ◌∙◌, ap, subst, Some, Decides-eqb}
+use Rattle.heap_calls.proofs.Cited.{none-some, Flags, Block, Free, Nonrelocatable, Masters, Relocatable, count, is_nonrelocatable}
+use Rattle.heap_calls.proofs.Cited.{with_content, resized, in_run, not_nonrelocatable-relocatable, State, Memory, flagged, Asked, answered}
+use Rattle.heap_calls.proofs.Cited.{OneBlockEach, pointer_place, disposes, NextIsNew, StaysNonrelocatable, stands-is, stands-none}
 use Rattle.heap_calls.specs.Asked as asked
+use Rattle.heap_calls.proofs.Rows.Effects as effects
+use Rattle.heap_calls.proofs.Rows.Effects.{Effect, effect_of}
 use Rattle.heap_calls.proofs.Promises.Knowing.{Known, for_pointer, none-pointer, next-none}
-use Rattle.heap_calls.proofs.Promises.AlikeCalls.{Steady, Leaves, alike-answered}
+use Rattle.heap_calls.proofs.Promises.AlikeCalls.{Steady, LeavesBy, alike-answered}
 
 -- No call moves a pointer's block, unless it disposes of it.
 
@@ -55,33 +56,29 @@ next-apart p place next zone none is = cases (next == p) refl
         let few = subst (λ (j : ℕ). count (is_nonrelocatable j) zone ≤ 0) same none in
         absurd (none-some place (sym (stands-none (is_nonrelocatable p) zone few) ∙ sym (stands-is (is_nonrelocatable p) zone) ∙ is))
 
-leaves-nonrelocatable : (p : ℕ) (zone : List Block) (a : Asked) → disposes p a ≡ false → Leaves (is_nonrelocatable p) zone a
-leaves-nonrelocatable p zone (asked.DisposeHandle None) keeps = tt
-leaves-nonrelocatable p zone (asked.DisposeHandle (Some k)) keeps = not_nonrelocatable-relocatable p k
-leaves-nonrelocatable p zone (asked.DisposePtr None) keeps = tt
-leaves-nonrelocatable p zone (asked.DisposePtr (Some k)) keeps = other-nonrelocatable p k keeps
-leaves-nonrelocatable p zone (asked.HLock None) keeps = tt
-leaves-nonrelocatable p zone (asked.HLock (Some k)) keeps = λ at found. flagged-nonrelocatable p (λ f. record f { locked = true }) at.here
-leaves-nonrelocatable p zone (asked.HUnlock None) keeps = tt
-leaves-nonrelocatable p zone (asked.HUnlock (Some k)) keeps = λ at found. flagged-nonrelocatable p (λ f. record f { locked = false })
-    at.here
-leaves-nonrelocatable p zone (asked.HPurge None) keeps = tt
-leaves-nonrelocatable p zone (asked.HPurge (Some k)) keeps = λ at found. flagged-nonrelocatable p (λ f. record f { purgeable = true })
-    at.here
-leaves-nonrelocatable p zone (asked.HNoPurge None) keeps = tt
-leaves-nonrelocatable p zone (asked.HNoPurge (Some k)) keeps = λ at found. flagged-nonrelocatable p (λ f. record f { purgeable = false })
-    at.here
-leaves-nonrelocatable p zone (asked.HSetState None byte) keeps = tt
-leaves-nonrelocatable p zone (asked.HSetState (Some k) byte) keeps = λ at found. flagged-nonrelocatable p
-    (λ f. record { locked = byte / 128 % 2 == 1; purgeable = byte / 64 % 2 == 1 }) at.here
-leaves-nonrelocatable p zone a keeps = tt
+-- whether an effect disposes of a pointer: that of a call does so just where the call does
+abbrev disposes_by : ℕ → Effect → Bool
+disposes_by p (effects.DisposedPointer (Some k)) = k == p
+disposes_by p e = false
+
+disposes-effect : (p : ℕ) (a : Asked) → disposes_by p (effect_of a) ≡ disposes p a
+disposes-effect p (asked.DisposePtr (Some k)) = refl
+disposes-effect p a = refl
+
+leaves-nonrelocatable : (p : ℕ) (zone : List Block) (e : Effect) → disposes_by p e ≡ false
+    → LeavesBy (is_nonrelocatable p) zone e
+leaves-nonrelocatable p zone (effects.Disposed (Some k)) keeps = not_nonrelocatable-relocatable p k
+leaves-nonrelocatable p zone (effects.DisposedPointer (Some k)) keeps = other-nonrelocatable p k keeps
+leaves-nonrelocatable p zone (effects.Flagged (Some k) change) keeps = λ at found. flagged-nonrelocatable p change at.here
+leaves-nonrelocatable p zone e keeps = tt
 
 pub stays-nonrelocatable : (a : Asked) (m : Memory) → OneBlockEach m.heap.zone → NextIsNew m.heap → StaysNonrelocatable a m
 stays-nonrelocatable a m once new p place keeps is =
     let zone = m.heap.zone in
     let z = (answered a m).1.heap.zone in
     let alike = alike-answered (is_nonrelocatable p) (steady-nonrelocatable p) a m once (λ k loose. not_nonrelocatable-relocatable p k)
-    (λ x. next-apart p place (length m.heap.names) zone new is) (leaves-nonrelocatable p zone a keeps) in
+    (λ x. next-apart p place (length m.heap.names) zone new is) (leaves-nonrelocatable p zone (effect_of a)
+    (disposes-effect p a ∙ keeps)) in
     stands-is (is_nonrelocatable p) z ∙ sym alike.1 ∙ sym (stands-is (is_nonrelocatable p) zone) ∙ is
 
 -- the next number is new where each block is known
