@@ -1,23 +1,23 @@
 use Rattle.heap_calls.proofs.Cited.{◌≡◌, ℕ, ◌+◌, ◌-◌, ◌≤◌, Bool, true, false, ◌==◌, List, [], ◌∷◌, ◌++◌, length, take, drop, replicate}
-use Rattle.heap_calls.proofs.Cited.{refl, sym, ◌∙◌, ap, subst, cond, arith, Option, Some, None, Result, Ok, Err, slice_get, slice_set}
-use Rattle.heap_calls.proofs.Cited.{nat_lt, take_all, drop_all, length-replicate, take-append_seam, none-some, same_Some, option_map}
-use Rattle.heap_calls.proofs.Cited.{unwrap_or, if◌then◌else◌, OsErr, LOCKED, Flags, Block, Free, Nonrelocatable, Masters, Relocatable}
-use Rattle.heap_calls.proofs.Cited.{total, count, is_mover, is_relocatable, is_nonrelocatable, content_of, with_content, no_flags, tidy}
-use Rattle.heap_calls.proofs.Cited.{resized, resized_content, written, change_run, has, high, Spot, spot, raised, put_at_base, room, freed}
-use Rattle.heap_calls.proofs.Cited.{State, Meaning, Role, used_slots, all_slots, Answer, Held, refused, flagged}
-use Rattle.heap_calls.proofs.Cited.{change_flags, hoisted, move_h_hi, look_up, for_found, slotted, more_masters, rewritten}
-use Rattle.heap_calls.proofs.Cited.{length-resized, map-some, SeesNoFree, unless, unless-le, unless-none, tidied, freed-is, changed-le}
-use Rattle.heap_calls.proofs.Cited.{high-le, base-le, swapped-le, changed-all, high-all}
+use Rattle.heap_calls.proofs.Cited.{refl, sym, ◌∙◌, ap, subst, cond, arith, Option, Some, None, slice_get, slice_set, nat_lt, take_all}
+use Rattle.heap_calls.proofs.Cited.{drop_all, length-replicate, take-append_seam, none-some, same_Some, option_map, unwrap_or, Flags, Block}
+use Rattle.heap_calls.proofs.Cited.{Free, Nonrelocatable, Masters, Relocatable, total, count, is_relocatable, is_nonrelocatable, content_of}
+use Rattle.heap_calls.proofs.Cited.{with_content, no_flags, tidy, resized, resized_content, written, change_run, has, high, Spot, spot}
+use Rattle.heap_calls.proofs.Cited.{raised, put_at_base, room, freed, State, Meaning, Role, used_slots, all_slots, flagged, change_flags}
+use Rattle.heap_calls.proofs.Cited.{hoisted, slotted, more_masters, rewritten, length-resized, map-some, SeesNoFree, unless, unless-le}
+use Rattle.heap_calls.proofs.Cited.{unless-none, tidied, freed-is, changed-le, high-le, base-le, swapped-le, changed-all, high-all}
 use Rattle.std.proofs.Common.{length-append}
 use Rattle.std.proofs.lemmas.List.{append-nil}
 use Rattle.heap_calls.specs.State as names
 use Rattle.heap_calls.specs.Answer as calls
-use Rattle.heap_calls.proofs.Promises.Knowing.{Known, for_handle, for_pointer, handle-only, pointer-only, look_up-spot}
+use Rattle.heap_calls.proofs.Promises.Knowing.{Known, for_handle, for_pointer, handle-only, pointer-only}
 use Rattle.heap_calls.proofs.Promises.Knowing.{known-at, known-pointed, handle-changed, pointer-changed, known-more}
 use Rattle.heap_calls.proofs.Promises.Knowing.{known-less, GivesWay, none-handle, none-pointer, push-stands, pushed}
 use Rattle.heap_calls.proofs.Promises.Knowing.{set-stands}
 use Rattle.heap_calls.proofs.Promises.Knowing.{next-none, with_bytes, with-same, with-other, handle-plain}
 use Rattle.heap_calls.proofs.Numbering.Numbers.{flipped}
+use Rattle.heap_calls.proofs.Rows.Effects as effects
+use Rattle.heap_calls.proofs.Rows.Effects.{by-effect}
 use Rattle.heap_calls.proofs.Promises.Knowing.{pointer-plain}
 
 -- What each change of a heap leaves known of its blocks' bytes.
@@ -200,24 +200,19 @@ known-renewed s bytes known h x is zone less =
     (Relocatable h no_flags x) (ap (λ y. Relocatable h no_flags y) (sym (with-same h x bytes))) less
 
 -- a block with other flags
-pub known-flags : (change : Flags → Flags) (handle : Option ℕ) (s : State) (bytes : ℕ → List ℕ) → Known s bytes
-    → Known (change_flags change handle s).1 bytes
-known-flags change None s bytes known = known
-known-flags change (Some h) s bytes known = by_spot (look_up (Some h) s) (λ k is. (look_up-spot h s k is).0)
-  where
-    by_spot : (r : Result Held OsErr) → ((k : Held) → r ≡ Ok k → spot (is_relocatable h) s.zone ≡ Some k.at)
-        → Known (for_found {T = Unit {0}} r s (λ held. (
-          Ok tt,
-          record s
-              { zone = held.at.below ++ flagged change held.at.here ∷ held.at.above },
-        ))).1 bytes
-    by_spot (Err code) found = known
-    by_spot (Ok k) found =
-        let here = known-at s bytes known h k.at (found k refl) in
-        known-replaced s (k.at.below ++ flagged change k.at.here ∷ k.at.above) bytes known h here.2 bytes (λ j e. refl)
-        (change here.0) (flagged change k.at.here) (ap (flagged change) here.1)
-        (λ of none. swapped-le of none (is_relocatable h) (λ n. refl) s.zone k.at (flagged change k.at.here)
-        (found k refl) (known.once h))
+pub known-flagged : (change : Flags → Flags) (h : ℕ) (s : State) (bytes : ℕ → List ℕ) → Known s bytes → (at : Spot)
+    → spot (is_relocatable h) s.zone ≡ Some at
+    → Known (record s { zone = at.below ++ flagged change at.here ∷ at.above }) bytes
+known-flagged change h s bytes known at found =
+    let here = known-at s bytes known h at found in
+    known-replaced s (at.below ++ flagged change at.here ∷ at.above) bytes known h here.2 bytes (λ j e. refl)
+    (change here.0) (flagged change at.here) (ap (flagged change) here.1)
+    (λ of none. swapped-le of none (is_relocatable h) (λ n. refl) s.zone at (flagged change at.here) found (known.once h))
+
+pub known-flags : (change : Flags → Flags) (h : ℕ) (s : State) (bytes : ℕ → List ℕ) → Known s bytes
+    → Known (change_flags change (Some h) s).1 bytes
+known-flags change h s bytes known =
+    by-effect (λ t. Known t bytes) (effects.Flagged (Some h) change) s known (known-flagged change h s bytes known)
 
 -- a block moved to the top of its run
 pub hoisted-le : (of : Block → ℕ) → SeesNoFree of → (h : ℕ) (zone : List Block)
@@ -243,20 +238,9 @@ hoisted-all of none h zone =
     cases None more = omega arith
     cases (Some z) more = let l = more z refl in omega (arith, tidied of none z)
 
-pub known-hoisted : (handle : Option ℕ) (s : State) (bytes : ℕ → List ℕ) → Known s bytes
-    → Known (move_h_hi handle s).1 bytes
-known-hoisted handle s bytes known = by_spot (look_up handle s)
-  where
-    by_mover : (h : ℕ) (t : Bool) → Known (cond t (let done : Answer (Unit {0}) =
-        (Ok tt, record s { zone = hoisted h s.zone }) in done) (refused LOCKED s)).1 bytes
-    by_mover h true = known-less s (hoisted h s.zone) bytes (λ of none. hoisted-le of none h s.zone) known
-    by_mover h false = known
-
-    by_spot : (r : Result Held OsErr) → Known (for_found {T = Unit {0}} r s
-        (λ held. if is_mover held.at.here then (Ok tt, record s { zone = hoisted held.number s.zone })
-        else refused LOCKED s)).1 bytes
-    by_spot (Err code) = known
-    by_spot (Ok k) = by_mover k.number (is_mover k.at.here)
+pub known-hoisted : (h : ℕ) (s : State) (bytes : ℕ → List ℕ) → Known s bytes
+    → Known (record s { zone = hoisted h s.zone }) bytes
+known-hoisted h s bytes known = known-less s (hoisted h s.zone) bytes (λ of none. hoisted-le of none h s.zone) known
 
 -- bytes written behind those that a block had
 pub written-behind : (len : ℕ) (x old : List ℕ) → length old ≡ len

@@ -1,34 +1,33 @@
-use Rattle.heap_calls.proofs.Cited.{◌≡◌, ℕ, ◌+◌, ◌≤◌, ◌/◌, ◌%◌, ◌==◌, Bool, true, false, ◌||◌, List, [], ◌∷◌, ◌++◌, length, replicate, refl}
-use Rattle.heap_calls.proofs.Cited.{sym, ◌∙◌, ap, subst, cond, arith, Option, Some, None, Result, Ok, Err, slice_get, slice_set, nat_le, ℤ}
-use Rattle.heap_calls.proofs.Cited.{pos, negsuc, ◌-◌, take, drop, if◌then◌else◌, phys, Told, Given, Refused, Offset, OsErr, MEM_FULL}
-use Rattle.heap_calls.proofs.Cited.{PROFILE, PURGED, written, Block, Free, Nonrelocatable, Masters, Relocatable, total, is_mover}
-use Rattle.heap_calls.proofs.Cited.{is_relocatable, is_nonrelocatable, content_of, with_content, resized_content, no_flags, tidy, runs}
-use Rattle.heap_calls.proofs.Cited.{Spot, spot, purge, freed, compacted, runs_settled, settled, SeesNoFree, purged-le, settled-le}
-use Rattle.heap_calls.proofs.Cited.{spot-passes, Move, Put, Base, Drop, Write, Did, did, Sought, seek, if_fits, seek_slot, seek_size}
-use Rattle.heap_calls.proofs.Cited.{around, did-append, Refuses, seek-refused, fits-refused, size-refused, around-refused, size-new}
-use Rattle.heap_calls.proofs.Cited.{seek-more, if-more, again-more, State, Memory, Meaning, Role, Plain, Resource, SystemResource, Answer}
-use Rattle.heap_calls.proofs.Cited.{Held, nothing, refused, disposed_of, move_h_hi, look_up, handle_at, for_found, written_at}
-use Rattle.heap_calls.proofs.Cited.{pointed_at, pointed, block_named, named_block, moved_into, emptied_at, is_loose, blocks_purged}
-use Rattle.heap_calls.proofs.Cited.{purgeable, purged_all, Asked, told_as, heap_after, reply_of, is_unused, next_block, answered, put_by}
-use Rattle.heap_calls.proofs.Cited.{fun_ext, leb-true, Decides-eqb, found_in, behind, munged, Occurrence}
+use Rattle.heap_calls.proofs.Cited.{◌≡◌, ℕ, ◌+◌, ◌≤◌, ◌==◌, Bool, true, false, ◌||◌, List, [], ◌∷◌, ◌++◌, length, replicate, refl, sym, ◌∙◌}
+use Rattle.heap_calls.proofs.Cited.{ap, subst, cond, arith, Option, Some, None, Result, Ok, Err, slice_get, nat_le, ℤ, pos, negsuc, ◌-◌}
+use Rattle.heap_calls.proofs.Cited.{take, drop, if◌then◌else◌, phys, Told, Given, Refused, Offset, OsErr, MEM_FULL, PROFILE, PURGED}
+use Rattle.heap_calls.proofs.Cited.{written, Block, Free, Nonrelocatable, Masters, Relocatable, total, is_relocatable, is_nonrelocatable}
+use Rattle.heap_calls.proofs.Cited.{content_of, with_content, resized_content, no_flags, runs, Spot, spot, purge, freed, compacted}
+use Rattle.heap_calls.proofs.Cited.{runs_settled, settled, SeesNoFree, purged-le, settled-le, spot-passes, Move, Put, Base, Drop, Write}
+use Rattle.heap_calls.proofs.Cited.{Did, did, Sought, seek, if_fits, seek_slot, seek_size, around, did-append, Refuses, seek-refused}
+use Rattle.heap_calls.proofs.Cited.{fits-refused, size-refused, around-refused, size-new, seek-more, if-more, again-more, State, Memory}
+use Rattle.heap_calls.proofs.Cited.{Meaning, Plain, Answer, Held, nothing, refused, look_up, handle_at, for_found, written_at, pointed_at}
+use Rattle.heap_calls.proofs.Cited.{pointed, block_named, named_block, moved_into, is_loose, blocks_purged, purgeable, purged_all, Asked}
+use Rattle.heap_calls.proofs.Cited.{told_as, heap_after, reply_of, is_unused, next_block, answered, put_by, fun_ext, leb-true, Decides-eqb}
+use Rattle.heap_calls.proofs.Cited.{found_in, behind, munged, Occurrence, hoisted}
 use Rattle.std.specs.Prelude.{is_some}
 use Rattle.mac_words.specs.Told.{Done}
 use Rattle.heap_calls.specs.State as names
-use Rattle.heap_calls.specs.Answer as calls
 use Rattle.heap_calls.specs.Asked as asked
 use Rattle.heap_calls.specs.Rows as rows
 use Rattle.heap_calls.proofs.Same.Growing.{same-handle, same-pointer}
 use Rattle.heap_calls.proofs.Rows.Found.{room_for-refused}
-use Rattle.heap_calls.proofs.Rows.Reads.{reads-same}
-use Rattle.heap_calls.proofs.Promises.Knowing.{Known, for_handle, look_up-spot, handle_at-name, pointed_at-spot}
+use Rattle.heap_calls.proofs.Rows.Effects as effects
+use Rattle.heap_calls.proofs.Rows.Effects.{Effect, effect_of, writes, Changes, by-quiet}
+use Rattle.heap_calls.proofs.Promises.Knowing.{Known, for_handle, for_pointer, look_up-spot, handle_at-name, pointed_at-spot}
 use Rattle.heap_calls.proofs.Promises.Knowing.{known-at}
-use Rattle.heap_calls.proofs.Promises.Knowing.{known-pointed, known-less, with_bytes, with-same, with-other}
+use Rattle.heap_calls.proofs.Promises.Knowing.{known-less, with_bytes, with-same, with-other}
 use Rattle.heap_calls.proofs.Promises.Knowing.{holds-known}
 use Rattle.heap_calls.proofs.Promises.KnownChanges.{More, known-based, known-new, known-sparing, known-new_pointer}
 use Rattle.heap_calls.proofs.Promises.KnownChanges.{known-disposed, known-disposed_pointer, known-put}
 use Rattle.heap_calls.proofs.Promises.KnownChanges.{known-put_pointer}
 use Rattle.heap_calls.proofs.Promises.KnownChanges.{known-grown, known-grown_pointer, known-emptied, known-renewed}
-use Rattle.heap_calls.proofs.Promises.KnownChanges.{known-flags, known-hoisted, known-filled, written-all, written-behind}
+use Rattle.heap_calls.proofs.Promises.KnownChanges.{known-flagged, known-flags, known-hoisted, known-filled, written-all, written-behind}
 use Rattle.heap_calls.proofs.Finding.{found-within, written-munged}
 
 -- Each call keeps what is known of each block's bytes.
@@ -233,6 +232,23 @@ known-named s bytes known k i x tells refused_told done_told = by_name (slice_ge
     by_name (Some names.Pointer) is = subst Knows (ap (λ (o : Option Meaning). pointed k o s) is) of_pointer
     by_name (Some names.Disposed) is = of_handle
 
+-- each effect keeps what is known where no bytes are written
+known-changes : (e : Effect) (s : State) (bytes : ℕ → List ℕ) → writes e ≡ false → Known s bytes
+    → Changes (λ t. Known t bytes) s e
+known-changes (effects.Flagged (Some h) change) s bytes rests known = known-flagged change h s bytes known
+known-changes (effects.Hoisted (Some h)) s bytes rests known = λ at found mover. known-hoisted h s bytes known
+known-changes (effects.LockedHigh (Some h)) s bytes rests known = λ at found mover.
+    known-flags (λ f. record f { locked = true }) h (record s { zone = hoisted h s.zone }) bytes
+    (known-hoisted h s bytes known)
+known-changes (effects.Disposed (Some h)) s bytes rests known = λ is. known-disposed s bytes known h (ap for_handle is)
+known-changes (effects.DisposedPointer (Some p)) s bytes rests known = λ is.
+    known-disposed_pointer s bytes known p (ap for_pointer is)
+known-changes (effects.Emptied (Some h)) s bytes rests known = λ at found mover. known-emptied s bytes known h
+known-changes (effects.Compacted n) s bytes rests known = known-less s (compacted (phys n) s.zone) bytes
+    (λ of none. settled-le of none (runs_settled (phys n) s.zone) s.zone) known
+known-changes (effects.Written call only) s bytes rests known = let f : true ≡ false = rests in cc
+known-changes e s bytes rests known = tt
+
 -- each call keeps what is known, with the bytes that it put
 pub step-known : (a : Asked) (m : Memory) (bytes : ℕ → List ℕ) → Known m.heap bytes
     → Known (answered a m).1.heap (put_by a (answered a m).0 bytes)
@@ -251,21 +267,6 @@ step-known asked.NewEmptyHandle m bytes known =
     (λ there. known-sparing (record m.heap {
       zone = (did nothing (seek_slot (is_unused m.heap) nothing m.heap.zone).path m.heap.zone).zone;
     }) bytes ready (names.Handle Plain)) (λ none. ready)
-step-known (asked.DisposeHandle None) m bytes known = known
-step-known (asked.DisposeHandle (Some h)) m bytes known = by_name (handle_at (Some h) m.heap) (handle_at-name h m.heap)
-  where
-    by_role : (k : ℕ) → for_handle (slice_get m.heap.names k) ≡ true → (role : Role)
-        → Known (disposed_of role k m.heap).1 bytes
-    by_role k is Plain = known-disposed m.heap bytes known k is
-    by_role k is Resource = known
-    by_role k is SystemResource = known
-
-    by_name : (r : Result calls.Known OsErr) → ((k : calls.Known) → r ≡ Ok k
-        → (for_handle (slice_get m.heap.names h) ≡ true) × (k.number ≡ h))
-        → Known (for_found r m.heap (λ k. disposed_of k.role k.number m.heap)).1 bytes
-    by_name (Err code) found = known
-    by_name (Ok k) found = let f = found k refl in by_role k.number
-        (ap (λ j. for_handle (slice_get m.heap.names j)) f.1 ∙ f.0) k.role
 step-known (asked.SetHandleSize None n) m bytes known = known
 step-known (asked.SetHandleSize (Some h) n) m bytes known =
     let s = m.heap in
@@ -307,39 +308,6 @@ step-known (asked.ReallocateHandle (Some h) n) m bytes known =
         (λ there. known-renewed s bytes known h (replicate n 0) is (did nothing (sought h).path s.zone).zone
         (λ of none. again-more of nothing none (is_some (phys n)) h new s.zone there))
     by_test is false = known
-step-known (asked.EmptyHandle handle) m bytes known = by_name (handle_at handle m.heap)
-  where
-    by_mover : (h : ℕ) (t : Bool) → Known (cond t (let gone : Answer (Unit {0}) =
-        (Ok tt, record m.heap { zone = tidy (freed (is_relocatable h) m.heap.zone) }) in
-        gone) (refused PURGED m.heap)).1 bytes
-    by_mover h true = known-emptied m.heap bytes known h
-    by_mover h false = known
-
-    by_spot : (h : ℕ) (o : Option Spot) → Known (emptied_at h o m.heap).1 bytes
-    by_spot h None = known
-    by_spot h (Some at) = by_mover h (is_mover at.here)
-
-    by_name : (r : Result calls.Known OsErr) → Known (for_found r m.heap
-        (λ k. emptied_at k.number (spot (is_relocatable k.number) m.heap.zone) m.heap)).1 bytes
-    by_name (Err code) = known
-    by_name (Ok k) = by_spot k.number (spot (is_relocatable k.number) m.heap.zone)
-step-known (asked.HLock handle) m bytes known = known-flags (λ f. record f { locked = true }) handle m.heap bytes known
-step-known (asked.HUnlock handle) m bytes known = known-flags (λ f. record f { locked = false }) handle m.heap bytes
-    known
-step-known (asked.HPurge handle) m bytes known = known-flags (λ f. record f { purgeable = true }) handle m.heap bytes
-    known
-step-known (asked.HNoPurge handle) m bytes known = known-flags (λ f. record f { purgeable = false }) handle m.heap bytes
-    known
-step-known (asked.HSetState handle byte) m bytes known = known-flags
-    (λ f. record { locked = byte / 128 % 2 == 1; purgeable = byte / 64 % 2 == 1 }) handle m.heap bytes known
-step-known (asked.MoveHHi handle) m bytes known = known-hoisted handle m.heap bytes known
-step-known (asked.HLockHi handle) m bytes known = cases (move_h_hi handle m.heap).0
-  where
-    cases : (r : Result (Unit {0}) OsErr) → Known (for_found r m.heap
-        (λ (u : Unit {0}). calls.h_lock handle (move_h_hi handle m.heap).1)).1 bytes
-    cases (Err code) = known
-    cases (Ok u) = known-flags (λ f. record f { locked = true }) handle (move_h_hi handle m.heap).1 bytes
-        (known-hoisted handle m.heap bytes known)
 step-known (asked.HandToHand None) m bytes known = known
 step-known (asked.HandToHand (Some h)) m bytes known =
     let s = m.heap in
@@ -506,22 +474,6 @@ step-known (asked.NewPtr n) m bytes known =
     (λ of none. if-more of nothing none (is_some (phys n)) (Base new) (λ z. tt) s.zone))
     (known-still s bytes known tells (λ code. refl) nothing sought
     (fits-refused nothing n (seek (Base new) nothing s.zone) (seek-refused nothing (Base new) s.zone)))
-step-known (asked.DisposePtr None) m bytes known = known
-step-known (asked.DisposePtr (Some p)) m bytes known = by_spot (pointed_at (Some p) m.heap) (pointed_at-spot p m.heap)
-  where
-    s : State
-    s = m.heap
-
-    answer : ℕ → Answer (Unit {0})
-    answer j = (Ok tt, record { zone = tidy (freed (is_nonrelocatable j) s.zone); names = slice_set s.names j names.Disposed })
-
-    by_spot : (r : Result Held OsErr) → ((k : Held) → r ≡ Ok k → (spot (is_nonrelocatable p) s.zone ≡ Some k.at)
-        × (k.number ≡ p)) → Known (for_found r s (λ k. answer k.number)).1 bytes
-    by_spot (Err code) found = known
-    by_spot (Ok k) found =
-        let f = found k refl in
-        subst (λ (j : ℕ). Known (answer j).1 bytes) (sym f.1) (known-disposed_pointer s bytes known p
-        (known-pointed s bytes known p k.at f.0).1)
 step-known (asked.SetPtrSize None n) m bytes known = known
 step-known (asked.SetPtrSize (Some p) n) m bytes known =
     let s = m.heap in
@@ -534,8 +486,6 @@ step-known (asked.SetPtrSize (Some p) n) m bytes known =
     (λ found. known-grown_pointer s bytes known p n b.at (did nothing sought.path s.zone).zone there
     (λ of none. size-new of nothing none n s.zone b.at test
     (same-pointer p n b.at.here (spot-passes test s.zone b.at there)) there (known.single p) found)))
-step-known (asked.CompactMem n) m bytes known = known-less m.heap (compacted (phys n) m.heap.zone) bytes
-    (λ of none. settled-le of none (runs_settled (phys n) m.heap.zone) m.heap.zone) known
 step-known (asked.PurgeMem n) m bytes known =
     known-less m.heap (purge (blocks_purged (phys n) m.heap.zone) nothing m.heap.zone) bytes
     (λ of none. purged-le of none (blocks_purged (phys n) m.heap.zone) nothing m.heap.zone) known
@@ -577,4 +527,5 @@ step-known (asked.PutPtr (Some p) i x) m bytes known =
     (λ code. refl) (λ at found. known-put_pointer m.heap bytes known p i x at found) (pointed_at (Some p) m.heap)
     (λ k is. (pointed_at-spot p m.heap k is).0)
 step-known a m bytes known =
-    subst (λ (s : State). Known s (put_by a (answered a m).0 bytes)) (sym (reads-same a refl m)) known
+    by-quiet (λ t. Known t (put_by a (answered a m).0 bytes)) a m refl known
+    (known-changes (effect_of a) m.heap bytes refl known)

@@ -104,6 +104,11 @@ affected (Emptied handle) s = (empty_handle handle s).1
 affected (Compacted n) s = (compact_mem n s).1
 affected (Written call only) s = call s
 
+-- whether bytes are written
+abbrev pub writes : Effect → Bool
+writes (Written call only) = true
+writes e = false
+
 -- a call that purges nothing leaves what its effect does; those that only look, or may purge, are told apart
 told-apart : (a : Asked) (m : Memory)
     → cond (reads a || may_purge (row a)) m.heap (answered a m).1.heap ≡ affected (effect_of a) m.heap

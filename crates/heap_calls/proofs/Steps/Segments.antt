@@ -1,14 +1,15 @@
-use Rattle.heap_calls.proofs.Cited.{◌≡◌, ◌≢◌, ℕ, ◌≤◌, Bool, true, false, ◌&&◌, ◌==◌, List, ◌∷◌, ◌++◌, refl, sym, ◌∙◌, ap, subst, cond}
-use Rattle.heap_calls.proofs.Cited.{arith, Option, Some, None, Result, Ok, Err, slice_get, option_map, ok_or, OsErr, NIL_HANDLE, LOCKED}
-use Rattle.heap_calls.proofs.Cited.{Flags, Block, Free, Nonrelocatable, Masters, Relocatable, sizes, total, count, is_mover, is_masters}
-use Rattle.heap_calls.proofs.Cited.{is_relocatable, is_nonrelocatable, has, Spot, spot, spot-is, total-append, has-count, SeesNoFree, apart}
-use Rattle.heap_calls.proofs.Cited.{Alike, alike-then, stands-is, stands-none, locks, has-counts, not_nonrelocatable-relocatable, has-spot}
-use Rattle.heap_calls.proofs.Cited.{State, Meaning, Handle, Pointer, Disposed, Answer, Held, refused, known_as, held_at, look_up, for_found}
-use Rattle.heap_calls.proofs.Cited.{flagged, change_flags, h_unlock, hoisted, is_locked, locked_place, pointer_place, held_high, loosened}
-use Rattle.heap_calls.proofs.Cited.{has_block}
+use Rattle.heap_calls.proofs.Cited.{◌≡◌, ◌≢◌, ℕ, ◌≤◌, Bool, true, false, ◌&&◌, ◌==◌, List, ◌∷◌, ◌++◌, refl, sym, ◌∙◌, ap, cond, arith}
+use Rattle.heap_calls.proofs.Cited.{Option, Some, None, Result, Ok, Err, slice_get, option_map, ok_or, OsErr, NIL_HANDLE, Flags, Block}
+use Rattle.heap_calls.proofs.Cited.{Free, Nonrelocatable, Masters, Relocatable, sizes, total, count, is_masters, is_relocatable}
+use Rattle.heap_calls.proofs.Cited.{is_nonrelocatable, has, Spot, spot, spot-is, total-append, has-count, SeesNoFree, apart, Alike}
+use Rattle.heap_calls.proofs.Cited.{alike-then, stands-is, stands-none, locks, has-counts, not_nonrelocatable-relocatable, has-spot, State}
+use Rattle.heap_calls.proofs.Cited.{Meaning, Handle, Pointer, Disposed, Held, known_as, held_at, look_up, for_found, flagged, change_flags}
+use Rattle.heap_calls.proofs.Cited.{h_unlock, hoisted, is_locked, locked_place, pointer_place, held_high, loosened, has_block}
 use Rattle.std.specs.Prelude.{is_some}
-use Rattle.heap_calls.proofs.Promises.Knowing.{Known, for_handle, look_up-spot, none-handle, known-less}
-use Rattle.heap_calls.proofs.Promises.KnownChanges.{known-flags, hoisted-le, hoisted-all}
+use Rattle.heap_calls.proofs.Promises.Knowing.{Known, for_handle, look_up-spot, none-handle}
+use Rattle.heap_calls.proofs.Promises.KnownChanges.{known-flags, known-hoisted, hoisted-le, hoisted-all}
+use Rattle.heap_calls.proofs.Rows.Effects as effects
+use Rattle.heap_calls.proofs.Rows.Effects.{by-effect}
 use Rattle.heap_calls.proofs.Promises.AlikeCalls.{Steady, LeavesFlags, never, steady-never, alike-flags}
 use Rattle.heap_calls.proofs.Promises.AlikeCalls.{alike-locked_high, flagged-number}
 use Rattle.heap_calls.proofs.Promises.LockedLaws.{steady-locked, loose-unlocked, other-flags, fewer}
@@ -50,46 +51,15 @@ flags-go P change h s missing done = by_held (look_up (Some h) s) (λ code e. mi
     by_held (Err code) gone found = gone code refl
     by_held (Ok held) gone found = done held.at (found held refl)
 
--- a block held high: there is none; or it is locked; or it is moved and then locked
-held-goes : (P : State → Type 0) (h : ℕ) (s : State) → ((code : OsErr) → look_up (Some h) s ≡ Err code → P s)
-    → ((at : Spot) → spot (is_relocatable h) s.zone ≡ Some at → is_mover at.here ≡ false → P s)
-    → P (change_flags locking (Some h) (moved_high h s)).1
-    → P (held_high h s)
-held-goes P h s missing stands moves = by_held (look_up (Some h) s) (λ code e. missing code e) (look_up-spot h s)
-  where
-    moved : ℕ → Bool → Answer (Unit {0})
-    moved j t = cond t (Ok tt, moved_high j s) (refused LOCKED s)
-
-    by_mover : (j : ℕ) → j ≡ h → (at : Spot) → spot (is_relocatable h) s.zone ≡ Some at → (t : Bool)
-        → is_mover at.here ≡ t
-        → P (for_found (moved j t).0 s (λ (u : Unit {0}). change_flags locking (Some h) (moved j t).1)).1
-    by_mover j own at found true mover =
-        subst (λ (i : ℕ). P (change_flags locking (Some h) (moved_high i s)).1) (sym own) moves
-    by_mover j own at found false mover = stands at found mover
-
-    by_held : (r : Result Held OsErr) → ((code : OsErr) → r ≡ Err code → P s)
-        → ((held : Held) → r ≡ Ok held → (spot (is_relocatable h) s.zone ≡ Some held.at) × (held.number ≡ h))
-        → P (for_found (for_found {T = Unit {0}} r s (λ held. moved held.number (is_mover held.at.here))).0 s
-        (λ (u : Unit {0}). change_flags locking (Some h)
-        (for_found {T = Unit {0}} r s (λ held. moved held.number (is_mover held.at.here))).1)).1
-    by_held (Err code) gone found = gone code refl
-    by_held (Ok held) gone found =
-        let f = found held refl in
-        by_mover held.number f.1 held.at f.0 (is_mover held.at.here) refl
-
 -- What they leave known of each block's bytes.
 
-known-moved : (h : ℕ) (s : State) (bytes : ℕ → List ℕ) → Known s bytes → Known (moved_high h s) bytes
-known-moved h s bytes known = known-less s (hoisted h s.zone) bytes (λ of none. hoisted-le of none h s.zone) known
-
 pub held-known : (h : ℕ) (s : State) (bytes : ℕ → List ℕ) → Known s bytes → Known (held_high h s) bytes
-held-known h s bytes known =
-    held-goes (λ t. Known t bytes) h s (λ code e. known) (λ at found stands. known)
-    (known-flags locking (Some h) (moved_high h s) bytes (known-moved h s bytes known))
+held-known h s bytes known = by-effect (λ t. Known t bytes) (effects.LockedHigh (Some h)) s known
+    (λ at found mover. known-flags locking h (moved_high h s) bytes (known-hoisted h s bytes known))
 
 pub loosened-known : (h : ℕ) (s : State) (bytes : ℕ → List ℕ) → Known s bytes → Known (loosened h s) bytes
 loosened-known h s bytes known =
-    known-flags purging (Some h) (h_unlock (Some h) s).1 bytes (known-flags unlocking (Some h) s bytes known)
+    known-flags purging h (h_unlock (Some h) s).1 bytes (known-flags unlocking h s bytes known)
 
 -- What stands still through them.
 
@@ -159,8 +129,9 @@ module _ (of : Block → ℕ) (none : SeesNoFree of) (flags : (change : Flags �
 
     held-total : (h : ℕ) (s : State) → total of (held_high h s).zone ≡ total of s.zone
     held-total h s =
-        held-goes (λ t. total of t.zone ≡ total of s.zone) h s (λ code e. refl) (λ at found stands. refl)
-        (let less = hoisted-le of none h s.zone in
+        by-effect (λ t. total of t.zone ≡ total of s.zone) (effects.LockedHigh (Some h)) s refl
+        (λ at found mover.
+        let less = hoisted-le of none h s.zone in
         let more = hoisted-all of none h s.zone in
         let flag = flags-total locking h (moved_high h s) in
         omega arith)
