@@ -35,22 +35,6 @@ moved_high h s = record s { zone = hoisted h s.zone }
 abbrev with_flags : (Flags → Flags) → Spot → State → State
 with_flags change at s = record s { zone = at.below ++ flagged change at.here ∷ at.above }
 
--- The ways that they may go.
-
--- other flags: there is no such block; or it has them
-flags-go : (P : State → Type 0) (change : Flags → Flags) (h : ℕ) (s : State)
-    → ((code : OsErr) → look_up (Some h) s ≡ Err code → P s)
-    → ((at : Spot) → spot (is_relocatable h) s.zone ≡ Some at → P (with_flags change at s))
-    → P (change_flags change (Some h) s).1
-flags-go P change h s missing done = by_held (look_up (Some h) s) (λ code e. missing code e)
-    (λ held is. (look_up-spot h s held is).0)
-  where
-    by_held : (r : Result Held OsErr) → ((code : OsErr) → r ≡ Err code → P s)
-        → ((held : Held) → r ≡ Ok held → spot (is_relocatable h) s.zone ≡ Some held.at)
-        → P (for_found {T = Unit {0}} r s (λ held. (Ok tt, with_flags change held.at s))).1
-    by_held (Err code) gone found = gone code refl
-    by_held (Ok held) gone found = done held.at (found held refl)
-
 -- What they leave known of each block's bytes.
 
 pub held-known : (h : ℕ) (s : State) (bytes : ℕ → List ℕ) → Known s bytes → Known (held_high h s) bytes
@@ -118,7 +102,7 @@ module _ (of : Block → ℕ) (none : SeesNoFree of) (flags : (change : Flags �
     flags-total : (change : Flags → Flags) (h : ℕ) (s : State)
         → total of (change_flags change (Some h) s).1.zone ≡ total of s.zone
     flags-total change h s =
-        flags-go (λ t. total of t.zone ≡ total of s.zone) change h s (λ code e. refl)
+        by-effect (λ t. total of t.zone ≡ total of s.zone) (effects.Flagged (Some h) change) s refl
         (λ at found. omega (
           arith,
           ap (total of) (spot-is (is_relocatable h) s.zone at found),
@@ -217,17 +201,23 @@ unlocked-now h (Relocatable id flags content) = cases (id == h)
 none-locked : (h : ℕ) (s : State) (bytes : ℕ → List ℕ) → Known s bytes → has_block h s ≡ true
     → total (locks (is_locked h)) (h_unlock (Some h) s).1.zone ≤ 0
 none-locked h s bytes known there =
-    flags-go (λ t. total (locks (is_locked h)) t.zone ≤ 0) unlocking h s
-    (λ code e. absurd (block-found h s bytes known there e))
-    (λ at found.
-    let rest = apart (is_relocatable h) s.zone at found (known.once h) in
-    let below = fewer h at.below in
-    let above = fewer h at.above in
-    omega (
-      arith,
-      total-append (locks (is_locked h)) at.below (flagged unlocking at.here ∷ at.above),
-      unlocked-now h at.here,
-    ))
+    by_held (look_up (Some h) s) (λ code. block-found h s bytes known there {code = code})
+    (λ held is. (look_up-spot h s held is).0)
+  where
+    by_held : (r : Result Held OsErr) → ((code : OsErr) → r ≢ Err code)
+        → ((held : Held) → r ≡ Ok held → spot (is_relocatable h) s.zone ≡ Some held.at)
+        → total (locks (is_locked h)) (for_found {T = Unit {0}} r s
+        (λ held. (Ok tt, with_flags unlocking held.at s))).1.zone ≤ 0
+    by_held (Err code) some found = absurd (some code refl)
+    by_held (Ok held) some found =
+        let rest = apart (is_relocatable h) s.zone held.at (found held refl) (known.once h) in
+        let below = fewer h held.at.below in
+        let above = fewer h held.at.above in
+        omega (
+          arith,
+          total-append (locks (is_locked h)) held.at.below (flagged unlocking held.at.here ∷ held.at.above),
+          unlocked-now h held.at.here,
+        )
 
 -- nor is one once it is purgeable too
 purging-locks : (h : ℕ) (b : Block) → locks (is_locked h) (flagged purging b) ≡ locks (is_locked h) b
@@ -240,7 +230,7 @@ pub loosened-none : (h : ℕ) (s : State) (bytes : ℕ → List ℕ) → Known s
     → locked_place h (loosened h s).zone ≡ None
 loosened-none h s bytes known there =
     stands-is (is_locked h) (loosened h s).zone ∙ stands-none (is_locked h) (loosened h s).zone
-    (flags-go (λ t. total (locks (is_locked h)) t.zone ≤ 0) purging h now (λ code e. none)
+    (by-effect (λ t. total (locks (is_locked h)) t.zone ≤ 0) (effects.Flagged (Some h) purging) now none
     (λ at found. omega (
       arith,
       ap (total (locks (is_locked h))) (spot-is (is_relocatable h) now.zone at found),
