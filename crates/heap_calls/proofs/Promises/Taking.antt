@@ -165,17 +165,14 @@ drops-or p place s is = by_held (pointed_at (Some p) s) (λ held e. (pointed_at-
 releasing : (a : Asked) (m : Memory) → OneBlockEach m.heap.zone → (h place : ℕ) → releases h a ≡ true
     → locked_place h m.heap.zone ≡ Some place
     → StaysOr true place (answered a m).0 (locked_place h (answered a m).1.heap.zone)
-releasing (asked.DisposeHandle None) m once h place takes is = inl is
 releasing (asked.DisposeHandle (Some k)) m once h place takes is =
     subst (λ (j : ℕ). StaysOr true place (answered (asked.DisposeHandle (Some j)) m).0
     (locked_place h (answered (asked.DisposeHandle (Some j)) m).1.heap.zone)) (sym ((Decides-eqb k h).0 takes))
     (disposes-or h place m.heap is)
-releasing (asked.HUnlock None) m once h place takes is = inl is
 releasing (asked.HUnlock (Some k)) m once h place takes is =
     subst (λ (j : ℕ). StaysOr true place (answered (asked.HUnlock (Some j)) m).0
     (locked_place h (answered (asked.HUnlock (Some j)) m).1.heap.zone)) (sym ((Decides-eqb k h).0 takes))
     (unlocks-or h place m.heap (once h) is (λ f. record f { locked = false }) (λ f. refl))
-releasing (asked.HSetState None byte) m once h place takes is = inl is
 releasing (asked.HSetState (Some k) byte) m once h place takes is =
     let both = and_parts (k == h) (not (byte / 128 % 2 == 1)) takes in
     subst (λ (j : ℕ). StaysOr true place (answered (asked.HSetState (Some j) byte) m).0
@@ -203,7 +200,6 @@ stays-or-released a m once h place is = by_call (releases h a) refl
 -- a pointer's block stays where it is, or the call that disposes of it is done
 dropping : (a : Asked) (m : Memory) → (p place : ℕ) → disposes p a ≡ true → pointer_place p m.heap.zone ≡ Some place
     → StaysOr true place (answered a m).0 (pointer_place p (answered a m).1.heap.zone)
-dropping (asked.DisposePtr None) m p place takes is = inl is
 dropping (asked.DisposePtr (Some k)) m p place takes is =
     subst (λ (j : ℕ). StaysOr true place (answered (asked.DisposePtr (Some j)) m).0
     (pointer_place p (answered (asked.DisposePtr (Some j)) m).1.heap.zone)) (sym ((Decides-eqb k p).0 takes))

@@ -99,7 +99,6 @@ renews-others h a keeps = tt
 spares-takes : (h : ℕ) (a : Asked) → lets_go h a ≡ false → takes_block h a ≡ false
 spares-takes h (asked.DisposeHandle (Some k)) keeps = keeps
 spares-takes h (asked.EmptyHandle (Some k)) keeps = keeps
-spares-takes h (asked.ReallocateHandle handle n) keeps = refl
 spares-takes h a keeps = refl
 
 is_of-sized : (h k : ℕ) (b : Block) → is_of h b ≡ is_of h (resized k b)

@@ -31,29 +31,16 @@ served-holds P a m row refusal =
 
 -- a refused call puts no bytes
 pub put-refused : (a : Asked) (why : OsErr) (bytes : ℕ → List ℕ) → put_by a (Refused why) bytes ≡ bytes
-put-refused (asked.SetHandleSize None n) why bytes = refl
 put-refused (asked.SetHandleSize (Some h) n) why bytes = refl
-put-refused (asked.ReallocateHandle None n) why bytes = refl
 put-refused (asked.ReallocateHandle (Some h) n) why bytes = refl
-put-refused (asked.HandToHand None) why bytes = refl
 put-refused (asked.HandToHand (Some h)) why bytes = refl
-put-refused (asked.HandAndHand None to) why bytes = refl
-put-refused (asked.HandAndHand (Some h) None) why bytes = refl
 put-refused (asked.HandAndHand (Some h) (Some k)) why bytes = refl
-put-refused (asked.PtrAndHand None x) why bytes = refl
 put-refused (asked.PtrAndHand (Some h) x) why bytes = refl
-put-refused (asked.PtrToXHand None x) why bytes = refl
 put-refused (asked.PtrToXHand (Some h) x) why bytes = refl
-put-refused (asked.Munger None i old x) why bytes = refl
 put-refused (asked.Munger (Some h) i old x) why bytes = refl
-put-refused (asked.BlockMove None i to j n) why bytes = refl
-put-refused (asked.BlockMove (Some a) i None j n) why bytes = refl
 put-refused (asked.BlockMove (Some a) i (Some b) j n) why bytes = refl
-put-refused (asked.SetPtrSize None n) why bytes = refl
 put-refused (asked.SetPtrSize (Some p) n) why bytes = refl
-put-refused (asked.Put None from x) why bytes = refl
 put-refused (asked.Put (Some h) from x) why bytes = refl
-put-refused (asked.PutPtr None from x) why bytes = refl
 put-refused (asked.PutPtr (Some p) from x) why bytes = refl
 put-refused a why bytes = refl
 
