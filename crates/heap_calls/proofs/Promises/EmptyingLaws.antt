@@ -164,13 +164,16 @@ stays-filled h x Masters = refl
 stays-filled h x (Relocatable id flags content) = refl
 
 -- a block that may not be purged is one
-pub stays-le : (h : ℕ) (bs : List Block) → total (stays h) bs ≤ count (is_relocatable h) bs
-stays-le h bs = total-le (stays h) (is_of h) (λ b. cases (is_relocatable h b) (is_purgeable b)) bs
+stays-few : (h : ℕ) (b : Block) → stays h b ≤ is_of h b
+stays-few h b = cases (is_relocatable h b) (is_purgeable b)
   where
     cases : (t u : Bool) → cond {A = ℕ} (t && not u) 1 0 ≤ cond {A = ℕ} t 1 0
     cases true true = omega arith
     cases true false = omega arith
     cases false u = omega arith
+
+pub stays-le : (h : ℕ) (bs : List Block) → total (stays h) bs ≤ count (is_relocatable h) bs
+stays-le h bs = total-le (stays h) (is_of h) (stays-few h) bs
 
 -- and each block where none may be purged
 pub stays-all : (h : ℕ) (bs : List Block) → has_purgeable h bs ≡ false
@@ -186,16 +189,6 @@ stays-all h (b ∷ bs) e = cases (is_relocatable h b) (is_purgeable b) e (λ e. 
     cases false u e rest = let r = rest e in omega arith
 
 -- a block of another handle, or of a pointer
-pub stays-other : (h k : ℕ) → (k == h) ≡ false → Unseen (stays h) (is_relocatable k)
-stays-other h k other (Free n) e = refl
-stays-other h k other (Nonrelocatable id content) e = refl
-stays-other h k other Masters e = refl
-stays-other h k other (Relocatable id flags content) e = cond-false
-    ((id == h) && not (is_purgeable (Relocatable id flags content))) 1 0
-    (ap (λ j. (j == h) && not (is_purgeable (Relocatable id flags content))) ((Decides-eqb id k).0 e)
-    ∙ ap (λ t. t && not (is_purgeable (Relocatable id flags content))) other)
-
--- and what comes to 1 of all its blocks
 pub other-unseen : (h k : ℕ) → (k == h) ≡ false → Unseen (is_of h) (is_relocatable k)
 other-unseen h k other (Free n) e = refl
 other-unseen h k other (Nonrelocatable id content) e = refl
@@ -208,6 +201,9 @@ pointer-unseen h p (Free n) e = refl
 pointer-unseen h p (Nonrelocatable id content) e = refl
 pointer-unseen h p Masters e = refl
 pointer-unseen h p (Relocatable id flags content) e = let f : false ≡ true = e in cc
+
+pub stays-other : (h k : ℕ) → (k == h) ≡ false → Unseen (stays h) (is_relocatable k)
+stays-other h k other b e = let few = stays-few h b in omega (arith, other-unseen h k other b e)
 
 pub is_of-filled : (h : ℕ) (x : List ℕ) (b : Block) → is_of h b ≡ is_of h (with_content x b)
 is_of-filled h x (Free m) = refl
