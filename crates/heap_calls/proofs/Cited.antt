@@ -155,8 +155,8 @@ pub use Rattle.heap_calls.specs.State.{SystemResource, all_slots, fresh_heap, fr
 pub use Rattle.heap_calls.specs.Staying.{CostsAtMostMasters, KeepsBytes, KeepsMasters, LessStaysLater, Parted, RefusedCostsAtMostMasters}
 pub use Rattle.heap_calls.specs.Staying.{RefusedKeepsNoMore, StepCostsAtMostMasters, ease, of_masters, staying, staying_of}
 pub use Rattle.heap_calls.specs.Table.{Bar, Row, answer_of, answered, bar_of, barred_by, gate, gated, gated_row, gone_in, gone_of_row}
-pub use Rattle.heap_calls.specs.Table.{may_purge, moves_of, notes, notes_code, row, row_moves, row_searches, searches_of, serve, served}
-pub use Rattle.heap_calls.specs.Table.{zone_left}
+pub use Rattle.heap_calls.specs.Table.{left_by, may_purge, moves_of, notes, notes_code, row, row_moves, row_searches, searches_of, serve}
+pub use Rattle.heap_calls.specs.Table.{served, zone_left}
 pub use Rattle.heap_calls.specs.ToldGone.{StepTellsWhatGoes, TellsOfPurgeable, TellsWhatGoes, bytes_in, told_of}
 pub use Rattle.heap_calls.specs.declared.anchor.Anchor.{Anchor}
 pub use Rattle.heap_calls.specs.declared.anchor.Found.{Found}

@@ -249,20 +249,20 @@ made-few sp bytes fits s masters =
 shapes-few : (a : Asked) (s : State) → 0 < count is_masters s.zone
     → Shapes (λ (T : Type 0) d. (work d s).searches ≤ length s.zone + 1) s a
 shapes-few a s masters = record {
-  refuses = λ T code. omega arith;
-  makes = λ sp fits bytes. made-few sp bytes fits s masters;
-  empties = empty (is_unused s);
-  points = λ fits bytes. point fits (Nonrelocatable (length s.names) bytes);
-  masters = base-few Masters s.zone masters;
-  reserves = λ p. base-few (Free p) s.zone masters;
-  nowhere = omega arith;
-  sizes = λ handle held e n. handle-few handle s held e (is_relocatable held.number) n;
-  pointers = λ pointer held e n.
+  refuses = λ left T code. omega arith;
+  makes = λ sp left fits bytes. made-few sp bytes fits s masters;
+  empties = λ left. empty (is_unused s);
+  points = λ left fits bytes. point fits (Nonrelocatable (length s.names) bytes);
+  masters = λ left. base-few Masters s.zone masters;
+  reserves = λ left p. base-few (Free p) s.zone masters;
+  nowhere = λ left. omega arith;
+  sizes = λ left handle held e n. handle-few handle s held e (is_relocatable held.number) n;
+  pointers = λ left pointer held e n.
       size-few nothing n s.zone held.at (is_nonrelocatable held.number) (pointer-spot pointer s held e);
-  writes = λ sp handle held e spares n i x within. sized-few handle s held e sp n i x;
+  writes = λ left sp handle held e spares n i x within. sized-few handle s held e sp n i x;
   replies = λ T U value d few. few;
   rests = λ T value sp. omega arith;
-  renews = λ h n is loose. subst (λ (k : ℕ). k ≤ length s.zone + 1)
+  renews = λ left h n is loose. subst (λ (k : ℕ). k ≤ length s.zone + 1)
       (sym (freed-few h (again h n) (fits-refused nothing n _ (seek-refused nothing (new h n) (freed (is_relocatable h)
       s.zone))) s.zone)) (looks h n (is_some (phys n)));
 }

@@ -1,27 +1,26 @@
-use Rattle.heap_calls.proofs.Cited.{◌≡◌, ◌≢◌, ℕ, ◌+◌, ◌≤◌, Bool, true, false, ◌||◌, List, [], ◌∷◌, ◌++◌, length, refl, sym, ◌∙◌, ap, subst}
-use Rattle.heap_calls.proofs.Cited.{cond, arith, Option, Some, None, Result, Ok, Err, replicate, nat_le, slice_get, slice_set, ◌/◌, ◌%◌}
-use Rattle.heap_calls.proofs.Cited.{◌==◌, ℤ, pos, ◌-◌, take, drop, option_map, ok_or, unwrap_or, if◌then◌else◌, phys, OsErr, NIL_HANDLE}
-use Rattle.heap_calls.proofs.Cited.{LOCKED, PROFILE, PURGED, Flags, Block, Nonrelocatable, Masters, Relocatable, is_mover, is_relocatable}
-use Rattle.heap_calls.proofs.Cited.{is_nonrelocatable, content_of, with_content, no_flags, sizes, tidy, count, written, Spot, spot, freed}
-use Rattle.heap_calls.proofs.Cited.{State, Memory, Role, Plain, Resource, SystemResource, Meaning, Handle, Pointer, Disposed, Answer}
-use Rattle.heap_calls.proofs.Cited.{Held, nothing, refused, disposed_of, flagged, change_flags, hoisted, look_up, held_at}
-use Rattle.heap_calls.proofs.Cited.{handle_at, known_as, for_found, written_at, on_block, code_of, without, munger_nil, place_in}
-use Rattle.heap_calls.proofs.Cited.{pointed_at, block_named, dispose_pointer, get_pointer_size, pointer_zone, put_pointer, show_pointer}
-use Rattle.heap_calls.proofs.Cited.{place_of, recover_handle, block_move, moved_into, is_resource, block_bits, bit, emptied_at, is_loose}
-use Rattle.heap_calls.proofs.Cited.{h_purge, h_no_purge, h_get_state, h_set_state, empty_handle, purge_mem, Told, Given, Number, Bytes}
-use Rattle.heap_calls.proofs.Cited.{Refused, Offset, Asked, told_as, answered, Move, Put, Base, Drop, Write, Did, did, Sought, seek}
-use Rattle.heap_calls.proofs.Cited.{if_fits, seek_slot, seek_size, around, did-append, Refuses, seek-refused, fits-refused, slot-refused}
-use Rattle.heap_calls.proofs.Cited.{size-refused, around-refused, heap_after, answer_made, is_unused, next_block, reply_of, code_left}
-use Rattle.heap_calls.proofs.Cited.{slotted_zone, copying_zone, zone_left, found_in, behind, Occurrence}
+use Rattle.heap_calls.proofs.Cited.{◌≡◌, ◌≢◌, ℕ, ◌+◌, ◌≤◌, Bool, true, false, List, [], ◌∷◌, ◌++◌, length, refl, sym, ◌∙◌, ap, subst, cond}
+use Rattle.heap_calls.proofs.Cited.{arith, Option, Some, None, Result, Ok, Err, replicate, nat_le, slice_get, slice_set, ◌/◌, ◌%◌, ◌==◌, ℤ}
+use Rattle.heap_calls.proofs.Cited.{take, drop, option_map, ok_or, unwrap_or, OsErr, NIL_HANDLE, LOCKED, PROFILE, PURGED, Flags, Block}
+use Rattle.heap_calls.proofs.Cited.{Nonrelocatable, Masters, Relocatable, is_mover, is_relocatable, is_nonrelocatable, content_of}
+use Rattle.heap_calls.proofs.Cited.{with_content, no_flags, sizes, tidy, count, written, Spot, spot, freed, State, Memory, Role, Plain}
+use Rattle.heap_calls.proofs.Cited.{Resource, SystemResource, Meaning, Handle, Pointer, Disposed, Answer, Held, nothing, refused}
+use Rattle.heap_calls.proofs.Cited.{disposed_of, flagged, change_flags, hoisted, look_up, held_at, handle_at, known_as, for_found}
+use Rattle.heap_calls.proofs.Cited.{written_at, on_block, code_of, without, munger_nil, place_in, pointed_at, block_named, dispose_pointer}
+use Rattle.heap_calls.proofs.Cited.{get_pointer_size, pointer_zone, put_pointer, show_pointer, place_of, recover_handle, block_move}
+use Rattle.heap_calls.proofs.Cited.{moved_into, is_resource, block_bits, bit, emptied_at, h_purge, h_no_purge, h_get_state, h_set_state}
+use Rattle.heap_calls.proofs.Cited.{empty_handle, purge_mem, Told, Given, Number, Bytes, Refused, Offset, Asked, told_as, answered, Move}
+use Rattle.heap_calls.proofs.Cited.{Put, Base, Drop, Write, Did, did, Sought, seek, if_fits, seek_slot, seek_size, around, did-append}
+use Rattle.heap_calls.proofs.Cited.{Refuses, seek-refused, fits-refused, slot-refused, size-refused, around-refused, heap_after}
+use Rattle.heap_calls.proofs.Cited.{answer_made, is_unused, next_block, reply_of, code_left, slotted_zone, zone_left, no_room, left_by, row}
 use Rattle.heap_calls.specs.Answer as calls
 use Rattle.mac_words.specs.Told.{Done}
-use Rattle.heap_calls.proofs.Rows.Found.{room_for-refused}
 use Rattle.heap_calls.specs.Rows as rows
 use Rattle.heap_calls.proofs.Same.NewBlocks.{slotted-is, slot-agrees, with_slot, ready_with}
 use Rattle.heap_calls.specs.Asked as asked
 use Rattle.heap_calls.proofs.Promises.KnownChanges.{none-spot, hoisted-all}
 use Rattle.heap_calls.proofs.Promises.Knowing.{look_up-spot}
 use Rattle.heap_calls.proofs.Exchanging.{spot-count}
+use Rattle.heap_calls.proofs.Rows.Shapes.{Shapes, Stays, by-shape}
 
 -- A refused call leaves all as it was, but for the zone where the table says so.
 
@@ -191,13 +190,6 @@ locked_high-leaves (Some k) s = by_held (look_up (Some k) s) (λ held is. is)
     by_held (Err why) is = refused-leaves why s
     by_held (Ok held) is = by_mover held (is held refl) (is_mover held.at.here)
 
--- a path that finds no room leaves the zone
-done-found : {A T : Type 0} (r : Result A OsErr) (s : State) (call : A → rows.Done T)
-    → ((k : A) → Leaves s.zone s ((call k).reply, heap_after (call k) s))
-    → Leaves s.zone s ((rows.for_found r s call).reply, heap_after (rows.for_found r s call) s)
-done-found (Err why) s call each code e = refl
-done-found (Ok k) s call each code e = each k code e
-
 module _ (sp : Block → Bool) (r : Sought) (s : State)
   where
     -- a path that found room isn't refused, and one that found none leaves this zone
@@ -264,14 +256,6 @@ made-leaves sp block s only =
         ∙ ap (λ (d : Did). d.zone) ((only slot_zone none).1 slot_zone)
     by_slot false none = refl
 
-again-leaves : (t : Bool) (sp : Block → Bool) (r : Sought) (why : OsErr) (s : State) → Refuses sp r
-    → Leaves s.zone s (
-      (cond t (rows.changed sp r s) (rows.refused why s)).reply,
-      heap_after (cond t (rows.changed sp r s) (rows.refused why s)) s,
-    )
-again-leaves true sp r why s only code e = changed-leaves sp r s only code e
-again-leaves false sp r why s only code e = refl
-
 sized-leaves : (sp : Block → Bool) (held : Held) (n i : ℕ) (x : List ℕ) (s : State)
     → Leaves s.zone s ((rows.sized_written sp held n i x s).reply, heap_after (rows.sized_written sp held n i x s) s)
 sized-leaves sp held n i x s =
@@ -281,18 +265,66 @@ sized-leaves sp held n i x s =
     (around-refused sp [] write sought (size-refused sp n s.zone held.at))
 
 -- a call with another reply leaves what it left
-replied-leaves : {T U : Type 0} (value : U) (d : rows.Done T) (s : State) → Leaves s.zone s (d.reply, heap_after d s)
-    → Leaves s.zone s ((rows.replying value d).reply, heap_after (rows.replying value d) s)
-replied-leaves {T} {U} value d s leaves code e = leaves code (by_reply d.reply e)
+replied-leaves : {T U : Type 0} (value : U) (d : rows.Done T) (zone : List Block) (s : State)
+    → Leaves zone s (d.reply, heap_after d s)
+    → Leaves zone s ((rows.replying value d).reply, heap_after (rows.replying value d) s)
+replied-leaves {T} {U} value d zone s leaves code e = leaves code (by_reply d.reply e)
   where
     by_reply : (r : Result T OsErr) → rows.reply_with {T = T} {U = U} value r ≡ Err code → r ≡ Err code
     by_reply (Ok x) e = cc
     by_reply (Err why) e = let same : why ≡ code = cc in ap (λ (c : OsErr). (let r : Result T OsErr = Err c in r)) same
 
-append-leaves : (sp : Block → Bool) (held : Held) (x : List ℕ) (s : State)
-    → Leaves s.zone s ((rows.append sp held x s).reply, heap_after (rows.append sp held x s) s)
-append-leaves sp held x s =
-    let len = length (content_of held.at.here) in sized-leaves sp held (len + length x) len x s
+-- what is sought where a block can have a size
+fit-refused : (t : Bool) (sp : Block → Bool) (r : Sought) → Refuses sp r → Refuses sp (cond t r no_room)
+fit-refused true sp r only = only
+fit-refused false sp r only = λ none. (0, λ z. refl)
+
+-- each path
+shapes-leave : (a : Asked) (s : State)
+    → Shapes (λ (T : Type 0) d. Leaves {T = T} (left_by (row a) s) s (d.reply, heap_after d s)) s a
+shapes-leave a s = record {
+  refuses = λ left T code. so left {T = T} (rows.refused code s) (refused-leaves code s);
+  makes = λ sp left fits bytes.
+      let block : List Block → Sought = λ z. cond fits (seek (Put (next_block bytes s)) sp z) no_room in
+      subst (λ z. Leaves z s ((rows.made sp block s).reply, heap_after (rows.made sp block s) s)) (sym left)
+      (made-leaves sp block s (λ z. fit-refused fits sp (seek (Put (next_block bytes s)) sp z)
+      (seek-refused sp (Put (next_block bytes s)) z)));
+  empties = λ left.
+      let sought = seek_slot (is_unused s) nothing s.zone in
+      so left (rows.given (Handle Plain) nothing sought s)
+      (given-leaves nothing sought s (Handle Plain) (slot-refused nothing (is_unused s) s.zone));
+  points = λ left fits bytes.
+      let new = Base (Nonrelocatable (length s.names) bytes) in
+      let sought = cond fits (seek new nothing s.zone) no_room in
+      so left (rows.given Pointer nothing sought s) (given-leaves nothing sought s Pointer
+      (fit-refused fits nothing (seek new nothing s.zone) (seek-refused nothing new s.zone)));
+  masters = λ left. moved left (seek (Base Masters) nothing s.zone) (seek-refused nothing (Base Masters) s.zone);
+  reserves = λ left p. moved left (seek (Base (Free p)) nothing s.zone) (seek-refused nothing (Base (Free p)) s.zone);
+  nowhere = λ left. moved left no_room (λ none. (0, λ z. refl));
+  sizes = λ left handle held e n.
+      let sp = is_relocatable held.number in
+      let sought = seek_size n sp s.zone held.at in
+      so left (rows.changed sp sought s) (changed-leaves sp sought s (size-refused sp n s.zone held.at));
+  pointers = λ left pointer held e n.
+      moved left (seek_size n nothing s.zone held.at) (size-refused nothing n s.zone held.at);
+  writes = λ left sp handle held e spares n i x within.
+      so left (rows.sized_written sp held n i x s) (sized-leaves sp held n i x s);
+  replies = λ T U value d leaves. replied-leaves {T = T} {U = U} value d (left_by (row a) s) s leaves;
+  rests = λ T value sp code e. cc;
+  renews = λ left h n is loose.
+      let new = Put (Relocatable h no_flags (replicate n 0)) in
+      let there = freed (is_relocatable h) s.zone in
+      moved left (around (Drop h ∷ []) [] (if_fits n (seek new nothing there))) (around-refused nothing (Drop h ∷ []) []
+      (if_fits n (seek new nothing there)) (fits-refused nothing n (seek new nothing there) (seek-refused nothing new there)));
+}
+  where
+    so : Stays a s → {T : Type 0} (d : rows.Done T) → Leaves s.zone s (d.reply, heap_after d s)
+        → Leaves (left_by (row a) s) s (d.reply, heap_after d s)
+    so left d leaves = subst (λ z. Leaves z s (d.reply, heap_after d s)) (sym left) leaves
+
+    moved : Stays a s → (r : Sought) → Refuses nothing r
+        → Leaves (left_by (row a) s) s ((rows.changed nothing r s).reply, heap_after (rows.changed nothing r s) s)
+    moved left r only = so left (rows.changed nothing r s) (changed-leaves nothing r s only)
 
 -- a call that is refused leaves this zone, its names as they were, this code, and the heap where it lay
 abbrev LeavesSo : Asked → Memory → Told × Memory → Type 0
@@ -305,16 +337,11 @@ LeavesSo a m x =
 -- each call, refused, leaves its heap so
 pub refused_leaves : (a : Asked) (m : Memory) → LeavesSo a m (answered a m)
 refused_leaves (asked.NewHandle x) m =
-    let n = asked.new_size x in
-    let new = next_block (asked.new_bytes x) m.heap in
     noted Given given-tells (answer_made (rows.new_handle_with x) m.heap) m (answered (asked.NewHandle x) m).1
-    (slotted_zone nothing m.heap)
-    (made-leaves nothing (λ z. if_fits n (seek (Put new) nothing z)) m.heap
-    (λ z. fits-refused nothing n _ (seek-refused nothing (Put new) z))) refl refl refl
+    (zone_left (asked.NewHandle x) m.heap) (by-shape _ m.heap (asked.NewHandle x) (shapes-leave (asked.NewHandle x) m.heap)) refl refl refl
 refused_leaves asked.NewEmptyHandle m =
-    noted Given given-tells (answer_made rows.new_empty_handle m.heap) m (answered asked.NewEmptyHandle m).1 m.heap.zone
-    (given-leaves nothing (seek_slot (is_unused m.heap) nothing m.heap.zone) m.heap (Handle Plain)
-    (slot-refused nothing (is_unused m.heap) m.heap.zone)) refl refl refl
+    noted Given given-tells (answer_made rows.new_empty_handle m.heap) m (answered asked.NewEmptyHandle m).1
+    (zone_left asked.NewEmptyHandle m.heap) (by-shape _ m.heap asked.NewEmptyHandle (shapes-leave asked.NewEmptyHandle m.heap)) refl refl refl
 refused_leaves (asked.DisposeHandle handle) m =
     noted (λ _. Done) done-tells (calls.dispose_handle handle m.heap) m (answered (asked.DisposeHandle handle) m).1
     m.heap.zone
@@ -326,18 +353,11 @@ refused_leaves (asked.GetHandleSize handle) m =
     (found-leaves (look_up handle m.heap) m.heap (λ held. (Ok (length (content_of held.at.here)), m.heap))
     (λ held code e. refl)) refl refl refl
 refused_leaves (asked.SetHandleSize handle n) m =
-    noted (λ _. Done) done-tells (answer_made (rows.set_handle_size handle n) m.heap) m (answered (asked.SetHandleSize
-    handle n) m).1 m.heap.zone
-    (done-found (look_up handle m.heap) m.heap _ (λ held. changed-leaves (is_relocatable held.number)
-    (seek_size n (is_relocatable held.number) m.heap.zone held.at) m.heap
-    (size-refused (is_relocatable held.number) n m.heap.zone held.at))) refl refl refl
+    noted (λ _. Done) done-tells (answer_made (rows.set_handle_size handle n) m.heap) m (answered (asked.SetHandleSize handle n) m).1
+    (zone_left (asked.SetHandleSize handle n) m.heap) (by-shape _ m.heap (asked.SetHandleSize handle n) (shapes-leave (asked.SetHandleSize handle n) m.heap)) refl refl refl
 refused_leaves (asked.ReallocateHandle handle n) m =
-    noted (λ _. Done) done-tells (answer_made (rows.reallocate_handle handle n) m.heap) m (answered
-    (asked.ReallocateHandle handle n) m).1 m.heap.zone
-    (done-found (handle_at handle m.heap) m.heap _ (λ k. again-leaves (is_loose (spot (is_relocatable k.number)
-    m.heap.zone)) nothing _ PURGED m.heap (around-refused nothing (Drop k.number ∷ []) [] _ (fits-refused nothing n _
-    (seek-refused nothing (Put (Relocatable k.number no_flags (replicate n 0)))
-    (freed (is_relocatable k.number) m.heap.zone)))))) refl refl refl
+    noted (λ _. Done) done-tells (answer_made (rows.reallocate_handle handle n) m.heap) m (answered (asked.ReallocateHandle handle n) m).1
+    (zone_left (asked.ReallocateHandle handle n) m.heap) (by-shape _ m.heap (asked.ReallocateHandle handle n) (shapes-leave (asked.ReallocateHandle handle n) m.heap)) refl refl refl
 refused_leaves (asked.EmptyHandle handle) m =
     noted (λ _. Done) done-tells (empty_handle handle m.heap) m (answered (asked.EmptyHandle handle) m).1 m.heap.zone
     (found-leaves (handle_at handle m.heap) m.heap
@@ -378,61 +398,19 @@ refused_leaves (asked.HLockHi handle) m =
     (locked_high-leaves handle m.heap) refl refl refl
 refused_leaves (asked.HandToHand handle) m =
     noted Given given-tells (answer_made (rows.hand_to_hand handle) m.heap) m (answered (asked.HandToHand handle) m).1
-    (copying_zone (look_up handle m.heap) m.heap) (by_held (look_up handle m.heap)) refl refl refl
-  where
-    call : Held → rows.Done ℕ
-    call held = rows.made (is_relocatable held.number) (seek (Put (next_block (content_of held.at.here) m.heap))
-        (is_relocatable held.number)) m.heap
-
-    by_held : (r : Result Held OsErr) → Leaves (copying_zone r m.heap) m.heap (
-      (rows.for_found r m.heap call).reply,
-      heap_after (rows.for_found r m.heap call) m.heap,
-    )
-    by_held (Err why) code e = refl
-    by_held (Ok held) code e = made-leaves (is_relocatable held.number)
-        (seek (Put (next_block (content_of held.at.here) m.heap)) (is_relocatable held.number)) m.heap
-        (seek-refused (is_relocatable held.number) (Put (next_block (content_of held.at.here) m.heap))) code e
+    (zone_left (asked.HandToHand handle) m.heap) (by-shape _ m.heap (asked.HandToHand handle) (shapes-leave (asked.HandToHand handle) m.heap)) refl refl refl
 refused_leaves (asked.HandAndHand from to) m =
-    noted (λ _. Done) done-tells (answer_made (rows.hand_and_hand from to) m.heap) m (answered (asked.HandAndHand from
-    to) m).1 m.heap.zone
-    (done-found (look_up from m.heap) m.heap _ (λ a. done-found (look_up to m.heap) m.heap _ (λ b. append-leaves
-    (λ block. is_relocatable a.number block || is_relocatable b.number block) b (content_of a.at.here) m.heap))) refl
-    refl refl
+    noted (λ _. Done) done-tells (answer_made (rows.hand_and_hand from to) m.heap) m (answered (asked.HandAndHand from to) m).1
+    (zone_left (asked.HandAndHand from to) m.heap) (by-shape _ m.heap (asked.HandAndHand from to) (shapes-leave (asked.HandAndHand from to) m.heap)) refl refl refl
 refused_leaves (asked.PtrAndHand handle x) m =
-    noted (λ _. Done) done-tells (answer_made (rows.pointer_and_hand handle x) m.heap) m (answered (asked.PtrAndHand
-    handle x) m).1 m.heap.zone
-    (done-found (look_up handle m.heap) m.heap _
-    (λ held. append-leaves (is_relocatable held.number) held x m.heap)) refl refl refl
+    noted (λ _. Done) done-tells (answer_made (rows.pointer_and_hand handle x) m.heap) m (answered (asked.PtrAndHand handle x) m).1
+    (zone_left (asked.PtrAndHand handle x) m.heap) (by-shape _ m.heap (asked.PtrAndHand handle x) (shapes-leave (asked.PtrAndHand handle x) m.heap)) refl refl refl
 refused_leaves (asked.PtrToXHand handle x) m =
-    noted (λ _. Done) done-tells (answer_made (rows.pointer_to_x_hand handle x) m.heap) m (answered (asked.PtrToXHand
-    handle x) m).1 m.heap.zone
-    (done-found (look_up handle m.heap) m.heap _
-    (λ held. sized-leaves (is_relocatable held.number) held (length x) 0 x m.heap)) refl refl refl
+    noted (λ _. Done) done-tells (answer_made (rows.pointer_to_x_hand handle x) m.heap) m (answered (asked.PtrToXHand handle x) m).1
+    (zone_left (asked.PtrToXHand handle x) m.heap) (by-shape _ m.heap (asked.PtrToXHand handle x) (shapes-leave (asked.PtrToXHand handle x) m.heap)) refl refl refl
 refused_leaves (asked.Munger handle i old x) m =
-    noted Offset offset-tells (answer_made (rows.munger handle i old x) m.heap) m (answered (asked.Munger handle i old
-    x) m).1 m.heap.zone
-    (done-found (look_up handle m.heap) m.heap (λ held. call held (nat_le i (length (content_of held.at.here))))
-    (λ held. by_test held (nat_le i (length (content_of held.at.here))))) refl refl refl
-  where
-    call : Held → Bool → rows.Done ℤ
-    call held t =
-        if t then rows.replaced (is_relocatable held.number) held (found_in old i (content_of held.at.here)) x m.heap
-        else rows.refused PROFILE m.heap
-
-    by_found : (held : Held) (o : Option Occurrence) → Leaves m.heap.zone m.heap (
-      (rows.replaced (is_relocatable held.number) held o x m.heap).reply,
-      heap_after (rows.replaced (is_relocatable held.number) held o x m.heap) m.heap,
-    )
-    by_found held None = λ code e. cc
-    by_found held (Some f) =
-        let n = length (content_of held.at.here) - f.count + length x in
-        let y = x ++ behind f (content_of held.at.here) in
-        replied-leaves (pos (f.at + length x)) (rows.sized_written (is_relocatable held.number) held n f.at y m.heap) m.heap
-        (sized-leaves (is_relocatable held.number) held n f.at y m.heap)
-
-    by_test : (held : Held) (t : Bool) → Leaves m.heap.zone m.heap ((call held t).reply, heap_after (call held t) m.heap)
-    by_test held true = by_found held (found_in old i (content_of held.at.here))
-    by_test held false = λ code e. refl
+    noted Offset offset-tells (answer_made (rows.munger handle i old x) m.heap) m (answered (asked.Munger handle i old x) m).1
+    (zone_left (asked.Munger handle i old x) m.heap) (by-shape _ m.heap (asked.Munger handle i old x) (shapes-leave (asked.Munger handle i old x) m.heap)) refl refl refl
 refused_leaves (asked.MungerNil handle i old) m =
     noted Offset offset-tells (munger_nil handle i old m.heap) m (answered (asked.MungerNil handle i old) m).1 m.heap.zone
     (found-leaves (look_up handle m.heap) m.heap (λ held. (place_in old i (content_of held.at.here), m.heap))
@@ -452,12 +430,8 @@ refused_leaves (asked.BlockMove from i to j n) m =
     by_test a b true = written-leaves j (take n (drop i (content_of a.at.here))) b.at m.heap
     by_test a b false = refused-leaves PROFILE m.heap
 refused_leaves (asked.NewPtr n) m =
-    noted Given given-tells (answer_made (rows.new_pointer n) m.heap) m (answered (asked.NewPtr n) m).1 m.heap.zone
-    (given-leaves nothing (if_fits n sought) m.heap Pointer (fits-refused nothing n sought (seek-refused nothing
-    (Base (Nonrelocatable (length m.heap.names) (replicate n 0))) m.heap.zone))) refl refl refl
-  where
-    sought : Sought
-    sought = seek (Base (Nonrelocatable (length m.heap.names) (replicate n 0))) nothing m.heap.zone
+    noted Given given-tells (answer_made (rows.new_pointer n) m.heap) m (answered (asked.NewPtr n) m).1
+    (zone_left (asked.NewPtr n) m.heap) (by-shape _ m.heap (asked.NewPtr n) (shapes-leave (asked.NewPtr n) m.heap)) refl refl refl
 refused_leaves (asked.DisposePtr pointer) m =
     noted (λ _. Done) done-tells (dispose_pointer pointer m.heap) m (answered (asked.DisposePtr pointer) m).1
     m.heap.zone
@@ -471,11 +445,8 @@ refused_leaves (asked.GetPtrSize pointer) m =
     (found-leaves (pointed_at pointer m.heap) m.heap (λ held. (Ok (length (content_of held.at.here)), m.heap))
     (λ held code e. refl)) refl refl refl
 refused_leaves (asked.SetPtrSize pointer n) m =
-    noted (λ _. Done) done-tells (answer_made (rows.set_pointer_size pointer n) m.heap) m (answered (asked.SetPtrSize
-    pointer n) m).1 m.heap.zone
-    (done-found (pointed_at pointer m.heap) m.heap _ (λ held. changed-leaves nothing (seek_size n nothing m.heap.zone
-    held.at) m.heap
-    (size-refused nothing n m.heap.zone held.at))) refl refl refl
+    noted (λ _. Done) done-tells (answer_made (rows.set_pointer_size pointer n) m.heap) m (answered (asked.SetPtrSize pointer n) m).1
+    (zone_left (asked.SetPtrSize pointer n) m.heap) (by-shape _ m.heap (asked.SetPtrSize pointer n) (shapes-leave (asked.SetPtrSize pointer n) m.heap)) refl refl refl
 refused_leaves (asked.PtrZone pointer) m =
     noted Number number-tells (pointer_zone pointer m.heap) m (answered (asked.PtrZone pointer) m).1 m.heap.zone
     (found-leaves (pointed_at pointer m.heap) m.heap (λ held. (Ok 0, m.heap)) (λ held code e. refl)) refl refl refl
@@ -489,13 +460,10 @@ refused_leaves (asked.PurgeMem n) m =
 refused_leaves asked.MaxMem m = λ code e. cc
 refused_leaves (asked.ReserveMem n) m =
     noted (λ _. Done) done-tells (answer_made (rows.reserve_mem n) m.heap) m (answered (asked.ReserveMem n) m).1
-    m.heap.zone
-    (changed-leaves nothing (rows.room_for (phys n) m.heap.zone) m.heap (room_for-refused (phys n) m.heap.zone)) refl
-    refl refl
+    (zone_left (asked.ReserveMem n) m.heap) (by-shape _ m.heap (asked.ReserveMem n) (shapes-leave (asked.ReserveMem n) m.heap)) refl refl refl
 refused_leaves asked.MoreMasters m =
-    noted (λ _. Done) done-tells (answer_made rows.more_masters m.heap) m (answered asked.MoreMasters m).1 m.heap.zone
-    (changed-leaves nothing (seek (Base Masters) nothing m.heap.zone) m.heap (seek-refused nothing (Base Masters)
-    m.heap.zone)) refl refl refl
+    noted (λ _. Done) done-tells (answer_made rows.more_masters m.heap) m (answered asked.MoreMasters m).1
+    (zone_left asked.MoreMasters m.heap) (by-shape _ m.heap asked.MoreMasters (shapes-leave asked.MoreMasters m.heap)) refl refl refl
 refused_leaves asked.MemError m = λ code e. cc
 refused_leaves (asked.Put handle i x) m =
     silent (λ _. Done) done-tells (calls.put handle i x m.heap) m (answered (asked.Put handle i x) m).1

@@ -79,26 +79,26 @@ module _ (M : (Block → Bool) → Move → List Block → Type 0) (s : State) (
 
     shapes-along : Shapes (λ (T : Type 0) d. Along (M d.spared) d.spared d.path s.zone) s a
     shapes-along = record {
-      refuses = λ T code. tt;
-      makes = λ sp fits bytes. made-along sp (λ z. cond fits (seek (Put (next_block bytes s)) sp z) no_room)
+      refuses = λ left T code. tt;
+      makes = λ sp left fits bytes. made-along sp (λ z. cond fits (seek (Put (next_block bytes s)) sp z) no_room)
           (λ z. along-if (M sp) sp fits (seek (Put (next_block bytes s)) sp z) z
           (put-along sp (next_block bytes s) (refl, refl) z));
-      empties = slot-along nothing;
-      points = λ fits bytes.
+      empties = λ left. slot-along nothing;
+      points = λ left fits bytes.
           let new = Nonrelocatable (length s.names) bytes in
           along-if (M nothing) nothing fits (seek (Base new) nothing s.zone) s.zone (base-along new refl);
-      masters = base-along Masters tt;
-      reserves = λ p. base-along (Free p) tt;
-      nowhere = tt;
-      sizes = λ handle held e n.
+      masters = λ left. base-along Masters tt;
+      reserves = λ left p. base-along (Free p) tt;
+      nowhere = λ left. tt;
+      sizes = λ left handle held e n.
           let sp = is_relocatable held.number in
           law.sizes sp n held (is-spared sp handle s held e (λ b not. not));
-      pointers = λ pointer held e n. law.pointers n held (pointer-spot pointer s held e);
-      writes = λ sp handle held e spares n i x within.
+      pointers = λ left pointer held e n. law.pointers n held (pointer-spot pointer s held e);
+      writes = λ left sp handle held e spares n i x within.
           written-along sp held n i x (is-spared sp handle s held e spares) within;
       replies = λ T U value d along. along;
       rests = λ T value sp. tt;
-      renews = λ h n is loose.
+      renews = λ left h n is loose.
           let own = law.renews h n is loose in
           again-along (M nothing) nothing (law.searches nothing) (law.purges nothing) (is_some (phys n)) h
           (Relocatable h no_flags (replicate n 0)) s.zone own.0 own.1;

@@ -73,20 +73,20 @@ module _ (of : Block → ℕ) (none : (k : ℕ) → of (Free k) ≡ 0) (masters 
 
     shapes-most : (a : Asked) → Shapes (λ (T : Type 0) d. total of (work d s).gone ≤ total of s.zone) s a
     shapes-most a = record {
-      refuses = λ T code. omega arith;
-      makes = λ sp fits bytes. made-most sp (λ z. cond fits (seek (Put (next_block bytes s)) sp z) no_room)
+      refuses = λ left T code. omega arith;
+      makes = λ sp left fits bytes. made-most sp (λ z. cond fits (seek (Put (next_block bytes s)) sp z) no_room)
           (λ z. if-most of sp none fits (Put (next_block bytes s)) (λ y. refl) z);
-      empties = omega (arith, slot-even nothing);
-      points = λ fits bytes. if-most of nothing none fits (Base (Nonrelocatable (length s.names) bytes)) (λ y. refl) s.zone;
-      masters = seek-most of nothing none (Base Masters) (λ y. refl) s.zone;
-      reserves = λ p. seek-most of nothing none (Base (Free p)) (λ y. refl) s.zone;
-      nowhere = omega arith;
-      sizes = λ handle held e n. size-most of (is_relocatable held.number) none n s.zone held.at;
-      pointers = λ pointer held e n. size-most of nothing none n s.zone held.at;
-      writes = λ sp handle held e spares n i x within. written-most sp held n i x;
+      empties = λ left. omega (arith, slot-even nothing);
+      points = λ left fits bytes. if-most of nothing none fits (Base (Nonrelocatable (length s.names) bytes)) (λ y. refl) s.zone;
+      masters = λ left. seek-most of nothing none (Base Masters) (λ y. refl) s.zone;
+      reserves = λ left p. seek-most of nothing none (Base (Free p)) (λ y. refl) s.zone;
+      nowhere = λ left. omega arith;
+      sizes = λ left handle held e n. size-most of (is_relocatable held.number) none n s.zone held.at;
+      pointers = λ left pointer held e n. size-most of nothing none n s.zone held.at;
+      writes = λ left sp handle held e spares n i x within. written-most sp held n i x;
       replies = λ T U value d most. most;
       rests = λ T value sp. omega arith;
-      renews = λ h n is loose. omega (
+      renews = λ left h n is loose. omega (
         arith,
         again-most of nothing none (is_some (phys n)) h (Relocatable h no_flags (replicate n 0)) s.zone,
         freed-is of none (is_relocatable h) s.zone,

@@ -93,19 +93,19 @@ given-keeps name none false s h = refl
 -- the path of a call leaves the names, or gives such a number
 shapes-keep : (a : Asked) (s : State) → Shapes (λ (T : Type 0) d. Keeps s (heap_after d s)) s a
 shapes-keep a s = record {
-  refuses = λ T code h. refl;
-  makes = λ sp fits bytes. given-keeps (Handle Plain) refl _ s;
-  empties = given-keeps (Handle Plain) refl _ s;
-  points = λ fits bytes. given-keeps Pointer refl _ s;
-  masters = same-keeps s;
-  reserves = λ p. same-keeps s;
-  nowhere = same-keeps s;
-  sizes = λ handle held e n h. refl;
-  pointers = λ pointer held e n h. refl;
-  writes = λ sp handle held e spares n i x within h. refl;
+  refuses = λ left T code h. refl;
+  makes = λ sp left fits bytes. given-keeps (Handle Plain) refl _ s;
+  empties = λ left. given-keeps (Handle Plain) refl _ s;
+  points = λ left fits bytes. given-keeps Pointer refl _ s;
+  masters = λ left. same-keeps s;
+  reserves = λ left p. same-keeps s;
+  nowhere = λ left. same-keeps s;
+  sizes = λ left handle held e n h. refl;
+  pointers = λ left pointer held e n h. refl;
+  writes = λ left sp handle held e spares n i x within h. refl;
   replies = λ T U value d keeps. keeps;
   rests = λ T value sp h. refl;
-  renews = λ h n is loose j. refl;
+  renews = λ left h n is loose j. refl;
 }
 
 path-keeps : (r : Row) (m : Memory) → has_path r ≡ true → ForPath (λ (T : Type 0) d. Keeps m.heap (heap_after d m.heap)) r m.heap
