@@ -78,7 +78,7 @@ pub use Rattle.block_store.specs.declared.flags.Flags.{Flags}
 pub use Rattle.block_store.specs.declared.measures.TheConstants.{GREATEST_ZONE, HEADER_SIZE}
 pub use Rattle.block_store.specs.declared.sparing.Seen.{Seen}
 pub use Rattle.block_store.specs.declared.sparing.Sparing.{Sparing}
-pub use Rattle.block_store.specs.declared.sparing.Sparing.TheVariants.{Nothing, One, Two}
+pub use Rattle.block_store.specs.declared.sparing.Sparing.TheVariants.{Freed, Nothing, One, Two}
 pub use Rattle.heap_calls.specs.Answer.{Answer, Held, Known, change_flags, code_of, compact_mem, dispose_handle, disposed_of, flagged}
 pub use Rattle.heap_calls.specs.Answer.{for_found, free_mem, get_handle_size, given, h_lock, h_lock_hi, h_unlock, handle_at, held_at}
 pub use Rattle.heap_calls.specs.Answer.{hoisted, known_as, look_up, max_block, move_h_hi, moving, munger_nil, nothing, noting, on_block}
@@ -104,8 +104,7 @@ pub use Rattle.heap_calls.specs.Inner.Growing.{CanGrowUp, FindsGrowth, GrewUp, I
 pub use Rattle.heap_calls.specs.Inner.GrowingInPlace.{above_taken, pushed_up, room_at, seen_size}
 pub use Rattle.heap_calls.specs.Inner.Halting.{Halts}
 pub use Rattle.heap_calls.specs.Inner.Least.{IsMost, enough_above}
-pub use Rattle.heap_calls.specs.Inner.Loose.{FindsLoose, IsRenewal, bits_of, flags_with, loose, loose_at, renewed, renewed_moves}
-pub use Rattle.heap_calls.specs.Inner.Loose.{renewed_searches}
+pub use Rattle.heap_calls.specs.Inner.Loose.{FindsLoose, bits_of, flags_with, loose, loose_at, renewed, renewed_moves, renewed_searches}
 pub use Rattle.heap_calls.specs.Inner.Making.{HasRoomAt, MakesRoom, filled_at}
 pub use Rattle.heap_calls.specs.Inner.Munging.{HasBytes, exchanged, shifted, then_do}
 pub use Rattle.heap_calls.specs.Inner.Naming.{entered, number_of}
@@ -179,7 +178,7 @@ pub use Rattle.mac_words.specs.declared.code.OsErr.{OsErr}
 pub use Rattle.mac_words.specs.declared.code.TheConstants.OsErr.{LOCKED, MEM_FULL, NIL_HANDLE, NO_ERR, PROFILE, PURGED, WRONG_ZONE}
 pub use Rattle.memory_windows.specs.Writes.{written}
 pub use Rattle.moves.proofs.Conserved.{PathWeighs, PutsNone, Weighs, conserved, keeps, only-purgeable, put_on, puts-none}
-pub use Rattle.moves.proofs.Paths.{Along, along-if, along-later, along-seek, along-slot, along-then, did-append}
+pub use Rattle.moves.proofs.Paths.{Along, along-if, along-later, along-seek, along-slot, along-then, did-append, untouched-then}
 pub use Rattle.moves.proofs.Refused.{Refuses, around-refused, fits-refused, seek-refused, size-refused, slot-refused}
 pub use Rattle.moves.proofs.Renamed.{Names, PathNames, did-rename}
 pub use Rattle.moves.proofs.Resized.{Alone, resized-stays}

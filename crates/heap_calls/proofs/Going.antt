@@ -5,6 +5,7 @@ use Rattle.heap_calls.proofs.Cited.{counted, counted-none, has_free, segments, S
 use Rattle.heap_calls.proofs.Cited.{grow_up, spared, Sparing, Move, Purge, Grow, Extend, Push, Cut, Did, did, moved, gone_by}
 use Rattle.heap_calls.proofs.Cited.{lowered_by, searches_by, lowest_gone, gone_above, is_same, run_above, Sought, at_hand, no_room, sought}
 use Rattle.heap_calls.proofs.Cited.{around, purges_for, seek, seek_in_place, seek_size, seek_resized, did-append, Anchor, Grown, OpensNone}
+use Rattle.heap_calls.proofs.Cited.{freed, nothing, untouched-then, Drop}
 use Rattle.heap_calls.proofs.Cited.{Gone, gone_named, gone_from, Went, told_named, told_along, at_spot, seek_sized, length, Write}
 use Rattle.heap_calls.proofs.Cited.{written_in}
 use Rattle.heap_calls.proofs.Cited.{Refuses, is_relocatable, length_of, seek_longer, seek_still, spot_at}
@@ -116,6 +117,38 @@ module _ (sp : Block → Bool) (zone : List Block) (p : Sought) (m : Move) (quie
         cases true = ap (λ (x : Did). x.gone) (did-append sp p.path (m ∷ []) zone)
             ∙ ap (λ l. now.gone ++ (l ++ [])) (still now.zone) ∙ append-nil now.gone
         cases false = refl
+
+-- A block that is freed before what is sought.
+module _ (h : ℕ) (zone : List Block) (p : Sought) (only : Refuses nothing p)
+  where
+    abbrev freed_zone : List Block
+    freed_zone = freed (is_relocatable h) zone
+
+    dropped-is : (t : Bool) → p.found ≡ t → did nothing (around (Drop h ∷ []) [] p).path zone
+        ≡ record (did nothing p.path freed_zone) { zone = cond t (did nothing p.path freed_zone).zone zone }
+    dropped-is true some =
+        ap (λ t. did nothing (cond t (Drop h ∷ p.path ++ []) p.path) zone) some
+        ∙ ap (λ l. did nothing (Drop h ∷ l) zone) (append-nil p.path)
+        ∙ untouched-then freed_zone (did nothing p.path freed_zone)
+    dropped-is false none =
+        ap (λ t. did nothing (cond t (Drop h ∷ p.path ++ []) p.path) zone) none ∙ (only none).1 zone
+        ∙ sym (ap (λ (d : Did). let e : Did = record d { zone = zone } in e) ((only none).1 freed_zone))
+
+    pub went-dropped : {found : Bool} {n : ℕ} {zone1 : List Block} {rest rest' : Rest} (zone' : List Block)
+        → Went nothing freed_zone p found n zone1 rest rest' → zone' ≡ cond found zone1 zone
+        → Went nothing zone (around (Drop h ∷ []) [] p) found n zone' rest rest'
+    went-dropped {zone1 = zone1} {rest = rest} zone' w same =
+        let d = dropped-is p.found refl in
+        record {
+          finds = w.finds;
+          leaves = same ∙ ap (λ t. cond t zone1 zone) w.finds ∙ ap (λ z. cond p.found z zone) w.leaves
+              ∙ sym (ap (λ (x : Did). x.zone) d);
+          looks = w.looks ∙ sym (ap (λ (x : Did). x.searches) d);
+          lowers = w.lowers ∙ ap (counted rest.moves) (sym (ap (λ (x : Did). x.lowered) d));
+        }
+
+    pub gone-dropped : (did nothing p.path freed_zone).gone ≡ (did nothing (around (Drop h ∷ []) [] p).path zone).gone
+    gone-dropped = sym (ap (λ (x : Did). x.gone) (dropped-is p.found refl))
 
 -- The search for another size of the block at a spot.
 module _ (test : Block → Bool) (n : ℕ) (sp : Block → Bool) (zone : List Block) (s : Spot)

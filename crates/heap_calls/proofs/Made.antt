@@ -14,11 +14,11 @@ use Rattle.heap_calls.specs.Rows.{given, made}
 use Rattle.heap_calls.proofs.GoneBlocks.{slot_gone-is}
 use Rattle.heap_calls.proofs.NewBlocks.NewHandles.{names-more, agrees-more, unused-is}
 use Rattle.heap_calls.proofs.NewBlocks.NewSlots.{taken-slot}
-use Rattle.heap_calls.proofs.NewBlocks.Seeking.{seek_made, made-alike}
+use Rattle.heap_calls.proofs.NewBlocks.Seeking.{seek_made, made-alike, fits-any}
 use Rattle.heap_calls.proofs.Numbering.Changing.{number-now, zone-kept, names-now, agrees-now}
 use Rattle.heap_calls.proofs.Same.NewBlocks.{filling, filled-same, new_empty_handle-same}
 use Rattle.heap_calls.proofs.Same.Silent.{filled-silent}
-use Rattle.heap_calls.proofs.Went.{given-is, path-names, slot-along, slot-names, seek-any, fits-rename}
+use Rattle.heap_calls.proofs.Went.{given-is, path-names, slot-along, slot-names, fits-rename}
 
 -- A call that makes a handle: what its path does is what the store did.
 
@@ -54,10 +54,6 @@ module _ (f g : ℕ → ℕ) (p q : Block → Bool) (spares : (b : Block) → p 
 -- a block that finds no room has any name
 module _ (p : Block → Bool) (a b : Block) (same : size a ≡ size b)
   where
-    place-any : (z : List Block) → (seek (Put a) p z).found ≡ false → seek (Put a) p z ≡ seek (Put b) p z
-    place-any = seek-any p (Put a) (Put b) (λ z. is_some-map (filled b) (place (size b) z)
-        ∙ ap (λ n. is_some (place n z)) (sym same) ∙ sym (is_some-map (filled a) (place (size a) z)))
-
     pub new-any : (unused fits : Bool) (zone : List Block) → (seek_made p unused a fits zone).found ≡ false
         → seek_made p unused a fits zone ≡ seek_made p unused b fits zone
     new-any unused fits zone = cases slot.found
@@ -71,15 +67,10 @@ module _ (p : Block → Bool) (a b : Block) (same : size a ≡ size b)
         both : Sought → Sought
         both n = record { found = n.found; path = slot.path ++ n.path }
 
-        next_is : (t : Bool) → (cond t (seek (Put a) p ready) no_room).found ≡ false
-            → cond t (seek (Put a) p ready) no_room ≡ cond t (seek (Put b) p ready) no_room
-        next_is true none = place-any ready none
-        next_is false none = refl
-
         cases : (t : Bool) → (cond t (both (cond fits (seek (Put a) p ready) no_room)) slot).found ≡ false
             → cond t (both (cond fits (seek (Put a) p ready) no_room)) slot
             ≡ cond t (both (cond fits (seek (Put b) p ready) no_room)) slot
-        cases true none = ap both (next_is fits none)
+        cases true none = ap both (fits-any p a b same fits ready none)
         cases false none = refl
 
 -- the entries after the call

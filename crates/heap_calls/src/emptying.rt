@@ -20,6 +20,7 @@ use crate::anchor::{Anchor, slot_of};
 use crate::growing_in_place::Grown;
 use crate::heap::Heap;
 use crate::locking::can_move;
+use crate::new_block::put_block;
 use crate::refusal::Refusal;
 use crate::search::{Room, make_room};
 use crate::sink::PurgeSink;
@@ -101,10 +102,17 @@ impl<S: BlockStore> Heap<S> {
         ensures lies { self.new.memory.window ≡ self.old.memory.window }
     {
         let slot = loose_slot(&self.store, &self.names, handle)?;
-        let room = renew_block(&mut self.store, &self.names, slot, size, sink)?;
+        let made = put_block(
+            &mut self.store,
+            &self.names,
+            slot,
+            size,
+            Sparing::Freed(slot),
+            sink,
+        )?;
         let grown = Grown {
-            done: room.place.is_some(),
-            searches: room.searches,
+            done: made.slot.is_some(),
+            searches: made.searches,
         };
         Ok(self.account(grown)?)
     }

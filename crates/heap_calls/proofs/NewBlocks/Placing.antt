@@ -5,52 +5,45 @@ use Rattle.heap_calls.proofs.Cited.{opened}
 use Rattle.heap_calls.proofs.Cited.{Sparing, OpensNone, Put, Sought, no_room, seek, Went, filled_at, HasRoomAt, MakesRoom, Room, some_and}
 use Rattle.heap_calls.proofs.Cited.{fresh_block, replaced, replaced_at, seek_block, seek_new, some_left, MakesBlock, IsFresh, Taken}
 use Rattle.heap_calls.proofs.Cited.{inl, inr, true, IsSizeOf, Result, Ok, Err, IfOk, false≢true, length-replicate, no_flags, count}
-use Rattle.heap_calls.proofs.Cited.{unwrap_or, Bool, ◌≤◌, cond-false, Anchor, told_along}
+use Rattle.heap_calls.proofs.Cited.{unwrap_or, Bool, ◌≤◌, cond-false, Anchor, told_along, MatchOption}
 use Rattle.heap_calls.proofs.Filled.Replaced.{filled-replaced, filled-fresh, fresh-own}
 use Rattle.heap_calls.proofs.Going.{went-nowhere}
 use Rattle.heap_calls.proofs.NewBlocks.NewSlots.{room-at, went-filled}
-use Rattle.heap_calls.proofs.NewBlocks.Seeking.{seek_made}
+use Rattle.heap_calls.proofs.NewBlocks.Seeking.{seek_made, fits-any}
 use Rattle.heap_calls.proofs.Numbering.Changing.{phys-some}
 use Rattle.heap_calls.proofs.Room.Places.{went-there}
 use Rattle.heap_calls.proofs.Sizes.Growth.{opened-whole}
 
--- A new block that is put into the room that was made for it.
+-- A new block that is put into the room that was made for it, in the zone as its search sees it first.
 
-module _ (sparing : Sparing) (whole : OpensNone sparing) (n p : ℕ) (fits : phys n ≡ Some p) (zone zone1 : List Block)
-    (rest rest1 : Rest) (room : Room) (went : MakesRoom p Put (spared sparing) (opened sparing zone) room
-    (cond (is_some room.place) zone1 (opened sparing zone)) rest rest1)
+module _ (sparing : Sparing) (n p : ℕ) (fits : phys n ≡ Some p) (seen zone1 : List Block) (rest rest1 : Rest)
+    (room : Room) (went : MakesRoom p Put (spared sparing) seen room (cond (is_some room.place) zone1 seen) rest rest1)
   where
     sized : (x : List ℕ) → phys (length x) ≡ phys n → padded (length x) ≡ p
     sized x long = sym (phys-some (length x) p (long ∙ fits)).1
 
-    goes : (new : Block) → size new ≡ p → Went (spared sparing) zone (seek_block sparing n new zone) (is_some room.place)
-        room.searches (filled_at new room.place (cond (is_some room.place) zone1 zone)) rest rest1
-    goes new long =
-        let P : Sought → Type 0 = λ q. Went (spared sparing) zone q (is_some room.place) room.searches
-        (filled_at new room.place (cond (is_some room.place) zone1 zone)) rest rest1 in
-        let Q : List Block → Type 0 = λ z. Went (spared sparing) z (seek (Put new) (spared sparing) z)
-        (is_some room.place) room.searches (filled_at new room.place (cond (is_some room.place) zone1 z)) rest rest1 in
-        subst P (sym (cond-true {A = Sought} (is_some (phys n)) (seek (Put new) (spared sparing) zone) no_room
-        (ap is_some fits))) (subst Q (opened-whole sparing whole zone) (went new long))
+    searches-is : (new : Block) → seek (Put new) (spared sparing) seen ≡ seek_block sparing n new seen
+    searches-is new = sym (cond-true {A = Sought} (is_some (phys n)) (seek (Put new) (spared sparing) seen) no_room
+        (ap is_some fits))
+
+    goes : (new : Block) → size new ≡ p → Went (spared sparing) seen (seek_block sparing n new seen) (is_some room.place)
+        room.searches (filled_at new room.place (cond (is_some room.place) zone1 seen)) rest rest1
+    goes new long = subst (λ (q : Sought). Went (spared sparing) seen q (is_some room.place) room.searches
+        (filled_at new room.place (cond (is_some room.place) zone1 seen)) rest rest1) (searches-is new) (went new long)
 
     -- what the sink hears
-    pub block-told : (es : List Anchor) (new : Block)
-        → told_along es (spared sparing) (seek (Put new) (spared sparing) (opened sparing zone)) (opened sparing zone)
-        ≡ told_along es (spared sparing) (seek_block sparing n new zone) zone
-    block-told es new = ap (λ z. told_along es (spared sparing) (seek (Put new) (spared sparing) z) z)
-        (opened-whole sparing whole zone) ∙ ap (λ r. told_along es (spared sparing) r zone) (sym (cond-true {A = Sought}
-        (is_some (phys n)) (seek (Put new) (spared sparing) zone) no_room (ap is_some fits)))
+    pub block-told : (es : List Anchor) (new : Block) → told_along es (spared sparing) (seek (Put new) (spared sparing) seen) seen
+        ≡ told_along es (spared sparing) (seek_block sparing n new seen) seen
+    block-told es new = ap (λ r. told_along es (spared sparing) r seen) (searches-is new)
 
     -- there was none
-    pub makes-none : room.place ≡ None → (zone' : List Block) (rest' : Rest) → zone' ≡ zone → rest'.moves ≡ rest1.moves
-        → MakesBlock (spared sparing) n (seek_block sparing n) zone (record { slot = None; searches = room.searches }) zone'
-        rest rest'
-    makes-none is zone' rest' same still flags x long =
+    pub makes-none : room.place ≡ None → MakesBlock (spared sparing) n (seek_block sparing n) seen
+        (record { slot = None; searches = room.searches }) seen rest rest1
+    makes-none is flags x long =
         let new = Relocatable 0 flags x in
-        let P : Option ℕ → Type 0 = λ o. Went (spared sparing) zone (seek_block sparing n new zone) (is_some o)
-        room.searches (filled_at new o (cond (is_some o) zone1 zone)) rest rest1 in
-        let w : P None = subst P is (goes new (sized x long)) in
-        record { finds = w.finds; leaves = same ∙ w.leaves; looks = w.looks; lowers = still ∙ w.lowers }
+        let P : Option ℕ → Type 0 = λ o. Went (spared sparing) seen (seek_block sparing n new seen) (is_some o)
+        room.searches (filled_at new o (cond (is_some o) zone1 seen)) rest rest1 in
+        let w : P None = subst P is (goes new (sized x long)) in w
 
     -- there was some
     module _ (slot place : ℕ) (is : room.place ≡ Some place) (wide : HasRoomAt p room.place zone1)
@@ -76,7 +69,7 @@ module _ (sparing : Sparing) (whole : OpensNone sparing) (n p : ℕ) (fits : phy
         makes-fresh = subst (IsFresh slot n) (sym now) (filled-fresh slot n there.0 alone.0)
 
         pub makes-some : (rest' : Rest) → rest'.moves ≡ rest1.moves → MakesBlock (spared sparing) n (seek_block sparing n)
-            zone (record { slot = Some slot; searches = room.searches }) zone' rest rest'
+            seen (record { slot = Some slot; searches = room.searches }) zone' rest rest'
         makes-some rest' still flags x long =
             let new = Relocatable slot flags x in
             let same : map (replaced slot flags x) zone' ≡ filled new there.0 = ap (map (replaced slot flags x)) now
@@ -84,20 +77,52 @@ module _ (sparing : Sparing) (whole : OpensNone sparing) (n p : ℕ) (fits : phy
             (ap phys (length-replicate n 0)))) alone.0 alone.1 in
             let P : Option Spot → Type 0 = λ o. IfSome o (λ s. map (replaced slot flags x) zone' ≡ filled new s) in
             let w = went-filled new room.place zone1
-            (went-there new room.place place is zone1 zone (goes new (sized x long))) p place is wide
+            (went-there new room.place place is zone1 seen (goes new (sized x long))) p place is wide
             (map (replaced slot flags x) zone') (subst P (sym there.1) same) rest' still in
-            subst (λ (o : Option ℕ). Went (spared sparing) zone (seek_block sparing n new zone) (is_some o) room.searches
+            subst (λ (o : Option ℕ). Went (spared sparing) seen (seek_block sparing n new seen) (is_some o) room.searches
             (map (replaced slot flags x) zone') rest rest') is w
 
 -- no block can have the size
-pub makes-large : (sparing : Sparing) (n : ℕ) (zone zone' : List Block) (rest rest' : Rest) → phys n ≡ None → zone' ≡ zone
-    → rest'.moves ≡ rest.moves → MakesBlock (spared sparing) n (seek_block sparing n) zone
-    (record { slot = None; searches = 0 }) zone' rest rest'
-makes-large sparing n zone zone' rest rest' large same still flags x long =
-    let w = subst (λ (p : Sought). Went (spared sparing) zone p false 0 zone rest rest) (sym (cond-false {A = Sought}
-    (is_some (phys n)) (seek (Put (Relocatable 0 flags x)) (spared sparing) zone) no_room (ap is_some large)))
-    (went-nowhere (spared sparing) zone rest) in
-    record { finds = w.finds; leaves = same ∙ w.leaves; looks = w.looks; lowers = still ∙ w.lowers }
+pub makes-large : (sparing : Sparing) (n : ℕ) (seen : List Block) (rest : Rest) → phys n ≡ None
+    → MakesBlock (spared sparing) n (seek_block sparing n) seen (record { slot = None; searches = 0 }) seen rest rest
+makes-large sparing n seen rest large flags x long =
+    subst (λ (p : Sought). Went (spared sparing) seen p false 0 seen rest rest) (sym (cond-false {A = Sought}
+    (is_some (phys n)) (seek (Put (Relocatable 0 flags x)) (spared sparing) seen) no_room (ap is_some large)))
+    (went-nowhere (spared sparing) seen rest)
+
+-- a search that sees the zone as it is
+pub makes-whole : (sparing : Sparing) → OpensNone sparing → (n slot : ℕ) (zone zone1 zone' : List Block)
+    (rest rest1 rest' : Rest) (made : Taken) → MakesBlock (spared sparing) n (seek_block sparing n) (opened sparing zone) made
+    (cond (is_some made.slot) zone1 (opened sparing zone)) rest rest1
+    → MatchOption made.slot (zone1 ≡ zone) (λ k. k ≡ slot) → zone' ≡ zone1 → rest'.moves ≡ rest1.moves
+    → MakesBlock (spared sparing) n (seek_block sparing n) zone made zone' rest rest'
+makes-whole sparing whole n slot zone zone1 zone' rest rest1 rest' made makes here same still flags x long =
+    let P : List Block → Type 0 = λ z. MakesBlock (spared sparing) n (seek_block sparing n) z made
+    (cond (is_some made.slot) zone1 z) rest rest1 in
+    let w = subst P (opened-whole sparing whole zone) makes flags x long in
+    record {
+      finds = w.finds;
+      leaves = ap (replaced_at made.slot flags x) same ∙ cases made.slot here ∙ w.leaves;
+      looks = w.looks;
+      lowers = still ∙ w.lowers;
+    }
+  where
+    cases : (o : Option ℕ) → MatchOption o (zone1 ≡ zone) (λ k. k ≡ slot)
+        → replaced_at o flags x zone1 ≡ replaced_at o flags x (cond (is_some o) zone1 zone)
+    cases None e = e
+    cases (Some k) e = refl
+
+-- the block of the slot for which it is made
+pub makes-slot : (sparing : Sparing) (n slot : ℕ) (flags : Flags) (x : List ℕ) (zone : List Block) {m : ℕ} {zone' : List Block}
+    {rest rest' : Rest} (o : Option ℕ) → IfSome o (λ k. k ≡ slot) → Went (spared sparing) zone
+    (seek_block sparing n (Relocatable (unwrap_or o 0) flags x) zone) (is_some o) m zone' rest rest'
+    → Went (spared sparing) zone (seek_block sparing n (Relocatable slot flags x) zone) (is_some o) m zone' rest rest'
+makes-slot sparing n slot flags x zone {m = m} {zone' = zone'} {rest = rest} {rest' = rest'} (Some k) is w =
+    subst (λ (j : ℕ). Went (spared sparing) zone (seek_block sparing n (Relocatable j flags x) zone) true m zone' rest rest')
+    is w
+makes-slot sparing n slot flags x zone {m = m} {zone' = zone'} {rest = rest} {rest' = rest'} None is w =
+    subst (λ (p : Sought). Went (spared sparing) zone p false m zone' rest rest') (fits-any (spared sparing)
+    (Relocatable 0 flags x) (Relocatable slot flags x) refl (is_some (phys n)) zone (sym w.finds)) w
 
 -- with other flags and bytes written into the block that was made, and with its own
 module _ (sp : Block → Bool) (n : ℕ) (search : Block → List Block → Sought) (zone : List Block) (made : Taken)

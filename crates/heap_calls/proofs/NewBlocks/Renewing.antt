@@ -1,31 +1,26 @@
-use Rattle.heap_calls.proofs.Cited.{◌≡◌, ℕ, ◌<◌, Bool, List, [], length, ◌∷◌, refl, sym, ◌∙◌, ap, Option, Some}
-use Rattle.heap_calls.proofs.Cited.{None, Ok, Err, slice_get, is_some}
-use Rattle.heap_calls.proofs.Cited.{phys, OsErr, Block, rename, rename_block, is_relocatable}
-use Rattle.heap_calls.proofs.Cited.{freed, Rest}
-use Rattle.heap_calls.proofs.Cited.{freed-rename, Log, Room}
-use Rattle.heap_calls.proofs.Cited.{Anchor, State, Memory, nothing, fresh_block}
-use Rattle.heap_calls.proofs.Cited.{loose_at, renewed, IsRenewal}
-use Rattle.heap_calls.proofs.Cited.{renewed_moves, state_of, memory_of, handle_number, pointer_number, no_number}
-use Rattle.heap_calls.proofs.Cited.{unwrap_or, counted, Packs, sized_reply, Put, Drop, Sought, seek, if_fits, around}
-use Rattle.heap_calls.proofs.Cited.{rename_sought, PathNames, seek-rename, Done, doing_silently, purges_made, purged_by, changed}
-use Rattle.heap_calls.proofs.Cited.{reallocate_handle, FindsLoose, renewed_gone}
+use Rattle.heap_calls.proofs.Cited.{◌≡◌, ℕ, ◌<◌, ◌≤◌, Bool, List, [], ◌∷◌, refl, sym, ◌∙◌, ap, cond, Option, Some, None, Ok, Err, slice_get, is_some}
+use Rattle.heap_calls.proofs.Cited.{IfSome, replicate, length-replicate, phys, OsErr, Block, no_flags, rename, rename_block, count}
+use Rattle.heap_calls.proofs.Cited.{is_relocatable, freed, Rest, freed-rename, Freed, Nothing, Put, Drop, Sought, seek, if_fits, around}
+use Rattle.heap_calls.proofs.Cited.{rename_sought, PathNames, seek-rename, Refuses, fits-refused, seek-refused, Anchor, State, nothing}
+use Rattle.heap_calls.proofs.Cited.{changed, reallocate_handle, fresh_block, loose_at, FindsLoose, state_of, handle_number, pointer_number}
+use Rattle.heap_calls.proofs.Cited.{no_number, Taken, MakesBlock, IsFresh, seek_block, replaced_at, Went, told_along, told_named}
 use Rattle.heap_calls.specs.declared.anchor.Anchor.TheVariants.{Handle}
-use Rattle.heap_calls.proofs.Numbering.Numbers.{Apart, is_relocatable-number, handle_number-at}
-use Rattle.heap_calls.proofs.Numbering.Changing.{names-same}
-use Rattle.std.specs.Prelude.{MatchOption}
-use Rattle.heap_calls.proofs.Numbering.Loosening.{known}
 use Rattle.heap_calls.specs.Rows.{refused}
-use Rattle.heap_calls.proofs.GonePlaces.{renewed_gone-is}
-use Rattle.heap_calls.proofs.Numbering.Loosening.{reallocate-loose}
-use Rattle.heap_calls.proofs.Same.Resizing.{again, renewed-agrees}
-use Rattle.heap_calls.proofs.Sizes.Grown.{around-names, around-rename, fits-names}
-use Rattle.heap_calls.proofs.Went.{changed-is, seek-names, fits-rename}
+use Rattle.std.specs.Prelude.{MatchOption}
+use Rattle.heap_calls.proofs.Filled.Replaced.{fresh-own}
+use Rattle.heap_calls.proofs.Going.{went-dropped, gone-dropped}
+use Rattle.heap_calls.proofs.NewBlocks.Placing.{makes-slot}
+use Rattle.heap_calls.proofs.NewBlocks.Seeking.{fits-alike}
+use Rattle.heap_calls.proofs.Numbering.Loosening.{known, reallocate-loose}
+use Rattle.heap_calls.proofs.Numbering.Numbers.{Apart, is_relocatable-number, handle_number-at}
+use Rattle.heap_calls.proofs.Same.Resizing.{again}
+use Rattle.heap_calls.proofs.Sizes.Grown.{IsCall, around-names, around-rename, fits-names}
+use Rattle.heap_calls.proofs.Went.{seek-names, fits-rename}
 
 -- A new block for a handle, for which its old one counts as Free.
 
--- what ReallocateHandle answers, and what it purges, by the handle's number
-module _ (zone : List Block) (rest : Rest) (es : List Anchor) (log : Log) (value : Memory)
-    (is : memory_of zone rest es log ≡ value) (handle : Option ℕ) (n : ℕ)
+-- the path of ReallocateHandle, by the handle's number
+module _ (zone : List Block) (rest : Rest) (es : List Anchor) (handle : Option ℕ) (n : ℕ)
   where
     abbrev s : State
     s = state_of zone rest.slots es
@@ -75,32 +70,40 @@ module _ (zone : List Block) (rest : Rest) (es : List Anchor) (log : Log) (value
             (fits-names f g (is_some (phys n)) (seek (Put (fresh_block slot n)) nothing open_zone)
             (seek-names f g nothing (Put (fresh_block slot n)) tt open_zone)) tt
 
-        pub reallocate-answer : (zone' : List Block) (rest' : Rest) (made : Room) → IsRenewal slot n zone rest made zone' rest'
-            → Packs (renewed_moves slot n zone) rest rest' → doing_silently (reallocate_handle handle n) value ≡ (
-              sized_reply (is_some made.place),
-              memory_of zone' rest' es (record log { searches = counted log.searches made.searches }),
-            )
-        reallocate-answer zone' rest' made done packs =
-            let a = renewed-agrees 0 slot n zone in
-            let d = ends made.place done.none in
-            changed-is zone rest es log value is zone' rest' (reallocate_handle handle n) nothing nothing (λ b. refl)
-            (again slot n zone) names row (is_some made.place) made.searches (record {
-              finds = sym d.0 ∙ a.finds;
-              leaves = d.1 ∙ a.leaves;
-              looks = done.searches ∙ a.looks;
-              lowers = packs ∙ ap (counted rest.moves) a.lowers;
-            }) (names-same rest.slots rest'.slots es (λ h k t at. done.slots.slots k), done.slots.window)
-          where
-            ends : (o : Option ℕ) → MatchOption o ((renewed slot n zone ≡ None) × (zone' ≡ zone))
-                (λ _. renewed slot n zone ≡ Some zone')
-                → (is_some (renewed slot n zone) ≡ is_some o) × (zone' ≡ unwrap_or (renewed slot n zone) zone)
-            ends None m = (ap is_some m.0, m.1 ∙ sym (ap (λ o. unwrap_or o zone) m.0))
-            ends (Some p) m = (ap is_some m, sym (ap (λ o. unwrap_or o zone) m))
+        pub reallocate-call : IsCall zone rest es (reallocate_handle handle n) nothing Nothing (again slot n zone)
+        reallocate-call = record { spares = λ b. refl; names = names; row = row }
 
-        pub reallocate-gone : renewed_gone es slot n zone ≡ purges_made (reallocate_handle handle n) value.heap
-        reallocate-gone =
-            renewed_gone-is es h slot at apart small n rest.slots zone
-            ∙ (renewed-agrees (length s.names) h n s.zone).tells
-            ∙ sym (ap (λ (d : Done (Unit {0})). purged_by d s)
-            (reallocate-loose handle n s (Ok (known rest.slots h slot guarded)) found))
-            ∙ ap (λ (m : Memory). purges_made (reallocate_handle handle n) m.heap) is
+-- a block that is made for a slot once its old one counts as free: the path frees the old one first
+module _ (slot n : ℕ) (zone : List Block)
+  where
+    abbrev seen : List Block
+    seen = freed (is_relocatable slot) zone
+
+    abbrev path : Sought
+    path = seek_block (Freed slot) n (fresh_block slot n) seen
+
+    refuses : Refuses nothing path
+    refuses = fits-refused nothing n (seek (Put (fresh_block slot n)) nothing seen)
+        (seek-refused nothing (Put (fresh_block slot n)) seen)
+
+    pub renewed-told : (es : List Anchor) → told_along es nothing (seek_block (Freed slot) n (fresh_block 0 n) seen) seen
+        ≡ told_along es nothing (again slot n zone) zone
+    renewed-told es = ap (told_named es) (fits-alike nothing (fresh_block 0 n) (fresh_block slot n) refl (is_some (phys n)) seen
+        ∙ gone-dropped slot zone path refuses)
+
+    pub renews : (zone1 : List Block) (rest rest1 : Rest) (made : Taken) → MakesBlock nothing n (seek_block (Freed slot) n) seen
+        made (cond (is_some made.slot) zone1 seen) rest rest1 → MatchOption made.slot (zone1 ≡ zone) (λ k. k ≡ slot)
+        → IfSome made.slot (λ k. IsFresh k n zone1) → ((k : ℕ) → count (is_relocatable k) zone1 ≤ 1)
+        → Went nothing zone (again slot n zone) (is_some made.slot) made.searches zone1 rest rest1
+    renews zone1 rest rest1 made makes here fresh once = went-dropped slot zone path refuses zone1
+        (makes-slot (Freed slot) n slot no_flags (replicate n 0) seen made.slot (own made.slot here)
+        (makes no_flags (replicate n 0) (ap phys (length-replicate n 0)))) (ends made.slot here fresh)
+      where
+        own : (o : Option ℕ) → MatchOption o (zone1 ≡ zone) (λ k. k ≡ slot) → IfSome o (λ k. k ≡ slot)
+        own None e = tt
+        own (Some k) e = e
+
+        ends : (o : Option ℕ) → MatchOption o (zone1 ≡ zone) (λ k. k ≡ slot) → IfSome o (λ k. IsFresh k n zone1)
+            → zone1 ≡ cond (is_some o) (replaced_at o no_flags (replicate n 0) (cond (is_some o) zone1 seen)) zone
+        ends None e fresh = e
+        ends (Some k) e fresh = sym (fresh-own k n zone1 fresh (once k))

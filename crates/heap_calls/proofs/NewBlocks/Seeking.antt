@@ -2,10 +2,10 @@ use Rattle.heap_calls.proofs.Cited.{◌≡◌, ℕ, ◌+◌, ◌++◌, Bool, tru
 use Rattle.heap_calls.proofs.Cited.{cond-true, cond-false, map-append, is_some-map, Block, size, filled, place, rename, rename_block, Rest}
 use Rattle.heap_calls.proofs.Cited.{counted, Put, Did, did, did-append, Sought, no_room, seek, seek_slot, then_seek, Anchor, Went}
 use Rattle.heap_calls.proofs.Cited.{told_named, told_along, handle_number, pointer_number, is_some}
-use Rattle.heap_calls.proofs.Cited.{spared, told_blocks}
+use Rattle.heap_calls.proofs.Cited.{spared, told_blocks, moved}
 use Rattle.moves.specs.Moves as moves
 use Rattle.heap_calls.proofs.Same.Agreeing.{told-append}
-use Rattle.heap_calls.proofs.Went.{gone-alike}
+use Rattle.heap_calls.proofs.Went.{gone-alike, seek-any}
 
 -- One search after another: for a slot, and then for the place of a block.
 
@@ -69,12 +69,26 @@ abbrev pub seek_made : (Block → Bool) → Bool → Block → Bool → List Blo
 seek_made spared unused new fits zone = then_seek spared zone (seek_slot unused spared zone)
     (λ z. cond fits (seek (Put new) spared z) no_room)
 
--- blocks of one size take the same blocks
-module _ (p : Block → Bool) (a b : Block) (same : size a ≡ size b) (unused fits : Bool) (zone : List Block)
+-- blocks of one size take the same blocks, and one that finds no room has any name
+module _ (p : Block → Bool) (a b : Block) (same : size a ≡ size b)
   where
-    pub made-alike : (did p (seek_made p unused a fits zone).path zone).gone
+    sees : (z : List Block) → is_some (moved p (Put b) z) ≡ is_some (moved p (Put a) z)
+    sees z = is_some-map (filled b) (place (size b) z) ∙ ap (λ n. is_some (place n z)) (sym same)
+        ∙ sym (is_some-map (filled a) (place (size a) z))
+
+    pub fits-any : (fits : Bool) (z : List Block) → (cond fits (seek (Put a) p z) no_room).found ≡ false
+        → cond fits (seek (Put a) p z) no_room ≡ cond fits (seek (Put b) p z) no_room
+    fits-any true z none = seek-any p (Put a) (Put b) sees z none
+    fits-any false z none = refl
+
+    pub fits-alike : (fits : Bool) (z : List Block) → (did p (cond fits (seek (Put a) p z) no_room).path z).gone
+        ≡ (did p (cond fits (seek (Put b) p z) no_room).path z).gone
+    fits-alike true z = gone-alike p (Put a) (Put b) (λ z. refl) (λ z. refl) sees z
+    fits-alike false z = refl
+
+    pub made-alike : (unused fits : Bool) (zone : List Block) → (did p (seek_made p unused a fits zone).path zone).gone
         ≡ (did p (seek_made p unused b fits zone).path zone).gone
-    made-alike = cases slot.found
+    made-alike unused fits zone = cases slot.found
       where
         slot : Sought
         slot = seek_slot unused p zone
@@ -85,17 +99,12 @@ module _ (p : Block → Bool) (a b : Block) (same : size a ≡ size b) (unused f
         block : Block → Sought
         block c = cond fits (seek (Put c) p now.zone) no_room
 
-        by_fit : (t : Bool) → (did p (cond t (seek (Put a) p now.zone) no_room).path now.zone).gone
-            ≡ (did p (cond t (seek (Put b) p now.zone) no_room).path now.zone).gone
-        by_fit true = gone-alike p (Put a) (Put b) (λ z. refl) (λ z. refl) (λ z. is_some-map (filled b) (place (size b) z)
-            ∙ ap (λ n. is_some (place n z)) (sym same) ∙ sym (is_some-map (filled a) (place (size a) z))) now.zone
-        by_fit false = refl
-
         both : Sought → Sought
         both r = record { found = r.found; path = slot.path ++ r.path }
 
         cases : (t : Bool) → (did p (cond t (both (block a)) slot).path zone).gone
             ≡ (did p (cond t (both (block b)) slot).path zone).gone
         cases true = ap (λ (d : Did). d.gone) (did-append p slot.path (block a).path zone)
-            ∙ ap (λ l. now.gone ++ l) (by_fit fits) ∙ sym (ap (λ (d : Did). d.gone) (did-append p slot.path (block b).path zone))
+            ∙ ap (λ l. now.gone ++ l) (fits-alike fits now.zone)
+            ∙ sym (ap (λ (d : Did). d.gone) (did-append p slot.path (block b).path zone))
         cases false = refl

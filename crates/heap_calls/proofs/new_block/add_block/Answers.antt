@@ -1,147 +1,47 @@
-use Rattle.heap_calls.proofs.Cited.{is_some, ◌≡◌, Some, ℕ, Option, false, sym, ◌∙◌, ap, subst, refl, rules, padded}
-use Rattle.heap_calls.proofs.Cited.{is_relocatable, is_nonrelocatable, is_room, has, spot_at, IsSomeAnd, IsTrue, IfSome}
-use Rattle.heap_calls.proofs.Cited.{fresh_block, phys, spared, opened, seek_block, Hears}
-use Rattle.heap_calls.proofs.Cited.{told_along}
+use Rattle.heap_calls.proofs.Cited.{◌≡◌, ◌∙◌, ap, refl, has, is_relocatable, is_nonrelocatable, spared, seek_block, told_along, fresh_block}
+use Rattle.heap_calls.proofs.Cited.{Hears, true}
 use Rattle.heap_calls.proofs.Hearing.{hears-as}
-use Rattle.heap_calls.proofs.NewBlocks.NewSlots.{room-at}
-use Rattle.heap_calls.proofs.NewBlocks.Placing.{makes-large, makes-none, makes-some, makes-fresh, block-told}
-use Rattle.heap_calls.proofs.Numbering.Changing.{phys-some, nonrelocatable-carved}
-use Rattle.heap_calls.proofs.Room.Placements.{fresh-size, at_none, kept-back}
+use Rattle.heap_calls.proofs.NewBlocks.Placing.{makes-whole}
 use Rattle.heap_calls.proofs.Sizes.Growth.{opened-whole}
 use Rattle.heap_calls.proofs.new_block.add_block.Given.{Over}
-use Rattle.heap_calls.proofs.new_block.add_block.Goals.{In-Ok, In-Some-place}
+use Rattle.heap_calls.proofs.new_block.add_block.Goals.{In-Ok}
 use Rattle.heap_calls.proofs.new_block.add_block.Goals as goal
 
--- the place has room for the block, and the slot has none
-wide : (g : Over) (c : In-Some-place g)
-    → IsSomeAnd (spot_at c.in-Some-place.place (g.S.BlockStore.zone c.make_room.new.store))
-    (λ s. IsTrue (is_room (padded c.args.size) s.here))
-wide g c =
-    let zone1 = g.S.BlockStore.zone c.make_room.new.store in
-    subst (λ (p : ℕ). IsSomeAnd (spot_at c.in-Some-place.place zone1) (λ s. IsTrue (is_room p s.here)))
-    (phys-some c.args.size c.in-Some.bytes (sym c.phys.ensures ∙ c.in-Some.is)).1
-    (room-at c.in-Some.bytes c.in-Ok.room.place c.in-Some-place.place zone1 c.in-Some-place.is c.in-Ok.ensures.room)
+pub put_block-requires-clause-none : goal.put_block-requires-clause-none
+put_block-requires-clause-none g c = ap (has (is_relocatable c.args.slot))
+    (opened-whole c.args.sparing c.requires.whole (g.S.BlockStore.zone c.args.store.now)) ∙ c.requires.none
 
-gone : (g : Over) (c : In-Some-place g)
-    → has (is_relocatable c.args.slot) (g.S.BlockStore.zone c.make_room.new.store) ≡ false
-gone g c =
-    let zone = g.S.BlockStore.zone c.args.store.now in
-    let zone1 = g.S.BlockStore.zone c.make_room.new.store in
-    let P : Option ℕ → Type 0 = λ o. IfSome o (λ _. (number : ℕ)
-    → has (is_relocatable number) (opened c.args.sparing zone) ≡ false → has (is_relocatable number) zone1 ≡ false) in
-    let kept : P (Some c.in-Some-place.place) = subst P c.in-Some-place.is c.in-Ok.ensures.kept in
-    kept c.args.slot (ap (has (is_relocatable c.args.slot)) (opened-whole c.args.sparing c.requires.whole zone)
-    ∙ c.requires.none)
-
--- a block can have the size
-fits : (g : Over) (c : In-Ok g) → phys c.args.size ≡ Some c.in-Some.bytes
-fits g c = sym c.phys.ensures ∙ c.in-Some.is
+pub returns-in-Err-clause-nonrelocatable : goal.returns-in-Err-clause-nonrelocatable
+returns-in-Err-clause-nonrelocatable g c place = ap (has (is_nonrelocatable place)) c.give_slot.ensures.zone
+    ∙ c.put_block.ensures.nonrelocatable place
 
 pub returns-in_default-clause-went : goal.returns-in_default-clause-went
 returns-in_default-clause-went g c =
-    makes-large c.args.sparing c.args.size (g.S.BlockStore.zone c.args.store.now) (g.S.BlockStore.zone c.give_slot.new.self)
-    (g.S.BlockStore.rest c.args.store.now) (g.S.BlockStore.rest c.give_slot.new.self)
-    (sym c.phys.ensures ∙ c.in_default.is) c.give_slot.ensures.zone c.give_slot.ensures.rest.moves
+    makes-whole c.args.sparing c.requires.whole c.args.size c.args.slot (g.S.BlockStore.zone c.args.store.now)
+    (g.S.BlockStore.zone c.put_block.new.store) (g.S.BlockStore.zone c.give_slot-in_default.new.self)
+    (g.S.BlockStore.rest c.args.store.now) (g.S.BlockStore.rest c.put_block.new.store)
+    (g.S.BlockStore.rest c.give_slot-in_default.new.self) c.in-Ok.made c.in-Ok.ensures.went c.in-Ok.ensures.slot
+    c.give_slot-in_default.ensures.zone c.give_slot-in_default.ensures.rest.moves
 
-pub returns-in_default-place-clause-went : goal.returns-in_default-place-clause-went
-returns-in_default-place-clause-went g c =
-    let back = c.give_slot-in_default-place in
-    makes-none c.args.sparing c.requires.whole c.args.size c.in-Some.bytes
-    (fits g (goal.at.returns-in_default-place-clause-went g c).In-Ok) (g.S.BlockStore.zone c.args.store.now)
-    (g.S.BlockStore.zone c.make_room.new.store) (g.S.BlockStore.rest c.args.store.now)
-    (g.S.BlockStore.rest c.make_room.new.store) c.in-Ok.room c.in-Ok.ensures.went c.in_default-place.is
-    (g.S.BlockStore.zone back.new.self) (g.S.BlockStore.rest back.new.self)
-    (back.ensures.zone ∙ at_none c.in-Ok.room.place _ _ c.in_default-place.is c.in-Ok.ensures.none) back.ensures.rest.moves
+pub returns-clause-went : goal.returns-clause-went
+returns-clause-went g c =
+    let zone1 = g.S.BlockStore.zone c.put_block.new.store in
+    let rest1 = g.S.BlockStore.rest c.put_block.new.store in
+    makes-whole c.args.sparing c.requires.whole c.args.size c.args.slot (g.S.BlockStore.zone c.args.store.now) zone1 zone1
+    (g.S.BlockStore.rest c.args.store.now) rest1 rest1 c.in-Ok.made c.in-Ok.ensures.went c.in-Ok.ensures.slot refl refl
 
-pub returns-in_default-place-clause-slot : goal.returns-in_default-place-clause-slot
-returns-in_default-place-clause-slot g c =
-    kept-back (g.S.BlockStore.rest c.args.store.now) (g.S.BlockStore.rest c.make_room.new.store)
-    (g.S.BlockStore.rest c.give_slot-in_default-place.new.self) c.args.slot c.in-Ok.ensures.rest
-    c.give_slot-in_default-place.ensures.rest
-
-pub carve-requires-clause-room : goal.carve-requires-clause-room
-carve-requires-clause-room g c = wide g (goal.at.carve-requires-clause-room g c).In-Some-place
-
-pub carve-requires-clause-no_block : goal.carve-requires-clause-no_block
-carve-requires-clause-no_block g c = gone g (goal.at.carve-requires-clause-no_block g c).In-Some-place
-
-pub give_slot-requires-in-Err-carve-clause-no_block : goal.give_slot-requires-in-Err-carve-clause-no_block
-give_slot-requires-in-Err-carve-clause-no_block g c = ap (has (is_relocatable c.args.slot)) c.in-Err-carve.ensures.err
-    ∙ gone g (goal.at.give_slot-requires-in-Err-carve-clause-no_block g c).In-Some-place
-
-pub returns-in-Ok-carve-clause-went : goal.returns-in-Ok-carve-clause-went
-returns-in-Ok-carve-clause-went g c =
-    let at = goal.at.returns-in-Ok-carve-clause-went g c in
-    makes-some c.args.sparing c.requires.whole c.args.size c.in-Some.bytes (fits g at.In-Ok)
-    (g.S.BlockStore.zone c.args.store.now) (g.S.BlockStore.zone c.make_room.new.store)
-    (g.S.BlockStore.rest c.args.store.now) (g.S.BlockStore.rest c.make_room.new.store) c.in-Ok.room c.in-Ok.ensures.went
-    c.args.slot c.in-Some-place.place c.in-Some-place.is c.in-Ok.ensures.room (gone g at.In-Some-place)
-    (g.S.BlockStore.zone c.carve.new.self) c.in-Ok-carve.ensures.ok (g.S.BlockStore.rest c.carve.new.self)
-    c.in-Ok-carve.ensures.rest.moves
-
-pub returns-in-Ok-carve-clause-fresh : goal.returns-in-Ok-carve-clause-fresh
-returns-in-Ok-carve-clause-fresh g c =
-    let at = goal.at.returns-in-Ok-carve-clause-fresh g c in
-    makes-fresh c.args.sparing c.requires.whole c.args.size c.in-Some.bytes (fits g at.In-Ok)
-    (g.S.BlockStore.zone c.args.store.now) (g.S.BlockStore.zone c.make_room.new.store)
-    (g.S.BlockStore.rest c.args.store.now) (g.S.BlockStore.rest c.make_room.new.store) c.in-Ok.room c.in-Ok.ensures.went
-    c.args.slot c.in-Some-place.place c.in-Some-place.is c.in-Ok.ensures.room (gone g at.In-Some-place)
-    (g.S.BlockStore.zone c.carve.new.self) c.in-Ok-carve.ensures.ok
-
-pub returns-in-Ok-carve-clause-fits : goal.returns-in-Ok-carve-clause-fits
-returns-in-Ok-carve-clause-fits g c = ap is_some (fits g (goal.at.returns-in-Ok-carve-clause-fits g c).In-Ok)
-
-pub returns-in-Ok-carve-clause-slot : goal.returns-in-Ok-carve-clause-slot
-returns-in-Ok-carve-clause-slot g c =
-    let carved = c.in-Ok-carve.ensures.rest in
-    let kept = c.in-Ok.ensures.rest in (
-      refl,
-      record {
-        slots = λ k. carved.slots k ∙ kept.slots k;
-        unused = carved.unused ∙ kept.unused;
-        all = carved.all ∙ kept.all;
-        moves = refl;
-        placed = refl;
-        window = carved.window ∙ kept.window;
-      },
-    )
-
-pub returns-in-Ok-carve-clause-nonrelocatable : goal.returns-in-Ok-carve-clause-nonrelocatable
-returns-in-Ok-carve-clause-nonrelocatable g c place =
-    nonrelocatable-carved c.in-Some-place.place (padded c.args.size) (g.S.BlockStore.zone c.make_room.new.store)
-    (g.S.BlockStore.zone c.carve.new.self) (fresh_block c.args.slot c.args.size) (λ p. refl)
-    (wide g (goal.at.returns-in-Ok-carve-clause-nonrelocatable g c).In-Some-place) c.in-Ok-carve.ensures.ok place
-    ∙ c.in-Ok.ensures.nonrelocatable place
-
-pub returns-in-Err-carve-clause-nonrelocatable : goal.returns-in-Err-carve-clause-nonrelocatable
-returns-in-Err-carve-clause-nonrelocatable g c place =
-    ap (has (is_nonrelocatable place)) (c.give_slot-in-Err-carve.ensures.zone ∙ c.in-Err-carve.ensures.err)
-    ∙ c.in-Ok.ensures.nonrelocatable place
-
--- what the sink hears, where a block can have the size
-heard : (g : Over) (c : In-Ok g) → (done : Type 0) → Hears g.K.PurgeSink.told g.K.PurgeSink.waits g.K.PurgeSink.listens done
+-- what the sink hears
+heard : (g : Over) (c : In-Ok g) → Hears g.K.PurgeSink.told g.K.PurgeSink.waits g.K.PurgeSink.listens (true ≡ true)
     (told_along c.args.names.now (spared c.args.sparing) (seek_block c.args.sparing c.args.size (fresh_block 0 c.args.size)
-    (g.S.BlockStore.zone c.args.store.now)) (g.S.BlockStore.zone c.args.store.now)) c.args.sink.now c.make_room.new.sink
-heard g c done =
-    let new = fresh_block 0 c.args.size in
-    let size = phys-some c.args.size c.in-Some.bytes (fits g c) in
+    (g.S.BlockStore.zone c.args.store.now)) (g.S.BlockStore.zone c.args.store.now)) c.args.sink.now c.put_block.new.sink
+heard g c =
     hears-as g.K.PurgeSink.told g.K.PurgeSink.waits g.K.PurgeSink.listens _ _ _ _ _ _ (λ some. refl)
-    (block-told c.args.sparing c.requires.whole c.args.size c.in-Some.bytes (fits g c) (g.S.BlockStore.zone c.args.store.now)
-    (g.S.BlockStore.zone c.make_room.new.store) (g.S.BlockStore.rest c.args.store.now)
-    (g.S.BlockStore.rest c.make_room.new.store) c.in-Ok.room c.in-Ok.ensures.went c.args.names.now new)
-    (c.in-Ok.ensures.hears new (fresh-size c.args.size c.in-Some.bytes size.1 0))
+    (ap (λ z. told_along c.args.names.now (spared c.args.sparing)
+    (seek_block c.args.sparing c.args.size (fresh_block 0 c.args.size) z) z)
+    (opened-whole c.args.sparing c.requires.whole (g.S.BlockStore.zone c.args.store.now))) c.in-Ok.ensures.hears
 
-pub returns-in-Err-clause-hears : goal.returns-in-Err-clause-hears
-returns-in-Err-clause-hears g c =
-    let size = phys-some c.args.size c.in-Some.bytes (sym c.phys.ensures ∙ c.in-Some.is) in
-    let hears = c.make_room.ensures.hears (fresh_block 0 c.args.size)
-    (fresh-size c.args.size c.in-Some.bytes size.1 0) in search rules
+pub returns-in_default-clause-hears : goal.returns-in_default-clause-hears
+returns-in_default-clause-hears g c = heard g (goal.at.returns-in_default-clause-hears g c).In-Ok
 
-pub returns-in_default-place-clause-hears : goal.returns-in_default-place-clause-hears
-returns-in_default-place-clause-hears g c = heard g (goal.at.returns-in_default-place-clause-hears g c).In-Ok _
-
-pub returns-in-Ok-carve-clause-hears : goal.returns-in-Ok-carve-clause-hears
-returns-in-Ok-carve-clause-hears g c = heard g (goal.at.returns-in-Ok-carve-clause-hears g c).In-Ok _
-
-pub returns-in-Err-carve-clause-hears : goal.returns-in-Err-carve-clause-hears
-returns-in-Err-carve-clause-hears g c = heard g (goal.at.returns-in-Err-carve-clause-hears g c).In-Ok _
+pub returns-clause-hears : goal.returns-clause-hears
+returns-clause-hears g c = heard g (goal.at.returns-clause-hears g c).In-Ok
