@@ -6,11 +6,11 @@ pub use Rattle.block_store.proofs.Nonrelocatable.Counts.{not_nonrelocatable-relo
 pub use Rattle.block_store.proofs.Nonrelocatable.Placing.{spot_at-below}
 pub use Rattle.block_store.proofs.Plain.Counters.{counted-none}
 pub use Rattle.block_store.proofs.Plain.Options.{map-none, some_and, the_some}
-pub use Rattle.block_store.proofs.Plain.Trials.{fewest-either, fewest-last, least-map, least_or_last-at, least_or_last-fails}
-pub use Rattle.block_store.proofs.Plain.Trials.{least_or_last-le, least_or_last-none}
+pub use Rattle.block_store.proofs.Plain.Trials.{fewest-either, fewest-last, least_or_last-at, least_or_last-fails, least_or_last-le}
+pub use Rattle.block_store.proofs.Plain.Trials.{least_or_last-none}
 pub use Rattle.block_store.proofs.Purged.Purges.{sizes-lowest_purged}
 pub use Rattle.block_store.proofs.Purged.Rising.{purge-all}
-pub use Rattle.block_store.proofs.Purged.Sparing.{filter-room_base, filter-room_place, filter-tidy, here-same, lowest, mapped, spot-lowest}
+pub use Rattle.block_store.proofs.Purged.Sparing.{filter-room_base, filter-room_place, filter-tidy, here-same, lowest, spot-lowest}
 pub use Rattle.block_store.proofs.Regroup.AllLowered.{settled_lowered, settled_none_rises}
 pub use Rattle.block_store.proofs.Regroup.HavingRoom.{place-room, room-settled}
 pub use Rattle.block_store.proofs.Regroup.MostRoom.{most-placed, no_more-placed, place-some, placed-is, room-largest}
@@ -27,11 +27,10 @@ pub use Rattle.block_store.proofs.Regroup.Still.{still-settled}
 pub use Rattle.block_store.proofs.Renamed.GrowRenaming.{resized-rename}
 pub use Rattle.block_store.proofs.Renamed.Renaming.{change_run-rename, filter-rename, free-rename, free_of-rename, freed-rename, has-rename}
 pub use Rattle.block_store.proofs.Renamed.Renaming.{has_free-rename, is_mover-rename, is_purgeable-rename, is_room-rename, joined-rename}
-pub use Rattle.block_store.proofs.Renamed.Renaming.{others-rename, purge-rename, put_in_place-rename, rename_run_spot, rename_stretch}
-pub use Rattle.block_store.proofs.Renamed.Renaming.{room-rename, run_spot-rename, segments-rename, settle-rename, size-rename, spot-rename}
-pub use Rattle.block_store.proofs.Renamed.Renaming.{tidy-rename, total-rename}
+pub use Rattle.block_store.proofs.Renamed.Renaming.{others-rename, purge-rename, rename_stretch, room-rename, segments-rename}
+pub use Rattle.block_store.proofs.Renamed.Renaming.{settle-rename, size-rename, spot-rename, tidy-rename, total-rename}
 pub use Rattle.block_store.proofs.Walks.Telling.{size-seen}
-pub use Rattle.block_store.proofs.Zone.Absence.{freed-absent, none-filter, none-free, none-lowest_purged, none-settled}
+pub use Rattle.block_store.proofs.Zone.Absence.{none-filter, none-free, none-lowest_purged, none-settled}
 pub use Rattle.block_store.proofs.Zone.Aligned.{spot_at-is}
 pub use Rattle.block_store.proofs.Zone.Alike.{Alike, alike-append, alike-based, alike-changed, alike-compacted, alike-cons, alike-freed}
 pub use Rattle.block_store.proofs.Zone.Alike.{alike-high, alike-purged, alike-put, alike-refl, alike-room, alike-then, alike-tidy, locks}
@@ -96,15 +95,14 @@ pub use Rattle.heap_calls.specs.Gone.{Gone, Hears, IsIdle, Rests, Tells, TellsNo
 pub use Rattle.heap_calls.specs.Gone.{gone, gone_of, gone_unless, made_gone, purge_mem_gone, ready_gone, refill_gone, room_gone, slot_gone}
 pub use Rattle.heap_calls.specs.History.{after_calls}
 pub use Rattle.heap_calls.specs.Inner.Appending.{bytes_of, length_of, seek_longer, size_for}
-pub use Rattle.heap_calls.specs.Inner.Filling.{IsNext, IsRefilling, IsReplaced, IsSizeOf, owned_by, refilled, refilled_moves}
-pub use Rattle.heap_calls.specs.Inner.Filling.{refilled_searches, wanted_as}
+pub use Rattle.heap_calls.specs.Inner.Filling.{IsNext, IsReplaced, IsSizeOf, owned_by, wanted_as}
 pub use Rattle.heap_calls.specs.Inner.Given.{FindsBlock, IsAnswer, KeepsMoves, KeepsNames, found, seen_flags, seen_in_run, seen_mover}
 pub use Rattle.heap_calls.specs.Inner.Given.{slot_at, slot_of}
 pub use Rattle.heap_calls.specs.Inner.Growing.{CanGrowUp, FindsGrowth, GrewUp, IsToGrow, SameBlocks, Spares, block_of, grown}
 pub use Rattle.heap_calls.specs.Inner.GrowingInPlace.{above_taken, pushed_up, room_at, seen_size}
 pub use Rattle.heap_calls.specs.Inner.Halting.{Halts}
 pub use Rattle.heap_calls.specs.Inner.Least.{IsMost, enough_above}
-pub use Rattle.heap_calls.specs.Inner.Loose.{FindsLoose, bits_of, flags_with, loose, loose_at, renewed, renewed_moves, renewed_searches}
+pub use Rattle.heap_calls.specs.Inner.Loose.{FindsLoose, bits_of, flags_with, loose, loose_at}
 pub use Rattle.heap_calls.specs.Inner.Making.{HasRoomAt, MakesRoom, filled_at}
 pub use Rattle.heap_calls.specs.Inner.Munging.{HasBytes, exchanged, shifted, then_do}
 pub use Rattle.heap_calls.specs.Inner.Naming.{entered, number_of}
@@ -119,7 +117,7 @@ pub use Rattle.heap_calls.specs.Inner.Pointing.{FindsHeld, target, target_at, ta
 pub use Rattle.heap_calls.specs.Inner.Reaching.{Reaches, sized_reply}
 pub use Rattle.heap_calls.specs.Inner.Search.{FindsPlacement, IsAt, tries}
 pub use Rattle.heap_calls.specs.Inner.Telling.{IsNumberOf, LeavesSlot, OpensNone, blocks_from, from_spot, gone_from, gone_named}
-pub use Rattle.heap_calls.specs.Inner.Telling.{renewed_gone, zone_slot_gone}
+pub use Rattle.heap_calls.specs.Inner.Telling.{zone_slot_gone}
 pub use Rattle.heap_calls.specs.Inner.Went.{Went, at_spot, seek_growth, seek_sized, seek_still, told_along, told_named}
 pub use Rattle.heap_calls.specs.Inside.{cast, cast_as, for_known, guarded_as, has_block, held_high, inside, is_owned, loosened, new_all}
 pub use Rattle.heap_calls.specs.Inside.{new_empty, new_empty_inside, new_filled, new_inside, number_if, owned_as, refill, refill_inside}
@@ -138,7 +136,6 @@ pub use Rattle.heap_calls.specs.Pointers.{place_of, pointed, pointed_at, pointer
 pub use Rattle.heap_calls.specs.Preloaded.{LeavesUnmade, MadeSome}
 pub use Rattle.heap_calls.specs.Purging.{bit, block_bits, blocks_purged, emptied_at, empty_handle, h_get_state, h_no_purge, h_purge}
 pub use Rattle.heap_calls.specs.Purging.{h_set_state, is_loose, is_resource, max_mem, purge_mem, purge_space, purgeable, purged_all}
-pub use Rattle.heap_calls.specs.Purging.{reallocated}
 pub use Rattle.heap_calls.specs.Refused.{BarredLeaves, LeavesMasters, RefusedLeaves, code_left, refused_zone, zone_behind}
 pub use Rattle.heap_calls.specs.Rows.{Done, answer_made, append, changed, doing, doing_silently, hand_and_hand, hand_to_hand, heap_after}
 pub use Rattle.heap_calls.specs.Rows.{is_unused, moves_made, new_empty_handle, new_handle, new_pointer, next_block, pointer_and_hand}

@@ -10,7 +10,6 @@ pub mod Promises
 pub mod Tries
 pub mod Steps
 pub mod GoneBlocks
-pub mod GonePlaces
 pub mod Hearing
 mod Exchanging
 mod Worked

@@ -1,9 +1,9 @@
 use Rattle.heap_calls.proofs.Cited.{◌≡◌, ℕ, ◌*◌, Bool, true, false, List, [], ◌∷◌, ◌++◌, length, map, replicate}
-use Rattle.heap_calls.proofs.Cited.{Option, Some, None, refl, sym, ◌∙◌, ap, cond, is_some, option_map, unwrap_or}
-use Rattle.heap_calls.proofs.Cited.{false_from_ne_true, length-map, length-replicate, phys, padded, is_some-map, Flags, Block}
+use Rattle.heap_calls.proofs.Cited.{Option, Some, None, refl, sym, ◌∙◌, ap, cond, is_some, unwrap_or}
+use Rattle.heap_calls.proofs.Cited.{false_from_ne_true, length-map, length-replicate, phys, padded, Flags, Block}
 use Rattle.heap_calls.proofs.Cited.{Relocatable, size, count, is_masters, is_relocatable, rename, rename_block, no_flags, has}
-use Rattle.heap_calls.proofs.Cited.{place, least, filled, purge, count_of, put_in_place, room, is_used, Rest, counted}
-use Rattle.heap_calls.proofs.Cited.{Nothing, map-none, least-map, Put, Did, did, did-rename, size-rename, told_blocks}
+use Rattle.heap_calls.proofs.Cited.{is_used, Rest, counted}
+use Rattle.heap_calls.proofs.Cited.{Nothing, Put, Did, did, did-rename, size-rename, told_blocks}
 use Rattle.heap_calls.proofs.Cited.{Sought, no_room, seek, seek_slot, then_seek, rename_sought, along-if, along-then}
 use Rattle.heap_calls.proofs.Cited.{along-seek, Names, PathNames, seek-rename, slot-rename, then-rename, State, Memory, Plain}
 use Rattle.heap_calls.proofs.Cited.{Handle, nothing, Done, doing_silently, purges_made, purged_by, made_gone, Went, told_along}
@@ -21,15 +21,6 @@ use Rattle.heap_calls.proofs.Same.Silent.{filled-silent}
 use Rattle.heap_calls.proofs.Went.{given-is, path-names, slot-along, slot-names, fits-rename}
 
 -- A call that makes a handle: what its path does is what the store did.
-
--- where one block finds no room, no other of its size does
-pub no_room-alike : (sp : Block → Bool) (a b : Block) (zone : List Block) → size b ≡ size a
-    → room (put_in_place a) sp zone ≡ None → room (put_in_place b) sp zone ≡ None
-no_room-alike sp a b zone same none =
-    least-map (filled b) (λ k. place (size b) (purge k sp zone)) (count_of sp zone)
-    ∙ ap (λ n. option_map (filled b) (least (λ k. place n (purge k sp zone)) (count_of sp zone))) same
-    ∙ ap (option_map (filled b)) (map-none (filled a) _ (sym (least-map (filled a)
-    (λ k. place (size a) (purge k sp zone)) (count_of sp zone)) ∙ none))
 
 -- the path of a row, by names
 module _ (f g : ℕ → ℕ) (p q : Block → Bool) (spares : (b : Block) → p (rename_block f g b) ≡ q b) (unused : Bool)

@@ -6,7 +6,6 @@ pub mod Hoisting
 pub mod Largest
 pub mod Loosening
 pub mod PurgeTrials
-pub mod Looking
 pub mod MoveNames
 pub mod Roles
 pub mod Reserved

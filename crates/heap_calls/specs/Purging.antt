@@ -1,11 +1,11 @@
 use Rattle.std.specs.Prelude.{ℕ, ◌+◌, ◌-◌, ◌/◌, ◌%◌, ◌==◌, Bool, true, false, Option, Some, None, Ok, Err, List, length}
-use Rattle.std.specs.Prelude.{replicate, if◌then◌else◌}
+use Rattle.std.specs.Prelude.{if◌then◌else◌}
 use Rattle.mac_words.specs.Size.{phys}
 use Rattle.mac_words.specs.declared.code.TheConstants.OsErr.{MEM_FULL, PURGED}
 use Rattle.block_store.specs.Block.{Block, Free, Nonrelocatable, Masters, Relocatable, free_sum, is_mover, is_relocatable}
-use Rattle.block_store.specs.Block.{no_flags, tidy}
+use Rattle.block_store.specs.Block.{tidy}
 use Rattle.block_store.specs.Run.{runs}
-use Rattle.block_store.specs.Room.{Spot, spot, put_in_place, room, purge, count_of}
+use Rattle.block_store.specs.Room.{Spot, spot, purge, count_of}
 use Rattle.block_store.specs.Grow.{freed}
 use Rattle.block_store.specs.Compact.{largest_free, least_or_last, has_room, settled}
 use Rattle.heap_calls.specs.State.{Role, Plain, Resource, SystemResource, State}
@@ -66,11 +66,6 @@ empty_handle handle s = for_found (handle_at handle s) s (λ k. emptied_at k.num
 abbrev pub is_loose : Option Spot → Bool
 is_loose None = true
 is_loose (Some at) = is_mover at.here
-
--- The zone with a new block of n bytes, all 0, for the handle h, where there is room once the old block of h is free.
-abbrev pub reallocated : ℕ → ℕ → List Block → Option (List Block)
-reallocated h n zone = room (put_in_place (Relocatable h no_flags (replicate n 0))) nothing
-    (freed (is_relocatable h) zone)
 
 -- The number of blocks that may be purged.
 abbrev pub purgeable : List Block → ℕ

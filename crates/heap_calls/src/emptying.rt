@@ -1,19 +1,15 @@
 //! Empty handles.
 
-ghost use Rattle.std.specs.Prelude.{◌≡◌, ◌≢◌, ◌⊎◌, true, Err, IsTrue, IsErr, OnOk, OnErr, IsOk};
+ghost use Rattle.std.specs.Prelude.{◌≡◌, ◌≢◌, Err};
 ghost use Rattle.std.specs.Prelude.{None};
 ghost use Rattle.heap_calls.specs.Busy.{barred, change_barred, unless};
 ghost use Rattle.heap_calls.specs.Gone.{IsIdle, gone_unless, Hears};
 ghost use Rattle.heap_calls.specs.Rows.{reallocate_handle, doing, doing_silently, purges_made};
-ghost use Rattle.heap_calls.specs.Inner.Telling.{renewed_gone};
 ghost use Rattle.heap_calls.specs.Inner.Given.{IsAnswer, KeepsNames};
-ghost use Rattle.heap_calls.specs.Inner.Halting.{Halts};
-ghost use Rattle.heap_calls.specs.Inner.Numbered.{Agrees, KeepsNonrelocatable};
+ghost use Rattle.heap_calls.specs.Inner.Numbered.{Agrees};
 ghost use Rattle.heap_calls.specs.Answer.{noting, silent};
 ghost use Rattle.heap_calls.specs.Purging.{empty_handle};
-ghost use Rattle.heap_calls.specs.Inner.Loose.{FindsLoose, IsRenewed, renewed_moves};
-ghost use Rattle.heap_calls.specs.Inner.Packed.{Packs};
-ghost use Rattle.block_store.specs.Slot.{is_used};
+ghost use Rattle.heap_calls.specs.Inner.Loose.{FindsLoose};
 ghost use Rattle.heap_calls.specs.Left.{Stops};
 
 use crate::anchor::{Anchor, slot_of};
@@ -22,11 +18,9 @@ use crate::heap::Heap;
 use crate::locking::can_move;
 use crate::new_block::put_block;
 use crate::refusal::Refusal;
-use crate::search::{Room, make_room};
 use crate::sink::PurgeSink;
 use block_store::{BlockStore, Sparing};
-use mac_words::{OsErr, phys};
-use std::alloc::AllocError;
+use mac_words::OsErr;
 
 impl<S: BlockStore> Heap<S> {
     /// `EmptyHandle`: frees the block of a handle, and leaves the handle empty. An empty handle
@@ -102,14 +96,8 @@ impl<S: BlockStore> Heap<S> {
         ensures lies { self.new.memory.window ≡ self.old.memory.window }
     {
         let slot = loose_slot(&self.store, &self.names, handle)?;
-        let made = put_block(
-            &mut self.store,
-            &self.names,
-            slot,
-            size,
-            Sparing::Freed(slot),
-            sink,
-        )?;
+        let sparing = Sparing::Freed(slot);
+        let made = put_block(&mut self.store, &self.names, slot, size, sparing, sink)?;
         let grown = Grown {
             done: made.slot.is_some(),
             searches: made.searches,
@@ -135,40 +123,4 @@ fn loose_slot<S: BlockStore>(
         return Err(OsErr::PURGED);
     }
     Ok(found.slot)
-}
-
-/// Allocates a new block of `size` bytes, all 0, for `slot`, where there is room once the old block
-/// of `slot`, if there is one, is free. Nothing changes where there is no room. The blocks that are
-/// purged for it are reported to a sink, if it listens.
-pub fn renew_block<S: BlockStore, K: PurgeSink>(
-    store: &mut S,
-    names: &[Anchor],
-    slot: u32,
-    size: u32,
-    sink: &mut K,
-) -> Result<Room, AllocError>
-    requires used { IsTrue (is_used ((S.rest store.old).slots slot)) }
-    requires idle { IsIdle K.told K.waits sink.old }
-    ensures answer { IsRenewed slot size (S.zone store.old) (S.rest store.old) result
-        (S.zone store.new) (S.rest store.new) }
-    ensures nonrelocatable { KeepsNonrelocatable (S.zone store.old) (S.zone store.new) }
-    ensures moves { OnOk result
-        (Packs (renewed_moves slot size (S.zone store.old)) (S.rest store.old) (S.rest store.new)) }
-    ensures hears { Hears K.told K.waits K.listens (IsOk result)
-        (renewed_gone names.now slot size (S.zone store.old)) sink.old sink.new }
-    ensures halts { OnErr result (Halts S.TAKES_HOST K.told K.listens (S.zone store.old)
-        (S.rest store.old) (S.zone store.new) (S.rest store.new) sink.old sink.new) }
-{
-    let Some(bytes) = phys(size) else {
-        return Ok(Room {
-            place: None,
-            searches: 0,
-        });
-    };
-    let room = make_room(store, names, bytes, Sparing::Freed(slot), sink)?;
-    let Some(place) = room.place else {
-        return Ok(room);
-    };
-    store.carve(place, slot, size)?;
-    Ok(room)
 }

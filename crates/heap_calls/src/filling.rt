@@ -2,7 +2,7 @@
 
 ghost use Rattle.std.specs.Prelude.{◌≡◌, ◌≢◌, ◌⊎◌, ◌+◌, ◌<◌, ◌≤◌, true, false, Err, [], map};
 ghost use Rattle.std.specs.Prelude.{length, IfOk, OnOk, OnErr, IsErr, IsTrue, IsOk, Some, None};
-ghost use Rattle.std.specs.Prelude.{vec_len, vec_capacity, IfSome, is_some, unwrap_or};
+ghost use Rattle.std.specs.Prelude.{vec_len, vec_capacity, is_some, unwrap_or};
 ghost use Rattle.heap_calls.specs.State.{Plain};
 ghost use Rattle.heap_calls.specs.Inside.{inside, has_block, new_inside, new_empty_inside};
 ghost use Rattle.heap_calls.specs.Inside.{refill_inside, resource_role, new_all};
@@ -11,19 +11,17 @@ ghost use Rattle.heap_calls.specs.Refused.{LeavesMasters};
 ghost use Rattle.heap_calls.specs.Gone.{Tells, TellsNothing, IsIdle, slot_gone, made_gone};
 ghost use Rattle.heap_calls.specs.Gone.{all_gone, refill_gone};
 ghost use Rattle.heap_calls.specs.Preloaded.{LeavesUnmade, MadeSome};
-ghost use Rattle.heap_calls.specs.Inner.Telling.{renewed_gone, LeavesSlot};
+ghost use Rattle.heap_calls.specs.Inner.Telling.{LeavesSlot};
 ghost use Rattle.heap_calls.specs.Inner.Given.{IsAnswer, KeepsMoves, KeepsNames};
 ghost use Rattle.heap_calls.specs.Inner.Filling.{IsSizeOf, IsReplaced};
-ghost use Rattle.heap_calls.specs.Inner.Filling.{IsRefilled, refilled_moves, owned_by, wanted_as};
+ghost use Rattle.heap_calls.specs.Inner.Filling.{owned_by, wanted_as};
 ghost use Rattle.heap_calls.specs.Inner.Filling.{IsNext};
-ghost use Rattle.heap_calls.specs.Inner.Loose.{IsRenewed, renewed_moves};
-ghost use Rattle.heap_calls.specs.Inner.NewBlock.{MakesBlock, IsFresh, fresh_block, seek_new};
+ghost use Rattle.heap_calls.specs.Inner.NewBlock.{IsFresh, fresh_block, seek_block, seek_new};
 ghost use Rattle.heap_calls.specs.Inner.NewSlot.{HasMore, HasSlot};
 ghost use Rattle.heap_calls.specs.Inner.Went.{Went, told_along};
 ghost use Rattle.heap_calls.specs.Inner.Numbered.{Agrees, KeepsNonrelocatable, memory_of};
-ghost use Rattle.heap_calls.specs.Inner.Packed.{Packs};
 ghost use Rattle.block_store.specs.Block.{Relocatable, is_relocatable};
-ghost use Rattle.block_store.specs.Rest.{IsRest};
+ghost use Rattle.block_store.specs.Rest.{IsRest, KeepsSlots};
 ghost use Rattle.block_store.specs.Run.{has};
 ghost use Rattle.block_store.specs.Slot.{is_used};
 ghost use Rattle.block_store.specs.declared.sparing.Sparing.TheVariants.{Nothing};
@@ -33,13 +31,11 @@ ghost use Rattle.heap_calls.specs.Left.{Stops, Unreserved, slot_step};
 
 use crate::anchor::{Anchor, name_handle, slot_of};
 use crate::base::Taken;
-use crate::emptying::renew_block;
 use crate::growing_in_place::Grown;
 use crate::heap::Heap;
 use crate::log::Log;
-use crate::new_block::new_block;
+use crate::new_block::{new_block, put_block};
 use crate::refusal::Refusal;
-use crate::search::Room;
 use crate::sink::PurgeSink;
 use block_store::{BlockStore, Flags, Sparing};
 use std::alloc::AllocError;
@@ -170,10 +166,10 @@ impl<S: BlockStore> Heap<S> {
         ensures lies { self.new.memory.window ≡ self.old.memory.window }
     {
         let found = slot_of(&self.names, Some(number))?;
-        let room = refill_block(&mut self.store, &self.names, found.slot, bytes, flags, sink)?;
+        let made = refill_block(&mut self.store, &self.names, found.slot, bytes, flags, sink)?;
         let grown = Grown {
-            done: room.place.is_some(),
-            searches: room.searches,
+            done: made.slot.is_some(),
+            searches: made.searches,
         };
         Ok(self.account(grown)?)
     }
@@ -239,38 +235,6 @@ fn fill_new<S: BlockStore>(store: &mut S, slot: u32, bytes: &[u8], flags: Flags)
     store.set_flags(place, flags);
 }
 
-/// Puts a new block of as many bytes as `bytes` has, all 0, where there is room, under a new slot,
-/// and returns that slot; `None` where there is no unused slot and no room for more, where the
-/// block would be too large, or where there is no room for the block. The blocks that are purged
-/// for the slot, and then those for the block, are reported to a sink, if it listens.
-fn new_block_for<S: BlockStore, K: PurgeSink>(
-    store: &mut S,
-    names: &[Anchor],
-    bytes: &[u8],
-    sink: &mut K,
-) -> Result<Taken, AllocError>
-    requires idle { IsIdle K.told K.waits sink.old }
-    ensures hears { Hears K.told K.waits K.listens (IsOk result) (told_along names.now nothing
-        (seek_new Nothing (S.rest store.old).unused (length bytes.now)
-        (fresh_block 0 (length bytes.now)) (S.zone store.old)) (S.zone store.old))
-        sink.old sink.new }
-    ensures left { OnErr result (IsTrue S.TAKES_HOST
-        ⊎ LeavesSlot K.told names.now Nothing (S.zone store.old)
-        (S.rest store.old) (S.zone store.new) (S.rest store.new) sink.old sink.new) }
-    ensures went { IfOk result (λ r. MakesBlock nothing (length bytes.now)
-        (seek_new Nothing (S.rest store.old).unused (length bytes.now)) (S.zone store.old) r
-        (S.zone store.new) (S.rest store.old) (S.rest store.new)) }
-    ensures fresh { IfOk result (λ r. IfSome r.slot
-        (λ slot. IsFresh slot (length bytes.now) (S.zone store.new))) }
-    ensures slot { IfOk result (λ r. HasSlot r.slot (S.rest store.old) (S.rest store.new)) }
-    ensures kept { OnErr result (HasMore (S.rest store.old) (S.rest store.new)) }
-    ensures nonrelocatable { KeepsNonrelocatable (S.zone store.old) (S.zone store.new) }
-    ensures host { IsErr result → IsTrue S.TAKES_HOST ⊎ (K.listens sink.old ≡ true) }
-{
-    let size = size_of(bytes);
-    new_block(store, names, size, Sparing::Nothing, sink)
-}
-
 /// Puts a new block of these bytes and properties where there is room, under a new slot, and
 /// returns that slot; `None` where there is no unused slot and no room for more, where the block
 /// would be too large, or where there is no room for the block. The blocks that are purged for the
@@ -299,7 +263,8 @@ pub fn fill_block<S: BlockStore, K: PurgeSink>(
     ensures nonrelocatable { KeepsNonrelocatable (S.zone store.old) (S.zone store.new) }
     ensures host { IsErr result → IsTrue S.TAKES_HOST ⊎ (K.listens sink.old ≡ true) }
 {
-    let made = new_block_for(store, names, bytes, sink)?;
+    let size = size_of(bytes);
+    let made = new_block(store, names, size, Sparing::Nothing, sink)?;
     let Some(slot) = made.slot else {
         return Ok(made);
     };
@@ -307,35 +272,9 @@ pub fn fill_block<S: BlockStore, K: PurgeSink>(
     Ok(made)
 }
 
-/// Puts a new block of as many bytes as `bytes` has, all 0, for `slot`, where there is room once
-/// the old block of `slot`, if there is one, is free. Nothing changes where there is no room. The
-/// blocks that are purged for it are reported to a sink, if it listens.
-fn renew_block_for<S: BlockStore, K: PurgeSink>(
-    store: &mut S,
-    names: &[Anchor],
-    slot: u32,
-    bytes: &[u8],
-    sink: &mut K,
-) -> Result<Room, AllocError>
-    requires used { IsTrue (is_used ((S.rest store.old).slots slot)) }
-    requires idle { IsIdle K.told K.waits sink.old }
-    ensures answer { IsRenewed slot (length bytes.now) (S.zone store.old) (S.rest store.old) result
-        (S.zone store.new) (S.rest store.new) }
-    ensures nonrelocatable { KeepsNonrelocatable (S.zone store.old) (S.zone store.new) }
-    ensures moves { OnOk result (Packs (renewed_moves slot (length bytes.now) (S.zone store.old))
-        (S.rest store.old) (S.rest store.new)) }
-    ensures hears { Hears K.told K.waits K.listens (IsOk result)
-        (renewed_gone names.now slot (length bytes.now) (S.zone store.old)) sink.old sink.new }
-    ensures halts { OnErr result (Halts S.TAKES_HOST K.told K.listens (S.zone store.old)
-        (S.rest store.old) (S.zone store.new) (S.rest store.new) sink.old sink.new) }
-{
-    let size = size_of(bytes);
-    renew_block(store, names, slot, size, sink)
-}
-
-/// Puts a new block of these bytes and properties, where there is room, for `slot`, which has none.
-/// Nothing changes where there is no room. The blocks that are purged for it are reported to a
-/// sink, if it listens.
+/// Puts a new block of these bytes and properties, where there is room, for `slot`, which has none,
+/// and returns the slot; `None`, and nothing changes, where the block would be too large or there is
+/// no room. The blocks that are purged for it are reported to a sink, if it listens.
 fn refill_block<S: BlockStore, K: PurgeSink>(
     store: &mut S,
     names: &[Anchor],
@@ -343,26 +282,28 @@ fn refill_block<S: BlockStore, K: PurgeSink>(
     bytes: &[u8],
     flags: Flags,
     sink: &mut K,
-) -> Result<Room, AllocError>
+) -> Result<Taken, AllocError>
     requires idle { IsIdle K.told K.waits sink.old }
     requires used { IsTrue (is_used ((S.rest store.old).slots slot)) }
     requires none { has (is_relocatable slot) (S.zone store.old) ≡ false }
-    ensures answer { IsRefilled slot flags bytes.now (S.zone store.old) (S.rest store.old) result
-        (S.zone store.new) (S.rest store.new) }
+    ensures went { IfOk result (λ r. Went nothing (S.zone store.old)
+        (seek_block Nothing (length bytes.now) (Relocatable slot flags bytes.now) (S.zone store.old))
+        (is_some r.slot) r.searches (S.zone store.new) (S.rest store.old) (S.rest store.new)) }
+    ensures rest { KeepsSlots (S.rest store.old) (S.rest store.new) }
     ensures nonrelocatable { KeepsNonrelocatable (S.zone store.old) (S.zone store.new) }
-    ensures moves { OnOk result (Packs (refilled_moves slot (length bytes.now) (S.zone store.old))
-        (S.rest store.old) (S.rest store.new)) }
-    ensures hears { Hears K.told K.waits K.listens (IsOk result)
-        (renewed_gone names.now slot (length bytes.now) (S.zone store.old)) sink.old sink.new }
+    ensures hears { Hears K.told K.waits K.listens (IsOk result) (told_along names.now nothing
+        (seek_block Nothing (length bytes.now) (fresh_block 0 (length bytes.now))
+        (S.zone store.old)) (S.zone store.old)) sink.old sink.new }
     ensures halts { OnErr result (Halts S.TAKES_HOST K.told K.listens (S.zone store.old)
         (S.rest store.old) (S.zone store.new) (S.rest store.new) sink.old sink.new) }
 {
-    let room = renew_block_for(store, names, slot, bytes, sink)?;
-    let Some(_) = room.place else {
-        return Ok(room);
+    let size = size_of(bytes);
+    let made = put_block(store, names, slot, size, Sparing::Nothing, sink)?;
+    let Some(filled) = made.slot else {
+        return Ok(made);
     };
-    fill_new(store, slot, bytes, flags);
-    Ok(room)
+    fill_new(store, filled, bytes, flags);
+    Ok(made)
 }
 
 /// Makes a new handle of a resource, unguarded, under the next number, for which `names` has room,

@@ -1,73 +1,24 @@
-use Rattle.heap_calls.proofs.Cited.{◌≡◌, ℕ, ◌≤◌, Bool, true, false, List, length, refl, sym, ◌∙◌, ap, cond, Option, Some, None, Result, Ok}
-use Rattle.heap_calls.proofs.Cited.{Err, is_some, option_map, MatchOption, none-some, cond-true, length-replicate, phys, padded, OsErr}
-use Rattle.heap_calls.proofs.Cited.{MEM_FULL, Flags, Block, Relocatable, count, is_relocatable, rename, rename_block, has, room}
-use Rattle.heap_calls.proofs.Cited.{put_in_place, freed, Rest, counted, counted-none, room-rename, put_in_place-rename, has-rename}
-use Rattle.heap_calls.proofs.Cited.{freed-absent, Anchor, Log, Room, State, Memory, Answer, Known, nothing, for_found, rebuilt, refused}
-use Rattle.heap_calls.proofs.Cited.{silent, searching, moving, handle_at, has_block, refill, refill_searches, refill_moves, refill_inside}
-use Rattle.heap_calls.proofs.Cited.{for_known, slot_of, put_moves, room_searches, IsFresh, IsReplaced, IsRefilling, refilled}
-use Rattle.heap_calls.proofs.Cited.{refilled_searches, refilled_moves, renewed, renewed_searches, renewed_moves, fresh_block}
-use Rattle.heap_calls.proofs.Cited.{state_of, memory_of, handle_number, pointer_number, sized_reply}
-use Rattle.block_store.specs.declared.sparing.Sparing.TheVariants as sparing
-use Rattle.heap_calls.proofs.Made.{no_room-alike}
-use Rattle.heap_calls.proofs.Filled.Replaced.{new-fresh, put-replaced, zone_with_block}
-use Rattle.heap_calls.proofs.Numbering.Changing.{silent-kept, unmoved, unmoved-is}
-use Rattle.heap_calls.proofs.Numbering.Answering.{handle_at-refused}
-use Rattle.heap_calls.proofs.Numbering.Looking.{room_searches-rename}
-use Rattle.heap_calls.proofs.Numbering.MoveNames.{put_moves-rename}
+use Rattle.heap_calls.proofs.Cited.{◌≡◌, ℕ, Bool, true, false, List, [], length, refl, sym, ◌∙◌, ap, cond, Option, Some, None, Result, Ok}
+use Rattle.heap_calls.proofs.Cited.{Err, is_some, unwrap_or, slice_get, arith, replicate, length-replicate, phys, padded, OsErr, MEM_FULL, Flags}
+use Rattle.heap_calls.proofs.Cited.{Block, Relocatable, is_relocatable, rename_block, has, room, put_in_place, has-rename, Rest}
+use Rattle.heap_calls.proofs.Cited.{Nothing, Put, seek, if_fits, seek-rename, Anchor, Log, State, Memory, Answer, Known, nothing}
+use Rattle.heap_calls.proofs.Cited.{for_found, rebuilt, refused, handle_at, has_block, refill, refill_searches, refill_moves}
+use Rattle.heap_calls.proofs.Cited.{refill_inside, for_known, refill_gone, found_gone, room_gone, put_moves, room_searches, Done}
+use Rattle.heap_calls.proofs.Cited.{doing_silently, reply_of, changed, fresh_block, seek_block, told_along, told_named, state_of}
+use Rattle.heap_calls.proofs.Cited.{memory_of, handle_number, pointer_number}
+use Rattle.heap_calls.specs.declared.anchor.Anchor.TheVariants.{Handle}
+use Rattle.heap_calls.specs.Rows as rows
+use Rattle.heap_calls.proofs.NewBlocks.Seeking.{fits-alike}
+use Rattle.heap_calls.proofs.Numbering.Loosening.{handle_at-by}
+use Rattle.heap_calls.proofs.Numbering.Numbers.{Apart, handle_number-at}
+use Rattle.heap_calls.proofs.Same.Agreeing.{agrees-if}
+use Rattle.heap_calls.proofs.Same.NewBlocks.{Same, put-agrees, sized-searches, sized-moves}
+use Rattle.heap_calls.proofs.Same.Silent.{step-silent}
+use Rattle.heap_calls.proofs.Sizes.Grown.{IsCall, fits-names}
+use Rattle.heap_calls.proofs.ToldGone.Sums.{put-alike}
+use Rattle.heap_calls.proofs.Went.{seek-names, fits-rename}
 
 -- A block for an empty handle.
-
--- in a store, for a slot that has no block
-module _ (slot : ℕ) (zone : List Block) (none : has (is_relocatable slot) zone ≡ false)
-  where
-    same : freed (is_relocatable slot) zone ≡ zone
-    same = freed-absent (is_relocatable slot) zone none
-
-    pub refilled_searches-is : (n : ℕ) → renewed_searches slot n zone ≡ refilled_searches slot n zone
-    refilled_searches-is n = ap (λ z. cond {A = ℕ} (is_some (phys n))
-        (room_searches (put_in_place (fresh_block slot n)) nothing z) 0) same
-
-    pub refilled_moves-is : (n : ℕ) → renewed_moves slot n zone ≡ refilled_moves slot n zone
-    refilled_moves-is n = ap (λ z. cond {A = ℕ} (is_some (phys n)) (put_moves (fresh_block slot n) nothing z) 0) same
-
-    module _ (flags : Flags) (x : List ℕ)
-      where
-        pub not-refilled : renewed slot (length x) zone ≡ None → refilled slot flags x zone ≡ None
-        not-refilled e = cases (is_some (phys (length x))) e
-          where
-            cases : (t : Bool) → cond t (room (put_in_place (fresh_block slot (length x))) nothing
-                (freed (is_relocatable slot) zone)) None ≡ None
-                → cond t (room (put_in_place (Relocatable slot flags x)) nothing zone) None ≡ None
-            cases false e = refl
-            cases true e =
-                no_room-alike nothing (fresh_block slot (length x)) (Relocatable slot flags x) zone
-                (ap padded (sym (length-replicate (length x) 0)))
-                (ap (room (put_in_place (fresh_block slot (length x))) nothing) (sym same) ∙ e)
-
-        -- where it was put in its place
-        module _ (zone1 : List Block) (made : renewed slot (length x) zone ≡ Some zone1)
-            (once : count (is_relocatable slot) zone1 ≤ 1)
-          where
-            put : (is_some (phys (length x)) ≡ true)
-                × (zone_with_block (sparing.Freed slot) slot (length x) zone ≡ Some zone1)
-            put = cases (is_some (phys (length x))) made
-              where
-                cases : (t : Bool) → cond t (room (put_in_place (fresh_block slot (length x))) nothing
-                    (freed (is_relocatable slot) zone)) None ≡ Some zone1
-                    → (t ≡ true) × (zone_with_block (sparing.Freed slot) slot (length x) zone ≡ Some zone1)
-                cases true e = (refl, e)
-                cases false e = absurd (none-some _ e)
-
-            pub renewed-fresh : IsFresh slot (length x) zone1
-            renewed-fresh = new-fresh (sparing.Freed slot) (length x) slot zone zone1 put.1 once
-
-            pub refilled-done : (zone' : List Block) → IsReplaced slot flags x zone1 zone'
-                → refilled slot flags x zone ≡ Some zone'
-            refilled-done zone' done =
-                cond-true (is_some (phys (length x))) (room (put_in_place (Relocatable slot flags x)) nothing zone) None
-                put.0
-                ∙ ap (room (put_in_place (Relocatable slot flags x)) nothing) (sym same)
-                ∙ put-replaced (sparing.Freed slot) (length x) slot zone zone1 put.1 once flags x zone' refl done
 
 -- an empty handle's slot has no block
 pub slot-emptied : (value : Memory) (zone : List Block) (rest : Rest) (es : List Anchor) (log : Log) (h slot : ℕ)
@@ -78,104 +29,96 @@ slot-emptied value zone rest es log h slot is same gone =
     sym (has-rename (handle_number es) (pointer_number es) (is_relocatable h) (is_relocatable slot) same zone)
     ∙ ap (λ (m : Memory). has_block h m.heap) is ∙ gone
 
--- a new block for an empty handle, told of its number
-module _ (value : Memory) (zone zone' : List Block) (rest rest' : Rest) (es : List Anchor) (log : Log)
-    (h slot : ℕ) (flags : Flags) (x : List ℕ) (made : Room) (k : Known) (number : k.number ≡ h)
-    (is : memory_of zone rest es log ≡ value) (found : handle_at (Some h) (state_of zone rest.slots es) ≡ Ok k)
-    (mine : h ≡ handle_number es slot) (done : IsRefilling slot flags x zone rest made zone' rest')
+module _ (h : ℕ) (flags : Flags) (x : List ℕ)
   where
-    abbrev f : ℕ → ℕ
-    f = handle_number es
+    -- the step, as a path
+    abbrev pub refilling : State → Done (Unit {0})
+    refilling s = rows.for_found (handle_at (Some h) s) s (λ (k : Known). changed nothing (if_fits (length x)
+        (seek (Put (Relocatable k.number flags x)) nothing s.zone)) s)
 
-    abbrev g : ℕ → ℕ
-    g = pointer_number es
+    abbrev sized : padded (length (replicate {A = ℕ} (length x) 0)) ≡ padded (length x)
+    sized = ap padded (length-replicate (length x) 0)
 
-    abbrev state : State
-    state = state_of zone rest.slots es
-
-    abbrev n : ℕ
-    n = length x
-
-    fresh-same : fresh_block h n ≡ rename_block f g (fresh_block slot n)
-    fresh-same = ap (λ k. fresh_block k n) mine
-
-    refilled-rename : refilled h flags x state.zone ≡ option_map (rename f g) (refilled slot flags x zone)
-    refilled-rename =
-        ap (λ o. cond (is_some (phys n)) o None)
-        (ap (λ k. room (put_in_place (Relocatable k flags x)) nothing (rename f g zone)) mine
-        ∙ room-rename f g nothing nothing (put_in_place (rename_block f g (Relocatable slot flags x)))
-        (put_in_place (Relocatable slot flags x)) (λ b. refl)
-        (put_in_place-rename f g (Relocatable slot flags x)) zone)
-        ∙ cases (is_some (phys n))
+    -- what is said of the step is what the path does
+    pub refilling-same : (s : State) → Same (refill h flags x s)
+        (for_known (handle_at (Some h) s) (refill_searches h (length x) s))
+        (for_known (handle_at (Some h) s) (refill_moves h (length x) s)) (refill_gone h (length x) s) (refilling s) s
+    refilling-same s = found (handle_at (Some h) s)
       where
-        cases : (t : Bool) → cond t (option_map (rename f g) (room (put_in_place (Relocatable slot flags x)) nothing
-            zone)) None
-            ≡ option_map (rename f g) (cond t (room (put_in_place (Relocatable slot flags x)) nothing zone) None)
-        cases true = refl
-        cases false = refl
+        fits : Bool
+        fits = is_some (phys (length x))
 
-    pub refill_searches-is : for_known (handle_at (Some h) value.heap) (refill_searches h n value.heap) ≡ made.searches
-    refill_searches-is =
-        ap (λ (m : Memory). for_known (handle_at (Some h) m.heap) (refill_searches h n m.heap)) (sym is)
-        ∙ ap (λ r. for_known r (refill_searches h n state)) found
-        ∙ ap (λ k. cond {A = ℕ} (is_some (phys n)) k 0)
-        (ap (λ b. room_searches (put_in_place b) nothing (rename f g zone)) fresh-same
-        ∙ room_searches-rename f g nothing nothing (λ b. refl) (put_in_place (rename_block f g (fresh_block slot n)))
-        (put_in_place (fresh_block slot n)) (put_in_place-rename f g (fresh_block slot n)) zone)
-        ∙ sym done.searches
+        answer_of : Bool → List Block → Answer (Unit {0})
+        answer_of t zone = (reply_of t tt, record { zone = zone; names = s.names })
 
-    pub refill_moves-is : for_known (handle_at (Some h) value.heap) (refill_moves h n value.heap)
-        ≡ refilled_moves slot n zone
-    refill_moves-is =
-        ap (λ (m : Memory). for_known (handle_at (Some h) m.heap) (refill_moves h n m.heap)) (sym is)
-        ∙ ap (λ r. for_known r (refill_moves h n state)) found
-        ∙ ap (λ k. cond {A = ℕ} (is_some (phys n)) k 0)
-        (ap (λ b. put_moves b nothing (rename f g zone)) fresh-same
-        ∙ put_moves-rename f g nothing nothing (λ b. refl) (fresh_block slot n) zone)
-
-    -- the zone that it comes to
-    row : (r : Result (Unit {0}) OsErr) (o : Option (List Block)) → refilled slot flags x zone ≡ o
-        → rebuilt (option_map (rename f g) o) state ≡ (r, record state { zone = rename f g zone' })
-        → silent (refill h flags x) value ≡ (r, memory_of zone' (unmoved rest rest') es log)
-    row r o made now =
-        silent-kept (refill h flags x) value zone zone' rest (unmoved rest rest') es log r is
-        (ap (λ r. for_found r state (λ k. cond (is_some (phys n)) (rebuilt
-        (room (put_in_place (Relocatable k.number flags x)) nothing state.zone) state) (refused MEM_FULL state))) found
-        ∙ ap (λ h. cond (is_some (phys n)) (rebuilt
-        (room (put_in_place (Relocatable h flags x)) nothing state.zone) state) (refused MEM_FULL state)) number
-        ∙ either (is_some (phys n)) (room (put_in_place (Relocatable h flags x)) nothing state.zone)
-        ∙ ap (λ o. rebuilt o state) (refilled-rename ∙ ap (option_map (rename f g)) made) ∙ now)
-        (unmoved-is rest rest' done.slots)
-      where
-        either : (t : Bool) (o : Option (List Block)) → cond t (rebuilt o state) (refused MEM_FULL state)
-            ≡ rebuilt (cond t o None) state
-        either true o = refl
+        either : (t : Bool) (o : Option (List Block)) → cond t (rebuilt o s) (refused MEM_FULL s)
+            ≡ answer_of (is_some (cond t o None)) (unwrap_or (cond t o None) s.zone)
+        either true None = refl
+        either true (Some zone) = refl
         either false o = refl
 
-    -- by whether there was room
-    pub refill-told : silent (refill h flags x) value
-        ≡ (sized_reply (is_some made.place), memory_of zone' (unmoved rest rest') es log)
-    refill-told = cases made.place done.none
-      where
-        cases : (o : Option ℕ) → MatchOption o ((refilled slot flags x zone ≡ None) × (zone' ≡ zone))
-            (λ _. refilled slot flags x zone ≡ Some zone') → silent (refill h flags x) value
-            ≡ (sized_reply (is_some o), memory_of zone' (unmoved rest rest') es log)
-        cases None m = row (Err MEM_FULL) None m.0
-            (ap (λ z. (Err MEM_FULL, record state { zone = rename f g z })) (sym m.1))
-        cases (Some p) m = row (Ok tt) (Some zone') m refl
+        found : (r : Result Known OsErr) → Same (for_found r s (λ (k : Known). cond fits (rebuilt
+            (room (put_in_place (Relocatable k.number flags x)) nothing s.zone) s) (refused MEM_FULL s)))
+            (for_known r (refill_searches h (length x) s)) (for_known r (refill_moves h (length x) s))
+            (found_gone r (λ (k : Known). cond fits (room_gone (length s.names)
+            (put_in_place (fresh_block k.number (length x))) nothing s.zone) []))
+            (rows.for_found r s (λ (k : Known). changed nothing (if_fits (length x)
+            (seek (Put (Relocatable k.number flags x)) nothing s.zone)) s)) s
+        found (Err code) = record { answers = refl; looks = refl; lowers = refl; tells = refl }
+        found (Ok k) =
+            let new : Block = Relocatable k.number flags x in
+            let after = room (put_in_place new) nothing s.zone in
+            let a = agrees-if fits after (room_searches (put_in_place new) nothing s.zone) (put_moves new nothing s.zone)
+            (room_gone (length s.names) (put_in_place new) nothing s.zone) (seek (Put new) nothing s.zone)
+            (put-agrees (length s.names) nothing new (omega arith) s.zone) in
+            record {
+              answers = either fits after ∙ ap (λ t. answer_of t (unwrap_or (cond fits after None) s.zone)) a.finds
+                  ∙ ap (answer_of (if_fits (length x) (seek (Put new) nothing s.zone)).found) a.leaves;
+              looks = ap (λ (n : ℕ). cond fits n 0) (sized-searches (fresh_block h (length x)) new sized nothing s.zone)
+                  ∙ a.looks;
+              lowers = ap (λ (n : ℕ). cond fits n 0) (sized-moves (fresh_block h (length x)) new sized nothing s.zone)
+                  ∙ a.lowers;
+              tells = ap (λ l. cond fits l []) (put-alike (length s.names) (fresh_block k.number (length x)) new sized nothing
+                  s.zone) ∙ a.tells;
+            }
 
--- a name that is no handle's
-pub refill-refused : (value : Memory) (zone : List Block) (rest : Rest) (es copy : List Anchor) (log : Log) (h : ℕ)
-    (flags : Flags) (x : List ℕ) (code : OsErr) → memory_of zone rest es log ≡ value → copy ≡ es
-    → slot_of (Some h) copy ≡ Err code → refill_inside h flags x value ≡ (Err code, value)
-refill-refused value zone rest es copy log h flags x code is copied e =
-    let none : handle_at (Some h) value.heap ≡ Err code = ap (λ (m : Memory). handle_at (Some h) m.heap) (sym is)
-    ∙ handle_at-refused zone rest.slots es (Some h) code (ap (slot_of (Some h)) (sym copied) ∙ e) in
-    let row : State → Result Known OsErr → Answer (Unit {0}) = λ s r. for_found r s
-    (λ k. cond (is_some (phys (length x))) (rebuilt (room (put_in_place (Relocatable k.number flags x)) nothing s.zone) s)
-    (refused MEM_FULL s)) in
-    ap (λ r. moving (for_known r (refill_moves h (length x) value.heap))
-    (searching (for_known r (refill_searches h (length x) value.heap)) (silent (λ s. row s r) value))) none
-    ∙ ap (λ k. (Err code, record value { log = record value.log { searches = k }; moves = counted value.moves 0 }))
-    (counted-none value.log.searches)
-    ∙ ap (λ k. (Err code, record value { moves = k })) (counted-none value.moves)
+    pub refilling-silent : (m : Memory) → doing_silently refilling m ≡ refill_inside h flags x m
+    refilling-silent m = step-silent (refill h flags x) (for_known (handle_at (Some h) m.heap) (refill_searches h (length x)
+        m.heap)) (for_known (handle_at (Some h) m.heap) (refill_moves h (length x) m.heap)) _ refilling m
+        (refilling-same m.heap)
+
+    pub refilled-told : (slot : ℕ) (zone : List Block) (es : List Anchor)
+        → told_along es nothing (seek_block Nothing (length x) (fresh_block 0 (length x)) zone) zone
+        ≡ told_along es nothing (seek_block Nothing (length x) (Relocatable slot flags x) zone) zone
+    refilled-told slot zone es = ap (told_named es) (fits-alike nothing (fresh_block 0 (length x)) (Relocatable slot flags x)
+        sized (is_some (phys (length x))) zone)
+
+    -- the path by the handle's number, and none where there is no such handle
+    module _ (zone : List Block) (rest : Rest) (es : List Anchor)
+      where
+        abbrev s : State
+        s = state_of zone rest.slots es
+
+        abbrev by_number : Result Known OsErr → Done (Unit {0})
+        by_number r = rows.for_found r s (λ (k : Known). changed nothing (if_fits (length x)
+            (seek (Put (Relocatable k.number flags x)) nothing s.zone)) s)
+
+        pub refill-none : (code : OsErr) → handle_at (Some h) s ≡ Err code → refilling s ≡ rows.refused code s
+        refill-none code none = ap by_number none
+
+        pub refill-call : (slot : ℕ) {guarded : Bool} → slice_get es h ≡ Some (Handle slot guarded) → Apart es
+            → IsCall zone rest es refilling nothing Nothing (seek_block Nothing (length x) (Relocatable slot flags x) zone)
+        refill-call slot at apart =
+            let f = handle_number es in
+            let g = pointer_number es in
+            let new = Relocatable slot flags x in
+            let fits = is_some (phys (length x)) in record {
+              spares = λ b. refl;
+              names = fits-names f g fits (seek (Put new) nothing zone) (seek-names f g nothing (Put new) tt zone);
+              row = ap by_number (handle_at-by zone rest.slots es (Some h) h slot refl at)
+                  ∙ ap (λ (k : ℕ). changed nothing (if_fits (length x) (seek (Put (Relocatable k flags x)) nothing s.zone)) s)
+                  (sym (handle_number-at es h slot at apart))
+                  ∙ ap (λ r. changed nothing (if_fits (length x) r) s)
+                  (seek-rename f g nothing nothing (λ b. refl) (Put new) tt zone)
+                  ∙ ap (λ r. changed nothing r s) (fits-rename f g fits (seek (Put new) nothing zone));
+            }

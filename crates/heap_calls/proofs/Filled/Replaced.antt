@@ -1,15 +1,14 @@
 use Rattle.heap_calls.proofs.Cited.{◌≡◌, ℕ, ◌+◌, ◌-◌, ◌≤◌, zero, suc, Bool, true, false, ◌==◌, List, [], ◌∷◌, ◌++◌, length, replicate, refl}
 use Rattle.heap_calls.proofs.Cited.{sym, ◌∙◌, ap, cond, subst, map, arith, Option, Some, None, nat_le, drop, filter, option_map, IfSome}
 use Rattle.heap_calls.proofs.Cited.{IsSome, IsSomeAnd, none-some, same_Some, or_parts, map-append, length-replicate, drop-length}
-use Rattle.heap_calls.proofs.Cited.{filter-append, padded, written, Flags, Sparing, Block, Free, Nonrelocatable, Masters, Relocatable, size}
+use Rattle.heap_calls.proofs.Cited.{filter-append, padded, written, Flags, Block, Free, Nonrelocatable, Masters, Relocatable, size}
 use Rattle.heap_calls.proofs.Cited.{count, add, tidy, is_relocatable, is_nonrelocatable, no_flags, content_of, with_content, with_flags}
-use Rattle.heap_calls.proofs.Cited.{has, Spot, spot, spot_at, raised, filled, room, put_in_place, FindsLowest, spared, opened, total-tidy}
-use Rattle.heap_calls.proofs.Cited.{spot-is, spot-passes, filter-none, once-below, some_and, filter-tidy, spot-lowest, lowest, mapped}
+use Rattle.heap_calls.proofs.Cited.{has, Spot, spot, spot_at, raised, filled, FindsLowest}
+use Rattle.heap_calls.proofs.Cited.{spot-is, spot-passes, filter-none, once-below, some_and, filter-tidy, spot-lowest, lowest}
 use Rattle.heap_calls.proofs.Cited.{fresh_block, IsFresh, IsReplaced, replaced, KeepsNonrelocatable}
 use Rattle.std.proofs.lemmas.List.{append-nil}
 use Rattle.heap_calls.proofs.Numbering.Numbers.{leads_to-same}
 use Rattle.heap_calls.proofs.Numbering.Changing.{nonrelocatable-at}
-use Rattle.heap_calls.proofs.Room.Placements.{placement, room-placement}
 use Rattle.heap_calls.proofs.Room.Staying.{nonrelocatable-spot, nonrelocatable-same, nonrelocatable-then}
 
 -- A new block that gets flags and bytes of its own is as one that was put in its place with them.
@@ -127,50 +126,6 @@ module _ (slot n : ℕ) (zone : List Block) (fresh : IsFresh slot n zone) (once 
         let P : Option Spot → Type 0 = λ o. IfSome o (λ s. zone' ≡ s.below ++ Relocatable slot flags x ∷ s.above) in
         let now : P (Some there.0) = subst P there.1 done in
         now ∙ sym (spot-replaced slot flags x zone there.0 there.1 once)
-
--- the zone with a new block where there is room, after as few purges as serve
-abbrev pub zone_with_block : Sparing → ℕ → ℕ → List Block → Option (List Block)
-zone_with_block sparing slot n zone = room (put_in_place (fresh_block slot n)) (spared sparing) (opened sparing zone)
-
--- a new block that was put in its place
-module _ (sparing : Sparing) (n slot : ℕ) (ready zone1 : List Block)
-    (put : zone_with_block sparing slot n ready ≡ Some zone1) (once : count (is_relocatable slot) zone1 ≤ 1)
-  where
-    abbrev new : Block
-    new = fresh_block slot n
-
-    found : (s : Spot) × (placement (size new) sparing ready ≡ Some s) × (filled new s ≡ zone1)
-    found = mapped (filled new) (placement (size new) sparing ready) zone1 (sym (room-placement new sparing ready)
-        ∙ put)
-
-    alone : (has (is_relocatable slot) found.0.below ≡ false) × (has (is_relocatable slot) found.0.above ≡ false)
-    alone =
-        let s = found.0 in
-        let left = size s.here - size new in
-        let same : count (is_relocatable slot) zone1 ≡ count (is_relocatable slot)
-        (s.below ++ new ∷ Free left ∷ s.above) =
-        ap (count (is_relocatable slot)) (sym found.2) ∙ total-tidy (λ b. cond (is_relocatable slot b) 1 0)
-        (λ n m. refl) (s.below ++ new ∷ Free left ∷ s.above) in
-        let none = once-below (is_relocatable slot) s.below (Free left ∷ s.above) new (leads_to-same slot)
-        (omega (arith, once, same)) in
-        (none.0, none.1)
-
-    pub new-fresh : IsFresh slot n zone1
-    new-fresh = subst (IsFresh slot n) found.2 (filled-fresh slot n found.0 alone.0)
-
-    -- and with other flags and bytes, it is as if it had been put there with them
-    pub put-replaced : (flags : Flags) (x : List ℕ) (zone' : List Block) → length x ≡ n
-        → IsReplaced slot flags x zone1 zone'
-        → room (put_in_place (Relocatable slot flags x)) (spared sparing) (opened sparing ready) ≡ Some zone'
-    put-replaced flags x zone' long done =
-        room-placement (Relocatable slot flags x) sparing ready
-        ∙ ap (λ k. option_map (filled (Relocatable slot flags x)) (placement k sparing ready)) same
-        ∙ ap (option_map (filled (Relocatable slot flags x))) found.1
-        ∙ ap Some (sym (filled-replaced slot flags x (replicate n 0) found.0 same alone.0 alone.1)
-        ∙ ap (map (replaced slot flags x)) found.2 ∙ sym (fresh-replaced slot n zone1 new-fresh once flags x zone' done))
-      where
-        same : padded (length x) ≡ padded (length {A = ℕ} (replicate n 0))
-        same = ap padded (long ∙ sym (length-replicate n 0))
 
 -- another block at the spot of a place
 pub spot_at-changed : (place : ℕ) (bs : List Block) (s : Spot) (b : Block) → spot_at place bs ≡ Some s

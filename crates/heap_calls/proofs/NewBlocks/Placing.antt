@@ -3,13 +3,13 @@ use Rattle.heap_calls.proofs.Cited.{◌∷◌, replicate, IsTrue, cond-true, or_
 use Rattle.heap_calls.proofs.Cited.{Relocatable, size, is_room, is_relocatable, has, Spot, spot_at, spot_at-is, filled, Rest, spared}
 use Rattle.heap_calls.proofs.Cited.{opened}
 use Rattle.heap_calls.proofs.Cited.{Sparing, OpensNone, Put, Sought, no_room, seek, Went, filled_at, HasRoomAt, MakesRoom, Room, some_and}
-use Rattle.heap_calls.proofs.Cited.{fresh_block, replaced, replaced_at, seek_block, seek_new, some_left, MakesBlock, IsFresh, Taken}
-use Rattle.heap_calls.proofs.Cited.{inl, inr, true, IsSizeOf, Result, Ok, Err, IfOk, false≢true, length-replicate, no_flags, count}
+use Rattle.heap_calls.proofs.Cited.{fresh_block, replaced, replaced_at, seek_block, MakesBlock, IsFresh, Taken}
+use Rattle.heap_calls.proofs.Cited.{inl, inr, true, IsSizeOf, IsReplaced, false≢true, length-replicate, no_flags, count}
 use Rattle.heap_calls.proofs.Cited.{unwrap_or, Bool, ◌≤◌, cond-false, Anchor, told_along, MatchOption}
-use Rattle.heap_calls.proofs.Filled.Replaced.{filled-replaced, filled-fresh, fresh-own}
+use Rattle.heap_calls.proofs.Filled.Replaced.{filled-replaced, filled-fresh, fresh-own, fresh-replaced}
 use Rattle.heap_calls.proofs.Going.{went-nowhere}
 use Rattle.heap_calls.proofs.NewBlocks.NewSlots.{room-at, went-filled}
-use Rattle.heap_calls.proofs.NewBlocks.Seeking.{seek_made, fits-any}
+use Rattle.heap_calls.proofs.NewBlocks.Seeking.{fits-any}
 use Rattle.heap_calls.proofs.Numbering.Changing.{phys-some}
 use Rattle.heap_calls.proofs.Room.Places.{went-there}
 use Rattle.heap_calls.proofs.Sizes.Growth.{opened-whole}
@@ -114,13 +114,13 @@ makes-whole sparing whole n slot zone zone1 zone' rest rest1 rest' made makes he
 
 -- the block of the slot for which it is made
 pub makes-slot : (sparing : Sparing) (n slot : ℕ) (flags : Flags) (x : List ℕ) (zone : List Block) {m : ℕ} {zone' : List Block}
-    {rest rest' : Rest} (o : Option ℕ) → IfSome o (λ k. k ≡ slot) → Went (spared sparing) zone
+    {rest rest' : Rest} (P : Type 0) (o : Option ℕ) → MatchOption o P (λ k. k ≡ slot) → Went (spared sparing) zone
     (seek_block sparing n (Relocatable (unwrap_or o 0) flags x) zone) (is_some o) m zone' rest rest'
     → Went (spared sparing) zone (seek_block sparing n (Relocatable slot flags x) zone) (is_some o) m zone' rest rest'
-makes-slot sparing n slot flags x zone {m = m} {zone' = zone'} {rest = rest} {rest' = rest'} (Some k) is w =
+makes-slot sparing n slot flags x zone {m = m} {zone' = zone'} {rest = rest} {rest' = rest'} P (Some k) is w =
     subst (λ (j : ℕ). Went (spared sparing) zone (seek_block sparing n (Relocatable j flags x) zone) true m zone' rest rest')
     is w
-makes-slot sparing n slot flags x zone {m = m} {zone' = zone'} {rest = rest} {rest' = rest'} None is w =
+makes-slot sparing n slot flags x zone {m = m} {zone' = zone'} {rest = rest} {rest' = rest'} P None is w =
     subst (λ (p : Sought). Went (spared sparing) zone p false m zone' rest rest') (fits-any (spared sparing)
     (Relocatable 0 flags x) (Relocatable slot flags x) refl (is_some (phys n)) zone (sym w.finds)) w
 
@@ -144,53 +144,66 @@ module _ (sp : Block → Bool) (n : ℕ) (search : Block → List Block → Soug
         own None h = refl
         own (Some k) h = sym (fresh-own k n zone1 h (once k))
 
--- A block of n bytes is one of m, where both are too many for any block, or n is m.
-module _ (sparing : Sparing) (unused n m : ℕ) (same : IsSizeOf m n) (zone : List Block)
+-- A block that was made of n bytes, which are as many as some bytes, or no block can have either number.
+module _ (n : ℕ) (x : List ℕ) (same : IsSizeOf (length x) n)
   where
-    alike : phys n ≡ phys m
+    alike : phys (length x) ≡ phys n
     alike = elim same [
-      | inl e ↦ ap phys e
-      | inr both ↦ both.0 ∙ sym both.1
+      | inl e ↦ ap phys (sym e)
+      | inr both ↦ both.1 ∙ sym both.0
     ]
 
-    -- so is the search for it
-    sized-is : (new : Block) → seek_new sparing unused n new zone ≡ seek_new sparing unused m new zone
-    sized-is new = ap (λ (o : Option ℕ). seek_made (spared sparing) (some_left unused) new (is_some o) zone) alike
-
-    pub told-sized : (es : List Anchor) → told_along es (spared sparing) (seek_new sparing unused n (fresh_block 0 n) zone) zone
-        ≡ told_along es (spared sparing) (seek_new sparing unused m (fresh_block 0 m) zone) zone
-    told-sized es = elim same [
-      | inl e ↦ ap (λ (k : ℕ). told_along es (spared sparing) (seek_new sparing unused k (fresh_block 0 k) zone) zone) e
-      | inr both ↦ ap (λ (r : Sought). told_along es (spared sparing) r zone) (large n (fresh_block 0 n) both.0
-          ∙ sym (large m (fresh_block 0 m) both.1))
+    pub fresh-sized : (zone1 : List Block) (o : Option ℕ) (k : ℕ) → o ≡ Some k → IfSome o (λ k. IsFresh k n zone1)
+        → IfSome o (λ k. is_some (phys n) ≡ true) → IsFresh k (length x) zone1
+    fresh-sized zone1 o k is fresh fits = elim same [
+      | inl e ↦ subst (λ (j : ℕ). IsFresh k j zone1) e (at (λ k. IsFresh k n zone1) fresh)
+      | inr both ↦ absurd (false≢true (sym (ap is_some both.0) ∙ at (λ k. is_some (phys n) ≡ true) fits))
     ]
       where
-        large : (k : ℕ) (new : Block) → phys k ≡ None
-            → seek_new sparing unused k new zone ≡ seek_made (spared sparing) (some_left unused) (fresh_block 0 0) false zone
-        large k new none = ap (λ (o : Option ℕ). seek_made (spared sparing) (some_left unused) new (is_some o) zone) none
+        at : (P : ℕ → Type 0) → IfSome o P → P k
+        at P h = let Q : Option ℕ → Type 0 = λ o. IfSome o P in
+            let now : Q (Some k) = subst Q is h in now
 
-    module _ (zone1 : List Block) (rest rest1 : Rest)
+    -- by a search that is the same for each block that no block can have the size of
+    module _ (sp : Block → Bool) (search : Bool → Block → List Block → Sought) (zone : List Block)
+        (large : (a b : Block) → search false a zone ≡ search false b zone)
       where
-        abbrev Makes : ℕ → Taken → Type 0
-        Makes k made = MakesBlock (spared sparing) k (seek_new sparing unused k) zone made zone1 rest rest1
+        abbrev by_size : ℕ → Block → List Block → Sought
+        by_size k = search (is_some (phys k))
 
-        pub makes-sized : {E : Type 0} (r : Result Taken E) → IfOk r (Makes n) → IfOk r (Makes m)
-        makes-sized (Err e) makes = tt
-        makes-sized (Ok made) makes = λ flags x long.
-            let new = Relocatable (unwrap_or made.slot 0) flags x in
-            subst (λ (p : Sought). Went (spared sparing) zone p (is_some made.slot) made.searches
-            (replaced_at made.slot flags x zone1) rest rest1) (sized-is new) (makes flags x (long ∙ sym alike))
+        pub told-sized : (es : List Anchor) → told_along es sp (by_size n (fresh_block 0 n) zone) zone
+            ≡ told_along es sp (by_size (length x) (fresh_block 0 (length x)) zone) zone
+        told-sized es = elim same [
+          | inl e ↦ ap (λ (k : ℕ). told_along es sp (by_size k (fresh_block 0 k) zone) zone) e
+          | inr both ↦ ap (λ (r : Sought). told_along es sp r zone)
+              (ap (λ (o : Option ℕ). search (is_some o) (fresh_block 0 n) zone) both.0
+              ∙ large (fresh_block 0 n) (fresh_block 0 (length x))
+              ∙ sym (ap (λ (o : Option ℕ). search (is_some o) (fresh_block 0 (length x)) zone) both.1))
+        ]
 
-        pub fresh-sized : {E : Type 0} (r : Result Taken E) → IfOk r (λ made. IfSome made.slot (λ k. IsFresh k n zone1))
-            → IfOk r (λ made. IfSome made.slot (λ k. is_some (phys n) ≡ true))
-            → IfOk r (λ made. IfSome made.slot (λ k. IsFresh k m zone1))
-        fresh-sized (Err e) fresh fits = tt
-        fresh-sized (Ok made) fresh fits = cases made.slot fresh fits
+        module _ (zone1 : List Block) (flags : Flags) (rest rest1 : Rest) (made : Taken)
+            (makes : MakesBlock sp n (by_size n) zone made zone1 rest rest1)
           where
-            cases : (o : Option ℕ) → IfSome o (λ k. IsFresh k n zone1) → IfSome o (λ k. is_some (phys n) ≡ true)
-                → IfSome o (λ k. IsFresh k m zone1)
-            cases None fresh fits = tt
-            cases (Some k) fresh fits = elim same [
-              | inl e ↦ subst (λ (j : ℕ). IsFresh k j zone1) e fresh
-              | inr both ↦ absurd (false≢true (sym (ap is_some both.0) ∙ fits))
-            ]
+            abbrev Fills : List Block → Rest → Type 0
+            Fills zone' rest' = Went sp zone (by_size (length x) (Relocatable (unwrap_or made.slot 0) flags x) zone)
+                (is_some made.slot) made.searches zone' rest rest'
+
+            filled-with : (zone' : List Block) (rest' : Rest) → zone' ≡ replaced_at made.slot flags x zone1
+                → rest'.moves ≡ rest1.moves → Fills zone' rest'
+            filled-with zone' rest' now still =
+                let new = Relocatable (unwrap_or made.slot 0) flags x in
+                subst (λ (o : Option ℕ). Went sp zone (search (is_some o) new zone) (is_some made.slot) made.searches zone' rest
+                rest') (sym alike) (makes-with sp n (by_size n) zone made zone1 rest rest1 makes flags x alike zone' rest' now
+                still)
+
+            -- there is none
+            pub not-filled : made.slot ≡ None → Fills zone1 rest1
+            not-filled is = filled-with zone1 rest1 (sym (ap (λ o. replaced_at o flags x zone1) is)) refl
+
+            -- the bytes are written into it
+            pub is-filled : (k : ℕ) → made.slot ≡ Some k → IsFresh k (length x) zone1 → count (is_relocatable k) zone1 ≤ 1
+                → (zone' : List Block) (rest' : Rest) → IsReplaced k flags x zone1 zone' → rest'.moves ≡ rest1.moves
+                → Fills zone' rest'
+            is-filled k is fresh once zone' rest' done still = filled-with zone' rest'
+                (subst (λ (o : Option ℕ). zone' ≡ replaced_at o flags x zone1) (sym is)
+                (fresh-replaced k (length x) zone1 fresh once flags x zone' done)) still

@@ -96,13 +96,9 @@ module _ (slot n : ℕ) (zone : List Block)
         → IfSome made.slot (λ k. IsFresh k n zone1) → ((k : ℕ) → count (is_relocatable k) zone1 ≤ 1)
         → Went nothing zone (again slot n zone) (is_some made.slot) made.searches zone1 rest rest1
     renews zone1 rest rest1 made makes here fresh once = went-dropped slot zone path refuses zone1
-        (makes-slot (Freed slot) n slot no_flags (replicate n 0) seen made.slot (own made.slot here)
+        (makes-slot (Freed slot) n slot no_flags (replicate n 0) seen (zone1 ≡ zone) made.slot here
         (makes no_flags (replicate n 0) (ap phys (length-replicate n 0)))) (ends made.slot here fresh)
       where
-        own : (o : Option ℕ) → MatchOption o (zone1 ≡ zone) (λ k. k ≡ slot) → IfSome o (λ k. k ≡ slot)
-        own None e = tt
-        own (Some k) e = e
-
         ends : (o : Option ℕ) → MatchOption o (zone1 ≡ zone) (λ k. k ≡ slot) → IfSome o (λ k. IsFresh k n zone1)
             → zone1 ≡ cond (is_some o) (replaced_at o no_flags (replicate n 0) (cond (is_some o) zone1 seen)) zone
         ends None e fresh = e

@@ -1,21 +1,10 @@
-use Rattle.heap_calls.proofs.Cited.{◌≡◌, ℕ, ◌+◌, Bool, true, false, ◌==◌, List, refl, sym, ◌∙◌, ap, cond, Option, Some, None}
-use Rattle.heap_calls.proofs.Cited.{option_map, MatchOption, length-replicate, none-some, cond-true, cond-false}
-use Rattle.heap_calls.proofs.Cited.{Decides-eqb, padded, Block, size, Spot, filled, room, put_in_place, place, Unused}
-use Rattle.heap_calls.proofs.Cited.{Used, Rest, IsRest, KeepsSlots, with_slot, spared, opened, purged, most_purges, Sparing}
-use Rattle.heap_calls.proofs.Cited.{least-map, least, fresh_block, given_back}
+use Rattle.heap_calls.proofs.Cited.{◌≡◌, ℕ, ◌+◌, Bool, true, false, ◌==◌, refl, sym, ◌∙◌, ap, Option, Some, None}
+use Rattle.heap_calls.proofs.Cited.{MatchOption, length-replicate, none-some, cond-true, cond-false}
+use Rattle.heap_calls.proofs.Cited.{Decides-eqb, padded, size, Unused}
+use Rattle.heap_calls.proofs.Cited.{Used, Rest, KeepsSlots, with_slot}
+use Rattle.heap_calls.proofs.Cited.{fresh_block, given_back}
 
 -- What a placement tells of room for a new block.
-
--- the place for a relocatable block of p bytes, after as few purges as serve
-abbrev pub placement : ℕ → Sparing → List Block → Option Spot
-placement p sparing zone = least (λ k. place p (purged k sparing zone)) (most_purges sparing zone)
-
--- room for a relocatable block is a search for a placement
-pub room-placement : (new : Block) (sparing : Sparing) (zone : List Block)
-    → room (put_in_place new) (spared sparing) (opened sparing zone)
-    ≡ option_map (filled new) (placement (size new) sparing zone)
-room-placement new sparing zone = least-map (filled new) (λ k. place (size new) (purged k sparing zone))
-    (most_purges sparing zone)
 
 pub fresh-size : (n bytes : ℕ) → bytes ≡ padded n → (number : ℕ) → size (fresh_block number n) ≡ bytes
 fresh-size n bytes fits number = ap padded (length-replicate n 0) ∙ sym fits
@@ -38,18 +27,6 @@ slot-back more rest1 rest' slot was one took back = record {
         ∙ ap more.slots (sym ((Decides-eqb k slot).0 e))
     cases k false e = back.slots k ∙ cond-false (k == slot) Unused (rest1.slots k) e ∙ took.slots k
         ∙ cond-false (k == slot) (Used false) (more.slots k) e
-
--- a slot that is given back after room was sought
-pub kept-back : (rest rest1 rest' : Rest) (slot : ℕ) → KeepsSlots rest rest1 → IsRest (given_back slot rest1) rest'
-    → KeepsSlots (given_back slot rest) rest'
-kept-back rest rest1 rest' slot kept back = record {
-  slots = λ k. back.slots k ∙ ap (cond (k == slot) Unused) (kept.slots k);
-  unused = back.unused ∙ ap (λ n. n + 1) kept.unused;
-  all = back.all ∙ kept.all;
-  moves = refl;
-  placed = refl;
-  window = back.window ∙ kept.window;
-}
 
 -- what holds where there is no place
 pub at_none : {A : Type 0} (o : Option A) (P : Type 0) (Q : A → Type 0) → o ≡ None → MatchOption o P Q → P

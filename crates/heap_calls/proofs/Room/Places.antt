@@ -1,13 +1,12 @@
-use Rattle.heap_calls.proofs.Cited.{◌≡◌, ℕ, ◌+◌, ◌<◌, Bool, true, false, List, [], refl, sym, ◌∙◌, ap, subst, Option, Some, None, is_some}
+use Rattle.heap_calls.proofs.Cited.{◌≡◌, ℕ, ◌+◌, ◌<◌, Bool, true, false, List, [], refl, sym, ◌∙◌, ap, subst, Option, Some, is_some}
 use Rattle.heap_calls.proofs.Cited.{is_some-map, option_map, unwrap_or, IsSomeAnd, IsTrue, Block, size, is_room, run_spot, has_free}
-use Rattle.heap_calls.proofs.Cited.{filled, place, purge, put_in_place, room, placed-is, place-room, least_or_last, serves, Rest, counted}
+use Rattle.heap_calls.proofs.Cited.{filled, place, purge, put_in_place, placed-is, place-room, least_or_last, serves, Rest, counted}
 use Rattle.heap_calls.proofs.Cited.{spared, opened, purged, most_purges, Sparing, Put, moved, place_lowers, purges_for, seek, Went, Anchor}
-use Rattle.heap_calls.proofs.Cited.{told_along, told_named, gone_from, filled_at, HasRoomAt, IsAt, FindsPlacement, Placement, Packs}
-use Rattle.heap_calls.proofs.Cited.{room_searches, put_moves, tidy}
+use Rattle.heap_calls.proofs.Cited.{told_along, told_named, gone_from, filled_at, HasRoomAt, IsAt, FindsPlacement, Placement}
+use Rattle.heap_calls.proofs.Cited.{tidy}
 use Rattle.heap_calls.proofs.Cited.{Sought, cond}
 use Rattle.heap_calls.proofs.Going.{went-none, went-some, gone-none, gone-some, goes-opened}
 use Rattle.heap_calls.proofs.Room.LeastSearches.{first-is, purged-first, placement-there}
-use Rattle.heap_calls.proofs.Same.NewBlocks.{put-agrees}
 
 -- Room for a relocatable block.
 
@@ -73,31 +72,6 @@ module _ (p : ℕ) (pos : 0 < p) (nd : Sparing) (zone : List Block) (tidied : ti
 
     pub once-least : 0 ≡ least_or_last (serves p nd zone) (most_purges nd zone)
     once-least = first-is (serves p nd zone) (most_purges nd zone) once-serves
-
--- what the path of a search for a block's place does is what is said without it
-module _ {sp : Block → Bool} {zone : List Block} (new : Block) (pos : 0 < size new) {found : Bool} {n : ℕ}
-    {zone' : List Block} {rest rest' : Rest} (w : Went sp zone (seek (Put new) sp zone) found n zone' rest rest')
-  where
-    pub put-looks : n ≡ room_searches (put_in_place new) sp zone
-    put-looks = w.looks ∙ sym (put-agrees 0 sp new pos zone).looks
-
-    pub put-lowers : Packs (put_moves new sp zone) rest rest'
-    put-lowers = w.lowers ∙ ap (counted rest.moves) (sym (put-agrees 0 sp new pos zone).lowers)
-
-    pub put-none : found ≡ false → room (put_in_place new) sp zone ≡ None
-    put-none is = cases (room (put_in_place new) sp zone) ((put-agrees 0 sp new pos zone).finds ∙ sym w.finds ∙ is)
-      where
-        cases : (o : Option (List Block)) → is_some o ≡ false → o ≡ None
-        cases None e = refl
-        cases (Some z) e = let f : true ≡ false = e in cc
-
-    pub put-some : found ≡ true → room (put_in_place new) sp zone ≡ Some zone'
-    put-some is = cases (room (put_in_place new) sp zone) ((put-agrees 0 sp new pos zone).finds ∙ sym w.finds ∙ is)
-        ((put-agrees 0 sp new pos zone).leaves ∙ sym w.leaves)
-      where
-        cases : (o : Option (List Block)) → is_some o ≡ true → unwrap_or o zone ≡ zone' → o ≡ Some zone'
-        cases None e f = let f : true ≡ false = sym e in cc
-        cases (Some z) e f = ap Some f
 
 -- the zone as the search sees it first matters only where there is no place
 pub went-there : (new : Block) (o : Option ℕ) (at : ℕ) → o ≡ Some at → {sp : Block → Bool} {zone : List Block} {p : Sought}

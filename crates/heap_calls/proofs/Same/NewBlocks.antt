@@ -6,13 +6,12 @@ use Rattle.heap_calls.proofs.Cited.{Put, Base, place_lowers, Sought, no_room, se
 use Rattle.heap_calls.proofs.Cited.{Meaning, Handle, Answer, nothing, slotted, more_masters, room_searches, slot_searches, ready_searches}
 use Rattle.heap_calls.proofs.Cited.{block_searches, new_handle_searches, new_empty_handle_searches}
 use Rattle.heap_calls.proofs.Cited.{put_moves, new_handle_moves, Gone, room_gone, slot_gone, ready_gone, new_filled, new_empty}
-use Rattle.heap_calls.proofs.Cited.{Done, work, heap_after, purged_by, is_unused}
+use Rattle.heap_calls.proofs.Cited.{Done, work, heap_after, purged_by, is_unused, zero, suc, tries}
 use Rattle.heap_calls.specs.Answer as today
 use Rattle.heap_calls.specs.Slots as slots
 use Rattle.heap_calls.specs.Rows as rows
 use Rattle.heap_calls.proofs.Same.Agreeing.{Agrees, BothAgree, seek-agrees, agrees-if, then-agrees}
 use Rattle.heap_calls.proofs.Same.Agreeing.{on_some}
-use Rattle.heap_calls.proofs.Numbering.Looking.{tries-same}
 use Rattle.heap_calls.proofs.Room.MoveCounts.{no-place}
 
 -- The search for a new block; the words of the Resource Manager's steps say what a row's path does.
@@ -192,6 +191,12 @@ module _ (spared : Block → Bool) (flags : Flags) (bytes : List ℕ) (fits : Bo
           (length ready.names) (put_in_place (Relocatable (length ready.names) flags bytes)) spared ready.zone) []))
           ∙ both.tells;
     }
+
+-- as many are tried where each has an answer or has none
+tries-same : {A B : Type 0} (a : ℕ → Option A) (b : ℕ → Option B) → ((k : ℕ) → is_some (a k) ≡ is_some (b k))
+    → (n : ℕ) → tries a n ≡ tries b n
+tries-same a b same zero = refl
+tries-same a b same (suc n) = rw (same 0, tries-same (λ k. a (suc k)) (λ k. b (suc k)) (λ k. same (suc k)) n) refl
 
 -- searches for a block's place, and the moves that make it, see only the block's size
 module _ (a b : Block) (sized : size a ≡ size b) (spared : Block → Bool) (zone : List Block)

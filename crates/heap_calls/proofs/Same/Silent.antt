@@ -11,7 +11,7 @@ abbrev silently : {T : Type 0} → Answer T → Memory → Result T OsErr × Mem
 silently answer m = (answer.0, record m { heap = answer.1 })
 
 -- a step's searches and moves are counted
-step-silent : {T : Type 0} (call : State → Answer T) (searches moves : ℕ) (gone : List Gone) (does : State → Done T)
+pub step-silent : {T : Type 0} (call : State → Answer T) (searches moves : ℕ) (gone : List Gone) (does : State → Done T)
     (m : Memory) → Same (call m.heap) searches moves gone (does m.heap) m.heap
     → doing_silently does m ≡ moving moves (searching searches (silent call m))
 step-silent {T = T} call searches moves gone does m same = sym (

@@ -1,20 +1,14 @@
-use Rattle.std.specs.Prelude.{◌≡◌, ◌⊎◌, ◌≤◌, ◌<◌, is_some, ℕ, Option, Some, None, List, [], ◌∷◌, ◌++◌, length}
+use Rattle.std.specs.Prelude.{◌≡◌, ◌⊎◌, ◌≤◌, ◌<◌, ℕ, Option, Some, None, List, [], ◌∷◌, ◌++◌, length}
 use Rattle.std.specs.Prelude.{if◌then◌else◌, zero, suc}
 use Rattle.block_store.specs.Block.{Block, rename_block}
 use Rattle.block_store.specs.Room.{Spot, spot_at, may_be_purged}
-use Rattle.block_store.specs.Sparing.{spared, opened}
+use Rattle.block_store.specs.Sparing.{spared}
 use Rattle.block_store.specs.Inner.Stretch.{opened_block}
 use Rattle.block_store.specs.declared.sparing.Sparing.{Sparing}
-use Rattle.block_store.specs.declared.sparing.Sparing.TheVariants.{Freed}
-use Rattle.mac_words.specs.Size.{phys}
-use Rattle.moves.specs.Moves.{Put}
-use Rattle.moves.specs.Seeking.{seek}
-use Rattle.heap_calls.specs.Answer.{nothing}
 use Rattle.heap_calls.specs.Gone.{Gone, gone_of, Tells, TellsNothing}
 use Rattle.heap_calls.specs.Inner.Numbered.{handle_number, pointer_number}
 use Rattle.heap_calls.specs.Inner.NewSlot.{seek_unused, zone_slotted, HasMore}
 use Rattle.block_store.specs.Rest.{Rest, IsRest}
-use Rattle.heap_calls.specs.Inner.NewBlock.{fresh_block}
 use Rattle.heap_calls.specs.Inner.Went.{told_along}
 use Rattle.heap_calls.specs.declared.anchor.Anchor.{Anchor}
 
@@ -53,11 +47,6 @@ zone_slot_gone entries sparing n zone = told_along entries (spared sparing) (see
 -- No block counts as free for the search.
 abbrev pub OpensNone : Sparing → Type 0
 OpensNone sparing = (b : Block) → opened_block sparing b ≡ b
-
--- The blocks of a store that are purged for a new block of n bytes for a slot, whose old block counts as free.
-abbrev pub renewed_gone : List Anchor → ℕ → ℕ → List Block → List Gone
-renewed_gone entries slot n zone = if is_some (phys n) then told_along entries nothing
-    (seek (Put (fresh_block 0 n)) nothing (opened (Freed slot) zone)) (opened (Freed slot) zone) else []
 
 -- What is left of a store and a sink where the sink finds the host out of memory as a slot is taken for a new block,
 -- and the block's place is sought: all as it was; or the slot is unused again, and the master pointer block that was

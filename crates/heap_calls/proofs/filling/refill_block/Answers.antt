@@ -1,87 +1,70 @@
-use Rattle.heap_calls.proofs.Cited.{◌≡◌, ℕ, Option, Some, None, sym, ◌∙◌, ap, subst, length, refl, MatchOption, counted, refilled, renewed}
-use Rattle.heap_calls.proofs.Filled.Refilled.{refilled_searches-is, refilled_moves-is, not-refilled, renewed-fresh}
-use Rattle.heap_calls.proofs.Filled.Refilled.{refilled-done}
-use Rattle.heap_calls.proofs.Room.Placements.{at_none}
+use Rattle.heap_calls.proofs.Cited.{◌≡◌, refl, true, length, nothing, told_along, seek_block, seek, cond, no_room, Put, fresh_block, IsFresh}
+use Rattle.heap_calls.proofs.Cited.{Hears, Nothing, MakesBlock}
+use Rattle.heap_calls.proofs.Hearing.{hears-as}
+use Rattle.heap_calls.proofs.NewBlocks.Placing.{makes-whole, makes-slot, fresh-sized, told-sized, not-filled, is-filled}
 use Rattle.heap_calls.proofs.Room.Staying.{nonrelocatable-then}
 use Rattle.heap_calls.proofs.filling.refill_block.Given.{Over}
-use Rattle.heap_calls.proofs.filling.refill_block.Goals.{In-Some}
+use Rattle.heap_calls.proofs.filling.refill_block.Goals.{In_ok-made, In-Some}
 use Rattle.heap_calls.proofs.filling.refill_block.Goals as goal
 
-pub returns-in_default-clause-moves : goal.returns-in_default-clause-moves
-returns-in_default-clause-moves g c =
-    c.in_ok-room.ensures.moves ∙ ap (counted (g.S.BlockStore.rest c.args.store.now).moves)
-    (refilled_moves-is c.args.slot (g.S.BlockStore.zone c.args.store.now) c.requires.none (length c.args.bytes.now))
+-- the block that was made
+makes : (g : Over) (c : In_ok-made g) → MakesBlock nothing c.size_of-size.result (seek_block Nothing c.size_of-size.result)
+    (g.S.BlockStore.zone c.args.store.now) c.in_ok-made.made (g.S.BlockStore.zone c.put_block.new.store)
+    (g.S.BlockStore.rest c.args.store.now) (g.S.BlockStore.rest c.put_block.new.store)
+makes g c =
+    let zone1 = g.S.BlockStore.zone c.put_block.new.store in
+    let rest1 = g.S.BlockStore.rest c.put_block.new.store in
+    makes-whole Nothing (λ b. refl) c.size_of-size.result c.args.slot (g.S.BlockStore.zone c.args.store.now) zone1 zone1
+    (g.S.BlockStore.rest c.args.store.now) rest1 rest1 c.in_ok-made.made c.in_ok-made.ensures.went c.in_ok-made.ensures.slot
+    refl refl
 
-pub returns-clause-moves : goal.returns-clause-moves
-returns-clause-moves g c =
-    c.fill_new.ensures.rest.moves ∙ c.in_ok-room.ensures.moves
-    ∙ ap (counted (g.S.BlockStore.rest c.args.store.now).moves)
-    (refilled_moves-is c.args.slot (g.S.BlockStore.zone c.args.store.now) c.requires.none (length c.args.bytes.now))
-
-pub returns-in_default-clause-answer : goal.returns-in_default-clause-answer
-returns-in_default-clause-answer g c =
-    let zone = g.S.BlockStore.zone c.args.store.now in
-    let zone' = g.S.BlockStore.zone c.renew_block_for.new.store in
-    let made = c.in_ok-room.room in
-    let x = c.args.bytes.now in
-    let was = c.in_ok-room.ensures.answer in
-    let none : (renewed c.args.slot (length x) zone ≡ None) × (zone' ≡ zone) =
-    at_none made.place _ _ c.in_default.is was.none in
-    let Q : Option ℕ → Type 0 = λ o. MatchOption o ((refilled c.args.slot c.args.flags x zone ≡ None) × (zone' ≡ zone))
-    (λ _. refilled c.args.slot c.args.flags x zone ≡ Some zone') in
-    record {
-      none = subst Q (sym c.in_default.is) (
-        not-refilled c.args.slot zone c.requires.none c.args.flags x none.0,
-        none.1,
-      );
-      searches = was.searches ∙ refilled_searches-is c.args.slot zone c.requires.none (length x);
-      slots = was.slots;
-    }
-
--- the zone with the new block
-made : (g : Over) (c : In-Some g) → renewed c.args.slot (length c.args.bytes.now) (g.S.BlockStore.zone c.args.store.now)
-    ≡ Some (g.S.BlockStore.zone c.renew_block_for.new.store)
-made g c =
-    let zone = g.S.BlockStore.zone c.args.store.now in
-    let zone1 = g.S.BlockStore.zone c.renew_block_for.new.store in
-    let Q : Option ℕ → Type 0 = λ o. MatchOption o ((renewed c.args.slot (length c.args.bytes.now) zone ≡ None)
-    × (zone1 ≡ zone)) (λ _. renewed c.args.slot (length c.args.bytes.now) zone ≡ Some zone1) in
-    let done : Q (Some c.in-Some.field-0) = subst Q c.in-Some.is c.in_ok-room.ensures.answer.none in
-    done
+fresh : (g : Over) (c : In-Some g)
+    → IsFresh c.in-Some.filled (length c.args.bytes.now) (g.S.BlockStore.zone c.put_block.new.store)
+fresh g c =
+    fresh-sized c.size_of-size.result c.args.bytes.now c.size_of-size.ensures (g.S.BlockStore.zone c.put_block.new.store)
+    c.in_ok-made.made.slot c.in-Some.filled c.in-Some.is c.in_ok-made.ensures.fresh c.in_ok-made.ensures.fits
 
 pub fill_new-requires : goal.fill_new-requires
-fill_new-requires g c =
-    let store = c.renew_block_for.new.store in
-    renewed-fresh c.args.slot (g.S.BlockStore.zone c.args.store.now) c.requires.none c.args.flags c.args.bytes.now
-    (g.S.BlockStore.zone store) (made g (goal.at.fill_new-requires g c).In-Some)
-    (g.met.S.BlockStore.once store c.args.slot)
+fill_new-requires g c = fresh g (goal.at.fill_new-requires g c).In-Some
 
-pub returns-clause-answer : goal.returns-clause-answer
-returns-clause-answer g c =
-    let store = c.renew_block_for.new.store in
+pub returns-in_default-clause-went : goal.returns-in_default-clause-went
+returns-in_default-clause-went g c =
     let zone = g.S.BlockStore.zone c.args.store.now in
-    let zone' = g.S.BlockStore.zone c.fill_new.new.store in
-    let x = c.args.bytes.now in
-    let was = c.in_ok-room.ensures.answer in
-    let now = c.fill_new.ensures.rest in
-    let Q : Option ℕ → Type 0 = λ o. MatchOption o ((refilled c.args.slot c.args.flags x zone ≡ None) × (zone' ≡ zone))
-    (λ _. refilled c.args.slot c.args.flags x zone ≡ Some zone') in
-    record {
-      none = subst Q (sym c.in-Some.is) (refilled-done c.args.slot zone c.requires.none c.args.flags x
-          (g.S.BlockStore.zone store) (made g (goal.at.returns-clause-answer g c).In-Some)
-          (g.met.S.BlockStore.once store c.args.slot) zone' c.fill_new.ensures.zone);
-      searches = was.searches ∙ refilled_searches-is c.args.slot zone c.requires.none (length x);
-      slots = record {
-        slots = λ k. now.slots k ∙ was.slots.slots k;
-        unused = now.unused ∙ was.slots.unused;
-        all = now.all ∙ was.slots.all;
-        moves = refl;
-        placed = refl;
-        window = now.window ∙ was.slots.window;
-      };
-    }
+    makes-slot Nothing (length c.args.bytes.now) c.args.slot c.args.flags c.args.bytes.now zone _ c.in_ok-made.made.slot
+    c.in_ok-made.ensures.slot (not-filled c.size_of-size.result c.args.bytes.now c.size_of-size.ensures nothing
+    (λ t new z. cond t (seek (Put new) nothing z) no_room) zone (λ a b. refl) (g.S.BlockStore.zone c.put_block.new.store)
+    c.args.flags (g.S.BlockStore.rest c.args.store.now) (g.S.BlockStore.rest c.put_block.new.store) c.in_ok-made.made
+    (makes g (goal.at.returns-in_default-clause-went g c).In_ok-made) c.in_default.is)
+
+pub returns-clause-went : goal.returns-clause-went
+returns-clause-went g c =
+    let at = goal.at.returns-clause-went g c in
+    let zone = g.S.BlockStore.zone c.args.store.now in
+    makes-slot Nothing (length c.args.bytes.now) c.args.slot c.args.flags c.args.bytes.now zone _ c.in_ok-made.made.slot
+    c.in_ok-made.ensures.slot (is-filled c.size_of-size.result c.args.bytes.now c.size_of-size.ensures nothing
+    (λ t new z. cond t (seek (Put new) nothing z) no_room) zone (λ a b. refl) (g.S.BlockStore.zone c.put_block.new.store)
+    c.args.flags (g.S.BlockStore.rest c.args.store.now) (g.S.BlockStore.rest c.put_block.new.store) c.in_ok-made.made
+    (makes g at.In_ok-made) c.in-Some.filled c.in-Some.is (fresh g at.In-Some)
+    (g.met.S.BlockStore.once c.put_block.new.store c.in-Some.filled) (g.S.BlockStore.zone c.fill_new.new.store)
+    (g.S.BlockStore.rest c.fill_new.new.store) c.fill_new.ensures.zone c.fill_new.ensures.rest.moves)
 
 pub returns-clause-nonrelocatable : goal.returns-clause-nonrelocatable
 returns-clause-nonrelocatable g c =
-    nonrelocatable-then (g.S.BlockStore.zone c.args.store.now) (g.S.BlockStore.zone c.renew_block_for.new.store)
-    (g.S.BlockStore.zone c.fill_new.new.store) c.renew_block_for.ensures.nonrelocatable c.fill_new.ensures.nonrelocatable
+    nonrelocatable-then (g.S.BlockStore.zone c.args.store.now) (g.S.BlockStore.zone c.put_block.new.store)
+    (g.S.BlockStore.zone c.fill_new.new.store) c.put_block.ensures.nonrelocatable c.fill_new.ensures.nonrelocatable
+
+-- what the sink hears
+heard : (g : Over) (c : In_ok-made g) → Hears g.K.PurgeSink.told g.K.PurgeSink.waits g.K.PurgeSink.listens (true ≡ true)
+    (told_along c.args.names.now nothing (seek_block Nothing (length c.args.bytes.now) (fresh_block 0 (length c.args.bytes.now))
+    (g.S.BlockStore.zone c.args.store.now)) (g.S.BlockStore.zone c.args.store.now)) c.args.sink.now c.put_block.new.sink
+heard g c =
+    hears-as g.K.PurgeSink.told g.K.PurgeSink.waits g.K.PurgeSink.listens _ _ _ _ _ _ (λ some. refl)
+    (told-sized c.size_of-size.result c.args.bytes.now c.size_of-size.ensures nothing
+    (λ t new z. cond t (seek (Put new) nothing z) no_room) (g.S.BlockStore.zone c.args.store.now) (λ a b. refl)
+    c.args.names.now) c.in_ok-made.ensures.hears
+
+pub returns-in_default-clause-hears : goal.returns-in_default-clause-hears
+returns-in_default-clause-hears g c = heard g (goal.at.returns-in_default-clause-hears g c).In_ok-made
+
+pub returns-clause-hears : goal.returns-clause-hears
+returns-clause-hears g c = heard g (goal.at.returns-clause-hears g c).In_ok-made

@@ -1,6 +1,6 @@
 use Rattle.heap_calls.proofs.Cited.{is_some, ◌≡◌, Some, ℕ, Option, false, sym, ◌∙◌, ap, subst, refl, rules, padded}
 use Rattle.heap_calls.proofs.Cited.{is_relocatable, is_nonrelocatable, is_room, has, spot_at, IsSomeAnd, IsTrue, IfSome}
-use Rattle.heap_calls.proofs.Cited.{fresh_block, phys, spared, opened, seek_block, Hears, KeepsSlots}
+use Rattle.heap_calls.proofs.Cited.{fresh_block, phys, spared, opened, seek_block, Hears}
 use Rattle.heap_calls.proofs.Cited.{told_along}
 use Rattle.heap_calls.proofs.Hearing.{hears-as}
 use Rattle.heap_calls.proofs.NewBlocks.NewSlots.{room-at}
