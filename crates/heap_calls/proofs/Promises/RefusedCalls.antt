@@ -12,6 +12,7 @@ use Rattle.heap_calls.proofs.Cited.{empty_handle, purge_mem, Told, Given, Number
 use Rattle.heap_calls.proofs.Cited.{Put, Base, Drop, Write, Did, did, Sought, seek, if_fits, seek_slot, seek_size, around, did-append}
 use Rattle.heap_calls.proofs.Cited.{Refuses, seek-refused, fits-refused, slot-refused, size-refused, around-refused, heap_after}
 use Rattle.heap_calls.proofs.Cited.{answer_made, is_unused, next_block, reply_of, code_left, slotted_zone, zone_left, no_room, left_by, row}
+use Rattle.heap_calls.proofs.Cited.{Free}
 use Rattle.heap_calls.specs.Answer as calls
 use Rattle.mac_words.specs.Told.{Done}
 use Rattle.heap_calls.specs.Rows as rows
