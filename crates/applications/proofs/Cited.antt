@@ -47,7 +47,6 @@ pub use Rattle.heap_calls.proofs.Tries.Keeping.{served_bytes, served_masters_no_
 pub use Rattle.heap_calls.proofs.Tries.Parting.{less_stays, parted}
 pub use Rattle.heap_calls.proofs.Tries.Taking.{served-empties, served-stands, served-stays}
 pub use Rattle.heap_calls.specs.Answer.{Held, Known, code_of, handle_at, look_up, nothing, show, silent}
-pub use Rattle.heap_calls.specs.Asked.{Asked, told_as}
 pub use Rattle.heap_calls.specs.Busy.{Places, barred, busied, eased, holds, idle, pointer_barred, unless_silent}
 pub use Rattle.heap_calls.specs.Emptying.{has_purgeable}
 pub use Rattle.heap_calls.specs.Gone.{Gone, Hears, IsIdle, Tells}
@@ -60,13 +59,15 @@ pub use Rattle.heap_calls.specs.Path.{refusal_of, stepped, walk}
 pub use Rattle.heap_calls.specs.Pointers.{pointed_at, show_pointer}
 pub use Rattle.heap_calls.specs.Purging.{is_resource}
 pub use Rattle.heap_calls.specs.Refused.{code_left, refused_zone}
+pub use Rattle.heap_calls.specs.Row.{Row, serve}
 pub use Rattle.heap_calls.specs.Rows.{doing, new_handle, new_pointer, pointer_to_hand, purges_made}
+pub use Rattle.heap_calls.specs.Serving.{told_as}
 pub use Rattle.heap_calls.specs.Slots.{slotted_zone}
 pub use Rattle.heap_calls.specs.Standing.{pointer_place}
 pub use Rattle.heap_calls.specs.State.{Memory, Role, State, fresh_memory}
 pub use Rattle.heap_calls.specs.Staying.{CostsAtMostMasters, ease, staying}
 pub use Rattle.heap_calls.specs.Stored.{IsStored}
-pub use Rattle.heap_calls.specs.Table.{Row, answered, first_named, gone_in, row, second_named, serve, served}
+pub use Rattle.heap_calls.specs.Table.{Asked, answered, first_named, gone_in, row, second_named, served}
 pub use Rattle.heap_calls.specs.declared.refusal.Refusal.{Refusal}
 pub use Rattle.heap_calls.specs.declared.refusal.Refusal.TheVariants.{HostMemory}
 pub use Rattle.indexmap.specs.IndexMap.{insert_entry}

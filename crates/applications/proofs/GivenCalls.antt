@@ -1,6 +1,6 @@
 use Rattle.applications.proofs.Cited.{◌≡◌, ◌≢◌, ℕ, Result, Ok, Err, refl, sym, ap, IfOk, OnOk, AllocError, OsErr, Told, Given, Memory}
 use Rattle.applications.proofs.Cited.{IsAnswer, Refusal, HostMemory, GivenAs, TellsTold}
-use Rattle.heap_calls.specs.Asked.{telling}
+use Rattle.heap_calls.specs.Serving.{telling}
 use Rattle.heap_calls.specs.declared.refusal.Refusal.TheVariants.{Code}
 use Rattle.applications.specs.declared.tried.Tried.{Tried}
 

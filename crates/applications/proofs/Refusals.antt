@@ -9,7 +9,7 @@ use Rattle.applications.proofs.Cited.{own-reads, can_load, Program, code_type, l
 use Rattle.applications.proofs.Cited.{call_loading, is_there, call_loaded, call_through, call_found, show_of, show_found, unload_handle}
 use Rattle.applications.proofs.Cited.{tell_loaded, tell_called, tell_shown, told-refused, LeavesMemory}
 use Rattle.mac_words.specs.declared.segment_call.SegmentCall.TheVariants as segment
-use Rattle.heap_calls.specs.Asked as asks
+use Rattle.heap_calls.specs.Table as asks
 use Rattle.res_calls.specs.Fetch.{Fetched}
 use Rattle.res_calls.specs.Asked as finds
 use Rattle.res_calls.proofs.Walks.Laws as laws

@@ -8,10 +8,10 @@ use Rattle.applications.proofs.Cited.{is_full, numbers_told, type_told, name_tol
 use Rattle.mac_words.specs.declared.call.Call.TheVariants as call
 use Rattle.mac_words.specs.declared.call.ControlCall.TheVariants as control
 use Rattle.heap_calls.specs.Answer.{for_found}
-use Rattle.heap_calls.specs.Table as table
+use Rattle.heap_calls.specs.Row as table
 use Rattle.script_text.specs.Transcript.{Shown, Number}
 use Rattle.mac_words.specs.Told.{Number as Count}
-use Rattle.heap_calls.specs.Asked as asks
+use Rattle.heap_calls.specs.Table as asks
 use Rattle.res_calls.specs.Asked as finds
 use Rattle.applications.proofs.FoundCalls.{told-none, found-again}
 use Rattle.applications.proofs.JumpCalls.{jump-shows-none}

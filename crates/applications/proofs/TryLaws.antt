@@ -15,7 +15,7 @@ use Rattle.applications.proofs.Cited.{preloaded-known, preloaded-masters, preloa
 use Rattle.std.proofs.Common.{◌&&◌}
 use Rattle.mac_words.specs.declared.call.Call.TheVariants as call
 use Rattle.mac_words.specs.declared.call.ControlCall.TheVariants as control
-use Rattle.heap_calls.specs.Asked as asks
+use Rattle.heap_calls.specs.Table as asks
 use Rattle.heap_calls.proofs.Promises.Knowing.{Known}
 use Rattle.res_calls.specs.Asked as finds
 use Rattle.segments.specs.Asked as jumps

@@ -7,7 +7,7 @@ use Rattle.block_store.specs.Run.{has}
 use Rattle.block_store.specs.Rest.{counted}
 use Rattle.heap_calls.specs.State.{State, Memory}
 use Rattle.mac_words.specs.Told.{Told, Bytes, Refused}
-use Rattle.heap_calls.specs.Asked.{Show, ShowPtr}
+use Rattle.heap_calls.specs.Table.{Show, ShowPtr}
 use Rattle.heap_calls.specs.LastPut.{Holds, put_by}
 use Rattle.heap_calls.specs.Locked.{locked_place, releases}
 use Rattle.heap_calls.specs.Standing.{pointer_place, disposes}

@@ -11,7 +11,7 @@ use Rattle.mac_words.specs.declared.resource_call.ResourceCall.TheVariants as re
 use Rattle.block_store.specs.Block.{sizes}
 use Rattle.heap_calls.specs.State.{State, Memory}
 use Rattle.mac_words.specs.Told.{Told, Given, Fetched}
-use Rattle.heap_calls.specs.Asked.{Asked}
+use Rattle.heap_calls.specs.Table.{Asked}
 use Rattle.heap_calls.specs.Busy.{busied, eased, with_busy, keep_code}
 use Rattle.heap_calls.specs.Table.{first_named, second_named}
 use Rattle.heap_calls.specs.Staying.{ease}

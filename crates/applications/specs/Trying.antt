@@ -18,8 +18,9 @@ use denote.RawPtr.{null_ptr}
 use Rattle.block_store.specs.Rest.{Site}
 use Rattle.heap_calls.specs.State.{Memory, fresh_memory}
 use Rattle.mac_words.specs.Told.{Told, Done, Given, Fetched, Number, Numbers, Offset, Code, Bytes, Kind, Info, Entry, Refused}
-use Rattle.heap_calls.specs.Asked.{Asked}
-use Rattle.heap_calls.specs.Asked as asks
+use Rattle.heap_calls.specs.Table.{Asked}
+use Rattle.heap_calls.specs.Serving.{CopyOf, Zeros}
+use Rattle.heap_calls.specs.Table as asks
 use Rattle.heap_calls.specs.Munging.{Target, target_of}
 use Rattle.heap_calls.specs.Table.{served, gone_in}
 use Rattle.heap_calls.specs.Gone.{Gone}
@@ -114,7 +115,7 @@ replacing handle from old replacement.Nil = asks.MungerNil handle from old
 
 -- A call of the heap's table, with the numbers that its names are bound to.
 abbrev pub asked : HeapCall → Bindings → Asked
-asked (heap.NewHandle name size) names = asks.NewHandle (asks.Zeros size)
+asked (heap.NewHandle name size) names = asks.NewHandle (Zeros size)
 asked (heap.NewEmptyHandle name) names = asks.NewEmptyHandle
 asked (heap.DisposeHandle name) names = asks.DisposeHandle (bound_to name.0.items names)
 asked (heap.GetHandleSize name) names = asks.GetHandleSize (bound_to name.0.items names)
@@ -132,7 +133,7 @@ asked (heap.RecoverHandle name place) names = asks.RecoverHandle place
 asked (heap.MoveHHi name) names = asks.MoveHHi (bound_to name.0.items names)
 asked (heap.HLockHi name) names = asks.HLockHi (bound_to name.0.items names)
 asked (heap.HandToHand name from) names = asks.HandToHand (bound_to from.value.0.items names)
-asked (heap.PtrToHand name bytes) names = asks.NewHandle (asks.CopyOf bytes.items)
+asked (heap.PtrToHand name bytes) names = asks.NewHandle (CopyOf bytes.items)
 asked (heap.HandAndHand from to) names = asks.HandAndHand (bound_to from.0.items names) (bound_to to.value.0.items names)
 asked (heap.PtrAndHand name bytes) names = asks.PtrAndHand (bound_to name.0.items names) bytes.items
 asked (heap.PtrToXHand name bytes) names = asks.PtrToXHand (bound_to name.0.items names) bytes.items

@@ -21,6 +21,56 @@ use mac_words::{Attrs, Reply, ResourceCall};
 use res_calls::{Purges, Resources};
 use std::alloc::{AllocError, Global};
 
+/// Returns the number of the resource's handle that a call names as an argument. A name that the
+/// call binds is not an argument.
+pub fn named_resource(call: &ResourceCall, names: &Names) -> Option<usize>
+    ensures { result ≡ finds.named (resource_asked call.now names.now) }
+{
+    match call {
+        ResourceCall::HomeResFile(name) => names.number(name),
+        ResourceCall::LoadResource(name) => names.number(name),
+        ResourceCall::ReleaseResource(name) => names.number(name),
+        ResourceCall::DetachResource(name) => names.number(name),
+        ResourceCall::AddResource(name, _, _, _) => names.number(name),
+        ResourceCall::RemoveResource(name) => names.number(name),
+        ResourceCall::ChangedResource(name) => names.number(name),
+        ResourceCall::WriteResource(name) => names.number(name),
+        ResourceCall::GetResInfo(name) => names.number(name),
+        ResourceCall::SetResInfo(name, _, _) => names.number(name),
+        ResourceCall::GetResAttrs(name) => names.number(name),
+        ResourceCall::SetResAttrs(name, _) => names.number(name),
+        ResourceCall::GetResourceSizeOnDisk(name) => names.number(name),
+        ResourceCall::ReadPartialResource(name, _, _) => names.number(name),
+        ResourceCall::WritePartialResource(name, _, _) => names.number(name),
+        ResourceCall::SetResourceSize(name, _) => names.number(name),
+        ResourceCall::OpenResFile(_)
+        | ResourceCall::CreateResFile(_)
+        | ResourceCall::CloseResFile(_)
+        | ResourceCall::UpdateResFile(_)
+        | ResourceCall::UseResFile(_)
+        | ResourceCall::CurResFile
+        | ResourceCall::GetResource(..)
+        | ResourceCall::Get1Resource(..)
+        | ResourceCall::GetNamedResource(..)
+        | ResourceCall::Get1NamedResource(..)
+        | ResourceCall::GetResFileAttrs(_)
+        | ResourceCall::SetResFileAttrs(..)
+        | ResourceCall::CountTypes
+        | ResourceCall::Count1Types
+        | ResourceCall::GetIndType(_)
+        | ResourceCall::Get1IndType(_)
+        | ResourceCall::CountResources(_)
+        | ResourceCall::Count1Resources(_)
+        | ResourceCall::GetIndResource(..)
+        | ResourceCall::Get1IndResource(..)
+        | ResourceCall::UniqueID(_)
+        | ResourceCall::Unique1ID(_)
+        | ResourceCall::SetResPurge(_)
+        | ResourceCall::SetResLoad(_)
+        | ResourceCall::ResError => None,
+    }
+}
+
 impl<'s, S: BlockStore> Application<'s, S> {
     /// Tries a call of the Resource Manager.
     pub(crate) fn find(&mut self, call: &ResourceCall) -> Result<Tried, AllocError>

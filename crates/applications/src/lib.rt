@@ -9,7 +9,6 @@ mod jumping;
 mod keyed;
 mod laws;
 mod names;
-mod naming;
 mod onlooker;
 mod own;
 mod quitting;

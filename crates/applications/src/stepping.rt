@@ -23,10 +23,11 @@ ghost use Rattle.applications.specs.Reports.{reports};
 ghost use Rattle.applications.specs.Stopping.{steps_taken, StopsAfter};
 
 use crate::application::Application;
-use crate::naming::{Arguments, named, named_resource};
+use crate::finding::named_resource;
 use crate::onlooker::{Onlooker, Unseen};
 use crate::quitting::Exit;
 use crate::tried::Tried;
+use crate::trying::{Arguments, named};
 use crate::turns::up_to_wait;
 use crate::watch::{Unwatched, Watch, tell};
 use block_store::BlockStore;

@@ -10,7 +10,7 @@ ghost use Rattle.mac_words.specs.declared.name.OsType.{OsType as Type4};
 ghost use Rattle.res_calls.specs.Fetch.{Managers, Answer};
 ghost use Rattle.res_calls.specs.Fetch as fetch;
 ghost use Rattle.res_calls.specs.Rows as rows;
-ghost use Rattle.heap_calls.specs.Asked.{told_as};
+ghost use Rattle.heap_calls.specs.Serving.{told_as};
 ghost use Rattle.res_calls.specs.Asked.{telling, tell_fetched, tell_info};
 ghost use Rattle.mac_words.specs.declared.attributes.Attrs.{Attrs as StoredAttrs};
 ghost use Rattle.res_calls.specs.Given.{IsAnswered, IsAnsweredUnseen, IsFetched};

@@ -1,8 +1,8 @@
 //! One try of a call.
 
-ghost use Rattle.std.specs.Prelude.{◌≡◌, [], true, false, IfOk, OnOk, OnErr, IsOk};
+ghost use Rattle.std.specs.Prelude.{◌≡◌, [], true, false, None, IfOk, OnOk, OnErr, IsOk};
 ghost use Rattle.std.specs.Option.{option_map};
-ghost use Rattle.heap_calls.specs.Table.{served, gone_in};
+ghost use Rattle.heap_calls.specs.Table.{served, gone_in, first_named, second_named};
 ghost use Rattle.heap_calls.specs.Gone.{IsIdle, Hears};
 ghost use Rattle.applications.specs.Trying.{asked, once, storing, control_tried};
 ghost use Rattle.applications.specs.Step.{deed_of};
@@ -13,7 +13,6 @@ ghost use Rattle.applications.specs.Replies.{TellsTold, IsTried};
 use crate::application::Application;
 use crate::finding::shown_in as found_in;
 use crate::names::Names;
-use crate::naming::{Arguments, named};
 use crate::tried::{
     Tried, code_of_another, completed, done, given, measured, number, offset, recovered, replaced,
     shown, space, state,
@@ -24,6 +23,88 @@ use mac_words::{Call, ControlCall, HeapCall, OsErr, Replacement, Reply};
 use res_calls::Purges;
 use script_text::Script;
 use std::alloc::AllocError;
+
+/// The numbers of the handles and pointers that a call names as arguments, two at most.
+pub struct Arguments {
+    /// The number of the one that the call names first, or alone.
+    pub first: Option<usize>,
+    /// The number of the one that the call names second.
+    pub second: Option<usize>,
+}
+
+/// Returns the numbers of a call that names at most one handle or pointer.
+fn only(first: Option<usize>) -> Arguments
+    ensures first { result.first ≡ first }
+    ensures second { result.second ≡ None }
+{
+    Arguments {
+        first,
+        second: None,
+    }
+}
+
+/// Returns the numbers of a call that names two handles or pointers.
+fn both(first: Option<usize>, second: Option<usize>) -> Arguments
+    ensures first { result.first ≡ first }
+    ensures second { result.second ≡ second }
+{
+    Arguments { first, second }
+}
+
+/// Returns the numbers of the handles and pointers that a call names as arguments, two at most. A
+/// name that the call binds is not an argument.
+pub fn named(call: &HeapCall, names: &Names) -> Arguments
+    ensures first { result.first ≡ first_named (asked call.now names.now) }
+    ensures second { result.second ≡ second_named (asked call.now names.now) }
+{
+    match call {
+        HeapCall::HandAndHand(from, to) => both(names.number(from), names.number(to)),
+        HeapCall::BlockMove(from, _, to, _, _) => both(names.number(from), names.number(to)),
+        HeapCall::DisposeHandle(name) => only(names.number(name)),
+        HeapCall::GetHandleSize(name) => only(names.number(name)),
+        HeapCall::SetHandleSize(name, _) => only(names.number(name)),
+        HeapCall::ReallocateHandle(name, _) => only(names.number(name)),
+        HeapCall::EmptyHandle(name) => only(names.number(name)),
+        HeapCall::HLock(name) => only(names.number(name)),
+        HeapCall::HUnlock(name) => only(names.number(name)),
+        HeapCall::HPurge(name) => only(names.number(name)),
+        HeapCall::HNoPurge(name) => only(names.number(name)),
+        HeapCall::HGetState(name) => only(names.number(name)),
+        HeapCall::HandleZone(name) => only(names.number(name)),
+        HeapCall::HSetState(name, _) => only(names.number(name)),
+        HeapCall::MoveHHi(name) => only(names.number(name)),
+        HeapCall::HLockHi(name) => only(names.number(name)),
+        HeapCall::HandToHand(_, from) => only(names.number(from)),
+        HeapCall::PtrAndHand(name, _) => only(names.number(name)),
+        HeapCall::PtrToXHand(name, _) => only(names.number(name)),
+        HeapCall::Munger(name, _, _, new) => match &**new {
+            Replacement::Bytes(_) | Replacement::Nil => only(names.number(name)),
+        },
+        HeapCall::DisposePtr(name) => only(names.number(name)),
+        HeapCall::GetPtrSize(name) => only(names.number(name)),
+        HeapCall::PtrZone(name) => only(names.number(name)),
+        HeapCall::SetPtrSize(name, _) => only(names.number(name)),
+        HeapCall::Put(name, _, _) => only(names.number(name)),
+        HeapCall::Show(name) => only(names.number(name)),
+        HeapCall::PutPtr(name, _, _) => only(names.number(name)),
+        HeapCall::ShowPtr(name) => only(names.number(name)),
+        HeapCall::Where(name) => only(names.number(name)),
+        HeapCall::NewHandle(..)
+        | HeapCall::NewEmptyHandle(_)
+        | HeapCall::PtrToHand(..)
+        | HeapCall::RecoverHandle(..)
+        | HeapCall::NewPtr(..)
+        | HeapCall::FreeMem
+        | HeapCall::MaxBlock
+        | HeapCall::PurgeSpace
+        | HeapCall::CompactMem(_)
+        | HeapCall::PurgeMem(_)
+        | HeapCall::MaxMem
+        | HeapCall::ReserveMem(_)
+        | HeapCall::MoreMasters
+        | HeapCall::MemError => only(None),
+    }
+}
 
 impl<'s, S: BlockStore> Application<'s, S> {
     /// Tries a call once, and returns the outcome without the bytes that the call shows.

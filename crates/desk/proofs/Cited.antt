@@ -37,8 +37,6 @@ pub use Rattle.desk.specs.Ready.{IsReady, sizes_seen}
 pub use Rattle.desk.specs.Sizes.{Sizes, sizes_asked}
 pub use Rattle.desk.specs.View.{DeskSeen, is_waiting, left_of, lot_of, lots, outcome_seen, phase_seen, place_seen, seen, told_seen}
 pub use Rattle.desk.specs.Whole.{EachLaunched, InItsSteps, IsAlone, Law, OfEach, OfEachApp, OfLaunched, start_with, system_of}
-pub use Rattle.script_text.specs.declared.job.Act.{Act}
-pub use Rattle.script_text.specs.declared.job.Act.TheVariants.{Quit, Step, Turn}
 pub use Rattle.desk.specs.declared.job.App.{App}
 pub use Rattle.desk.specs.declared.job.Job.{Job}
 pub use Rattle.desk.specs.declared.outcome.AppOutcome.{AppOutcome}
@@ -75,6 +73,8 @@ pub use Rattle.script_text.specs.DeskLog.{end_of, launch_of, refusal_of}
 pub use Rattle.script_text.specs.Script.{ScriptParts}
 pub use Rattle.script_text.specs.Transcript.{end_line, launch_line}
 pub use Rattle.script_text.specs.declared.desk_log.TheConstants.{APP_ROOM}
+pub use Rattle.script_text.specs.declared.job.Act.{Act}
+pub use Rattle.script_text.specs.declared.job.Act.TheVariants.{Quit, Step, Turn}
 pub use Rattle.script_text.specs.declared.job.Event.{Event}
 pub use Rattle.script_text.specs.declared.script.Line.{Line}
 pub use Rattle.std.proofs.Common.{Bool, Err, IfOk, IfSome, List, None, Ok, Option, Result, Some, [], ap, append-nil, append_assoc, arith}

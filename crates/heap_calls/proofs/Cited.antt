@@ -82,8 +82,6 @@ pub use Rattle.heap_calls.specs.Answer.{Answer, Held, Known, change_flags, code_
 pub use Rattle.heap_calls.specs.Answer.{for_found, free_mem, get_handle_size, given, h_lock, h_lock_hi, h_unlock, handle_at, held_at}
 pub use Rattle.heap_calls.specs.Answer.{hoisted, known_as, look_up, max_block, move_h_hi, moving, munger_nil, nothing, noting, on_block}
 pub use Rattle.heap_calls.specs.Answer.{place_in, put, rebuilt, refused, searching, show, silent, without, written_at}
-pub use Rattle.heap_calls.specs.Asked.{Asked, DisposeHandle, DisposePtr, EmptyHandle, HLock, HPurge, HSetState, HandAndHand, MemError}
-pub use Rattle.heap_calls.specs.Asked.{NewHandle, NewPtr, PurgeMem, Show, Zeros, seeking, telling, told_as}
 pub use Rattle.heap_calls.specs.Busy.{NoneGuarded, Places, bar, barred, both_barred, busied, change_barred, eased, either_barred}
 pub use Rattle.heap_calls.specs.Busy.{either_bars, either_change_barred, either_guards, guard, idle, is_busy, keep_code, known_bars}
 pub use Rattle.heap_calls.specs.Busy.{known_guards, move_barred, next_barred, pointer_barred, pointer_bars, unless_silent, with_busy}
@@ -137,12 +135,15 @@ pub use Rattle.heap_calls.specs.Preloaded.{LeavesUnmade, MadeSome}
 pub use Rattle.heap_calls.specs.Purging.{bit, block_bits, blocks_purged, emptied_at, empty_handle, h_get_state, h_no_purge, h_purge}
 pub use Rattle.heap_calls.specs.Purging.{h_set_state, is_loose, is_resource, max_mem, purge_mem, purge_space, purgeable, purged_all}
 pub use Rattle.heap_calls.specs.Refused.{BarredLeaves, LeavesMasters, RefusedLeaves, code_left, refused_zone, zone_behind}
+pub use Rattle.heap_calls.specs.Row.{Bar, Row, answer_of, bar_of, barred_by, gated_row, gone_of_row, left_by, may_purge, moves_of}
+pub use Rattle.heap_calls.specs.Row.{notes_code, searches_of, serve}
 pub use Rattle.heap_calls.specs.Rows.{Done, answer_made, append, changed, doing, doing_silently, hand_and_hand, hand_to_hand, heap_after}
 pub use Rattle.heap_calls.specs.Rows.{is_unused, moves_made, new_empty_handle, new_handle, new_pointer, next_block, pointer_and_hand}
 pub use Rattle.heap_calls.specs.Rows.{pointer_to_x_hand, purged_by, purges_made, reallocate_handle, reply_of, reserve_mem, room_for}
 pub use Rattle.heap_calls.specs.Rows.{searches_made, set_handle_size, set_pointer_size, told_blocks, work}
 pub use Rattle.heap_calls.specs.Searches.{block_searches, compact_mem_searches, new_empty_handle_searches, new_handle_searches}
 pub use Rattle.heap_calls.specs.Searches.{purge_mem_searches, ready_searches, room_searches, slot_searches}
+pub use Rattle.heap_calls.specs.Serving.{Zeros, seeking, telling, told_as}
 pub use Rattle.heap_calls.specs.Shown.{Shows}
 pub use Rattle.heap_calls.specs.Slots.{if_ready, made, more_masters, slotted, slotted_zone}
 pub use Rattle.heap_calls.specs.Standing.{NextIsNew, StaysNonrelocatable, disposes, pointer_place}
@@ -150,9 +151,9 @@ pub use Rattle.heap_calls.specs.State.{CountedMemory, Disposed, Handle, Meaning,
 pub use Rattle.heap_calls.specs.State.{SystemResource, all_slots, fresh_heap, fresh_memory, used_slots, uses_slot}
 pub use Rattle.heap_calls.specs.Staying.{CostsAtMostMasters, KeepsBytes, KeepsMasters, LessStaysLater, Parted, RefusedCostsAtMostMasters}
 pub use Rattle.heap_calls.specs.Staying.{RefusedKeepsNoMore, StepCostsAtMostMasters, ease, of_masters, staying, staying_of}
-pub use Rattle.heap_calls.specs.Table.{Bar, Row, answer_of, answered, bar_of, barred_by, gate, gated, gated_row, gone_in, gone_of_row}
-pub use Rattle.heap_calls.specs.Table.{left_by, may_purge, moves_of, notes, notes_code, row, row_moves, row_searches, searches_of, serve}
-pub use Rattle.heap_calls.specs.Table.{served, zone_left}
+pub use Rattle.heap_calls.specs.Table.{Asked, DisposeHandle, DisposePtr, EmptyHandle, HLock, HPurge, HSetState, HandAndHand, MemError}
+pub use Rattle.heap_calls.specs.Table.{NewHandle, NewPtr, PurgeMem, Show, answered, gate, gated, gone_in, notes, row, row_moves}
+pub use Rattle.heap_calls.specs.Table.{row_searches, served, zone_left}
 pub use Rattle.heap_calls.specs.ToldGone.{StepTellsWhatGoes, TellsOfPurgeable, TellsWhatGoes, bytes_in, told_of}
 pub use Rattle.heap_calls.specs.declared.anchor.Anchor.{Anchor}
 pub use Rattle.heap_calls.specs.declared.anchor.Found.{Found}

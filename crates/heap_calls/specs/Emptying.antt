@@ -2,7 +2,7 @@ use Rattle.std.specs.Prelude.{◌≡◌, ℕ, ◌==◌, ◌&&◌, Bool, true, fa
 use Rattle.block_store.specs.Block.{Block, is_relocatable, is_purgeable}
 use Rattle.block_store.specs.Run.{has}
 use Rattle.heap_calls.specs.State.{Memory}
-use Rattle.heap_calls.specs.Asked.{Asked, DisposeHandle, EmptyHandle}
+use Rattle.heap_calls.specs.Table.{Asked, DisposeHandle, EmptyHandle}
 use Rattle.heap_calls.specs.Table.{answered}
 
 -- No call purges a block that may not be purged. Inside Macintosh: Memory, chapter 1, "Purging and Reallocating

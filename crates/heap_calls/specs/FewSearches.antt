@@ -1,6 +1,6 @@
 use Rattle.std.specs.Prelude.{◌≤◌, ◌+◌, length}
 use Rattle.heap_calls.specs.State.{Memory}
-use Rattle.heap_calls.specs.Asked.{Asked}
+use Rattle.heap_calls.specs.Table.{Asked}
 use Rattle.heap_calls.specs.Counts.{try_searches}
 
 -- How many searches for room a try of a call makes.

@@ -1,6 +1,6 @@
 use Rattle.std.specs.Prelude.{List, [], ◌∷◌}
 use Rattle.heap_calls.specs.State.{Memory}
-use Rattle.heap_calls.specs.Asked.{Asked}
+use Rattle.heap_calls.specs.Table.{Asked}
 use Rattle.heap_calls.specs.Table.{served}
 
 -- Calls one after another.

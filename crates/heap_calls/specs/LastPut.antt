@@ -4,10 +4,11 @@ use Rattle.memory_windows.specs.Writes.{written}
 use Rattle.heap_calls.specs.State.{State}
 use Rattle.heap_calls.specs.Answer.{Held}
 use Rattle.heap_calls.specs.Pointers.{block_named}
-use Rattle.heap_calls.specs.Asked.{Asked, NewHandle, SetHandleSize, ReallocateHandle, HandToHand, HandAndHand}
+use Rattle.heap_calls.specs.Table.{Asked, NewHandle, SetHandleSize, ReallocateHandle, HandToHand, HandAndHand}
 use Rattle.mac_words.specs.Told.{Told, Done, Given, Offset}
 use Rattle.heap_calls.specs.Munging.{found_in, munged}
-use Rattle.heap_calls.specs.Asked.{PtrAndHand, PtrToXHand, Munger, NewPtr, SetPtrSize, BlockMove, Put, PutPtr, new_bytes}
+use Rattle.heap_calls.specs.Serving.{new_bytes}
+use Rattle.heap_calls.specs.Table.{PtrAndHand, PtrToXHand, Munger, NewPtr, SetPtrSize, BlockMove, Put, PutPtr}
 
 -- The bytes last put into each handle's and each pointer's block, computed from the history of calls alone, without
 -- any block.

@@ -2,7 +2,7 @@ pub mod Inner
 pub mod State
 pub mod Answer
 pub mod Munging
-pub mod Asked
+pub mod Serving
 pub mod LastPut
 pub mod Locked
 pub mod Slots
@@ -25,6 +25,7 @@ pub mod Shown
 pub mod Staying
 pub mod Inside
 pub mod Path
+pub mod Row
 pub mod Table
 pub mod ToldGone
 pub mod Preloaded

@@ -3,7 +3,7 @@ use Rattle.std.specs.Option.{option_map}
 use Rattle.block_store.specs.Block.{Block, Free, Nonrelocatable, Masters, Relocatable, sizes, count, is_relocatable}
 use Rattle.block_store.specs.Room.{spot}
 use Rattle.heap_calls.specs.State.{Memory}
-use Rattle.heap_calls.specs.Asked.{Asked, DisposeHandle, HUnlock, HSetState}
+use Rattle.heap_calls.specs.Table.{Asked, DisposeHandle, HUnlock, HSetState}
 use Rattle.heap_calls.specs.Table.{answered}
 
 -- A locked block stays where it is. Inside Macintosh: Memory, chapter 1, "Properties of Relocatable Blocks".

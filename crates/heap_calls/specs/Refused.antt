@@ -6,7 +6,7 @@ use Rattle.heap_calls.specs.State.{State, Memory}
 use Rattle.heap_calls.specs.Answer.{look_up}
 use Rattle.heap_calls.specs.Slots.{slotted_zone}
 use Rattle.heap_calls.specs.Copying.{copying_zone}
-use Rattle.heap_calls.specs.Asked.{Asked}
+use Rattle.heap_calls.specs.Table.{Asked}
 use Rattle.heap_calls.specs.Busy.{keep_code}
 use Rattle.heap_calls.specs.Table.{gate, notes, served, zone_left}
 use Rattle.heap_calls.specs.Counts.{CountsSearches, CountsMoves}

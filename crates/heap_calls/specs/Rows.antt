@@ -10,7 +10,7 @@ use Rattle.moves.specs.Moves.{Move, Put, Base, Drop, Write, Did, did}
 use Rattle.moves.specs.Seeking.{Sought, no_room, seek, if_fits, seek_slot, then_seek, seek_size, around}
 use Rattle.heap_calls.specs.State.{Plain, Meaning, Handle, Pointer, State, Memory, used_slots, all_slots}
 use Rattle.heap_calls.specs.Answer.{Answer, Held, look_up, handle_at, nothing, silent, searching, moving}
-use Rattle.heap_calls.specs.Asked.{NewBytes, Zeros, CopyOf, new_size, new_bytes, packing}
+use Rattle.heap_calls.specs.Serving.{NewBytes, Zeros, CopyOf, new_size, new_bytes, packing}
 use Rattle.heap_calls.specs.Munging.{Target, found_in, behind}
 use Rattle.heap_calls.specs.Pointers.{pointed_at}
 use Rattle.heap_calls.specs.Purging.{is_loose}

@@ -1,6 +1,6 @@
 use Rattle.std.specs.Prelude.{◌≡◌, ◌⊎◌, ℕ, Some, List}
 use Rattle.mac_words.specs.Told.{Told, Bytes}
-use Rattle.heap_calls.specs.Asked.{Asked, Show, ShowPtr}
+use Rattle.heap_calls.specs.Table.{Asked, Show, ShowPtr}
 
 -- What a call shows.
 

@@ -3,7 +3,7 @@ use Rattle.std.specs.Option.{option_map}
 use Rattle.block_store.specs.Block.{Block, sizes, count, is_nonrelocatable}
 use Rattle.block_store.specs.Room.{spot}
 use Rattle.heap_calls.specs.State.{State, Memory}
-use Rattle.heap_calls.specs.Asked.{Asked, DisposePtr}
+use Rattle.heap_calls.specs.Table.{Asked, DisposePtr}
 use Rattle.heap_calls.specs.Table.{answered}
 
 -- A pointer's block stays where it is. Inside Macintosh: Memory, chapter 1, "Nonrelocatable Blocks".

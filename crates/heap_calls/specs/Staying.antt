@@ -5,7 +5,7 @@ use Rattle.block_store.specs.Block.{Block, Free, Nonrelocatable, Masters, Reloca
 use Rattle.heap_calls.specs.State.{Memory}
 use Rattle.heap_calls.specs.Purging.{purged_all}
 use Rattle.mac_words.specs.Told.{Refused}
-use Rattle.heap_calls.specs.Asked.{Asked}
+use Rattle.heap_calls.specs.Table.{Asked}
 use Rattle.heap_calls.specs.Table.{served}
 use Rattle.heap_calls.specs.Locked.{OneBlockEach}
 use Rattle.heap_calls.specs.Path.{Step, stepped, refusal}

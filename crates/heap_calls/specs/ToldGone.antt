@@ -1,7 +1,7 @@
 use Rattle.std.specs.Prelude.{◌≡◌, ◌<◌, ℕ, ◌==◌, ◌||◌, true, List, [], ◌∷◌, length, if◌then◌else◌}
 pub use Rattle.moves.specs.Bytes.{bytes_in}
 use Rattle.heap_calls.specs.State.{Memory}
-use Rattle.heap_calls.specs.Asked.{Asked}
+use Rattle.heap_calls.specs.Table.{Asked}
 use Rattle.heap_calls.specs.Table.{served}
 use Rattle.heap_calls.specs.Emptying.{takes_block, has_purgeable}
 use Rattle.heap_calls.specs.Gone.{Gone}

@@ -7,7 +7,7 @@ ghost use Rattle.block_store.specs.Run.{runs};
 ghost use Rattle.block_store.specs.Rest.{KeepsSlots, counted};
 ghost use Rattle.block_store.specs.Compact.{has_room, runs_settled, compacted, lowered_in_runs};
 ghost use Rattle.block_store.specs.Compact.{stretches};
-ghost use Rattle.heap_calls.specs.Asked.{packing};
+ghost use Rattle.heap_calls.specs.Serving.{packing};
 ghost use Rattle.heap_calls.specs.Inner.Given.{seen_in_run};
 ghost use Rattle.heap_calls.specs.Answer.{max_block, compact_mem, noting};
 ghost use Rattle.heap_calls.specs.Moves.{compact_mem_moves};

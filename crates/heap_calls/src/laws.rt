@@ -9,7 +9,7 @@ ghost use Rattle.block_store.specs.declared.measures.TheConstants.{GREATEST_ZONE
 ghost use Rattle.block_store.specs.Compact.{largest_run};
 ghost use Rattle.block_store.specs.Rest.{Site};
 ghost use Rattle.heap_calls.specs.State.{State, Memory, used_slots, all_slots, fresh_memory};
-ghost use Rattle.heap_calls.specs.Asked.{Asked};
+ghost use Rattle.heap_calls.specs.Table.{Asked};
 ghost use Rattle.heap_calls.specs.Table.{answered};
 ghost use Rattle.heap_calls.specs.Busy.{idle, NoneGuarded};
 ghost use Rattle.heap_calls.specs.Table.{served};

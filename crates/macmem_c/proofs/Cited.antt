@@ -24,7 +24,8 @@ pub use Rattle.fork_commands.specs.declared.pair.Place.{Place}
 pub use Rattle.fork_edits.specs.Resources.{rows}
 pub use Rattle.fork_edits.specs.View.{view_row}
 pub use Rattle.fork_format.specs.Content.{Content}
-pub use Rattle.heap_calls.specs.Asked.{Asked, CompactMem, FreeMem, HGetState, MaxBlock, MaxMem, RecoverHandle, telling, told_as}
+pub use Rattle.heap_calls.specs.Serving.{telling, told_as}
+pub use Rattle.heap_calls.specs.Table.{Asked, CompactMem, FreeMem, HGetState, MaxBlock, MaxMem, RecoverHandle}
 pub use Rattle.heap_calls.specs.Gone.{Gone}
 pub use Rattle.heap_calls.specs.Inner.Given.{IsAnswer}
 pub use Rattle.heap_calls.specs.Left.{DidAStep, DidNothing, Step}

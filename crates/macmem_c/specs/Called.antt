@@ -1,8 +1,9 @@
 use Rattle.std.specs.Prelude.{◌≡◌, ℕ, ℤ, Option, Some, None, Result, List, length}
 use Rattle.mac_words.specs.Told.{Told, Given, Number, Numbers, Offset, Bytes}
 use Rattle.mac_words.specs.declared.code.OsErr.{OsErr}
-use Rattle.heap_calls.specs.Asked.{Asked, Zeros, CopyOf, telling}
-use Rattle.heap_calls.specs.Asked as asked
+use Rattle.heap_calls.specs.Serving.{Zeros, CopyOf, telling}
+use Rattle.heap_calls.specs.Table.{Asked}
+use Rattle.heap_calls.specs.Table as asked
 use Rattle.heap_calls.specs.State.{Memory, CountedMemory}
 use Rattle.heap_calls.specs.Inner.Given.{IsAnswer}
 use Rattle.heap_calls.specs.declared.refusal.Refusal.{Refusal}

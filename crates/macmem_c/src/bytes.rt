@@ -1,7 +1,7 @@
 //! The bytes of blocks.
 
 ghost use Rattle.std.specs.Prelude.{◌≡◌, IsSome, IfSome, Some};
-ghost use Rattle.heap_calls.specs.Asked.{Put, Show, PutPtr, ShowPtr, Where};
+ghost use Rattle.heap_calls.specs.Table.{Put, Show, PutPtr, ShowPtr, Where};
 ghost use Rattle.macmem_c.specs.Called.{Serves, number_after, IsImage, IsShown};
 
 use crate::calls::{Change, Question};

@@ -2,8 +2,9 @@
 
 ghost use Rattle.std.specs.Prelude.{◌≡◌, Err, Some};
 ghost use Rattle.mac_words.specs.Told.{Given, Number};
-ghost use Rattle.heap_calls.specs.Table.{done, served};
-ghost use Rattle.heap_calls.specs.Asked.{told_as};
+ghost use Rattle.heap_calls.specs.Row.{done};
+ghost use Rattle.heap_calls.specs.Table.{served};
+ghost use Rattle.heap_calls.specs.Serving.{told_as};
 ghost use Rattle.heap_calls.specs.declared.refusal.Refusal.TheVariants as refusal;
 ghost use Rattle.macmem_c.specs.Called.{AnswersRow, changing, asking, fitting, making};
 

@@ -2,9 +2,10 @@
 //! number that the zone has not given is no handle.
 
 ghost use Rattle.std.specs.Prelude.{◌≡◌, ◌≢◌, IsSome, Some};
-ghost use Rattle.heap_calls.specs.Asked.{NewHandle, NewEmptyHandle, DisposeHandle, GetHandleSize};
-ghost use Rattle.heap_calls.specs.Asked.{SetHandleSize, ReallocateHandle, EmptyHandle, HandToHand};
-ghost use Rattle.heap_calls.specs.Asked.{HandAndHand, PtrAndHand, HandleZone, Zeros, CopyOf};
+ghost use Rattle.heap_calls.specs.Table.{NewHandle, NewEmptyHandle, DisposeHandle, GetHandleSize};
+ghost use Rattle.heap_calls.specs.Table.{SetHandleSize, ReallocateHandle, EmptyHandle, HandToHand};
+ghost use Rattle.heap_calls.specs.Serving.{Zeros, CopyOf};
+ghost use Rattle.heap_calls.specs.Table.{HandAndHand, PtrAndHand, HandleZone};
 ghost use Rattle.macmem_c.specs.Codes.{host_memory};
 ghost use Rattle.macmem_c.specs.Called.{Serves, number_after};
 

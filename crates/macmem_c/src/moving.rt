@@ -1,7 +1,7 @@
 //! Calls that find a handle, move bytes between blocks, and replace bytes in a block.
 
 ghost use Rattle.std.specs.Prelude.{◌≡◌, ◌≢◌, IsSome, Some, IfOk};
-ghost use Rattle.heap_calls.specs.Asked.{RecoverHandle, BlockMove, PtrToXHand, Munger, MungerNil};
+ghost use Rattle.heap_calls.specs.Table.{RecoverHandle, BlockMove, PtrToXHand, Munger, MungerNil};
 ghost use Rattle.heap_calls.specs.Munging.{Like, Many};
 ghost use Rattle.macmem_c.specs.Codes.{host_memory};
 ghost use Rattle.macmem_c.specs.Called.{Serves, number_after, offset_after};

@@ -1,7 +1,7 @@
 //! Calls on pointers and their blocks. A pointer is a number, as a handle is.
 
 ghost use Rattle.std.specs.Prelude.{◌≡◌, ◌≢◌, IsSome, Some};
-ghost use Rattle.heap_calls.specs.Asked.{NewPtr, DisposePtr, GetPtrSize, SetPtrSize, PtrZone};
+ghost use Rattle.heap_calls.specs.Table.{NewPtr, DisposePtr, GetPtrSize, SetPtrSize, PtrZone};
 ghost use Rattle.macmem_c.specs.Codes.{host_memory};
 ghost use Rattle.macmem_c.specs.Called.{Serves, number_after};
 

@@ -1,8 +1,8 @@
 //! Calls on the properties of relocatable blocks: locked or not, purgeable or not.
 
 ghost use Rattle.std.specs.Prelude.{◌≡◌, IsSome, Some};
-ghost use Rattle.heap_calls.specs.Asked.{HLock, HUnlock, HPurge, HNoPurge, HGetState, HSetState};
-ghost use Rattle.heap_calls.specs.Asked.{MoveHHi, HLockHi};
+ghost use Rattle.heap_calls.specs.Table.{HLock, HUnlock, HPurge, HNoPurge, HGetState, HSetState};
+ghost use Rattle.heap_calls.specs.Table.{MoveHHi, HLockHi};
 ghost use Rattle.macmem_c.specs.Called.{Serves, number_after};
 
 use crate::calls::Change;

@@ -2,8 +2,8 @@
 
 ghost use Rattle.std.specs.Prelude.{◌≡◌, ◌≢◌, IsSome, IfSome};
 ghost use Rattle.mac_words.specs.Codes.{noErr};
-ghost use Rattle.heap_calls.specs.Asked.{FreeMem, MaxBlock, PurgeSpace, CompactMem, PurgeMem};
-ghost use Rattle.heap_calls.specs.Asked.{MaxMem, ReserveMem, MoreMasters, MemError};
+ghost use Rattle.heap_calls.specs.Table.{FreeMem, MaxBlock, PurgeSpace, CompactMem, PurgeMem};
+ghost use Rattle.heap_calls.specs.Table.{MaxMem, ReserveMem, MoreMasters, MemError};
 ghost use Rattle.macmem_c.specs.Codes.{host_memory};
 ghost use Rattle.macmem_c.specs.Called.{Serves, number_after, AreNumbers};
 

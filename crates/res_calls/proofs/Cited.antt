@@ -44,7 +44,6 @@ pub use Rattle.heap_calls.proofs.Tries.Elsewhere.{elsewhere}
 pub use Rattle.heap_calls.proofs.Tries.Roles.{served-roles, set-other}
 pub use Rattle.heap_calls.proofs.Tries.Taking.{done-or}
 pub use Rattle.heap_calls.specs.Answer.{Known, code_of, handle_at, known_as, nothing}
-pub use Rattle.heap_calls.specs.Asked.{Asked, told_as}
 pub use Rattle.heap_calls.specs.Emptying.{has_purgeable}
 pub use Rattle.heap_calls.specs.Gone.{Gone, Tells, all_gone, gone_of, made_gone, refill_gone}
 pub use Rattle.heap_calls.specs.Inner.Filling.{wanted_as}
@@ -55,11 +54,13 @@ pub use Rattle.heap_calls.specs.Locked.{locked_place}
 pub use Rattle.heap_calls.specs.Owned.{resource_meant, resource_role_at}
 pub use Rattle.heap_calls.specs.Path.{Cast, NewEmpty, NewFilled, Refill, Release, Step, gone_at, left_zone, put_reads, read_again, read_by}
 pub use Rattle.heap_calls.specs.Path.{read_new, reads, refusal, refusal_of, step_disposes, stepped, steps_dispose, walk}
+pub use Rattle.heap_calls.specs.Serving.{told_as}
 pub use Rattle.heap_calls.specs.Slots.{more_masters, slotted, slotted_zone}
 pub use Rattle.heap_calls.specs.Standing.{pointer_place}
 pub use Rattle.heap_calls.specs.State.{Disposed, Handle, Meaning, Memory, Plain, Pointer, Resource, Role, State, SystemResource, all_slots}
 pub use Rattle.heap_calls.specs.State.{fresh_memory, used_slots}
 pub use Rattle.heap_calls.specs.Staying.{staying}
+pub use Rattle.heap_calls.specs.Table.{Asked}
 pub use Rattle.heap_calls.specs.ToldGone.{bytes_in, told_of}
 pub use Rattle.heap_calls.specs.declared.filling.Filling.{Filling}
 pub use Rattle.heap_calls.specs.declared.refusal.Refusal.{Refusal}

@@ -1,7 +1,7 @@
 use Rattle.std.specs.Prelude.{ℕ, ℤ, Bool, Option, None, List, []}
 use Rattle.mac_words.specs.Told as tells
 use Rattle.mac_words.specs.Told.{Told, Bytes, Done, Kind, Number, Code, Refused}
-use Rattle.heap_calls.specs.Asked.{told_as}
+use Rattle.heap_calls.specs.Serving.{told_as}
 use Rattle.res_calls.specs.Fetch.{Managers, Reads, Answer, Fetched}
 use Rattle.res_calls.specs.Rows as rows
 use Rattle.res_calls.specs.Rows.{Among, noting}

@@ -10,7 +10,7 @@ ghost use Rattle.block_store.specs.declared.measures.TheConstants.{GREATEST_ZONE
 ghost use Rattle.block_store.specs.Run.{has};
 ghost use Rattle.fork_format.specs.Canonical.{clear, fits};
 ghost use Rattle.fork_format.specs.Content.{Content, IsContent};
-ghost use Rattle.heap_calls.specs.Asked.{Asked};
+ghost use Rattle.heap_calls.specs.Table.{Asked};
 ghost use Rattle.heap_calls.specs.Table as heap;
 ghost use Rattle.heap_calls.specs.Emptying.{has_purgeable};
 ghost use Rattle.heap_calls.specs.Gone.{Gone};

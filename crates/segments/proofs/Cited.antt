@@ -12,16 +12,17 @@ pub use Rattle.heap_calls.proofs.Steps.Letting.{locked-there}
 pub use Rattle.heap_calls.proofs.Steps.Segments.{held-bytes, held-has, held-known, held-locked, held-masters, held-nonrelocatable}
 pub use Rattle.heap_calls.proofs.Steps.Segments.{loosened-bytes, loosened-has, loosened-known, loosened-locked, loosened-masters}
 pub use Rattle.heap_calls.proofs.Steps.Segments.{loosened-none, loosened-nonrelocatable}
-pub use Rattle.heap_calls.specs.Asked.{Asked, EmptyHandle, HUnlock, PurgeMem, Show, Where, told_as}
 pub use Rattle.heap_calls.specs.Emptying.{has_purgeable}
 pub use Rattle.heap_calls.specs.Gone.{Gone}
 pub use Rattle.heap_calls.specs.Inside.{has_block, held_high, inside, loosened}
 pub use Rattle.heap_calls.specs.Locked.{locked_place}
 pub use Rattle.heap_calls.specs.Owned.{resource_role_at}
 pub use Rattle.heap_calls.specs.Path.{put_reads}
+pub use Rattle.heap_calls.specs.Serving.{told_as}
 pub use Rattle.heap_calls.specs.Standing.{pointer_place}
 pub use Rattle.heap_calls.specs.State.{Memory, State, fresh_memory}
 pub use Rattle.heap_calls.specs.Staying.{staying}
+pub use Rattle.heap_calls.specs.Table.{Asked, EmptyHandle, HUnlock, PurgeMem, Show, Where}
 pub use Rattle.heap_calls.specs.ToldGone.{bytes_in}
 pub use Rattle.heap_calls.specs.declared.refusal.Refusal.{Refusal}
 pub use Rattle.heap_calls.specs.declared.refusal.Refusal.TheVariants.{Code, HostMemory}

@@ -3,7 +3,7 @@ use Rattle.mac_words.specs.Told as tells
 use Rattle.mac_words.specs.Told.{Told, Done, Number}
 use Rattle.mac_words.specs.declared.segment_call.SegmentCall.{SegmentCall}
 use Rattle.mac_words.specs.declared.segment_call.SegmentCall.TheVariants as segment
-use Rattle.heap_calls.specs.Asked.{told_as}
+use Rattle.heap_calls.specs.Serving.{told_as}
 use Rattle.res_calls.specs.Fetch.{Managers, Reads, Fetched}
 use Rattle.res_calls.specs.Own.{own_handle}
 use Rattle.segments.specs.Calls.{Program, Answer, Called, Shown, load_seg, unload_seg, call_entry, show_entry}

@@ -27,13 +27,15 @@ pub use Rattle.heap_calls.proofs.Exchanged.{spot-parted}
 pub use Rattle.heap_calls.proofs.Promises.Knowing.{pushed}
 pub use Rattle.heap_calls.proofs.Room.Packing.{tidy-left}
 pub use Rattle.heap_calls.specs.Answer.{Answer, Held, change_flags, flagged, for_found, held_at, known_as, nothing, noting}
-pub use Rattle.heap_calls.specs.Asked.{Asked, Zeros, telling}
+pub use Rattle.heap_calls.specs.Serving.{Zeros, telling}
+pub use Rattle.heap_calls.specs.Table.{Asked}
 pub use Rattle.heap_calls.specs.Busy.{idle, known_bars, pointer_bars, unless}
 pub use Rattle.heap_calls.specs.Pointers.{dispose_pointer, pointed}
 pub use Rattle.heap_calls.specs.Rows.{heap_after}
 pub use Rattle.heap_calls.specs.State.{Disposed, Handle, Meaning, Memory, Plain, Pointer, State, all_slots, fresh_memory, used_slots}
 pub use Rattle.heap_calls.specs.State.{uses_slot}
-pub use Rattle.heap_calls.specs.Table.{done, served}
+pub use Rattle.heap_calls.specs.Row.{done}
+pub use Rattle.heap_calls.specs.Table.{served}
 pub use Rattle.mac_words.specs.Size.{padded, phys}
 pub use Rattle.mac_words.specs.Told.{Done, Given, Told}
 pub use Rattle.mac_words.specs.declared.call.Call.{Call}

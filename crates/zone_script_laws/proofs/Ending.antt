@@ -3,7 +3,7 @@ use Rattle.zone_script_laws.proofs.Cited.{Some, arith, length, replicate, slice_
 use Rattle.zone_script_laws.proofs.Cited.{padded, Done, Block, Free, Nonrelocatable, Relocatable, free, tidy, is_nonrelocatable, has, freed}
 use Rattle.zone_script_laws.proofs.Cited.{spot, tidy-parted, State, Memory, Meaning, Disposed, Bindings, bound_to, Part, Relocated, Fixed}
 use Rattle.zone_script_laws.proofs.Cited.{Gap, numbered, block_of, Line, HUnlock, DisposePtr, name_of, ending, Runs}
-use Rattle.heap_calls.specs.Asked as asks
+use Rattle.heap_calls.specs.Table as asks
 use Rattle.zone_script_laws.proofs.Parted.{spot-relocatable, spot-nonrelocatable, freed-nonrelocatable}
 use Rattle.zone_script_laws.proofs.Serving.{Serves, serves-dispose}
 use Rattle.zone_script_laws.proofs.Steps.{Stands, step, AllBound, get-after-set}

@@ -7,7 +7,7 @@ use Rattle.zone_script_laws.proofs.Cited.{Bindings, bound_to, bind, Part, Reloca
 use Rattle.zone_script_laws.proofs.Cited.{handles, Line, MoreMasters, NewHandle, NewPtr, HLock, HPurge, HUnlock, name_of, making}
 use Rattle.zone_script_laws.proofs.Cited.{NamesDiffer, Runs, spot-parted}
 use Rattle.std.proofs.lemmas.List.{length-append}
-use Rattle.heap_calls.specs.Asked as asks
+use Rattle.heap_calls.specs.Table as asks
 use Rattle.zone_script_laws.proofs.Fixed.{Stay, stay-append}
 use Rattle.zone_script_laws.proofs.Calls.{more_masters-done, new_pointer-done, new_handle-done}
 use Rattle.zone_script_laws.proofs.Serving.{Serves, serves-more_masters, serves-new_pointer, serves-new_handle, serves-lock, serves-unlock}

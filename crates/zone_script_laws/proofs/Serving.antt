@@ -3,7 +3,7 @@ use Rattle.zone_script_laws.proofs.Cited.{slice_set, option_map, ok_or, Told, Do
 use Rattle.zone_script_laws.proofs.Cited.{is_nonrelocatable, Spot, spot, freed, State, Memory, Handle, Pointer, Disposed, Plain, Answer}
 use Rattle.zone_script_laws.proofs.Cited.{Held, held_at, known_as, for_found, change_flags, flagged, pointed, dispose_pointer, Asked, Zeros}
 use Rattle.zone_script_laws.proofs.Cited.{telling, noting, idle, known_bars, pointer_bars, unless, served, done}
-use Rattle.heap_calls.specs.Asked.{NewHandle, NewPtr, MoreMasters, HLock, HUnlock, HPurge, DisposePtr}
+use Rattle.heap_calls.specs.Table.{NewHandle, NewPtr, MoreMasters, HLock, HUnlock, HPurge, DisposePtr}
 use Rattle.heap_calls.specs.Rows as rows
 use Rattle.zone_script_laws.proofs.Calls.{Leaves}
 

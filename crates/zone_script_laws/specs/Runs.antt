@@ -2,8 +2,9 @@ use Rattle.std.specs.Prelude.{◌≡◌, ℕ, Option, Some, None, List, [], ◌�
 use Rattle.mac_words.specs.Told.{Told}
 use Rattle.mac_words.specs.declared.code.TheConstants.OsErr.{NO_ERR}
 use Rattle.heap_calls.specs.State.{Memory}
-use Rattle.heap_calls.specs.Asked.{Asked}
-use Rattle.heap_calls.specs.Asked as asks
+use Rattle.heap_calls.specs.Table.{Asked}
+use Rattle.heap_calls.specs.Serving.{Zeros}
+use Rattle.heap_calls.specs.Table as asks
 use Rattle.heap_calls.specs.Table.{served}
 use Rattle.applications.specs.Names.{Bindings, bound_to, bind}
 use Rattle.applications.specs.Step.{number_given}
@@ -15,7 +16,7 @@ use Rattle.zone_scripts.specs.Lines.{Line, MoreMasters, NewHandle, NewPtr, HLock
 -- A call of the table, where names are bound so.
 abbrev pub asked_by : Line → Bindings → Asked
 asked_by MoreMasters names = asks.MoreMasters
-asked_by (NewHandle name size) names = asks.NewHandle (asks.Zeros size)
+asked_by (NewHandle name size) names = asks.NewHandle (Zeros size)
 asked_by (NewPtr name size) names = asks.NewPtr size
 asked_by (HLock name) names = asks.HLock (bound_to name names)
 asked_by (HPurge name) names = asks.HPurge (bound_to name names)

@@ -2,7 +2,7 @@ use Rattle.heap_calls.proofs.Cited.{◌≡◌, ◌∙◌, Option, Some, None, Re
 use Rattle.heap_calls.proofs.Cited.{noting, silent, Asked, telling, seeking, doing, unless_silent, Row, row, bar_of, barred_by, notes_code}
 use Rattle.heap_calls.proofs.Cited.{answer_of, serve, gated_row, gate, gated, served}
 use Rattle.heap_calls.specs.Busy.{unless}
-use Rattle.heap_calls.specs.Table as table
+use Rattle.heap_calls.specs.Row as table
 
 -- A call as its method answers it is the call of the table after its gate.
 

@@ -14,7 +14,7 @@ use Rattle.heap_calls.specs.Purging as purging
 use Rattle.heap_calls.proofs.Rows.Shapes.{by-kind}
 use Rattle.heap_calls.proofs.Rows.Along.{row-along}
 use Rattle.heap_calls.proofs.Rows.Weighing.{Renews, allows-weighs, none-lost}
-use Rattle.heap_calls.specs.Asked as asked
+use Rattle.heap_calls.specs.Table as asked
 use Rattle.heap_calls.specs.Rows as rows
 use Rattle.heap_calls.proofs.Promises.Knowing.{handle_at-name}
 use Rattle.heap_calls.proofs.Rows.Effects as effects

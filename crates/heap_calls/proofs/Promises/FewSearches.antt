@@ -11,8 +11,8 @@ use Rattle.heap_calls.proofs.Cited.{resized, total-append, Move, Put, Base, Drop
 use Rattle.heap_calls.proofs.Cited.{seek_slot, seek_size, seek_resized, around, did-append, Refuses, seek-refused, fits-refused, seek-few}
 use Rattle.heap_calls.proofs.Cited.{resized-few, work, is_unused, tidied, freed-is, unless-le, based-le}
 use Rattle.std.specs.Prelude.{is_some}
-use Rattle.heap_calls.specs.Table as table
-use Rattle.heap_calls.specs.Asked as asked
+use Rattle.heap_calls.specs.Row as table
+use Rattle.heap_calls.specs.Table as asked
 use Rattle.heap_calls.specs.Rows as rows
 use Rattle.heap_calls.proofs.Same.NewBlocks.{made-same}
 use Rattle.heap_calls.proofs.Same.Resizing.{held-spot, pointer-spot}

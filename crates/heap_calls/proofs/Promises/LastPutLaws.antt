@@ -13,7 +13,8 @@ use Rattle.heap_calls.proofs.Cited.{found_in, behind, munged, Occurrence, hoiste
 use Rattle.std.specs.Prelude.{is_some}
 use Rattle.mac_words.specs.Told.{Done}
 use Rattle.heap_calls.specs.State as names
-use Rattle.heap_calls.specs.Asked as asked
+use Rattle.heap_calls.specs.Serving.{new_bytes, new_size}
+use Rattle.heap_calls.specs.Table as asked
 use Rattle.heap_calls.specs.Rows as rows
 use Rattle.heap_calls.proofs.Same.Growing.{same-handle, same-pointer}
 use Rattle.heap_calls.proofs.Rows.Found.{room_for-refused}
@@ -253,10 +254,10 @@ known-changes e s bytes rests known = tt
 pub step-known : (a : Asked) (m : Memory) (bytes : ℕ → List ℕ) → Known m.heap bytes
     → Known (answered a m).1.heap (put_by a (answered a m).0 bytes)
 step-known (asked.NewHandle x) m bytes known =
-    let n = asked.new_size x in
-    let new = next_block (asked.new_bytes x) m.heap in
+    let n = new_size x in
+    let new = next_block (new_bytes x) m.heap in
     known-made m.heap bytes known (λ t. put_by (asked.NewHandle x) t bytes) (λ code. refl) nothing
-    (λ z. if_fits n (seek (Put new) nothing z)) (asked.new_bytes x)
+    (λ z. if_fits n (seek (Put new) nothing z)) (new_bytes x)
     (λ z. fits-refused nothing n (seek (Put new) nothing z) (seek-refused nothing (Put new) z))
     (λ z of none. if-more of nothing none (is_some (phys n)) (Put new) (λ y. tt) z) refl
 step-known asked.NewEmptyHandle m bytes known =

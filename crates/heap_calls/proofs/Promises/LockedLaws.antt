@@ -4,7 +4,7 @@ use Rattle.heap_calls.proofs.Cited.{Nonrelocatable, Masters, Relocatable, total,
 use Rattle.heap_calls.proofs.Cited.{with_content, resized, in_run, Spot, spot, spot-is, spot-passes, total-append, total-le, Memory}
 use Rattle.heap_calls.proofs.Cited.{flagged, is_loose, Asked, answered, is_locked, locked_place, releases, OneBlockEach, StaysLocked, apart}
 use Rattle.heap_calls.proofs.Cited.{stands-is, locks, stands-none}
-use Rattle.heap_calls.specs.Asked as asked
+use Rattle.heap_calls.specs.Table as asked
 use Rattle.heap_calls.proofs.Rows.Effects as effects
 use Rattle.heap_calls.proofs.Rows.Effects.{Effect, effect_of}
 use Rattle.heap_calls.proofs.Promises.KnownChanges.{none-spot}

@@ -17,7 +17,7 @@ use Rattle.heap_calls.specs.Answer as calls
 use Rattle.mac_words.specs.Told.{Done}
 use Rattle.heap_calls.specs.Rows as rows
 use Rattle.heap_calls.proofs.Same.NewBlocks.{slotted-is, slot-agrees, with_slot, ready_with}
-use Rattle.heap_calls.specs.Asked as asked
+use Rattle.heap_calls.specs.Table as asked
 use Rattle.heap_calls.proofs.Promises.KnownChanges.{none-spot, hoisted-all}
 use Rattle.heap_calls.proofs.Promises.Knowing.{look_up-spot}
 use Rattle.heap_calls.proofs.Exchanging.{spot-count}

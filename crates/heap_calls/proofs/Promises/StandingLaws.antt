@@ -2,7 +2,7 @@ use Rattle.heap_calls.proofs.Cited.{◌≡◌, ℕ, ◌≤◌, Bool, true, false
 use Rattle.heap_calls.proofs.Cited.{none-some, Flags, Block, Free, Nonrelocatable, Masters, Relocatable, count, is_nonrelocatable}
 use Rattle.heap_calls.proofs.Cited.{with_content, resized, in_run, not_nonrelocatable-relocatable, State, Memory, flagged, Asked, answered}
 use Rattle.heap_calls.proofs.Cited.{OneBlockEach, pointer_place, disposes, NextIsNew, StaysNonrelocatable, stands-is, stands-none}
-use Rattle.heap_calls.specs.Asked as asked
+use Rattle.heap_calls.specs.Table as asked
 use Rattle.heap_calls.proofs.Rows.Effects as effects
 use Rattle.heap_calls.proofs.Rows.Effects.{Effect, effect_of}
 use Rattle.heap_calls.proofs.Promises.Knowing.{Known, for_pointer, none-pointer, next-none}

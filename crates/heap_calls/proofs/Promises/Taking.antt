@@ -7,7 +7,7 @@ use Rattle.heap_calls.proofs.Cited.{Memory, Role, Plain, Resource, SystemResourc
 use Rattle.heap_calls.proofs.Cited.{disposed_of, flagged, change_flags, pointed_at, dispose_pointer, Asked, told_as, answered, is_locked}
 use Rattle.heap_calls.proofs.Cited.{locked_place, releases, OneBlockEach, pointer_place, disposes, NextIsNew}
 use Rattle.mac_words.specs.Told.{Done}
-use Rattle.heap_calls.specs.Asked as asked
+use Rattle.heap_calls.specs.Table as asked
 use Rattle.heap_calls.proofs.Promises.Knowing.{look_up-spot, pointed_at-spot}
 use Rattle.heap_calls.proofs.Promises.Knowing.{handle_at-name}
 use Rattle.heap_calls.proofs.Promises.LockedLaws.{fewer, stays-locked}

@@ -4,7 +4,7 @@ use Rattle.heap_calls.proofs.Cited.{is_nonrelocatable, no_flags, spot, may_be_pu
 use Rattle.heap_calls.proofs.Cited.{Sought, seek, seek_slot, seek_size, Along, along-if, along-then, along-later, along-seek, along-slot}
 use Rattle.heap_calls.proofs.Cited.{again-along, State, Held, look_up, nothing, is_loose, Asked, is_unused, next_block, Row, row, cond}
 use Rattle.heap_calls.proofs.Cited.{no_room}
-use Rattle.heap_calls.specs.Asked as asked
+use Rattle.heap_calls.specs.Table as asked
 use Rattle.heap_calls.specs.Rows as rows
 use Rattle.heap_calls.proofs.Same.Resizing.{pointer-spot}
 use Rattle.heap_calls.proofs.Rows.Found.{look_up-within, spared-stays}

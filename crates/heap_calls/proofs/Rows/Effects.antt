@@ -7,7 +7,7 @@ use Rattle.heap_calls.proofs.Cited.{without, flagged, change_flags, hoisted, mov
 use Rattle.heap_calls.proofs.Cited.{put, pointed, pointed_at, dispose_pointer, put_pointer, block_named, moved_into, block_move, emptied_at}
 use Rattle.heap_calls.proofs.Cited.{empty_handle, Asked, answered, row, may_purge}
 use Rattle.heap_calls.specs.State as names
-use Rattle.heap_calls.specs.Asked as asked
+use Rattle.heap_calls.specs.Table as asked
 use Rattle.heap_calls.proofs.Promises.Knowing.{look_up-spot, handle_at-name}
 use Rattle.heap_calls.proofs.Promises.NamedBlocks.{named-spot}
 use Rattle.heap_calls.proofs.Same.Resizing.{held-spot, pointer-spot}

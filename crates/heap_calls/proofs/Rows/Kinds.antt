@@ -1,7 +1,7 @@
 use Rattle.heap_calls.proofs.Cited.{◌≡◌, Bool, true, false, List, [], Option, Some, None, refl, sym, Told, OsErr, Block, State, Memory}
 use Rattle.heap_calls.proofs.Cited.{gone_unless, Done, Bar, Row, may_purge, bar_of, barred_by, gone_of_row}
-use Rattle.heap_calls.specs.Table.{purged_by}
-use Rattle.heap_calls.specs.Table as table
+use Rattle.heap_calls.specs.Row.{purged_by}
+use Rattle.heap_calls.specs.Row as table
 
 -- The rows that are paths, and the others.
 

@@ -1,7 +1,7 @@
 use Rattle.heap_calls.proofs.Cited.{◌≡◌, ◌+◌, Bool, true, false, length, Result, Ok, Err, refl, cond, OsErr, sizes, content_of, State}
 use Rattle.heap_calls.proofs.Cited.{Memory, Answer, look_up, handle_at, for_found, on_block, place_in, pointed_at, block_named, is_resource}
 use Rattle.heap_calls.proofs.Cited.{block_bits, Asked, answered}
-use Rattle.heap_calls.specs.Asked as asked
+use Rattle.heap_calls.specs.Table as asked
 
 -- The calls that only look at the heap.
 

@@ -5,9 +5,10 @@ use Rattle.heap_calls.proofs.Cited.{content_of, no_flags, spot, freed, Put, Base
 use Rattle.heap_calls.proofs.Cited.{around, State, Plain, Handle, Pointer, Held, look_up, handle_at, nothing, pointed_at, is_loose, Asked}
 use Rattle.heap_calls.proofs.Cited.{is_unused, next_block, Row, row, found_in, behind, Occurrence, leb-true, if◌then◌else◌, cond, pos}
 use Rattle.heap_calls.proofs.Cited.{negsuc, may_purge, not, not-true, slotted_zone, copying_zone, left_by}
-use Rattle.heap_calls.specs.Asked as asked
+use Rattle.heap_calls.specs.Serving.{new_bytes, new_size}
+use Rattle.heap_calls.specs.Table as asked
 use Rattle.heap_calls.specs.Rows as rows
-use Rattle.heap_calls.specs.Table as table
+use Rattle.heap_calls.specs.Row as table
 use Rattle.heap_calls.proofs.Rows.Kinds.{has_path}
 use Rattle.heap_calls.proofs.Rows.Found.{or-false}
 use Rattle.heap_calls.proofs.Promises.Knowing.{handle_at-name}
@@ -76,7 +77,7 @@ found-shape P s (Ok k) call refuses each = each k refl
 -- each row that is a path has one of these shapes
 pub by-shape : (P : (T : Type 0) → rows.Done T → Type 0) (s : State) (a : Asked) → Shapes P s a → ForPath P (row a) s
 by-shape P s (asked.NewHandle x) law =
-    law.makes nothing refl (is_some (phys (asked.new_size x))) (asked.new_bytes x)
+    law.makes nothing refl (is_some (phys (new_size x))) (new_bytes x)
 by-shape P s asked.NewEmptyHandle law = law.empties refl
 by-shape P s (asked.SetHandleSize handle n) law =
     found-shape P s (look_up handle s) _ (λ code e. law.refuses refl _ code) (λ held e. law.sizes refl handle held e n)

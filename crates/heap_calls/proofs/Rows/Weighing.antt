@@ -3,7 +3,7 @@ use Rattle.heap_calls.proofs.Cited.{arith, and_parts, Decides-eqb, Flags, Block,
 use Rattle.heap_calls.proofs.Cited.{is_mover, is_purgeable, is_relocatable, is_nonrelocatable, with_content, resized, no_flags, spot}
 use Rattle.heap_calls.proofs.Cited.{spot-passes, is_same, did, Weighs, PutsNone, keeps, only-purgeable, Alone, size-weighs, size-puts}
 use Rattle.heap_calls.proofs.Cited.{State, Memory, Held, nothing, Asked, Row, answer_of}
-use Rattle.heap_calls.specs.Asked as asked
+use Rattle.heap_calls.specs.Table as asked
 use Rattle.heap_calls.proofs.Same.Growing.{same-handle, same-pointer}
 use Rattle.heap_calls.proofs.Rows.Kinds.{has_path, of-path}
 use Rattle.heap_calls.proofs.Rows.Found.{pointer-still}

@@ -5,7 +5,8 @@ use Rattle.heap_calls.proofs.Cited.{has_block, refill_inside, refill_searches, f
 use Rattle.heap_calls.proofs.Cited.{stepped, walk}
 use Rattle.std.specs.Prelude.{is_some}
 use Rattle.heap_calls.specs.Answer as calls
-use Rattle.heap_calls.specs.Asked as asked
+use Rattle.heap_calls.specs.Serving.{CopyOf}
+use Rattle.heap_calls.specs.Table as asked
 use Rattle.heap_calls.proofs.Steps.Survival.{step-masters}
 use Rattle.heap_calls.proofs.Promises.FewSearches.{room-blocks, only-if, unsearched, row_few}
 use Rattle.heap_calls.proofs.Same.NewBlocks.{filled-same, new_empty_handle-same}
@@ -21,7 +22,7 @@ pub step-searches : (step : Step) (m : Memory) → 0 < count is_masters m.heap.z
     → (n : ℕ) × (n ≤ length m.heap.zone + 1) × ((stepped step m).log.searches ≡ counted m.log.searches n)
 step-searches (NewFilled role flags bytes) m masters fits =
     let same = (filled-same no_flags bytes m.heap).looks in
-    let few = row_few (asked.NewHandle (asked.CopyOf bytes)) m masters in
+    let few = row_few (asked.NewHandle (CopyOf bytes)) m masters in
     (new_handle_searches (length bytes) m.heap, omega (arith, same, few), refl)
 step-searches (NewEmpty role) m masters fits =
     let same = (new_empty_handle-same m.heap).looks in

@@ -6,7 +6,7 @@ use Rattle.heap_calls.proofs.Cited.{Memory, used_slots, all_slots, handle_at, no
 use Rattle.heap_calls.proofs.Cited.{Asked, has_block, Step, NewFilled, NewEmpty, Refill, Release, Cast, gone_at, Gone, gone_of, gone}
 use Rattle.heap_calls.proofs.Cited.{room_gone, slot_gone, ready_gone, block_gone, made_gone, found_gone, gone_unless, row, gone_in, bar_of}
 use Rattle.heap_calls.proofs.Cited.{barred_by, Done, work, told_blocks}
-use Rattle.heap_calls.specs.Table.{purged_by}
+use Rattle.heap_calls.specs.Row.{purged_by}
 use Rattle.heap_calls.proofs.Rows.Kinds.{of-path, none-by, gated-by}
 use Rattle.heap_calls.proofs.Rows.Shapes.{by-kind}
 use Rattle.heap_calls.proofs.Rows.Most.{PurgesMost, row-most}

@@ -8,7 +8,7 @@ use Rattle.heap_calls.proofs.Cited.{keep_code, gate, gated, notes, takes_block, 
 use Rattle.heap_calls.proofs.Cited.{bytes_in, TellsWhatGoes, TellsOfPurgeable, StepTellsWhatGoes, has_block, refill_inside, released_as}
 use Rattle.heap_calls.proofs.Cited.{cast_as, Step, NewFilled, NewEmpty, Refill, Release, Cast, stepped, gone_at, step_disposes, Put, Drop}
 use Rattle.heap_calls.proofs.Cited.{seek, if_fits, around, again-most, work, told_blocks}
-use Rattle.heap_calls.specs.Asked as asked
+use Rattle.heap_calls.specs.Table as asked
 use Rattle.heap_calls.proofs.Gates.Served.{served-gated}
 use Rattle.heap_calls.specs.Rows as rows
 use Rattle.heap_calls.proofs.Rows.Kinds.{none-by, gated-by}

@@ -8,7 +8,7 @@ use Rattle.heap_calls.proofs.Cited.{blocks_purged, purged_all, Asked, answered, 
 use Rattle.heap_calls.proofs.Cited.{Refill, stepped, gone_at, Gone, gone_of, room_gone, slot_gone, ready_gone, block_gone, found_gone}
 use Rattle.heap_calls.proofs.Cited.{refill_gone, Weighs, PutsNone}
 use Rattle.heap_calls.specs.State as names
-use Rattle.heap_calls.specs.Table.{purged_by}
+use Rattle.heap_calls.specs.Row.{purged_by}
 use Rattle.heap_calls.proofs.Rows.Shapes.{by-kind}
 use Rattle.heap_calls.proofs.Rows.Along.{row-along}
 use Rattle.heap_calls.proofs.Rows.Weighing.{Renews, allows-weighs, allows-puts}

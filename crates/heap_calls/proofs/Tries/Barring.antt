@@ -4,7 +4,7 @@ use Rattle.heap_calls.proofs.Cited.{Known, Held, handle_at, known_as, look_up, A
 use Rattle.heap_calls.proofs.Cited.{is_busy, bar, known_bars, pointer_bars, either_bars, barred, guard, known_guards, change_barred}
 use Rattle.heap_calls.proofs.Cited.{NoneGuarded, pointer_barred, either_barred, next_barred, both_barred, keep_code, either_guards}
 use Rattle.heap_calls.proofs.Cited.{either_change_barred, move_barred, block_named, gate, notes, gated, served, BarredLeaves, Told}
-use Rattle.heap_calls.specs.Table as table
+use Rattle.heap_calls.specs.Row as table
 use Rattle.heap_calls.proofs.Gates.Served.{served-gated}
 
 -- What bars a call: a number that is busy, and a handle of a System resource.

@@ -6,7 +6,7 @@ use Rattle.heap_calls.proofs.Cited.{movers-all, purged-all, one-run, alike-purge
 use Rattle.heap_calls.proofs.Cited.{all_slots, Held, nothing, look_up, more_masters, blocks_purged, Asked, gate, zone_behind, slotted_zone}
 use Rattle.heap_calls.proofs.Cited.{copying_zone, zone_left, staying_of, CostsAtMostMasters, RefusedCostsAtMostMasters}
 use Rattle.heap_calls.proofs.Cited.{StepCostsAtMostMasters, Step, NewFilled, NewEmpty, Refill, Release, Cast, left_zone}
-use Rattle.heap_calls.specs.Asked as asked
+use Rattle.heap_calls.specs.Table as asked
 use Rattle.heap_calls.proofs.Promises.AlikeCalls.{never, steady-never}
 use Rattle.heap_calls.proofs.Promises.EmptyingLaws.{masters, masters-goes}
 use Rattle.heap_calls.proofs.Steps.Refusals.{step-refused}

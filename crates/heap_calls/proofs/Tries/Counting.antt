@@ -2,7 +2,7 @@ use Rattle.heap_calls.proofs.Cited.{◌≡◌, ℕ, ◌+◌, ◌≤◌, ◌<◌,
 use Rattle.heap_calls.proofs.Cited.{OsErr, Told, count, is_masters, counted, counted-none, Memory, Asked, answered, Row, row, answer_of}
 use Rattle.heap_calls.proofs.Cited.{moves_of, keep_code, gate, gated, notes, CountsSearches, CountsMoves, row_searches, row_moves}
 use Rattle.heap_calls.proofs.Cited.{SearchesFew}
-use Rattle.heap_calls.specs.Table as table
+use Rattle.heap_calls.specs.Row as table
 use Rattle.heap_calls.specs.Counts.{behind}
 use Rattle.heap_calls.proofs.Gates.Served.{served-gated}
 use Rattle.heap_calls.proofs.Promises.FewSearches.{row_few, row_searched}

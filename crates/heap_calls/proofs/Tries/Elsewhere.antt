@@ -1,8 +1,8 @@
 use Rattle.heap_calls.proofs.Cited.{◌≡◌, sym, ℕ, Bool, true, false, refl, ◌∙◌, ap, cond, Option, Some, None, OsErr, Site, Memory, Told}
 use Rattle.heap_calls.proofs.Cited.{Refused, Asked, answered, Bar, Row, row, bar_of, barred_by, gone_of_row, gone_unless, purges_made}
 use Rattle.heap_calls.proofs.Cited.{gone_in, keep_code, pointer_barred, either_barred, move_barred, gate, gated, notes, served}
-use Rattle.heap_calls.specs.Table as table
-use Rattle.heap_calls.specs.Asked as asked
+use Rattle.heap_calls.specs.Row as table
+use Rattle.heap_calls.specs.Table as asked
 use Rattle.heap_calls.proofs.Gates.Served.{served-gated}
 
 -- What a call tells, and what it makes of the heap, doesn't hang on where the heap lies.

@@ -2,7 +2,7 @@ use Rattle.heap_calls.proofs.Cited.{◌≡◌, ℕ, ◌+◌, ◌≤◌, ◌<◌,
 use Rattle.heap_calls.proofs.Cited.{None, OsErr, count, is_relocatable, is_masters, has, counted, Memory, Told, Refused, Asked, answered}
 use Rattle.heap_calls.proofs.Cited.{keep_code, gate, gated, notes, served, put_by, OneBlockEach, takes_block, has_purgeable, RefusedLeaves}
 use Rattle.heap_calls.proofs.Cited.{code_left, zone_behind, Shows}
-use Rattle.heap_calls.specs.Asked as asked
+use Rattle.heap_calls.specs.Table as asked
 use Rattle.heap_calls.proofs.Promises.Knowing.{Known}
 use Rattle.heap_calls.proofs.Promises.LastPutLaws.{step-known}
 use Rattle.heap_calls.proofs.Promises.ShowingLaws.{shows-known}

@@ -4,7 +4,7 @@ use Rattle.heap_calls.proofs.Cited.{room, put_at_base, purged-le, base-le, State
 use Rattle.heap_calls.proofs.Cited.{more_masters, blocks_purged, Asked, answered, gate, served, OneBlockEach, zone_behind, slotted_zone}
 use Rattle.heap_calls.proofs.Cited.{copying_zone, zone_left, staying_of, staying, LessStaysLater, RefusedKeepsNoMore, KeepsBytes}
 use Rattle.heap_calls.proofs.Cited.{KeepsMasters}
-use Rattle.heap_calls.specs.Asked as asked
+use Rattle.heap_calls.specs.Table as asked
 use Rattle.heap_calls.proofs.Promises.AlikeCalls.{LeavesBy, never, steady-never, alike-answered}
 use Rattle.heap_calls.proofs.Promises.EmptyingLaws.{masters, of-answered, masters-goes, masters-sized, masters-filled}
 use Rattle.heap_calls.proofs.Promises.EmptyingLaws.{masters-renewed, masters-spared}

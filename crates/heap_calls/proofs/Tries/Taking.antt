@@ -2,7 +2,7 @@ use Rattle.heap_calls.proofs.Cited.{◌≡◌, ◌⊎◌, inl, inr, ℕ, Bool, t
 use Rattle.heap_calls.proofs.Cited.{OsErr, Refused, Block, is_relocatable, has, State, Memory, Asked, told_as, gate, served, OneBlockEach}
 use Rattle.heap_calls.proofs.Cited.{locked_place, releases, NextIsNew, pointer_place, disposes, takes_block, has_purgeable, zone_behind}
 use Rattle.mac_words.specs.Told.{Done}
-use Rattle.heap_calls.specs.Asked as asked
+use Rattle.heap_calls.specs.Table as asked
 use Rattle.heap_calls.proofs.Promises.Taking.{StaysOr, stays-or-released, stays-or-dropped}
 use Rattle.heap_calls.proofs.Tries.Gating.{served-holds, served-purgeable, served-refused}
 

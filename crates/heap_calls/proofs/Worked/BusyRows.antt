@@ -2,7 +2,8 @@ use Rattle.heap_calls.proofs.Cited.{◌≡◌, ℕ, List, [], ◌∷◌, refl, S
 use Rattle.heap_calls.proofs.Cited.{WRONG_ZONE, PURGED, PROFILE, Memory, fresh_memory, Told, Given, Number, Bytes, Refused, Offset, Asked}
 use Rattle.heap_calls.proofs.Cited.{idle, busied, eased, is_busy, with_busy, served, Site, Like, Many}
 use Rattle.mac_words.specs.Told.{Done, Code}
-use Rattle.heap_calls.specs.Asked as asks
+use Rattle.heap_calls.specs.Serving.{CopyOf, Zeros}
+use Rattle.heap_calls.specs.Table as asks
 
 -- Calls while names are busy, by the definitions alone.
 
@@ -19,7 +20,7 @@ told (Busy n ∷ lines) m = told lines (with_busy (busied n m.log.busy) m)
 told (Idle n ∷ lines) m = told lines (with_busy (eased n m.log.busy) m)
 
 -- a busy handle bars its calls, keeps its bytes, and is had again
-a_busy_handle : (window : Site) → told (Ask (asks.NewHandle (asks.Zeros 2)) ∷ Ask (asks.Put (Some 0) 0 (72 ∷ 105 ∷ [])) ∷ Busy 0
+a_busy_handle : (window : Site) → told (Ask (asks.NewHandle (Zeros 2)) ∷ Ask (asks.Put (Some 0) 0 (72 ∷ 105 ∷ [])) ∷ Busy 0
     ∷ Ask (asks.GetHandleSize (Some 0)) ∷ Ask asks.MemError ∷ Ask asks.FreeMem ∷ Ask (asks.Show (Some 0))
     ∷ Ask (asks.Put (Some 0) 0 (78 ∷ 111 ∷ [])) ∷ Ask asks.MemError ∷ Ask (asks.HLock (Some 0))
     ∷ Ask (asks.DisposeHandle (Some 0)) ∷ Ask asks.MemError ∷ Idle 0 ∷ Ask (asks.Show (Some 0))
@@ -29,7 +30,7 @@ a_busy_handle : (window : Site) → told (Ask (asks.NewHandle (asks.Zeros 2)) �
 a_busy_handle window = refl
 
 -- what isn't there goes first, then what is busy, then what is emptied or locked
-the_order_of_refusals : (window : Site) → told (Ask (asks.NewHandle (asks.Zeros 10)) ∷ Ask asks.NewEmptyHandle ∷ Ask (asks.NewPtr 10)
+the_order_of_refusals : (window : Site) → told (Ask (asks.NewHandle (Zeros 10)) ∷ Ask asks.NewEmptyHandle ∷ Ask (asks.NewPtr 10)
     ∷ Ask (asks.HLock (Some 0)) ∷ Busy 0 ∷ Busy 1 ∷ Busy 2 ∷ Ask (asks.GetHandleSize None)
     ∷ Ask (asks.GetHandleSize (Some 2)) ∷ Ask (asks.GetHandleSize (Some 1)) ∷ Ask (asks.EmptyHandle (Some 0)) ∷ Idle 0
     ∷ Idle 1 ∷ Ask (asks.GetHandleSize (Some 1)) ∷ Ask (asks.EmptyHandle (Some 0)) ∷ Ask (asks.DisposeHandle (Some 0))
@@ -39,7 +40,7 @@ the_order_of_refusals : (window : Site) → told (Ask (asks.NewHandle (asks.Zero
 the_order_of_refusals window = refl
 
 -- the second handle of HandAndHand is asked for where the first has a block
-two_handles : (window : Site) → told (Ask (asks.NewHandle (asks.Zeros 10)) ∷ Ask (asks.NewHandle (asks.Zeros 10)) ∷ Busy 1
+two_handles : (window : Site) → told (Ask (asks.NewHandle (Zeros 10)) ∷ Ask (asks.NewHandle (Zeros 10)) ∷ Busy 1
     ∷ Ask (asks.HandAndHand (Some 0) (Some 1)) ∷ Busy 0 ∷ Ask (asks.HandAndHand (Some 0) (Some 1)) ∷ Idle 0
     ∷ Ask (asks.EmptyHandle (Some 0)) ∷ Ask (asks.HandAndHand (Some 0) (Some 1))
     ∷ Ask (asks.ReallocateHandle (Some 0) 10) ∷ Idle 1 ∷ Ask (asks.GetHandleSize (Some 1))
@@ -58,7 +59,7 @@ a_busy_pointer : (window : Site) → told (Ask (asks.NewPtr 20) ∷ Busy 0 ∷ A
 a_busy_pointer window = refl
 
 -- the zone of a handle, empty or not, and of a pointer
-zones : (window : Site) → told (Ask (asks.NewHandle (asks.Zeros 10)) ∷ Ask (asks.NewPtr 10) ∷ Ask (asks.HandleZone (Some 0))
+zones : (window : Site) → told (Ask (asks.NewHandle (Zeros 10)) ∷ Ask (asks.NewPtr 10) ∷ Ask (asks.HandleZone (Some 0))
     ∷ Ask (asks.PtrZone (Some 1)) ∷ Ask (asks.HandleZone (Some 1)) ∷ Ask (asks.PtrZone (Some 0)) ∷ Ask (asks.HandleZone None)
     ∷ Ask (asks.PtrZone None) ∷ Ask (asks.EmptyHandle (Some 0)) ∷ Ask (asks.HandleZone (Some 0)) ∷ Busy 0 ∷ Busy 1
     ∷ Ask (asks.HandleZone (Some 0)) ∷ Ask (asks.PtrZone (Some 1)) ∷ Idle 0 ∷ Idle 1 ∷ Ask (asks.DisposeHandle (Some 0))
@@ -69,14 +70,14 @@ zones : (window : Site) → told (Ask (asks.NewHandle (asks.Zeros 10)) ∷ Ask (
 zones window = refl
 
 -- bytes that take the place of a block's own
-replaced_bytes : (window : Site) → told (Ask (asks.NewHandle (asks.Zeros 10)) ∷ Ask (asks.PtrToXHand (Some 0) (7 ∷ 8 ∷ []))
+replaced_bytes : (window : Site) → told (Ask (asks.NewHandle (Zeros 10)) ∷ Ask (asks.PtrToXHand (Some 0) (7 ∷ 8 ∷ []))
     ∷ Ask (asks.Show (Some 0)) ∷ Ask (asks.GetHandleSize (Some 0)) ∷ Ask (asks.PtrToXHand None [])
     ∷ Ask (asks.EmptyHandle (Some 0)) ∷ Ask (asks.PtrToXHand (Some 0) []) ∷ []) (fresh_memory 1024 window)
     ≡ Given 0 ∷ Done ∷ Bytes (7 ∷ 8 ∷ []) ∷ Number 2 ∷ Refused NIL_HANDLE ∷ Done ∷ Refused NIL_HANDLE ∷ []
 replaced_bytes window = refl
 
 -- the handle of a block, by where its content stands; nothing stands elsewhere, and no handle's where a pointer's does
-recovered : (window : Site) → told (Ask (asks.NewPtr 4) ∷ Ask (asks.NewHandle (asks.Zeros 4)) ∷ Ask (asks.NewHandle (asks.Zeros 2))
+recovered : (window : Site) → told (Ask (asks.NewPtr 4) ∷ Ask (asks.NewHandle (Zeros 4)) ∷ Ask (asks.NewHandle (Zeros 2))
     ∷ Ask (asks.Where (Some 2)) ∷ Ask (asks.RecoverHandle 352) ∷ Ask (asks.RecoverHandle 320) ∷ Ask (asks.RecoverHandle 321)
     ∷ Ask asks.MemError ∷ Ask (asks.RecoverHandle 288) ∷ Ask (asks.RecoverHandle 0) ∷ Ask (asks.EmptyHandle (Some 1))
     ∷ Ask (asks.RecoverHandle 320) ∷ []) (fresh_memory 1024 window)
@@ -85,7 +86,7 @@ recovered : (window : Site) → told (Ask (asks.NewPtr 4) ∷ Ask (asks.NewHandl
 recovered window = refl
 
 -- bytes that are copied within a block, up and down, and into a pointer's; past the ends; and for busy names
-moved_bytes : (window : Site) → told (Ask (asks.NewHandle (asks.CopyOf (1 ∷ 2 ∷ 3 ∷ 4 ∷ []))) ∷ Ask (asks.NewPtr 2)
+moved_bytes : (window : Site) → told (Ask (asks.NewHandle (CopyOf (1 ∷ 2 ∷ 3 ∷ 4 ∷ []))) ∷ Ask (asks.NewPtr 2)
     ∷ Ask (asks.BlockMove (Some 0) 0 (Some 0) 1 3) ∷ Ask (asks.Show (Some 0)) ∷ Ask (asks.BlockMove (Some 0) 2 (Some 0) 0 2)
     ∷ Ask (asks.Show (Some 0)) ∷ Ask (asks.BlockMove (Some 0) 1 (Some 1) 0 2) ∷ Ask (asks.ShowPtr (Some 1))
     ∷ Ask (asks.BlockMove (Some 0) 3 (Some 1) 0 2) ∷ Ask (asks.BlockMove (Some 0) 0 (Some 1) 1 2)
@@ -99,7 +100,7 @@ moved_bytes : (window : Site) → told (Ask (asks.NewHandle (asks.CopyOf (1 ∷ 
 moved_bytes window = refl
 
 -- bytes that are found, and others in their place: longer, shorter, none; put in; so many; what stands at the end
-munged_bytes : (window : Site) → told (Ask (asks.NewHandle (asks.CopyOf (1 ∷ 2 ∷ 3 ∷ 2 ∷ 3 ∷ [])))
+munged_bytes : (window : Site) → told (Ask (asks.NewHandle (CopyOf (1 ∷ 2 ∷ 3 ∷ 2 ∷ 3 ∷ [])))
     ∷ Ask (asks.Munger (Some 0) 0 (Like (2 ∷ 3 ∷ [])) (7 ∷ 8 ∷ 9 ∷ [])) ∷ Ask (asks.Show (Some 0))
     ∷ Ask (asks.MungerNil (Some 0) 1 (Like (2 ∷ 3 ∷ []))) ∷ Ask (asks.Munger (Some 0) 4 (Like (2 ∷ 3 ∷ [])) [])
     ∷ Ask (asks.Show (Some 0)) ∷ Ask (asks.Munger (Some 0) 1 (Like []) (5 ∷ [])) ∷ Ask (asks.Munger (Some 0) 3 (Many 9) (6 ∷ []))

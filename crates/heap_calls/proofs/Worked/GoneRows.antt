@@ -1,6 +1,7 @@
 use Rattle.heap_calls.proofs.Cited.{◌≡◌, false, List, [], ◌∷◌, refl, Some, replicate, Site, Memory, fresh_memory, Asked, served, Gone}
 use Rattle.heap_calls.proofs.Cited.{refill_gone, gone_in, told_of, bytes_in, has_block, purges_made}
-use Rattle.heap_calls.specs.Asked as asks
+use Rattle.heap_calls.specs.Serving.{Zeros}
+use Rattle.heap_calls.specs.Table as asks
 use Rattle.heap_calls.specs.Rows as rows
 
 -- The blocks that calls purge for a new block of a handle, by the definitions alone.
@@ -12,7 +13,7 @@ after (call ∷ calls) m = after calls (served call m).1
 -- three handles of 200 bytes each in a zone that has 80 bytes left, and the two lower blocks may be purged
 abbrev three : Site → Memory
 three window = after
-    (asks.NewHandle (asks.Zeros 200) ∷ asks.NewHandle (asks.Zeros 200) ∷ asks.NewHandle (asks.Zeros 200) ∷ asks.Put (Some 0) 0 (72 ∷ [])
+    (asks.NewHandle (Zeros 200) ∷ asks.NewHandle (Zeros 200) ∷ asks.NewHandle (Zeros 200) ∷ asks.Put (Some 0) 0 (72 ∷ [])
     ∷ asks.HPurge (Some 0) ∷ asks.HPurge (Some 1) ∷ []) (fresh_memory 1024 window)
 
 abbrev lowest : Gone
@@ -57,14 +58,14 @@ nothing_to_refill : (window : Site) → refill_gone 7 300 (three window).heap �
 nothing_to_refill window = refl
 
 -- what is told of a handle: its bytes, where its block goes, and nothing where it stays
-goes : (window : Site) → told_of 0 (gone_in (asks.NewHandle (asks.Zeros 150)) (three window)) ≡ (72 ∷ replicate 199 0) ∷ []
+goes : (window : Site) → told_of 0 (gone_in (asks.NewHandle (Zeros 150)) (three window)) ≡ (72 ∷ replicate 199 0) ∷ []
 goes window = refl
 
-gone_now : (window : Site) → has_block 0 (served (asks.NewHandle (asks.Zeros 150)) (three window)).1.heap ≡ false
+gone_now : (window : Site) → has_block 0 (served (asks.NewHandle (Zeros 150)) (three window)).1.heap ≡ false
 gone_now window = refl
 
 held_before : (window : Site) → bytes_in 0 (three window).heap.zone ≡ (72 ∷ replicate 199 0) ∷ []
 held_before window = refl
 
-stays : (window : Site) → told_of 1 (gone_in (asks.NewHandle (asks.Zeros 150)) (three window)) ≡ []
+stays : (window : Site) → told_of 1 (gone_in (asks.NewHandle (Zeros 150)) (three window)) ≡ []
 stays window = refl

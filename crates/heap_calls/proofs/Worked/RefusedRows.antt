@@ -2,7 +2,7 @@ use Rattle.heap_calls.proofs.Cited.{◌≡◌, ℕ, true, false, zero, suc, [], 
 use Rattle.heap_calls.proofs.Cited.{PROFILE, Flags, Free, Nonrelocatable, Masters, Relocatable, is_relocatable, has, State, Handle, Pointer}
 use Rattle.heap_calls.proofs.Cited.{Plain, fresh_heap, put, show, h_purge, purge_mem, NewHandle, Zeros, PurgeMem, NewPtr, code_left}
 use Rattle.heap_calls.proofs.Cited.{zone_left, ease, answer_made}
-use Rattle.heap_calls.specs.Asked.{Put}
+use Rattle.heap_calls.specs.Table.{Put}
 use Rattle.heap_calls.specs.Rows as rows
 
 -- What refused calls leave, on small zones.

@@ -4,7 +4,8 @@ use Rattle.res_calls.proofs.Cited.{Bytes, Refused, Site, Map, fresh_memory, fres
 use Rattle.res_calls.proofs.Cited.{CloseResFile, UpdateResFile, UseResFile, GetResource, GetNamedResource, LoadResource, ReleaseResource}
 use Rattle.res_calls.proofs.Cited.{GetResFileAttrs, SetResFileAttrs, DetachResource, AddResource, RemoveResource, ChangedResource}
 use Rattle.res_calls.proofs.Cited.{WriteResource, GetResInfo, SetResInfo, GetResAttrs, SetResAttrs, GetResourceSizeOnDisk}
-use Rattle.heap_calls.specs.Asked as asks
+use Rattle.heap_calls.specs.Serving.{Zeros}
+use Rattle.heap_calls.specs.Table as asks
 use Rattle.res_calls.proofs.Worked.Lines.{line, heap_line, tells, stored, opened_map, group}
 
 -- Resources that are changed.
@@ -25,7 +26,7 @@ start own system window = record {
 }
 
 -- a resource is added once, and written
-add-and-update : (window : Site) → tells (heap_line (asks.NewHandle (asks.Zeros 2))
+add-and-update : (window : Site) → tells (heap_line (asks.NewHandle (Zeros 2))
     ∷ heap_line (asks.Put (Some 0) 0 (72 ∷ 105 ∷ [])) ∷ line (AddResource (Some 0) text (pos 128) [])
     ∷ line (AddResource (Some 0) text (pos 128) []) ∷ line (GetResAttrs (Some 0))
     ∷ line (GetResourceSizeOnDisk (Some 0)) ∷ line (UpdateResFile 2) ∷ line (GetResAttrs (Some 0))
@@ -42,7 +43,7 @@ protected-no-more : (window : Site) → tells (line (GetResource text (pos 1)) �
 protected-no-more window = refl
 
 -- the attributes of a file's map: mapChanged (32) while the file is touched, and what was set
-of-a-file : (window : Site) → tells (line (GetResFileAttrs 2) ∷ heap_line (asks.NewHandle (asks.Zeros 2))
+of-a-file : (window : Site) → tells (line (GetResFileAttrs 2) ∷ heap_line (asks.NewHandle (Zeros 2))
     ∷ line (AddResource (Some 0) text (pos 128) []) ∷ line (GetResFileAttrs 2) ∷ line (SetResFileAttrs 2 128)
     ∷ line (GetResFileAttrs 2) ∷ line (UpdateResFile 2) ∷ line (GetResAttrs (Some 0)) ∷ line (SetResFileAttrs 2 224)
     ∷ line (GetResFileAttrs 2) ∷ line (UpdateResFile 2) ∷ line (GetResFileAttrs 2) ∷ line (GetResAttrs (Some 0))
@@ -68,7 +69,7 @@ removed : (window : Site) → tells (line (GetResource text (pos 1)) ∷ line (R
 removed window = refl
 
 -- a resource is added to the file that is current: none to the System's
-added-to-system : (window : Site) → tells (heap_line (asks.NewHandle (asks.Zeros 2)) ∷ line (UseResFile 0)
+added-to-system : (window : Site) → tells (heap_line (asks.NewHandle (Zeros 2)) ∷ line (UseResFile 0)
     ∷ line (AddResource (Some 0) text (pos 1) []) ∷ []) (start (opened_map []) (opened_map []) window)
     ≡ Given 0 ∷ Done ∷ Refused WRITE_PERMISSION ∷ []
 added-to-system window = refl
@@ -98,7 +99,7 @@ made-once window = refl
 
 -- what was added is read again once its file was closed
 read-again : (window : Site) → tells (line (CreateResFile (98 ∷ [])) ∷ line (OpenResFile (98 ∷ []))
-    ∷ heap_line (asks.NewHandle (asks.Zeros 2)) ∷ heap_line (asks.Put (Some 0) 0 (72 ∷ 105 ∷ []))
+    ∷ heap_line (asks.NewHandle (Zeros 2)) ∷ heap_line (asks.Put (Some 0) 0 (72 ∷ 105 ∷ []))
     ∷ line (AddResource (Some 0) text (pos 128) (78 ∷ [])) ∷ line (CloseResFile 3)
     ∷ line (GetResource text (pos 128)) ∷ line (OpenResFile (98 ∷ [])) ∷ line (GetNamedResource text (110 ∷ []))
     ∷ heap_line (asks.Show (Some 1)) ∷ line (GetResAttrs (Some 1)) ∷ [])

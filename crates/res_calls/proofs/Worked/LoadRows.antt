@@ -2,7 +2,7 @@ use Rattle.res_calls.proofs.Cited.{◌≡◌, ℕ, pos, false, List, [], ◌∷�
 use Rattle.res_calls.proofs.Cited.{Number, Refused, Site, Map, fresh_memory, fresh_resources, Managers, with_handles, preloaded}
 use Rattle.res_calls.proofs.Cited.{first_handles, GetResource, LoadResource, ReleaseResource, DetachResource, SetResLoad, ResError}
 use Rattle.mac_words.specs.Told.{Code}
-use Rattle.heap_calls.specs.Asked as asks
+use Rattle.heap_calls.specs.Table as asks
 use Rattle.res_calls.proofs.Worked.Lines.{line, heap_line, tells, stored, opened_map, group}
 
 -- Resources that are read as their file is opened, and as they are asked for.

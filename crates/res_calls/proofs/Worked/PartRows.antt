@@ -2,7 +2,7 @@ use Rattle.res_calls.proofs.Cited.{◌≡◌, ℕ, pos, false, [], ◌∷◌, So
 use Rattle.res_calls.proofs.Cited.{WRITE_PERMISSION, Done, Fetched, Number, Bytes, Refused, Site, Map, ChangedResource, GetResource}
 use Rattle.res_calls.proofs.Cited.{GetResAttrs, GetResourceSizeOnDisk, LoadResource, ReadPartialResource, SetResLoad, SetResourceSize}
 use Rattle.res_calls.proofs.Cited.{UpdateResFile, WritePartialResource, ResError}
-use Rattle.heap_calls.specs.Asked as asks
+use Rattle.heap_calls.specs.Table as asks
 use Rattle.mac_words.specs.Told.{Code}
 use Rattle.res_calls.proofs.Worked.Lines.{line, heap_line, tells, stored, opened_map, group}
 use Rattle.res_calls.proofs.Worked.ChangeRows.{text, start}

@@ -3,7 +3,7 @@ use Rattle.res_calls.proofs.Cited.{RES_FILE_NOT_FOUND, Done, Fetched, Number, By
 use Rattle.res_calls.proofs.Cited.{Managers, UseResFile, CurResFile, HomeResFile, GetResource, Get1Resource, GetNamedResource}
 use Rattle.res_calls.proofs.Cited.{Get1NamedResource, CountTypes, GetIndType, CountResources, GetIndResource, UniqueID, Current, EachFile}
 use Rattle.res_calls.proofs.Cited.{first_free, told_or}
-use Rattle.heap_calls.specs.Asked as asks
+use Rattle.heap_calls.specs.Table as asks
 use Rattle.res_calls.proofs.Worked.Lines.{line, heap_line, tells, stored, opened_map, group}
 
 -- A search through the open files.

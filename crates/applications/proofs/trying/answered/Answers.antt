@@ -1,6 +1,6 @@
 use Rattle.applications.proofs.Cited.{◌≡◌, sym, subst, List, ℕ, IfOk, OnOk, IsOk, HeapCall, Given, served, gone_in, Hears, doing}
 use Rattle.applications.proofs.Cited.{purges_made, new_handle, new_pointer, pointer_to_hand, asked, TellsTold}
-use Rattle.heap_calls.specs.Asked.{telling}
+use Rattle.heap_calls.specs.Serving.{telling}
 use Rattle.applications.proofs.Hearing.{hears_tried}
 use Rattle.applications.proofs.GivenCalls.{given-told, given-after}
 use Rattle.applications.proofs.trying.answered.Goals as goal
