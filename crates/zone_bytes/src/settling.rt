@@ -1,15 +1,15 @@
 //! The relocatable blocks of a run are moved down.
 
 ghost use Rattle.std.specs.Prelude.{◌≡◌, ◌+◌, ◌-◌, ◌%◌, ◌≤◌, ◌<◌, ◌^◌, length, nat_lt};
-ghost use Rattle.std.specs.Prelude.{if◌then◌else◌, true};
+ghost use Rattle.std.specs.Prelude.{if◌then◌else◌, true, List};
 ghost use Rattle.memory_windows.specs.Writes.{written, piece};
 ghost use Rattle.block_headers.specs.Headers.{tag_number};
 ghost use Rattle.block_headers.specs.Words.{word};
-ghost use Rattle.block_store.specs.Block.{sizes};
+ghost use Rattle.block_store.specs.Block.{Block, sizes};
 ghost use Rattle.block_store.specs.Run.{movers};
 ghost use Rattle.zone_bytes.specs.Edges.{Noted};
 ghost use Rattle.zone_bytes.specs.Settling.{Lay, IsRunFrom, EndsRun, runs_on, PackedUntil, Settled};
-ghost use Rattle.zone_bytes.specs.Settling.{gone_to};
+ghost use Rattle.zone_bytes.specs.Settling.{Packing, gone_to};
 ghost use Rattle.zone_bytes.specs.Beside.{KeepsPlace};
 
 use crate::edges::Edges;
@@ -68,6 +68,14 @@ fn is_in_run(header: Header) -> bool
     }
 }
 
+/// Reports whether the block of a header is relocatable and unlocked.
+fn may_move(header: Header) -> bool
+    ensures { result ≡ true → (tag_number header.tag ≡ 3)
+        × (runs_on (tag_number header.tag) header.flags ≡ true) }
+{
+    header.tag == Tag::Relocatable && header.flags < LOCKED
+}
+
 /// Reports whether blocks that were packed from `place` up to `to` have at least `enough` free
 /// bytes above them, up to `from`.
 fn is_enough(place: u32, to: u32, from: u32, enough: u32) -> bool
@@ -75,6 +83,33 @@ fn is_enough(place: u32, to: u32, from: u32, enough: u32) -> bool
     ensures { result ≡ true → (place < to) × (enough ≤ from - to) }
 {
     place < to && enough <= from - to
+}
+
+/// Makes the slots of the relocatable blocks that lie packed at `place` lead to the places `gap`
+/// above them, and notes these places as edges. Returns the place at which the run has another
+/// block or ends.
+fn lead_packed(part: &mut Part, edges: &mut Edges, place: u32, gap: u32) -> u32
+    ghost lay: { Lay }
+    requires bytes { part.old.bytes ≡ lay.bytes }
+    requires run { IsRunFrom lay place (place + sizes lay.run) }
+    requires ends { EndsRun lay.above }
+    requires gap { gap ≤ length lay.bytes }
+    ensures same { KeepsPlace part.old part.new }
+    ensures packed { (gone : List Block) × Packing lay gap result result 0 part.new.bytes gone
+        × Noted edges.old edges.new (place + gap) (movers gone) }
+{
+    let end = part.len() as u32;
+    let mut at = place;
+    while at < end {
+        let header = read_header(part, at);
+        if !may_move(header) {
+            break;
+        }
+        move_block(part, at, at, header.size, header.slot, gap);
+        edges.pass(at + gap);
+        at += header.size;
+    }
+    at
 }
 
 /// Moves relocatable blocks of the run at `place` down, makes their slots lead to the places `gap`
@@ -99,8 +134,8 @@ pub(crate) fn pack_until(
     ensures edges { Noted edges.old edges.new (place + gap) (movers (gone_to lay result.stop)) }
 {
     let end = part.len() as u32;
-    let mut from = place;
-    let mut to = place;
+    let mut from = lead_packed(part, edges, place, gap);
+    let mut to = from;
     let mut moves = 0;
     while from < end {
         if is_enough(place, to, from, enough) {

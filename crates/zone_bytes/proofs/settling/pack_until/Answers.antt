@@ -1,10 +1,10 @@
 use Rattle.zone_bytes.proofs.Cited.{◌≡◌, true, false, ◌+◌, ◌-◌, ◌<◌, ◌≤◌, ◌⊎◌, inl, inr, List, [], ◌∷◌, ◌++◌, refl, ◌∙◌, subst, arith}
-use Rattle.zone_bytes.proofs.Cited.{append_assoc, rules, append-nil, the_type, Block, Free, sizes, movers, Noted, Passing, gone_to}
+use Rattle.zone_bytes.proofs.Cited.{append_assoc, rules, the_type, Block, Free, sizes, movers, Noted, Passing, gone_to}
 use denote.Enum.Bare.{sameb}
 use Rattle.block_headers.specs.declared.header.Tag.TheVariants.{Relocatable}
 use Rattle.zone_bytes.proofs.Runs.Packed.{Bounds, NextMover, passing-next, run-moved, bounds, next-mover, next-free}
 use Rattle.zone_bytes.proofs.Runs.Packed.{within, beyond}
-use Rattle.zone_bytes.proofs.Runs.Settled.{past-free, past-mover, moves-bound, begun, movers-more, movers-free}
+use Rattle.zone_bytes.proofs.Runs.Settled.{past-free, past-mover, moves-bound, movers-more, movers-free}
 use Rattle.zone_bytes.proofs.Runs.Settled.{until-none, until-free, gone-is}
 use Rattle.zone_bytes.proofs.Tiles.Heads.{next-may, Next}
 use Rattle.zone_bytes.proofs.Tiles.Tiling.{span-append, tiles-none}
@@ -18,7 +18,8 @@ use Rattle.zone_bytes.proofs.settling.pack_until.Goals as goal
 
 pub loop-from-init : goal.loop-from-init
 loop-from-init g c =
-    ([], rw c.requires.0 (begun _ _ _ c.requires.1.0 _), (refl, refl, refl), λ base before e a. rw append-nil a)
+    let p = c.lead_packed-from.ensures.packed in
+    (p.0, p.1, c.lead_packed-from.ensures.same, p.2)
 
 -- a block is next
 there : (g : Over) (c : In-loop-from g) → Next c.loop-from.part.bytes c.loop-from.from
