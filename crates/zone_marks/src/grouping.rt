@@ -33,10 +33,11 @@ fn joined(marks: &[Landmark], counting: Counting) -> Tally
 {
     let mut all = Stretch::NONE;
     for mark in marks {
-        let Tally::Known(stretch) = mark.tally.told(counting) else {
-            return Tally::Unknown;
+        all = match mark.tally.told(counting) {
+            Tally::Known(Stretch::Whole(free)) => all.with(free),
+            Tally::Known(stretch) => all.join(stretch),
+            Tally::Unknown => return Tally::Unknown,
         };
-        all = all.join(stretch);
     }
     Tally::Known(all)
 }

@@ -145,8 +145,10 @@ pub fn measure_up_to(part: &Part, from: u32, place: u32) -> Measured
     let mut at = from;
     while at < stop {
         let span = span_at(part, at);
-        most = most.max(span.free);
-        runs = runs.join(span.runs());
+        if span.barrier || span.free > 0 {
+            most = most.max(span.free);
+            runs = runs.join(span.runs());
+        }
         at = span.end;
     }
     Measured {

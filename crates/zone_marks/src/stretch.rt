@@ -9,6 +9,7 @@ ghost use Rattle.zone_bytes.specs.Emptied.{all_purged};
 ghost use Rattle.zone_marks.specs.Stretches as stretches;
 ghost use Rattle.zone_marks.specs.Stretches.{prefix, spaces_of, stretch_by, stretch_of, suffix};
 ghost use Rattle.zone_marks.specs.declared.stretch.Counting.{Counting as CountingOf};
+ghost use Rattle.zone_marks.specs.declared.stretch.Stretch.TheVariants as stretch;
 
 /// How the bytes of blocks are counted.
 #[derive(Clone, Copy)]
@@ -55,6 +56,17 @@ impl Stretch {
             (Stretch::Ended(p, i, s), Stretch::Ended(q, j, t)) => {
                 Stretch::Ended(p, i.max(j).max(s + q), t)
             }
+        }
+    }
+
+    /// Returns the summary of this stretch together with free bytes that follow it.
+    pub fn with(self, free: u32) -> Stretch
+        requires { suffix self + free < 2 ^ 32 }
+        ensures { result ≡ stretches.join self (stretch.Whole free) }
+    {
+        match self {
+            Stretch::Whole(a) => Stretch::Whole(a + free),
+            Stretch::Ended(p, i, s) => Stretch::Ended(p, i, s + free),
         }
     }
 
