@@ -1,5 +1,6 @@
 mod Cited
 mod Binding
+mod LineRoom
 pub mod Rounds
 mod Saying
 mod Seeing

@@ -10,6 +10,7 @@ ghost use Rattle.heap_calls.specs.Staying.{ease};
 ghost use Rattle.script_text.specs.Call.{word_of};
 ghost use Rattle.script_text.specs.Script.{are_allowed};
 ghost use Rattle.script_text.specs.declared.transcript.TheConstants.{CODE_ROOM};
+ghost use Rattle.script_text.specs.declared.word.CallWord.{CallWord as Word};
 ghost use Rattle.script_text.specs.Transcript.{call_at, reply_line, values_of};
 ghost use Rattle.applications.specs.Trying.{once};
 ghost use Rattle.applications.specs.Step.{marked, marked_for, grown, grown_for, kept_anew};
@@ -32,7 +33,7 @@ use crate::turns::up_to_wait;
 use crate::watch::{Unwatched, Watch, tell};
 use block_store::BlockStore;
 use mac_words::{Call, HeapCall, ResourceCall};
-use script_text::{CallWord, Line, Script, line_room, write_grow_reply, write_reply};
+use script_text::{CallWord, LINE_ROOM, Line, Script, write_grow_reply, write_reply};
 use std::alloc::AllocError;
 
 /// What is done after a round of a step.
@@ -43,6 +44,15 @@ pub(crate) enum Next {
     /// The call has ended, and the application ends with the call as the `Exit` says, if there is
     /// one.
     Ended(Option<Exit>),
+}
+
+/// Returns room, in bytes, that is enough for the line of any call at this number of a line, where
+/// the reply has no values.
+#[tactic(auto, using(crate::proofs::LineRoom::line_fits))]
+fn room_at(_number: usize) -> usize
+    ensures { (word : Word) → length (call_at _number word) + CODE_ROOM ≤ result }
+{
+    LINE_ROOM
 }
 
 impl<'s, S: BlockStore> Application<'s, S> {
@@ -308,7 +318,7 @@ impl<'s, S: BlockStore> Application<'s, S> {
             → self.new.resources.files ≡ self.old.resources.files) }
         ensures lies { self.new.memory.window ≡ self.old.memory.window }
     {
-        text.reserve(line_room(line.number, CallWord::of(&line.call)))?;
+        text.reserve(room_at(line.number))?;
         self.try_call(script, line, text, onlooker)
     }
 

@@ -24,7 +24,7 @@ unfoldable pub use Rattle.script_text.specs.Script.{read_at, script_of, with_tok
 pub use Rattle.script_text.specs.Stating.{spelling}
 unfoldable pub use Rattle.script_text.specs.Stating.{job_line, token_line}
 unfoldable pub use Rattle.script_text.specs.Token.{after_blanks, token_at}
-pub use Rattle.script_text.specs.Transcript.{Bytes, Number, Shown, end_line, grow_line, hex, launch_line, reply_line, shown_all}
+pub use Rattle.script_text.specs.Transcript.{Bytes, Number, Shown, call_at, end_line, grow_line, hex, launch_line, reply_line, shown_all}
 pub use Rattle.script_text.specs.declared.fault.FaultKind.TheVariants.{BadArgument, NotAllowed, UnknownCall}
 pub use Rattle.script_text.specs.declared.job.Act.TheVariants.{Quit, Step, Turn}
 pub use Rattle.script_text.specs.declared.job.Event.{Event}
@@ -32,13 +32,15 @@ pub use Rattle.script_text.specs.declared.job.Event.TheVariants.{Act, Launch, Re
 pub use Rattle.script_text.specs.declared.job_word.JobWord.{JobWord}
 pub use Rattle.script_text.specs.declared.script.Line.{Line}
 pub use Rattle.script_text.specs.declared.script_lines.Begun.{Begun}
+pub use Rattle.script_text.specs.declared.transcript.TheConstants.{CODE_ROOM, LINE_ROOM}
 pub use Rattle.script_text.specs.declared.word.CallWord.{CallWord}
 pub use Rattle.std.proofs.Common.{Bool, Err, FitsSigned, List, None, Ok, Option, Some, [], ap, append_assoc, arith, codes, cond, drop}
-pub use Rattle.std.proofs.Common.{false, get_or, inl, inr, is_some, length, map, negsuc, pos, refl, rules, subst, suc, sym, take, to_z}
-pub use Rattle.std.proofs.Common.{to_z-of_z, true, true≢false, vec_capacity, vec_len, w16, zero, ℕ, ℤ, ◌*◌, ◌++◌, ◌+◌, ◌-◌, ◌<◌, ◌∙◌, ◌∷◌}
-pub use Rattle.std.proofs.Common.{◌≡◌, ◌≤◌}
+pub use Rattle.std.proofs.Common.{false, get_or, inl, inr, is_some, length, map, nat_le, negsuc, pos, refl, rules, subst, suc, sym, take}
+pub use Rattle.std.proofs.Common.{to_z, to_z-of_z, true, true≢false, vec_capacity, vec_len, w16, zero, ℕ, ℤ, ◌*◌, ◌++◌, ◌+◌, ◌-◌, ◌<◌, ◌^◌}
+pub use Rattle.std.proofs.Common.{◌∙◌, ◌∷◌, ◌≡◌, ◌≤◌}
 unfoldable pub use Rattle.std.proofs.Math.Utf8.{encode}
-pub use Rattle.std.proofs.lemmas.Bool.{and_from, and_parts, cases_lt, eq-eqb, eqb-true, le-ltb, lt-ltb, ltb-true, not-true}
+pub use Rattle.std.proofs.lemmas.Bool.{and_from, and_parts, cases_lt, eq-eqb, eqb-true, le-ltb, leb-true, lt-ltb, ltb-true, not-true}
+pub use Rattle.std.proofs.lemmas.Fmt.{length-decimal-le}
 pub use Rattle.std.proofs.lemmas.Grind.{common_steps}
 pub use Rattle.std.proofs.lemmas.Iterator.Adapters.{position_from-zero}
 pub use Rattle.std.proofs.lemmas.List.{append-nil, length-append, length-map, length_push, map-append}
@@ -55,7 +57,7 @@ pub use Rattle.std.specs.BTreeMap.{insert_entry, is_at}
 pub use Rattle.std.specs.Char.{is_ascii_digit}
 pub use Rattle.std.specs.Cmp.{IsEquivalence, decided}
 pub use Rattle.std.specs.Cmp.Lexicographic.{slice_cmp, texts_ties}
-pub use Rattle.std.specs.Fmt.{signed_decimal}
+pub use Rattle.std.specs.Fmt.{decimal, signed_decimal}
 unfoldable pub use Rattle.std.specs.Fmt.{digits}
 pub use Rattle.std.specs.List.{cons_option, filter_map, list_all, list_any, onto_first, position, position_from, position_or_len}
 pub use Rattle.std.specs.List.{slice_split}

@@ -33,7 +33,7 @@ pub use script::{Line, Script, read_script};
 pub use script_lines::ScriptLines;
 pub use token::{first_blank, first_token, trim};
 pub use transcript::{
-    CODE_ROOM, END_ROOM, LAUNCH_ROOM, line_room, write_end, write_grow_reply, write_hex,
+    CODE_ROOM, END_ROOM, LAUNCH_ROOM, LINE_ROOM, write_end, write_grow_reply, write_hex,
     write_launch, write_reply,
 };
 pub use word::{CALLS, CallWord, WORDS, words_are_apart};

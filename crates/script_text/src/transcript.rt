@@ -26,6 +26,10 @@ pub const END_ROOM: usize = 48;
 /// the `+` of a grow-zone script's line.
 pub const CODE_ROOM: usize = 48;
 
+/// The room, in bytes, that is enough for the line of any call whose reply has no values, also in a
+/// grow-zone script: 20 digits, a blank, the longest name of a call, and what follows.
+pub const LINE_ROOM: usize = 20 + 1 + 21 + CODE_ROOM;
+
 /// The most bytes of a number in decimal.
 const NUMBER_ROOM: usize = 40;
 
@@ -221,14 +225,6 @@ pub fn write_end(text: &mut Vec<u8>, code: OsErr) -> Result<(), AllocError>
     let len = text.len();
     let appended = push_end(text, code);
     cut_if_failed(text, len, appended)
-}
-
-/// Returns the room, in bytes, that is enough for the line of a call whose reply has no values,
-/// also in a grow-zone script.
-pub fn line_room(line: usize, word: CallWord) -> usize
-    ensures { result ≡ length (call_at line word) + CODE_ROOM }
-{
-    Buffer::new().format(line).len() + 1 + word.text().len() + CODE_ROOM
 }
 
 /// Appends the number of a call's line and the call's name.

@@ -1,6 +1,6 @@
 //! The words of the calls.
 
-ghost use Rattle.std.specs.Prelude.{◌≡◌, List, [], ◌∷◌, true, Some, IfOk, IfSome, bytes_eq};
+ghost use Rattle.std.specs.Prelude.{◌≡◌, ◌≢◌, List, [], ◌∷◌, true, Some, IfOk, IfSome, MatchOption, bytes_eq};
 ghost use Rattle.script_text.specs.Argument.{Value};
 ghost use Rattle.script_text.specs.Call.{spelling, kinds, meant, spoken, word_of, may_stand};
 ghost use Rattle.script_text.specs.Call.{heap_spoken, resource_spoken, segment_spoken};
@@ -385,9 +385,34 @@ macro_rules! own_word {
     };
 }
 
+macro_rules! bare_arm {
+    ($word:ident $group:ident $calls:ident none()) => {
+        Some(Call::$group($calls::$word))
+    };
+    ($word:ident $group:ident $calls:ident $read:ident $names:tt) => {
+        None
+    };
+}
+
+macro_rules! bare_of {
+    (
+        $given:expr;
+        $($owner:literal { $($word:ident = $group:ident $calls:ident $read:ident $names:tt $what:literal;)* })*
+        also $also:literal {
+            $($other:ident = $own:ident $table:ident $kind:ident $by:ident $named:tt $same:literal;)*
+        }
+        [$($held:ident)*]
+    ) => {
+        match $given {
+            $($(CallWord::$word => bare_arm!($word $group $calls $read $names),)*)*
+            $(CallWord::$other => bare_arm!($own $table $kind $by $named),)*
+        }
+    };
+}
+
 macro_rules! arm {
     ($given:expr, $alloc:expr, $text:expr; $word:ident $calls:ident none()) => {
-        $given.of_none($text, $calls::$word)
+        $given.of_none($text)
     };
     ($given:expr, $alloc:expr, $text:expr; $word:ident $calls:ident one $names:tt) => {
         $given.of_one($alloc, $text, $calls::$word)
@@ -603,16 +628,25 @@ impl CallWord {
         }
     }
 
+    /// Returns the call of a word that takes no argument.
+    fn bare_call(self) -> Option<Call>
+        ensures { MatchOption result (kinds self ≢ []) (λ call. spoken call ≡ (meant self, [])) }
+    {
+        calls!(bare_of self)
+    }
+
     /// Makes the call of a word that takes no argument. The text must then be blank.
     #[tactic(auto, using(crate::proofs::Allowed::spoken_stands))]
-    fn of_none<T: Spoken + Drop>(self, text: &[u8], call: T) -> Result<Call, FaultKind>
-        requires kinds { kinds self ≡ [] }
-        requires made { T.said call ≡ (meant self, []) }
+    fn of_none(self, text: &[u8]) -> Result<Call, FaultKind>
+        requires { kinds self ≡ [] }
         ensures call { Gives spoken result (call_read self text.now) }
         ensures word { IfOk result (λ call. may_stand (word_of call) ≡ may_stand self) }
     {
         none(text)?;
-        Ok(call.into_call())
+        match self.bare_call() {
+            Some(call) => Ok(call),
+            None => Err(FaultKind::BadArgument),
+        }
     }
 
     /// Reads the one argument of a word from a text and makes the call.
