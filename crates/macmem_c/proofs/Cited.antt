@@ -25,12 +25,13 @@ pub use Rattle.fork_edits.specs.Resources.{rows}
 pub use Rattle.fork_edits.specs.View.{view_row}
 pub use Rattle.fork_format.specs.Content.{Content}
 pub use Rattle.heap_calls.specs.Serving.{telling, told_as}
-pub use Rattle.heap_calls.specs.Table.{Asked, CompactMem, FreeMem, HGetState, MaxBlock, MaxMem, RecoverHandle}
+pub use Rattle.heap_calls.specs.Table.{Asked, HGetState, MaxMem, RecoverHandle}
 pub use Rattle.heap_calls.specs.Gone.{Gone}
 pub use Rattle.heap_calls.specs.Inner.Given.{IsAnswer}
 pub use Rattle.heap_calls.specs.Left.{DidAStep, DidNothing, Step}
 pub use Rattle.heap_calls.specs.State.{CountedMemory, Memory, fresh_memory}
 pub use Rattle.heap_calls.specs.Table.{served}
+pub use Rattle.heap_calls.specs.Row.{done}
 pub use Rattle.heap_calls.specs.declared.refusal.Refusal.{Refusal}
 pub use Rattle.heap_calls.specs.declared.refusal.Refusal.TheVariants.{Code}
 pub use Rattle.lint.specs.Faults.{script_faults}
@@ -39,7 +40,7 @@ pub use Rattle.mac_words.specs.Codes.{noErr}
 pub use Rattle.mac_words.specs.Told.{Given, Number, Told}
 pub use Rattle.mac_words.specs.declared.code.OsErr.{OsErr}
 pub use Rattle.mac_words.specs.declared.code.TheConstants.OsErr.{NO_ERR}
-pub use Rattle.macmem_c.specs.Called.{Serves, number_after, number_or}
+pub use Rattle.macmem_c.specs.Called.{Serves, changing, number_after, number_or}
 pub use Rattle.macmem_c.specs.Codes.{code_in, code_of, host_memory, number_in, number_of}
 pub use Rattle.macmem_c.specs.Delivered.{laid_over}
 pub use Rattle.macmem_c.specs.Described.{AreFaulty, AreLines, IsTold, IsUnstated, faulty_line, listed_line, listing}

@@ -1,9 +1,10 @@
 use Rattle.std.specs.Prelude.{◌≡◌, ℕ, ℤ, Option, Some, None, Result, List, length}
 use Rattle.mac_words.specs.Told.{Told, Given, Number, Numbers, Offset, Bytes}
 use Rattle.mac_words.specs.declared.code.OsErr.{OsErr}
-use Rattle.heap_calls.specs.Serving.{Zeros, CopyOf, telling}
+use Rattle.heap_calls.specs.Serving.{Zeros, CopyOf, telling, told_as}
 use Rattle.heap_calls.specs.Table.{Asked}
 use Rattle.heap_calls.specs.Table as asked
+use Rattle.heap_calls.specs.Munging.{target_of}
 use Rattle.heap_calls.specs.State.{Memory, CountedMemory}
 use Rattle.heap_calls.specs.Inner.Given.{IsAnswer}
 use Rattle.heap_calls.specs.declared.refusal.Refusal.{Refusal}
@@ -19,6 +20,10 @@ use Rattle.macmem_c.specs.declared.calls.Fitting.{Fitting}
 use Rattle.macmem_c.specs.declared.calls.Fitting.TheVariants as fit
 use Rattle.macmem_c.specs.declared.calls.Making.{Making}
 use Rattle.macmem_c.specs.declared.calls.Making.TheVariants as make
+use Rattle.macmem_c.specs.declared.calls.Counting.{Counting}
+use Rattle.macmem_c.specs.declared.calls.Counting.TheVariants as count
+use Rattle.macmem_c.specs.declared.calls.Munging.{Munging}
+use Rattle.macmem_c.specs.declared.calls.Munging.TheVariants as munge
 
 -- What C gets of a call of the Memory Manager's table. Inside Macintosh: Memory, chapter 2, "Memory Manager Routines".
 
@@ -119,7 +124,23 @@ making (make.HandToHand handle) = asked.HandToHand (Some handle)
 making (make.PtrToHand bytes) = asked.NewHandle (CopyOf bytes.now)
 making (make.NewPtr size) = asked.NewPtr size
 
--- What a method answers and leaves is the row of the table; nothing is said where the host is out of memory.
-abbrev pub AnswersRow : {T : Type 0} → Asked → (T → Told) → Memory → Result T Refusal → Memory → Type 0
-AnswersRow {T} call tell before result after = (r : Result T OsErr × Memory) × (served call before ≡ telling tell r)
-    × IsAnswer r result after
+abbrev pub counting : Counting → Asked
+counting count.FreeMem = asked.FreeMem
+counting count.MaxBlock = asked.MaxBlock
+counting (count.CompactMem size) = asked.CompactMem size
+
+abbrev pub munging : Munging → Asked
+munging (munge.Munger handle from old new) = asked.Munger (Some handle) from (target_of old.now) new.now
+munging (munge.MungerNil handle from old) = asked.MungerNil (Some handle) from (target_of old.now)
+
+-- What a function on a heap answers, and the heap that it leaves, are those of the table.
+pub record IsAnswered {T : Type 0} (call : Asked) (tell : T → Told) (before : Memory) (result : Result T OsErr)
+    (after : Memory) : Type 0 where
+  pub row : served call before ≡ (told_as tell result, after)
+
+-- The same of a function that may find the host out of memory, of which nothing is said then.
+pub record AnswersRow {T : Type 0} (call : Asked) (tell : T → Told) (before : Memory) (result : Result T Refusal)
+    (after : Memory) : Type 0 where
+  pub given : Result T OsErr × Memory
+  pub row : served call before ≡ telling tell given
+  pub answer : IsAnswer given result after

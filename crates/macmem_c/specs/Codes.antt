@@ -35,10 +35,6 @@ number_in before (Ok number) = number
 number_in before (Err refusal) = before
 
 -- The offset that C has after a call: the one that the call returned, else the one before.
-abbrev pub offset_of : ℤ → Result ℤ OsErr → ℤ
-offset_of before (Ok offset) = offset
-offset_of before (Err code) = before
-
 abbrev pub offset_in : ℤ → Result ℤ Refusal → ℤ
 offset_in before (Ok offset) = offset
 offset_in before (Err refusal) = before

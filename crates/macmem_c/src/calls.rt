@@ -1,15 +1,14 @@
 //! Calls on a zone, in kinds by what they return.
 
-ghost use Rattle.std.specs.Prelude.{◌≡◌, Err, Some};
-ghost use Rattle.mac_words.specs.Told.{Given, Number};
+ghost use Rattle.std.specs.Prelude.{◌≡◌, Ok, Err, Some};
+ghost use Rattle.mac_words.specs.Told.{Given, Number, Offset};
 ghost use Rattle.heap_calls.specs.Row.{done};
-ghost use Rattle.heap_calls.specs.Table.{served};
-ghost use Rattle.heap_calls.specs.Serving.{told_as};
 ghost use Rattle.heap_calls.specs.declared.refusal.Refusal.TheVariants as refusal;
-ghost use Rattle.macmem_c.specs.Called.{AnswersRow, changing, asking, fitting, making};
+ghost use Rattle.macmem_c.specs.Called.{AnswersRow, IsAnswered, changing, asking, fitting, making};
+ghost use Rattle.macmem_c.specs.Called.{counting, munging};
 
 use heap_calls::{Heap, NoSink, Refusal};
-use mac_words::OsErr;
+use mac_words::{OsErr, Target};
 use raw_zone::RawZone;
 
 /// A call on what a handle or a pointer names that returns no value, and takes no host memory.
@@ -64,10 +63,25 @@ pub enum Making<'a> {
     NewPtr(u32),
 }
 
+/// A call that returns a number, and no code.
+#[derive(Clone, Copy)]
+pub enum Counting {
+    FreeMem,
+    MaxBlock,
+    CompactMem(u32),
+}
+
+/// A call that seeks bytes in the block of a handle, and returns an offset.
+#[derive(Clone, Copy)]
+pub enum Munging<'a> {
+    Munger(usize, u32, &'a Target, &'a [u8]),
+    MungerNil(usize, u32, &'a Target),
+}
+
 /// Makes a call that returns no value.
 pub fn apply(heap: &mut Heap<RawZone>, call: Change<'_>, name: usize) -> Result<(), OsErr>
-    ensures answer { served (changing call.entry (Some name)) heap.old.memory
-        ≡ (told_as done result, heap.new.memory) }
+    ensures answer { IsAnswered (changing call.entry (Some name)) done heap.old.memory result
+        heap.new.memory }
     ensures lies { heap.new.memory.window ≡ heap.old.memory.window }
 {
     let name = Some(name);
@@ -92,8 +106,8 @@ pub fn apply(heap: &mut Heap<RawZone>, call: Change<'_>, name: usize) -> Result<
 
 /// Makes a call that returns a number of a block.
 pub fn ask(heap: &mut Heap<RawZone>, call: Question, name: usize) -> Result<u32, OsErr>
-    ensures answer { served (asking call (Some name)) heap.old.memory
-        ≡ (told_as Number result, heap.new.memory) }
+    ensures answer { IsAnswered (asking call (Some name)) Number heap.old.memory result
+        heap.new.memory }
     ensures lies { heap.new.memory.window ≡ heap.old.memory.window }
 {
     let name = Some(name);
@@ -142,5 +156,34 @@ pub fn make(heap: &mut Heap<RawZone>, call: Making<'_>) -> Result<usize, Refusal
         Making::HandToHand(handle) => heap.hand_to_hand(Some(handle), sink),
         Making::PtrToHand(bytes) => heap.pointer_to_hand(bytes, sink),
         Making::NewPtr(size) => heap.new_pointer(size, sink),
+    }
+}
+
+/// Makes a call that returns a number, and no code.
+pub fn count(heap: &mut Heap<RawZone>, call: Counting) -> u32
+    ensures answer { IsAnswered (counting call) Number heap.old.memory (Ok result) heap.new.memory }
+    ensures lies { heap.new.memory.window ≡ heap.old.memory.window }
+{
+    match call {
+        Counting::FreeMem => heap.free_mem(),
+        Counting::MaxBlock => heap.max_block(),
+        Counting::CompactMem(size) => heap.compact_mem(size),
+    }
+}
+
+/// Makes a call that seeks bytes. Where the host is out of memory, the heap is as it was.
+pub fn munge(heap: &mut Heap<RawZone>, call: Munging<'_>) -> Result<i64, Refusal>
+    ensures answer { AnswersRow (munging call.entry) Offset heap.old.memory result heap.new.memory }
+    ensures host { result ≡ Err refusal.HostMemory → heap.new ≡ heap.old }
+    ensures lies { heap.new.memory.window ≡ heap.old.memory.window }
+{
+    match call {
+        Munging::Munger(handle, from, old, new) => {
+            heap.munger(Some(handle), from, old, new, &mut NoSink)
+        }
+        Munging::MungerNil(handle, from, old) => match heap.munger_nil(Some(handle), from, old) {
+            Ok(offset) => Ok(offset),
+            Err(code) => Err(Refusal::Code(code)),
+        },
     }
 }

@@ -1,9 +1,9 @@
 //! The codes that C gets.
 
-ghost use Rattle.std.specs.Prelude.{◌≡◌, ◌≢◌, Err};
+ghost use Rattle.std.specs.Prelude.{◌≡◌, Err};
 ghost use Rattle.heap_calls.specs.declared.refusal.Refusal.TheVariants as refusal;
 ghost use Rattle.macmem_c.specs.Codes.{host_memory, code_of, code_in, number_of, number_in};
-ghost use Rattle.macmem_c.specs.Codes.{offset_of, offset_in};
+ghost use Rattle.macmem_c.specs.Codes.{offset_in};
 
 use heap_calls::Refusal;
 use mac_words::OsErr;
@@ -105,21 +105,6 @@ pub fn handle_of(found: Result<usize, OsErr>, handle: &mut usize) -> i32
     match found {
         Ok(value) => {
             *handle = value;
-            0
-        }
-        Err(code) => i32::from(code.number()),
-    }
-}
-
-/// Hands over the offset that a search returns, and returns the code.
-pub fn offset_of(found: Result<i64, OsErr>, offset: &mut i64) -> i32
-    ensures code { result ≡ code_of found }
-    ensures offset { offset.new ≡ offset_of offset.old found }
-    ensures here { result ≢ host_memory }
-{
-    match found {
-        Ok(value) => {
-            *offset = value;
             0
         }
         Err(code) => i32::from(code.number()),

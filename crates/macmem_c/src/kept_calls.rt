@@ -2,10 +2,12 @@
 
 ghost use Rattle.std.specs.Prelude.{◌≡◌, ◌≢◌, IsSome, Some};
 ghost use Rattle.macmem_c.specs.Codes.{host_memory};
-ghost use Rattle.macmem_c.specs.Called.{Serves, number_after, changing, asking, fitting, making};
+ghost use Rattle.mac_words.specs.Codes.{noErr};
+ghost use Rattle.macmem_c.specs.Called.{Serves, number_after, offset_after, changing, asking};
+ghost use Rattle.macmem_c.specs.Called.{fitting, making, counting, munging};
 
-use crate::calls::{self, Change, Fitting, Making, Question};
-use crate::codes::{code_in, code_of, number_in, number_of};
+use crate::calls::{self, Change, Counting, Fitting, Making, Munging, Question};
+use crate::codes::{code_in, code_of, number_in, number_of, offset_in};
 use crate::kept::Kept;
 use crate::zone::Zone;
 use std::alloc::Global;
@@ -68,4 +70,36 @@ pub fn make(alloc: Global, zone: &mut Kept, call: Making<'_>, number: &mut usize
     let made = calls::make(heap, call);
     *zone = Kept::of(boxed);
     number_in(made, number)
+}
+
+/// Makes a call that returns a number and no code, and returns the number.
+pub fn count(alloc: Global, zone: &mut Kept, call: Counting) -> u32
+    requires { IsSome zone.old.heap }
+    ensures served { Serves (counting call) zone.old.heap zone.new.heap noErr }
+    ensures number { result ≡ number_after (counting call) zone.old.heap 0 }
+{
+    let mut boxed = zone.take(alloc);
+    let inside: &mut Zone = &mut boxed;
+    let heap = &mut inside.heap;
+    let number = calls::count(heap, call);
+    *zone = Kept::of(boxed);
+    number
+}
+
+/// Makes a call that seeks bytes, hands the offset over, and returns the code.
+pub fn munge(alloc: Global, zone: &mut Kept, call: Munging<'_>, offset: &mut i64) -> i32
+    requires { IsSome zone.old.heap }
+    ensures served { result ≢ host_memory
+        → Serves (munging call.entry) zone.old.heap zone.new.heap result }
+    ensures offset { result ≢ host_memory
+        → offset.new ≡ offset_after (munging call.entry) zone.old.heap offset.old }
+    ensures host { result ≡ host_memory
+        → (zone.new.heap ≡ zone.old.heap) × (offset.new ≡ offset.old) }
+{
+    let mut boxed = zone.take(alloc);
+    let inside: &mut Zone = &mut boxed;
+    let heap = &mut inside.heap;
+    let done = calls::munge(heap, call);
+    *zone = Kept::of(boxed);
+    offset_in(done, offset)
 }

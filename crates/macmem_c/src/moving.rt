@@ -6,12 +6,11 @@ ghost use Rattle.heap_calls.specs.Munging.{Like, Many};
 ghost use Rattle.macmem_c.specs.Codes.{host_memory};
 ghost use Rattle.macmem_c.specs.Called.{Serves, number_after, offset_after};
 
-use crate::calls::{Change, Fitting};
-use crate::codes::{HOST_MEMORY, handle_of, offset_in, offset_of};
+use crate::calls::{Change, Fitting, Munging};
+use crate::codes::{HOST_MEMORY, handle_of};
 use crate::kept::Kept;
-use crate::kept_calls::{change, fit};
+use crate::kept_calls::{change, fit, munge};
 use crate::zone::Zone;
-use heap_calls::NoSink;
 use mac_words::Target;
 use std::alloc::{AllocError, Global};
 
@@ -105,12 +104,8 @@ pub extern "C" fn macmem_munger(
         return HOST_MEMORY;
     };
     let target = Target::Bytes(old);
-    let mut boxed = zone.take(alloc);
-    let inside: &mut Zone = &mut boxed;
-    let heap = &mut inside.heap;
-    let done = heap.munger(Some(handle), from, &target, new, &mut NoSink);
-    *zone = Kept::of(boxed);
-    offset_in(done, offset)
+    let call = Munging::Munger(handle, from, &target, new);
+    munge(alloc, zone, call, offset)
 }
 
 /// `Munger` with the pointer NIL for what is sought: replaces `count` bytes at an offset.
@@ -133,12 +128,8 @@ pub extern "C" fn macmem_munger_count(
         → (zone.new.heap ≡ zone.old.heap) × (offset.new ≡ offset.old) }
 {
     let target = Target::Length(count);
-    let mut boxed = zone.take(alloc);
-    let inside: &mut Zone = &mut boxed;
-    let heap = &mut inside.heap;
-    let done = heap.munger(Some(handle), from, &target, new, &mut NoSink);
-    *zone = Kept::of(boxed);
-    offset_in(done, offset)
+    let call = Munging::Munger(handle, from, &target, new);
+    munge(alloc, zone, call, offset)
 }
 
 /// `Munger` with the pointer NIL for what is put there: gives where bytes like `old` stand in a
@@ -164,10 +155,6 @@ pub extern "C" fn macmem_munger_nil(
         return HOST_MEMORY;
     };
     let target = Target::Bytes(old);
-    let mut boxed = zone.take(alloc);
-    let inside: &mut Zone = &mut boxed;
-    let heap = &mut inside.heap;
-    let found = heap.munger_nil(Some(handle), from, &target);
-    *zone = Kept::of(boxed);
-    offset_of(found, offset)
+    let call = Munging::MungerNil(handle, from, &target);
+    munge(alloc, zone, call, offset)
 }

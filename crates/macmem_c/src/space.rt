@@ -7,10 +7,10 @@ ghost use Rattle.heap_calls.specs.Table.{MaxMem, ReserveMem, MoreMasters, MemErr
 ghost use Rattle.macmem_c.specs.Codes.{host_memory};
 ghost use Rattle.macmem_c.specs.Called.{Serves, number_after, AreNumbers};
 
-use crate::calls::Fitting;
+use crate::calls::{Counting, Fitting};
 use crate::codes::measure_in;
 use crate::kept::Kept;
-use crate::kept_calls::fit;
+use crate::kept_calls::{count, fit};
 use crate::zone::Zone;
 use heap_calls::NoSink;
 use std::alloc::Global;
@@ -22,12 +22,7 @@ pub extern "C" fn macmem_free_mem(alloc: Global, zone: &mut Kept) -> u32
     ensures served { Serves FreeMem zone.old.heap zone.new.heap noErr }
     ensures number { result ≡ number_after FreeMem zone.old.heap 0 }
 {
-    let mut boxed = zone.take(alloc);
-    let inside: &mut Zone = &mut boxed;
-    let heap = &mut inside.heap;
-    let number = heap.free_mem();
-    *zone = Kept::of(boxed);
-    number
+    count(alloc, zone, Counting::FreeMem)
 }
 
 /// `MaxBlock`: returns the logical size of the largest block that would have room after a
@@ -38,12 +33,7 @@ pub extern "C" fn macmem_max_block(alloc: Global, zone: &mut Kept) -> u32
     ensures served { Serves MaxBlock zone.old.heap zone.new.heap noErr }
     ensures number { result ≡ number_after MaxBlock zone.old.heap 0 }
 {
-    let mut boxed = zone.take(alloc);
-    let inside: &mut Zone = &mut boxed;
-    let heap = &mut inside.heap;
-    let number = heap.max_block();
-    *zone = Kept::of(boxed);
-    number
+    count(alloc, zone, Counting::MaxBlock)
 }
 
 /// `PurgeSpace`: gives the number of bytes that would be free if all purgeable blocks were purged,
@@ -76,12 +66,7 @@ pub extern "C" fn macmem_compact_mem(alloc: Global, zone: &mut Kept, size: u32) 
     ensures served { Serves (CompactMem size) zone.old.heap zone.new.heap noErr }
     ensures number { result ≡ number_after (CompactMem size) zone.old.heap 0 }
 {
-    let mut boxed = zone.take(alloc);
-    let inside: &mut Zone = &mut boxed;
-    let heap = &mut inside.heap;
-    let number = heap.compact_mem(size);
-    *zone = Kept::of(boxed);
-    number
+    count(alloc, zone, Counting::CompactMem(size))
 }
 
 /// `PurgeMem`: purges blocks until a block of `size` bytes has room.
