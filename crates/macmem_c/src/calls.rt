@@ -1,15 +1,15 @@
 //! Calls on a zone, in kinds by what they return.
 
-ghost use Rattle.std.specs.Prelude.{◌≡◌, Ok, Err, Some};
+ghost use Rattle.std.specs.Prelude.{◌≡◌, false, Ok, Err, Some};
 ghost use Rattle.mac_words.specs.Told.{Given, Number, Offset};
 ghost use Rattle.heap_calls.specs.Row.{done};
 ghost use Rattle.heap_calls.specs.declared.refusal.Refusal.TheVariants as refusal;
 ghost use Rattle.macmem_c.specs.Called.{AnswersRow, IsAnswered, changing, asking, fitting, making};
 ghost use Rattle.macmem_c.specs.Called.{counting, munging};
 
+use block_store::BlockStore;
 use heap_calls::{Heap, NoSink, Refusal};
 use mac_words::{OsErr, Target};
-use raw_zone::RawZone;
 
 /// A call on what a handle or a pointer names that returns no value, and takes no host memory.
 #[derive(Clone, Copy)]
@@ -79,7 +79,7 @@ pub enum Munging<'a> {
 }
 
 /// Makes a call that returns no value.
-pub fn apply(heap: &mut Heap<RawZone>, call: Change<'_>, name: usize) -> Result<(), OsErr>
+pub fn apply<S: BlockStore>(heap: &mut Heap<S>, call: Change<'_>, name: usize) -> Result<(), OsErr>
     ensures answer { IsAnswered (changing call.entry (Some name)) done heap.old.memory result
         heap.new.memory }
     ensures lies { heap.new.memory.window ≡ heap.old.memory.window }
@@ -105,7 +105,7 @@ pub fn apply(heap: &mut Heap<RawZone>, call: Change<'_>, name: usize) -> Result<
 }
 
 /// Makes a call that returns a number of a block.
-pub fn ask(heap: &mut Heap<RawZone>, call: Question, name: usize) -> Result<u32, OsErr>
+pub fn ask<S: BlockStore>(heap: &mut Heap<S>, call: Question, name: usize) -> Result<u32, OsErr>
     ensures answer { IsAnswered (asking call (Some name)) Number heap.old.memory result
         heap.new.memory }
     ensures lies { heap.new.memory.window ≡ heap.old.memory.window }
@@ -121,7 +121,8 @@ pub fn ask(heap: &mut Heap<RawZone>, call: Question, name: usize) -> Result<u32,
 }
 
 /// Makes a call that seeks room. Where the host is out of memory, the heap is as it was.
-pub fn fit(heap: &mut Heap<RawZone>, call: Fitting<'_>) -> Result<(), Refusal>
+pub fn fit<S: BlockStore>(heap: &mut Heap<S>, call: Fitting<'_>) -> Result<(), Refusal>
+    requires { S.TAKES_HOST ≡ false }
     ensures answer { AnswersRow (fitting call.entry) done heap.old.memory result heap.new.memory }
     ensures host { result ≡ Err refusal.HostMemory → heap.new ≡ heap.old }
     ensures lies { heap.new.memory.window ≡ heap.old.memory.window }
@@ -144,7 +145,8 @@ pub fn fit(heap: &mut Heap<RawZone>, call: Fitting<'_>) -> Result<(), Refusal>
 
 /// Makes a call that makes a handle or a pointer, and returns its number. Where the host is out of
 /// memory, the heap is as it was.
-pub fn make(heap: &mut Heap<RawZone>, call: Making<'_>) -> Result<usize, Refusal>
+pub fn make<S: BlockStore>(heap: &mut Heap<S>, call: Making<'_>) -> Result<usize, Refusal>
+    requires { S.TAKES_HOST ≡ false }
     ensures answer { AnswersRow (making call.entry) Given heap.old.memory result heap.new.memory }
     ensures host { result ≡ Err refusal.HostMemory → heap.new ≡ heap.old }
     ensures lies { heap.new.memory.window ≡ heap.old.memory.window }
@@ -160,7 +162,7 @@ pub fn make(heap: &mut Heap<RawZone>, call: Making<'_>) -> Result<usize, Refusal
 }
 
 /// Makes a call that returns a number, and no code.
-pub fn count(heap: &mut Heap<RawZone>, call: Counting) -> u32
+pub fn count<S: BlockStore>(heap: &mut Heap<S>, call: Counting) -> u32
     ensures answer { IsAnswered (counting call) Number heap.old.memory (Ok result) heap.new.memory }
     ensures lies { heap.new.memory.window ≡ heap.old.memory.window }
 {
@@ -172,7 +174,8 @@ pub fn count(heap: &mut Heap<RawZone>, call: Counting) -> u32
 }
 
 /// Makes a call that seeks bytes. Where the host is out of memory, the heap is as it was.
-pub fn munge(heap: &mut Heap<RawZone>, call: Munging<'_>) -> Result<i64, Refusal>
+pub fn munge<S: BlockStore>(heap: &mut Heap<S>, call: Munging<'_>) -> Result<i64, Refusal>
+    requires { S.TAKES_HOST ≡ false }
     ensures answer { AnswersRow (munging call.entry) Offset heap.old.memory result heap.new.memory }
     ensures host { result ≡ Err refusal.HostMemory → heap.new ≡ heap.old }
     ensures lies { heap.new.memory.window ≡ heap.old.memory.window }
