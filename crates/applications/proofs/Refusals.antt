@@ -10,7 +10,8 @@ use Rattle.applications.proofs.Cited.{call_loading, is_there, call_loaded, call_
 use Rattle.applications.proofs.Cited.{tell_loaded, tell_called, tell_shown, told-refused, LeavesMemory}
 use Rattle.mac_words.specs.declared.segment_call.SegmentCall.TheVariants as segment
 use Rattle.heap_calls.specs.Table as asks
-use Rattle.res_calls.specs.Fetch.{Fetched}
+use Rattle.heap_calls.specs.Inside.{resource_role}
+use Rattle.res_calls.specs.Fetch.{Fetched, flags_of, is_system}
 use Rattle.res_calls.specs.Asked as finds
 use Rattle.res_calls.proofs.Walks.Laws as laws
 use Rattle.segments.specs.Table.{Entry}
@@ -218,8 +219,9 @@ fetch-unread (Some at) m = by_handle at.reference.here.handle
   where
     by_handle : (handle : Option ℕ) → reads (fetch_steps_as true at handle) m ≡ []
         → CostsAtMostMasters m.heap.zone (walk (fetch_steps_as true at handle) m).heap.zone
-    by_handle None = new-unread _ _ at.reference.here.stored.datum m
-    by_handle (Some h) = refill-unread h _ at.reference.here.stored.datum m
+    by_handle None = new-unread (resource_role (is_system at.file.here)) (flags_of at.reference.here)
+        at.reference.here.stored.datum m
+    by_handle (Some h) = refill-unread h (flags_of at.reference.here) at.reference.here.stored.datum m
 
 own-costs : (n : ℤ) (s : Managers) → (fetch_own code_type n s).reads ≡ []
     → CostsAtMostMasters s.memory.heap.zone (fetch_own code_type n s).after.memory.heap.zone

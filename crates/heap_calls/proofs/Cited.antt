@@ -89,8 +89,8 @@ pub use Rattle.heap_calls.specs.Copying.{copying_zone, written_in}
 pub use Rattle.heap_calls.specs.Counts.{CountsMoves, CountsSearches}
 pub use Rattle.heap_calls.specs.Emptying.{PurgesOnlyPurgeable, has_purgeable, takes_block}
 pub use Rattle.heap_calls.specs.FewSearches.{SearchesFew}
-pub use Rattle.heap_calls.specs.Gone.{Gone, Hears, IsIdle, Rests, Tells, TellsNothing, all_gone, block_gone, copy_slot_gone, found_gone}
-pub use Rattle.heap_calls.specs.Gone.{gone, gone_of, gone_unless, made_gone, purge_mem_gone, ready_gone, refill_gone, room_gone, slot_gone}
+pub use Rattle.heap_calls.specs.Gone.{Gone, Hears, IsIdle, Rests, Tells, TellsNothing, copying_gone, gone, gone_of, gone_unless}
+pub use Rattle.heap_calls.specs.Gone.{purge_mem_gone, slot_gone, told_blocks}
 pub use Rattle.heap_calls.specs.History.{after_calls}
 pub use Rattle.heap_calls.specs.Inner.Appending.{bytes_of, length_of, seek_longer, size_for}
 pub use Rattle.heap_calls.specs.Inner.Filling.{IsNext, IsReplaced, IsSizeOf, owned_by, wanted_as}
@@ -113,18 +113,18 @@ pub use Rattle.heap_calls.specs.Inner.Numbered.{no_number, number_from, pointer_
 pub use Rattle.heap_calls.specs.Inner.Packed.{KeepsAllButPlaced, Packs}
 pub use Rattle.heap_calls.specs.Inner.Pointing.{FindsHeld, target, target_at, target_of}
 pub use Rattle.heap_calls.specs.Inner.Reaching.{Reaches, sized_reply}
-pub use Rattle.heap_calls.specs.Inner.Search.{FindsPlacement, IsAt, tries}
+pub use Rattle.heap_calls.specs.Inner.Search.{FindsPlacement, IsAt}
 pub use Rattle.heap_calls.specs.Inner.Telling.{IsNumberOf, LeavesSlot, OpensNone, blocks_from, from_spot, gone_from, gone_named}
 pub use Rattle.heap_calls.specs.Inner.Telling.{zone_slot_gone}
 pub use Rattle.heap_calls.specs.Inner.Went.{Went, at_spot, seek_growth, seek_sized, seek_still, told_along, told_named}
-pub use Rattle.heap_calls.specs.Inside.{cast, cast_as, for_known, guarded_as, has_block, held_high, inside, is_owned, loosened, new_all}
+pub use Rattle.heap_calls.specs.Inside.{all_gone, cast, cast_as, guarded_as, has_block, held_high, inside, is_owned, loosened, new_all}
 pub use Rattle.heap_calls.specs.Inside.{new_empty, new_empty_inside, new_filled, new_inside, number_if, owned_as, refill, refill_inside}
-pub use Rattle.heap_calls.specs.Inside.{refill_moves, refill_searches, released, released_as, resource_role}
+pub use Rattle.heap_calls.specs.Inside.{released, released_as, resource_role}
 pub use Rattle.heap_calls.specs.LastPut.{Holds, put_by}
 pub use Rattle.heap_calls.specs.Left.{Stops}
 pub use Rattle.heap_calls.specs.Locked.{OneBlockEach, StaysLocked, is_locked, locked_place, releases}
 pub use Rattle.heap_calls.specs.Lowering.{CompactCountsLowered, CompactRaisesNone, MaxCountsLowered, MaxRaisesNone}
-pub use Rattle.heap_calls.specs.Moves.{all_moves, compact_mem_moves, max_mem_moves, new_handle_moves, put_moves, room_moves}
+pub use Rattle.heap_calls.specs.Moves.{all_moves, compact_mem_moves, max_mem_moves}
 pub use Rattle.heap_calls.specs.Munging.{Like, Many, Target, begins, behind, first_from, found_at, found_in, munged, occurrence}
 pub use Rattle.heap_calls.specs.Owned.{resource_meant, resource_only, resource_role_at}
 pub use Rattle.heap_calls.specs.Path.{Cast, NewEmpty, NewFilled, Refill, Release, Step, gone_at, left_zone, put_reads, read_again, read_by}
@@ -138,14 +138,13 @@ pub use Rattle.heap_calls.specs.Refused.{BarredLeaves, LeavesMasters, RefusedLea
 pub use Rattle.heap_calls.specs.Row.{Bar, Row, answer_of, bar_of, barred_by, gated_row, gone_of_row, left_by, may_purge, moves_of}
 pub use Rattle.heap_calls.specs.Row.{notes_code, searches_of, serve}
 pub use Rattle.heap_calls.specs.Rows.{Done, answer_made, append, changed, doing, doing_silently, hand_and_hand, hand_to_hand, heap_after}
-pub use Rattle.heap_calls.specs.Rows.{is_unused, moves_made, new_empty_handle, new_handle, new_pointer, next_block, pointer_and_hand}
+pub use Rattle.heap_calls.specs.Rows.{moves_made, new_empty_handle, new_handle, new_pointer, next_block, pointer_and_hand}
 pub use Rattle.heap_calls.specs.Rows.{pointer_to_x_hand, purged_by, purges_made, reallocate_handle, reply_of, reserve_mem, room_for}
-pub use Rattle.heap_calls.specs.Rows.{searches_made, set_handle_size, set_pointer_size, told_blocks, work}
-pub use Rattle.heap_calls.specs.Searches.{block_searches, compact_mem_searches, new_empty_handle_searches, new_handle_searches}
-pub use Rattle.heap_calls.specs.Searches.{purge_mem_searches, ready_searches, room_searches, slot_searches}
+pub use Rattle.heap_calls.specs.Rows.{searches_made, set_handle_size, set_pointer_size, work}
+pub use Rattle.heap_calls.specs.Searches.{compact_mem_searches, purge_mem_searches}
 pub use Rattle.heap_calls.specs.Serving.{Zeros, seeking, telling, told_as}
 pub use Rattle.heap_calls.specs.Shown.{Shows}
-pub use Rattle.heap_calls.specs.Slots.{if_ready, made, more_masters, slotted, slotted_zone}
+pub use Rattle.heap_calls.specs.Slots.{is_unused, slot_made, slotted_zone}
 pub use Rattle.heap_calls.specs.Standing.{NextIsNew, StaysNonrelocatable, disposes, pointer_place}
 pub use Rattle.heap_calls.specs.State.{CountedMemory, Disposed, Handle, Meaning, Memory, Plain, Pointer, Resource, Role, State}
 pub use Rattle.heap_calls.specs.State.{SystemResource, all_slots, fresh_heap, fresh_memory, used_slots, uses_slot}

@@ -1,18 +1,17 @@
 use Rattle.heap_calls.proofs.Cited.{◌≡◌, ℕ, ◌+◌, ◌-◌, ◌≤◌, ◌<◌, zero, suc, Bool, true, false, ◌&&◌, List, [], ◌∷◌, ◌++◌, length, drop}
 use Rattle.heap_calls.proofs.Cited.{slice_index_or, inl, inr, append_assoc, append-nil, refl, sym, ◌∙◌, ap, cond, arith, Option, Some, None}
-use Rattle.heap_calls.proofs.Cited.{subst, map, ◌*◌, cond-true, cond-false, nat_tests, at_drop_more, length-map, none-some}
-use Rattle.heap_calls.proofs.Cited.{option_map, Block, Free, Nonrelocatable, Masters, Relocatable, size, sizes, is_purgeable, content_of}
-use Rattle.heap_calls.proofs.Cited.{rename, rename_block, tidy, IsEdge, Spot, spot_at, may_be_purged, put_at_base, spared}
-use Rattle.heap_calls.proofs.Cited.{opened_block, seen, Flags, Sparing, Nothing, spot_at-below, spot_at-is, Apart, apart-tidied}
-use Rattle.heap_calls.proofs.Cited.{spot_at-parted, spot-end, total-append, is_purgeable-rename, Anchor, Rest, Log, Memory}
-use Rattle.heap_calls.proofs.Cited.{nothing, Gone, gone, room_gone, slot_gone, Did, did, Sought, slot-rename, did-rename}
-use Rattle.heap_calls.proofs.Cited.{count, is_masters, number_from, handle_number, pointer_number}
-use Rattle.heap_calls.proofs.Cited.{leads_to, name_of, memory_of, state_of, Agrees, IsNumberOf, gone_named, gone_from, from_spot}
-use Rattle.heap_calls.proofs.Cited.{blocks_from, zone_slot_gone, some_left, seek_unused, told_blocks}
+use Rattle.heap_calls.proofs.Cited.{subst, ◌*◌, cond-true, cond-false, nat_tests, at_drop_more, length-map, none-some, option_map, Block}
+use Rattle.heap_calls.proofs.Cited.{Free, Nonrelocatable, Masters, Relocatable, size, sizes, is_purgeable, content_of, rename, rename_block}
+use Rattle.heap_calls.proofs.Cited.{tidy, IsEdge, Spot, spot_at, may_be_purged, spared, opened_block, seen, Flags, Sparing, Nothing}
+use Rattle.heap_calls.proofs.Cited.{spot_at-below, spot_at-is, Apart, apart-tidied, spot_at-parted, spot-end, total-append}
+use Rattle.heap_calls.proofs.Cited.{is_purgeable-rename, Anchor, Rest, Log, Memory, nothing, gone_of, gone, slot_gone, slot_made}
+use Rattle.heap_calls.proofs.Cited.{slotted_zone, Did, did, rename_did, Sought, seek_slot, slot-rename, did-rename, State, same_Some, count}
+use Rattle.heap_calls.proofs.Cited.{is_masters, number_from, handle_number, pointer_number, leads_to, name_of, memory_of, state_of, Agrees}
+use Rattle.heap_calls.proofs.Cited.{IsNumberOf, gone_named, gone_from, from_spot, blocks_from, zone_slot_gone, some_left, seek_unused}
+use Rattle.heap_calls.proofs.Cited.{told_blocks, zone_slotted}
 use Rattle.std.specs.Prelude.{nat_lt}
 use Rattle.block_store.specs.declared.sparing.Seen.TheVariants as see
 use Rattle.heap_calls.proofs.NewBlocks.NewHandles.{unused-is}
-use Rattle.heap_calls.proofs.Same.NewBlocks.{slot-agrees}
 use Rattle.heap_calls.proofs.Went.{slot-names}
 
 -- What a sink is told of blocks that are purged.
@@ -145,22 +144,48 @@ told-all value zone rest es log k k' is same =
     ∙ ap (λ (m : Memory). gone (length m.heap.names) k nothing m.heap.zone) is
     ∙ ap (λ n. gone (length value.heap.names) n nothing value.heap.zone) same
 
--- the blocks that are purged for an unused master pointer, where the names that a search spares are those of slots
-pub slot_gone-is : (zone : List Block) (rest : Rest) (es : List Anchor) (masters : rest.all ≡ 64 * count is_masters zone)
+-- what is told of one list of blocks and of another
+pub told-append : (n : ℕ) (xs ys : List Block) → told_blocks n (xs ++ ys) ≡ told_blocks n xs ++ told_blocks n ys
+told-append n [] ys = refl
+told-append n (b ∷ xs) ys = ap (λ l. gone_of n b ++ l) (told-append n xs ys)
+    ∙ sym (append_assoc (gone_of n b) (told_blocks n xs) (told_blocks n ys))
+
+-- what is done for an unused master pointer, where the names that a search spares are those of slots
+module _ (zone : List Block) (rest : Rest) (es : List Anchor) (masters : rest.all ≡ 64 * count is_masters zone)
     (agrees : Agrees zone rest es) (sp : Block → Bool) (sparing : Sparing)
-    → ((b : Block) → sp (rename_block (handle_number es) (pointer_number es) b) ≡ spared sparing b)
-    → zone_slot_gone es sparing rest.unused zone ≡ slot_gone sp (state_of zone rest.slots es)
-slot_gone-is zone rest es masters agrees sp sparing same =
-    let f = handle_number es in
-    let g = pointer_number es in
-    let n = length (map (name_of rest.slots) es) in
-    let left = some_left rest.unused in
-    let path = (seek_unused sparing rest.unused zone).path in
-    ap (λ (k : ℕ). told_blocks k (rename f g (did (spared sparing) path zone).gone))
-    (sym (length-map es (name_of rest.slots)))
-    ∙ sym (ap (λ (t : Bool). cond {A = List Gone} t [] (room_gone n (put_at_base Masters) sp (rename f g zone)))
-    (unused-is zone rest es masters agrees) ∙ (slot-agrees n sp left (rename f g zone)).tells
-    ∙ ap (λ (r : Sought). told_blocks n (did sp r.path (rename f g zone)).gone)
-    (slot-rename f g sp (spared sparing) same left zone)
-    ∙ ap (λ (d : Did). told_blocks n d.gone)
-    (did-rename f g sp (spared sparing) same path (slot-names f g (spared sparing) left zone) zone))
+    (same : (b : Block) → sp (rename_block (handle_number es) (pointer_number es) b) ≡ spared sparing b)
+  where
+    abbrev f : ℕ → ℕ
+    f = handle_number es
+
+    abbrev g : ℕ → ℕ
+    g = pointer_number es
+
+    abbrev s : State
+    s = state_of zone rest.slots es
+
+    abbrev slot : Sought
+    slot = seek_unused sparing rest.unused zone
+
+    slot_made-is : slot_made sp s ≡ rename_did f g (did (spared sparing) slot.path zone)
+    slot_made-is =
+        let left = some_left rest.unused in
+        ap (λ t. did sp (seek_slot t sp s.zone).path s.zone) (unused-is zone rest es masters agrees)
+        ∙ ap (λ (r : Sought). did sp r.path s.zone) (slot-rename f g sp (spared sparing) same left zone)
+        ∙ did-rename f g sp (spared sparing) same slot.path (slot-names f g (spared sparing) left zone) zone
+
+    -- the blocks that are purged for it, and the zone that is left
+    pub slot_gone-is : zone_slot_gone es sparing rest.unused zone ≡ slot_gone sp s
+    slot_gone-is =
+        ap (λ (k : ℕ). told_blocks k (rename f g (did (spared sparing) slot.path zone).gone))
+        (sym (length-map es (name_of rest.slots)))
+        ∙ sym (ap (λ (d : Did). told_blocks (length s.names) d.gone) slot_made-is)
+
+    pub slotted_zone-is : (zone' : List Block) → zone_slotted sparing rest.unused zone ≡ Some zone'
+        → slotted_zone sp s ≡ rename f g zone'
+    slotted_zone-is zone' ready = ap (λ (d : Did). d.zone) slot_made-is ∙ ap (rename f g) (by_found slot.found ready)
+      where
+        by_found : (t : Bool) → cond t (Some (did (spared sparing) slot.path zone).zone) None ≡ Some zone'
+            → (did (spared sparing) slot.path zone).zone ≡ zone'
+        by_found true e = same_Some _ _ e
+        by_found false e = absurd (none-some _ e)

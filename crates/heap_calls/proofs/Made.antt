@@ -1,23 +1,19 @@
-use Rattle.heap_calls.proofs.Cited.{◌≡◌, ℕ, ◌*◌, Bool, true, false, List, [], ◌∷◌, ◌++◌, length, map, replicate}
-use Rattle.heap_calls.proofs.Cited.{Option, Some, None, refl, sym, ◌∙◌, ap, cond, is_some, unwrap_or}
-use Rattle.heap_calls.proofs.Cited.{false_from_ne_true, length-map, length-replicate, phys, padded, Flags, Block}
-use Rattle.heap_calls.proofs.Cited.{Relocatable, size, count, is_masters, is_relocatable, rename, rename_block, no_flags, has}
-use Rattle.heap_calls.proofs.Cited.{is_used, Rest, counted}
-use Rattle.heap_calls.proofs.Cited.{Nothing, Put, Did, did, did-rename, size-rename, told_blocks}
-use Rattle.heap_calls.proofs.Cited.{Sought, no_room, seek, seek_slot, then_seek, rename_sought, along-if, along-then}
-use Rattle.heap_calls.proofs.Cited.{along-seek, Names, PathNames, seek-rename, slot-rename, then-rename, State, Memory, Plain}
-use Rattle.heap_calls.proofs.Cited.{Handle, nothing, Done, doing_silently, purges_made, purged_by, made_gone, Went, told_along}
-use Rattle.heap_calls.proofs.Cited.{reply_of, is_unused, new_handle, new_empty_handle, new_inside, Anchor, Log, HasSlot, IsTaken}
-use Rattle.heap_calls.proofs.Cited.{entered, number_of, fresh_block, TakesSlot, some_left, seek_unused, seek_new, state_of}
-use Rattle.heap_calls.proofs.Cited.{memory_of, name_of, handle_number, pointer_number, Agrees, KeepsNonrelocatable, zone_slot_gone}
+use Rattle.heap_calls.proofs.Cited.{◌≡◌, ℕ, ◌*◌, Bool, true, false, List, [], ◌∷◌, ◌++◌, length, map, replicate, Option, Some, None, refl}
+use Rattle.heap_calls.proofs.Cited.{sym, ◌∙◌, ap, cond, is_some, unwrap_or, false_from_ne_true, length-map, length-replicate, phys, padded}
+use Rattle.heap_calls.proofs.Cited.{Flags, Block, Relocatable, size, count, is_masters, is_relocatable, rename, rename_block, no_flags, has}
+use Rattle.heap_calls.proofs.Cited.{is_used, Rest, counted, Nothing, Put, Did, did, did-rename, size-rename, told_blocks, Sought, no_room}
+use Rattle.heap_calls.proofs.Cited.{seek, seek_slot, then_seek, rename_sought, along-if, along-then, along-seek, Names, PathNames}
+use Rattle.heap_calls.proofs.Cited.{seek-rename, slot-rename, then-rename, State, Memory, Plain, Handle, nothing, Done, doing_silently}
+use Rattle.heap_calls.proofs.Cited.{purges_made, purged_by, slot_gone, Role, new_filled, Went, told_along, reply_of, is_unused, new_handle}
+use Rattle.heap_calls.proofs.Cited.{new_empty_handle, new_inside, Anchor, Log, HasSlot, IsTaken, entered, number_of, fresh_block, TakesSlot}
+use Rattle.heap_calls.proofs.Cited.{some_left, seek_unused, seek_new, state_of, memory_of, name_of, handle_number, pointer_number, Agrees}
+use Rattle.heap_calls.proofs.Cited.{KeepsNonrelocatable, zone_slot_gone}
 use Rattle.heap_calls.specs.Rows.{given, made}
 use Rattle.heap_calls.proofs.GoneBlocks.{slot_gone-is}
 use Rattle.heap_calls.proofs.NewBlocks.NewHandles.{names-more, agrees-more, unused-is}
 use Rattle.heap_calls.proofs.NewBlocks.NewSlots.{taken-slot}
 use Rattle.heap_calls.proofs.NewBlocks.Seeking.{seek_made, made-alike, fits-any}
 use Rattle.heap_calls.proofs.Numbering.Changing.{number-now, zone-kept, names-now, agrees-now}
-use Rattle.heap_calls.proofs.Same.NewBlocks.{filling, filled-same, new_empty_handle-same}
-use Rattle.heap_calls.proofs.Same.Silent.{filled-silent}
 use Rattle.heap_calls.proofs.Went.{given-is, path-names, slot-along, slot-names, fits-rename}
 
 -- A call that makes a handle: what its path does is what the store did.
@@ -189,7 +185,7 @@ module _ (zone : List Block) (rest : Rest) (es : List Anchor) (masters : rest.al
 
     pub made-gone : (p q : Block → Bool) → ((b : Block) → p (rename_block (handle_number es) (pointer_number es) b) ≡ q b)
         → (call : State → Done ℕ) (a b : Block) (fits : Bool) → size a ≡ size b
-        → call now ≡ made p (λ z. cond fits (seek (Put b) p z) no_room) now
+        → call now ≡ made (Handle Plain) p (λ z. cond fits (seek (Put b) p z) no_room) now
         → told_along es q (seek_made q (some_left rest.unused) a fits zone) zone ≡ purges_made call now
     made-gone p q spares call a b fits same row =
         let f = handle_number es in
@@ -206,13 +202,13 @@ module _ (zone : List Block) (rest : Rest) (es : List Anchor) (masters : rest.al
         ∙ ap (λ (d : Did). told_blocks n d.gone)
         (did-rename f g p q spares path (new-names f g p q spares u a fits zone) zone))
 
-    -- by the words of the Resource Manager's steps
-    pub filled-gone : (x : List ℕ) → told_along es nothing (seek_new Nothing rest.unused (length x)
-        (fresh_block 0 (length x)) zone) zone ≡ made_gone nothing x now
-    filled-gone x =
-        made-gone nothing nothing (λ b. refl) (filling no_flags x) (fresh_block 0 (length x))
-        (Relocatable (length now.names) no_flags x) (is_some (phys (length x)))
-        (ap padded (length-replicate (length x) 0)) refl ∙ sym (filled-same no_flags x now).tells
+    -- a new handle in any role, with any flags
+    pub filled-gone : (role : Role) (flags : Flags) (x : List ℕ) → told_along es nothing (seek_new Nothing rest.unused
+        (length x) (fresh_block 0 (length x)) zone) zone ≡ purges_made (new_filled role flags x) now
+    filled-gone role flags x =
+        made-gone nothing nothing (λ b. refl) (new_filled Plain flags x) (fresh_block 0 (length x))
+        (Relocatable (length now.names) flags x) (is_some (phys (length x))) (ap padded (length-replicate (length x) 0))
+        refl
 
 -- what a call answers that made a handle, if a slot was had, and what it purges
 module _ (zone : List Block) (rest : Rest) (es : List Anchor) (masters : rest.all ≡ 64 * count is_masters zone)
@@ -240,10 +236,8 @@ module _ (zone : List Block) (rest : Rest) (es : List Anchor) (masters : rest.al
         pub filled-answer : (flags : Flags) (x : List ℕ) → HasSlot slot rest rest' → Went nothing zone
             (seek_new Nothing rest.unused (length x) (Relocatable (unwrap_or slot 0) flags x) zone) (is_some slot) m zone'
             rest rest' → new_inside Plain flags x value ≡ (number_of slot es, after_it)
-        filled-answer flags x had did =
-            sym (filled-silent flags x value)
-            ∙ made-is zone rest es masters agrees fresh rest' log value is zone' nothing nothing (filling flags x) m slot
-            had (λ b. refl) flags x (is_some (phys (length x))) refl did
+        filled-answer flags x had = made-is zone rest es masters agrees fresh rest' log value is zone' nothing nothing
+            (new_filled Plain flags x) m slot had (λ b. refl) flags x (is_some (phys (length x))) refl
 
     pub new_handle-gone : (n : ℕ) → told_along es nothing (seek_new Nothing rest.unused n (fresh_block 0 n) zone) zone
         ≡ purges_made (new_handle n) value.heap
@@ -255,5 +249,4 @@ module _ (zone : List Block) (rest : Rest) (es : List Anchor) (masters : rest.al
     pub empty-gone : zone_slot_gone es Nothing rest.unused zone ≡ purges_made new_empty_handle value.heap
     empty-gone =
         slot_gone-is zone rest es masters agrees nothing Nothing (λ b. refl)
-        ∙ (new_empty_handle-same (state_of zone rest.slots es)).tells
-        ∙ ap (λ (m : Memory). purges_made new_empty_handle m.heap) is
+        ∙ ap (λ (m : Memory). slot_gone nothing m.heap) is

@@ -1,4 +1,5 @@
 pub mod Ways
+pub mod Making
 pub mod Paths
 pub mod Knowledge
 pub mod Standstill

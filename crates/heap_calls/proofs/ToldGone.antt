@@ -1,6 +1,5 @@
 pub mod Sums
 pub mod Bounds
-pub mod Changes
 pub mod Rows
 pub mod Laws
 pub mod Heaps

@@ -2,7 +2,7 @@ use Rattle.std.specs.Prelude.{◌≡◌, ◌≤◌, ◌⊎◌, Bool, true, IsTru
 use Rattle.block_store.specs.Block.{Block}
 use Rattle.heap_calls.specs.State.{State, Memory, CountedMemory}
 use Rattle.heap_calls.specs.Answer.{look_up}
-use Rattle.heap_calls.specs.Gone.{Gone, Tells, TellsNothing, slot_gone, copy_slot_gone}
+use Rattle.heap_calls.specs.Gone.{Gone, Tells, TellsNothing, slot_gone, copying_gone}
 use Rattle.heap_calls.specs.Slots.{slotted_zone}
 use Rattle.heap_calls.specs.Copying.{copying_zone}
 
@@ -19,7 +19,8 @@ slot_step spared s = record { zone = slotted_zone spared s; gone = slot_gone spa
 
 -- HandToHand takes a master pointer for the copy.
 abbrev pub copy_step : Option ℕ → State → Step
-copy_step handle s = record { zone = copying_zone (look_up handle s) s; gone = copy_slot_gone handle s }
+copy_step handle s =
+    record { zone = copying_zone (look_up handle s) s; gone = copying_gone (look_up handle s) s }
 
 -- No number is reserved for the next handle or pointer.
 abbrev pub Unreserved : Memory → Type 0

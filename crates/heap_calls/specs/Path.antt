@@ -1,13 +1,15 @@
 use Rattle.std.specs.Prelude.{ℕ, ◌==◌, ◌||◌, Bool, false, Option, Some, None, Result, Ok, Err, List, [], ◌∷◌, ◌++◌}
-use Rattle.std.specs.Prelude.{length, if◌then◌else◌}
+use Rattle.std.specs.Prelude.{if◌then◌else◌}
 use Rattle.mac_words.specs.declared.code.OsErr.{OsErr}
 use Rattle.block_store.specs.declared.flags.Flags.{Flags}
 use Rattle.block_store.specs.Block.{Block}
 use Rattle.heap_calls.specs.State.{Role, State, Memory}
 use Rattle.heap_calls.specs.Slots.{slotted_zone}
 use Rattle.heap_calls.specs.Answer.{nothing}
-use Rattle.heap_calls.specs.Gone.{Gone, slot_gone, made_gone, refill_gone}
-use Rattle.heap_calls.specs.Inside.{new_inside, new_empty_inside, refill_inside, inside, released, cast, has_block}
+use Rattle.heap_calls.specs.Gone.{Gone}
+use Rattle.heap_calls.specs.Rows.{purges_made}
+use Rattle.heap_calls.specs.Inside.{new_filled, new_empty, refill, new_inside, new_empty_inside, refill_inside}
+use Rattle.heap_calls.specs.Inside.{inside, released, cast, has_block}
 
 -- The steps that the Resource Manager takes on a heap, one after another. More Macintosh Toolbox, chapter 1, "Using
 -- the Resource Manager".
@@ -63,9 +65,10 @@ read_by (Cast change h) m = []
 
 -- The blocks that a step purges for room.
 abbrev pub gone_at : Step → Memory → List Gone
-gone_at (NewFilled role flags bytes) m = made_gone nothing bytes m.heap
-gone_at (NewEmpty role) m = slot_gone nothing m.heap
-gone_at (Refill h flags bytes) m = if has_block h m.heap then [] else refill_gone h (length bytes) m.heap
+gone_at (NewFilled role flags bytes) m = purges_made (new_filled role flags bytes) m.heap
+gone_at (NewEmpty role) m = purges_made (new_empty role) m.heap
+gone_at (Refill h flags bytes) m = if has_block h m.heap then []
+    else purges_made (refill h flags bytes) m.heap
 gone_at (Release h) m = []
 gone_at (Cast change h) m = []
 

@@ -2,8 +2,8 @@ use Rattle.std.specs.Prelude.{◌≡◌, ◌<◌, ◌⊎◌, ℕ, Option, List, 
 use Rattle.block_store.specs.declared.flags.Flags.{Flags}
 use Rattle.heap_calls.specs.State.{Memory}
 use Rattle.heap_calls.specs.Answer.{nothing}
-use Rattle.heap_calls.specs.Gone.{Gone, Tells, TellsNothing, slot_gone, all_gone}
-use Rattle.heap_calls.specs.Inside.{new_all}
+use Rattle.heap_calls.specs.Gone.{Gone, Tells, TellsNothing, slot_gone}
+use Rattle.heap_calls.specs.Inside.{new_all, all_gone}
 use Rattle.heap_calls.specs.Refused.{LeavesMasters}
 
 -- What stands after new handles were made one after another, over a store that takes no host memory, until a sink found

@@ -1,22 +1,13 @@
 use Rattle.std.specs.Prelude.{ℕ, Bool, true, false, Option, Some, None, List, [], if◌then◌else◌}
-use Rattle.mac_words.specs.Size.{phys}
-use Rattle.mac_words.specs.Told.{Told, Done, Given, Number, Numbers, Offset, Code, Bytes, Refused}
+use Rattle.mac_words.specs.Told.{Told, Done, Number, Code, Refused}
 use Rattle.mac_words.specs.declared.code.OsErr.{OsErr}
 use Rattle.block_store.specs.Block.{Block}
-use Rattle.block_store.specs.Room.{purge}
 use Rattle.heap_calls.specs.State.{State, Memory}
-use Rattle.heap_calls.specs.Answer.{Answer, dispose_handle, get_handle_size, free_mem, h_lock, h_unlock}
-use Rattle.heap_calls.specs.Answer.{move_h_hi, h_lock_hi, max_block, compact_mem, put, show, noting, silent, moving}
-use Rattle.heap_calls.specs.Answer.{look_up, nothing, handle_zone, munger_nil}
-use Rattle.heap_calls.specs.Slots.{slotted_zone}
-use Rattle.heap_calls.specs.Pointers.{dispose_pointer, get_pointer_size, pointer_zone, put_pointer, show_pointer}
-use Rattle.heap_calls.specs.Pointers.{place_of, block_move, recover_handle}
-use Rattle.heap_calls.specs.Purging.{h_purge, h_no_purge, h_get_state, h_set_state, empty_handle}
-use Rattle.heap_calls.specs.Purging.{purge_mem, purge_space, max_mem, blocks_purged}
-use Rattle.heap_calls.specs.Copying.{copying_zone}
-use Rattle.heap_calls.specs.Searches.{compact_mem_searches, purge_mem_searches}
-use Rattle.heap_calls.specs.Moves.{compact_mem_moves, max_mem_moves}
-use Rattle.heap_calls.specs.Gone.{Gone, purge_mem_gone, max_mem_gone, gone_unless}
+use Rattle.heap_calls.specs.Answer.{Answer}
+use Rattle.heap_calls.specs.Answer.{noting, silent, moving}
+use Rattle.heap_calls.specs.Purging.{max_mem}
+use Rattle.heap_calls.specs.Moves.{max_mem_moves}
+use Rattle.heap_calls.specs.Gone.{Gone, max_mem_gone, gone_unless}
 use Rattle.heap_calls.specs.Rows as rows
 use Rattle.heap_calls.specs.Rows.{doing, searches_made, moves_made, purges_made}
 use Rattle.heap_calls.specs.Busy.{barred, change_barred, both_barred, pointer_barred, either_barred, keep_code, unless}

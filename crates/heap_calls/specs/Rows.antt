@@ -1,5 +1,5 @@
 use Rattle.std.specs.Prelude.{ℕ, ℤ, pos, negsuc, ◌+◌, ◌-◌, Bool, ◌||◌, Option, Some, None, Result, Ok, Err, List, []}
-use Rattle.std.specs.Prelude.{◌∷◌, ◌++◌, length, replicate, nat_le, nat_lt, if◌then◌else◌}
+use Rattle.std.specs.Prelude.{◌∷◌, ◌++◌, length, replicate, nat_le, if◌then◌else◌}
 use Rattle.mac_words.specs.Size.{phys}
 use Rattle.mac_words.specs.declared.code.OsErr.{OsErr}
 use Rattle.mac_words.specs.declared.code.TheConstants.OsErr.{MEM_FULL, PROFILE, PURGED}
@@ -8,13 +8,14 @@ use Rattle.block_store.specs.Room.{spot}
 use Rattle.block_store.specs.Grow.{freed}
 use Rattle.moves.specs.Moves.{Move, Put, Base, Drop, Write, Did, did}
 use Rattle.moves.specs.Seeking.{Sought, no_room, seek, if_fits, seek_slot, then_seek, seek_size, around}
-use Rattle.heap_calls.specs.State.{Plain, Meaning, Handle, Pointer, State, Memory, used_slots, all_slots}
+use Rattle.heap_calls.specs.State.{Plain, Meaning, Handle, Pointer, State, Memory}
+use Rattle.heap_calls.specs.Slots.{is_unused}
 use Rattle.heap_calls.specs.Answer.{Answer, Held, look_up, handle_at, nothing, silent, searching, moving}
 use Rattle.heap_calls.specs.Serving.{NewBytes, Zeros, CopyOf, new_size, new_bytes, packing}
 use Rattle.heap_calls.specs.Munging.{Target, found_in, behind}
 use Rattle.heap_calls.specs.Pointers.{pointed_at}
 use Rattle.heap_calls.specs.Purging.{is_loose}
-use Rattle.heap_calls.specs.Gone.{Gone, gone_of}
+use Rattle.heap_calls.specs.Gone.{Gone, told_blocks}
 use Rattle.heap_calls.specs.declared.munging.Occurrence.{Occurrence}
 
 -- The calls that search for room, each as one path of moves. Inside Macintosh: Memory, chapter 2, "Memory Manager
@@ -36,11 +37,6 @@ work d s = did d.spared d.path s.zone
 -- The heap after the call.
 abbrev pub heap_after : {T : Type 0} → Done T → State → State
 heap_after d s = record { zone = (work d s).zone; names = d.names }
-
--- The blocks that are told of, of those that are purged: those whose handles are among the first n.
-abbrev pub told_blocks : ℕ → List Block → List Gone
-told_blocks n [] = []
-told_blocks n (b ∷ above) = gone_of n b ++ told_blocks n above
 
 -- The blocks that the call purges.
 abbrev pub purged_by : {T : Type 0} → Done T → State → List Gone
@@ -95,14 +91,10 @@ abbrev pub changed : (Block → Bool) → Sought → State → Done (Unit {0})
 changed spared sought s =
     record { reply = reply_of sought.found tt; names = s.names; spared = spared; path = sought.path }
 
--- A master pointer is unused.
-abbrev pub is_unused : State → Bool
-is_unused s = nat_lt (used_slots s) (all_slots s)
-
 -- A new handle: for its master pointer, and then for its block, room is sought.
-abbrev pub made : (Block → Bool) → (List Block → Sought) → State → Done ℕ
-made spared block s =
-    given (Handle Plain) spared (then_seek spared s.zone (seek_slot (is_unused s) spared s.zone) block) s
+abbrev pub made : Meaning → (Block → Bool) → (List Block → Sought) → State → Done ℕ
+made name spared block s =
+    given name spared (then_seek spared s.zone (seek_slot (is_unused s) spared s.zone) block) s
 
 -- The block of the next handle, with these bytes.
 abbrev pub next_block : List ℕ → State → Block
@@ -110,7 +102,7 @@ next_block bytes s = Relocatable (length s.names) no_flags bytes
 
 -- A new handle with a block of new bytes.
 abbrev pub new_handle_with : NewBytes → State → Done ℕ
-new_handle_with new s = made nothing (λ zone. if_fits (new_size new)
+new_handle_with new s = made (Handle Plain) nothing (λ zone. if_fits (new_size new)
     (seek (Put (next_block (new_bytes new) s)) nothing zone)) s
 
 -- NewHandle: a new handle with a block of n bytes, all 0.
@@ -147,7 +139,7 @@ reserve_mem n s = changed nothing (room_for (phys n) s.zone) s
 -- HandToHand: a new handle with a copy of the bytes of another handle's block, which is not purged for the copy.
 abbrev pub hand_to_hand : Option ℕ → State → Done ℕ
 hand_to_hand handle s =
-    for_found (look_up handle s) s (λ held. made (is_relocatable held.number)
+    for_found (look_up handle s) s (λ held. made (Handle Plain) (is_relocatable held.number)
     (seek (Put (next_block (content_of held.at.here) s)) (is_relocatable held.number)) s)
 
 -- SetHandleSize: the handle's block, which is spared, grows or is cut to n bytes.

@@ -1,9 +1,8 @@
-use Rattle.std.specs.Prelude.{ℕ, Option, Result, Ok, Err, List, length, replicate}
+use Rattle.std.specs.Prelude.{ℕ, Result, Ok, Err, List, length, replicate}
 use Rattle.mac_words.specs.declared.code.OsErr.{OsErr}
 use Rattle.mac_words.specs.Told.{Told, Refused}
 use Rattle.heap_calls.specs.State.{State, Memory}
 use Rattle.heap_calls.specs.Answer.{Answer, noting, searching, moving}
-use Rattle.heap_calls.specs.Munging.{Target}
 
 -- How a call is served: what is told of its answer, and what is counted.
 

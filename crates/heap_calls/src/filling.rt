@@ -3,13 +3,14 @@
 ghost use Rattle.std.specs.Prelude.{◌≡◌, ◌≢◌, ◌⊎◌, ◌+◌, ◌<◌, ◌≤◌, true, false, Err, [], map};
 ghost use Rattle.std.specs.Prelude.{length, IfOk, OnOk, OnErr, IsErr, IsTrue, IsOk, Some, None};
 ghost use Rattle.std.specs.Prelude.{vec_len, vec_capacity, is_some, unwrap_or};
-ghost use Rattle.heap_calls.specs.State.{Plain};
-ghost use Rattle.heap_calls.specs.Inside.{inside, has_block, new_inside, new_empty_inside};
-ghost use Rattle.heap_calls.specs.Inside.{refill_inside, resource_role, new_all};
+ghost use Rattle.heap_calls.specs.State.{Plain, Resource};
+ghost use Rattle.heap_calls.specs.Inside.{inside, has_block, new_filled, new_empty, refill};
+ghost use Rattle.heap_calls.specs.Inside.{new_inside, new_empty_inside, refill_inside};
+ghost use Rattle.heap_calls.specs.Inside.{resource_role, new_all, all_gone};
+ghost use Rattle.heap_calls.specs.Rows.{purges_made};
 ghost use Rattle.heap_calls.specs.Answer.{nothing};
 ghost use Rattle.heap_calls.specs.Refused.{LeavesMasters};
-ghost use Rattle.heap_calls.specs.Gone.{Tells, TellsNothing, IsIdle, slot_gone, made_gone};
-ghost use Rattle.heap_calls.specs.Gone.{all_gone, refill_gone};
+ghost use Rattle.heap_calls.specs.Gone.{Tells, TellsNothing, IsIdle};
 ghost use Rattle.heap_calls.specs.Preloaded.{LeavesUnmade, MadeSome};
 ghost use Rattle.heap_calls.specs.Inner.Telling.{LeavesSlot};
 ghost use Rattle.heap_calls.specs.Inner.Given.{IsAnswer, KeepsMoves, KeepsNames};
@@ -69,7 +70,8 @@ impl<S: BlockStore> Heap<S> {
         ensures answer { IsAnswer (new_inside (resource_role guarded) flags bytes.now
             self.old.memory) result self.new.memory }
         ensures hears { Hears K.told K.waits K.listens (result ≢ Err Refusal.HostMemory)
-            (made_gone nothing bytes.now self.old.memory.heap) sink.old sink.new }
+            (purges_made (new_filled (resource_role guarded) flags bytes.now)
+            self.old.memory.heap) sink.old sink.new }
         ensures stops { result ≡ Err Refusal.HostMemory
             → Stops S.TAKES_HOST K.told K.listens KeepsNames (Unreserved self.old.memory)
             (Some (slot_step nothing self.old.memory.heap)) self.old self.new sink.old sink.new }
@@ -93,7 +95,8 @@ impl<S: BlockStore> Heap<S> {
         ensures answer { IsAnswer (new_empty_inside (resource_role guarded) self.old.memory) result
             self.new.memory }
         ensures hears { Hears K.told K.waits K.listens (result ≢ Err Refusal.HostMemory)
-            (slot_gone nothing self.old.memory.heap) sink.old sink.new }
+            (purges_made (new_empty (resource_role guarded)) self.old.memory.heap)
+            sink.old sink.new }
         ensures stops { result ≡ Err Refusal.HostMemory → Stops S.TAKES_HOST K.told K.listens
             KeepsMoves (Unreserved self.old.memory) None self.old self.new sink.old sink.new }
         ensures lies { self.new.memory.window ≡ self.old.memory.window }
@@ -160,7 +163,8 @@ impl<S: BlockStore> Heap<S> {
         ensures answer { IsAnswer (refill_inside number flags bytes.now self.old.memory) result
             self.new.memory }
         ensures hears { Hears K.told K.waits K.listens (result ≢ Err Refusal.HostMemory)
-            (refill_gone number (length bytes.now) self.old.memory.heap) sink.old sink.new }
+            (purges_made (refill number flags bytes.now) self.old.memory.heap)
+            sink.old sink.new }
         ensures stops { result ≡ Err Refusal.HostMemory → Stops S.TAKES_HOST K.told K.listens
             KeepsNames ⊥ None self.old self.new sink.old sink.new }
         ensures lies { self.new.memory.window ≡ self.old.memory.window }
@@ -186,7 +190,8 @@ impl<S: BlockStore> Heap<S> {
         ensures answer { IsAnswer (new_inside Plain flags bytes.now self.old.memory) result
             self.new.memory }
         ensures hears { Hears K.told K.waits K.listens (result ≢ Err Refusal.HostMemory)
-            (made_gone nothing bytes.now self.old.memory.heap) sink.old sink.new }
+            (purges_made (new_filled Plain flags bytes.now) self.old.memory.heap)
+            sink.old sink.new }
         ensures stops { result ≡ Err Refusal.HostMemory
             → Stops S.TAKES_HOST K.told K.listens KeepsNames (Unreserved self.old.memory)
             (Some (slot_step nothing self.old.memory.heap)) self.old self.new sink.old sink.new }
@@ -321,8 +326,8 @@ fn add_resource<S: BlockStore, K: PurgeSink>(
     requires room { vec_len names.old < vec_capacity names.old }
     requires idle { IsIdle K.told K.waits sink.old }
     ensures told { OnOk result (K.listens sink.old ≡ true
-        → Tells K.told (made_gone nothing bytes.now (memory_of (S.zone store.old)
-        (S.rest store.old) names.old.items log.old).heap) sink.old sink.new) }
+        → Tells K.told (purges_made (new_filled Resource flags bytes.now) (memory_of
+        (S.zone store.old) (S.rest store.old) names.old.items log.old).heap) sink.old sink.new) }
     ensures rests { Rests K.told K.waits K.listens sink.old sink.new }
     ensures left { OnErr result (IsTrue S.TAKES_HOST ⊎ LeavesUnmade K.told
         (memory_of (S.zone store.old) (S.rest store.old) names.old.items log.old) (memory_of

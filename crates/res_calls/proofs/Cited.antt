@@ -29,14 +29,15 @@ pub use Rattle.heap_calls.proofs.Promises.Taking.{StaysOr}
 pub use Rattle.heap_calls.proofs.Steps.FewSearches.{step-searches, steps-fits}
 pub use Rattle.heap_calls.proofs.Steps.Knowledge.{steps-known}
 pub use Rattle.heap_calls.proofs.Steps.Letting.{none-place, refused-lets, releases, walk-none}
-pub use Rattle.heap_calls.proofs.Steps.Numbers.{refilled-is, refilled-read, refilled-refusal}
+pub use Rattle.heap_calls.proofs.Steps.Making.{Made, Sees, Unmade, Way, way}
+pub use Rattle.heap_calls.proofs.Steps.Numbers.{emptied-number, filled-number, refilled-is, refilled-read, refilled-refusal}
 pub use Rattle.heap_calls.proofs.Steps.Place.{steps-busy, steps-code, steps-window}
 pub use Rattle.heap_calls.proofs.Steps.Refusals.{step-no_more, step-refused}
 pub use Rattle.heap_calls.proofs.Steps.Roles.{MakesHandle, emptied-makes, filled-makes, own-roles, refilled-roles, released-roles}
 pub use Rattle.heap_calls.proofs.Steps.Roles.{resource-role}
 pub use Rattle.heap_calls.proofs.Steps.Standstill.{step-bytes, steps-bytes, steps-locked, steps-nonrelocatable}
 pub use Rattle.heap_calls.proofs.Steps.Survival.{steps-masters, steps-purgeable}
-pub use Rattle.heap_calls.proofs.Steps.Ways.{Fits, emptied-goes, filled-goes, slotted-names, step-goes}
+pub use Rattle.heap_calls.proofs.Steps.Ways.{step-leaves}
 pub use Rattle.heap_calls.proofs.ToldGone.Bounds.{step-most}
 pub use Rattle.heap_calls.proofs.ToldGone.Laws.{by_bytes, many, many-none, step-tells-what-goes, weighed, weight}
 pub use Rattle.heap_calls.proofs.ToldGone.Sums.{Adds}
@@ -45,17 +46,18 @@ pub use Rattle.heap_calls.proofs.Tries.Roles.{served-roles, set-other}
 pub use Rattle.heap_calls.proofs.Tries.Taking.{done-or}
 pub use Rattle.heap_calls.specs.Answer.{Known, code_of, handle_at, known_as, nothing}
 pub use Rattle.heap_calls.specs.Emptying.{has_purgeable}
-pub use Rattle.heap_calls.specs.Gone.{Gone, Tells, all_gone, gone_of, made_gone, refill_gone}
+pub use Rattle.heap_calls.specs.Gone.{Gone, Tells, gone_of}
 pub use Rattle.heap_calls.specs.Inner.Filling.{wanted_as}
 pub use Rattle.heap_calls.specs.Inner.Given.{IsAnswer}
-pub use Rattle.heap_calls.specs.Inside.{cast, cast_as, has_block, inside, is_owned, new_all, new_empty_inside, new_filled, new_inside}
-pub use Rattle.heap_calls.specs.Inside.{number_if, owned_as, refill_inside, released, resource_role}
+pub use Rattle.heap_calls.specs.Inside.{all_gone, cast, cast_as, has_block, inside, is_owned, new_all, new_empty_inside, new_filled}
+pub use Rattle.heap_calls.specs.Inside.{new_inside, number_if, owned_as, refill, refill_inside, released, resource_role}
 pub use Rattle.heap_calls.specs.Locked.{locked_place}
 pub use Rattle.heap_calls.specs.Owned.{resource_meant, resource_role_at}
 pub use Rattle.heap_calls.specs.Path.{Cast, NewEmpty, NewFilled, Refill, Release, Step, gone_at, left_zone, put_reads, read_again, read_by}
 pub use Rattle.heap_calls.specs.Path.{read_new, reads, refusal, refusal_of, step_disposes, stepped, steps_dispose, walk}
+pub use Rattle.heap_calls.specs.Rows.{purges_made}
 pub use Rattle.heap_calls.specs.Serving.{told_as}
-pub use Rattle.heap_calls.specs.Slots.{more_masters, slotted, slotted_zone}
+pub use Rattle.heap_calls.specs.Slots.{slotted_zone}
 pub use Rattle.heap_calls.specs.Standing.{pointer_place}
 pub use Rattle.heap_calls.specs.State.{Disposed, Handle, Meaning, Memory, Plain, Pointer, Resource, Role, State, SystemResource, all_slots}
 pub use Rattle.heap_calls.specs.State.{fresh_memory, used_slots}
@@ -98,8 +100,8 @@ pub use Rattle.res_calls.specs.Files.{find_open, found_behind, found_in, fresh_r
 pub use Rattle.res_calls.specs.Files.{with_reference}
 pub use Rattle.res_calls.specs.Forks.{Creates, HasFork, Renews, Rewrites, StoresHandle, Written}
 pub use Rattle.res_calls.specs.Given.{IsAnswered, IsAnsweredUnseen, IsFetched, IsLoadedFirst, IsReply, IsUnread, managers, noted}
-pub use Rattle.res_calls.specs.Gone.{fetch_gone, fetch_gone_as, fork_gone, gone_for, load_gone, map_gone, open_gone, own_gone, preload_gone}
-pub use Rattle.res_calls.specs.Gone.{preload_one_gone, unless_open_gone}
+pub use Rattle.res_calls.specs.Gone.{fetch_gone, fetch_gone_as, fork_gone, gone_for, handle_gone, load_gone, map_gone, open_gone}
+pub use Rattle.res_calls.specs.Gone.{own_gone, preload_gone, preload_one_gone, unless_open_gone}
 pub use Rattle.res_calls.specs.Leaving.{FilesClosed, first_code, has_own, last_opened, leave, leave_files, left_after, left_file, left_one}
 pub use Rattle.res_calls.specs.Leaving.{left_one_of, update_code, updated_or}
 pub use Rattle.res_calls.specs.Own.{fetch_own, find_own}

@@ -1,9 +1,8 @@
 use Rattle.res_calls.proofs.Cited.{◌≡◌, ℕ, Bool, true, false, cond, List, Option, Some, None, Result, Ok, Err, refl, sym, ◌∙◌, ap, subst}
-use Rattle.res_calls.proofs.Cited.{is_some, option_map, OsErr, Memory, refill_inside, has_block, IsAnswer, Refusal, Code, HostMemory}
-use Rattle.res_calls.proofs.Cited.{Reference, with_handle, OpenFile, Resources, Found, with_reference, Managers, Answer, is_system}
-use Rattle.res_calls.proofs.Cited.{flags_of, fetch_new, fetch_again, now_filled, now_empty, now_refilled, IsFetched, IsUnread, managers}
-use Rattle.res_calls.proofs.Cited.{made_for, found_from, last_fetched, noting, fetched_as, NO_ERR, code_of, Spot, Unread}
-use Rattle.std.specs.Prelude.{not, ◌&&◌}
+use Rattle.res_calls.proofs.Cited.{option_map, OsErr, Memory, IsAnswer, Refusal, Code, HostMemory}
+use Rattle.res_calls.proofs.Cited.{Reference, with_handle, OpenFile, Resources, Found, with_reference, Managers, Answer}
+use Rattle.res_calls.proofs.Cited.{fetch_new, fetch_again, now_filled, now_empty, IsFetched, IsUnread, managers}
+use Rattle.res_calls.proofs.Cited.{◌==◌, same_Some, made_for, found_from, last_fetched, noting, fetched_as, NO_ERR, code_of, Spot, Unread}
 use Rattle.res_calls.specs.Fetch as fetch
 use Rattle.res_calls.specs.Rows as rows
 use Rattle.res_calls.specs.declared.fetched.Fetched.{Fetched}
@@ -58,11 +57,54 @@ fetch_noted call s (Ok f) r m e = (
 )
 fetch_noted call s (Err u) r m e = refused_noted call s u.refusal u.reading r m e
 
--- the reference that was found
+-- what was found, seen by one of its parts, and the reference
+pub of_found : {A : Type 0} (part : Found → A) (o : Option Found) (f : Found) (a : A) → o ≡ Some f
+    → option_map part o ≡ Some a → part f ≡ a
+of_found part o f a e p = same_Some _ _ (sym (ap (option_map part) e) ∙ p)
+
 pub here_of : (o : Option Found) (f : Found) (x : Reference) → o ≡ Some f
     → option_map (λ (f : Found). f.reference.here) o ≡ Some x → f.reference.here ≡ x
-here_of o f x e p = let same : Some f.reference.here
-    ≡ Some x = ap (option_map (λ (f : Found). f.reference.here)) (sym e) ∙ p in cc
+here_of = of_found (λ f. f.reference.here)
+
+-- a fetch by what was made of its new handle
+module _ (loading : Bool) (f : Found) (s : Managers) (x : Reference) (n : ℕ) (here : f.reference.here ≡ x)
+    (number : f.file.here.number ≡ n)
+  where
+    abbrev now_made : Bool → Result ℕ OsErr × Memory → Answer fetch.Fetched
+    now_made t y = cond t (now_filled f y s) (now_empty f y s)
+
+    new-is : fetch_new loading f s ≡ now_made loading (made_for loading (n == 0) x s.memory)
+    new-is = cases loading ∙ ap (now_made loading)
+        (ap (λ (k : ℕ). made_for loading (k == 0) f.reference.here s.memory) number
+        ∙ ap (λ (y : Reference). made_for loading (n == 0) y s.memory) here)
+      where
+        cases : (t : Bool) → fetch_new t f s ≡ now_made t (made_for t (f.file.here.number == 0) f.reference.here s.memory)
+        cases true = refl
+        cases false = refl
+
+    pub new_unread : (refusal : Refusal) (m : Memory) → IsAnswer (made_for loading (n == 0) x s.memory) (Err refusal) m
+        → IsUnread (fetch_new loading f s) refusal None (record s { memory = m })
+    new_unread HostMemory m is = tt
+    new_unread (Code code) m is = subst (λ (a : Answer fetch.Fetched). IsUnread a (Code code) None (record s { memory = m }))
+        (sym (new-is ∙ ap (now_made loading) is)) (cases loading)
+      where
+        cases : (t : Bool) → IsUnread (now_made t (Err code, m)) (Code code) None (record s { memory = m })
+        cases true = (refl, refl, refl)
+        cases false = (refl, refl, refl)
+
+    pub new_fetched : (h : ℕ) (chain : List OpenFile) (m : Memory) → with_reference (with_handle (Some h) f.reference.here) f
+        ≡ chain → IsAnswer (made_for loading (n == 0) x s.memory) (Ok h) m
+        → IsFetched (fetch_new loading f s) (given h loading) (managers (filed chain s.resources) m)
+    new_fetched h chain m kept is = subst (λ (l : List OpenFile). IsFetched (fetch_new loading f s) (given h loading)
+        (managers (filed l s.resources) m)) kept
+        (subst (λ (a : Answer fetch.Fetched). IsFetched a (given h loading)
+        (managers (filed (with_reference (with_handle (Some h) f.reference.here) f) s.resources) m))
+        (sym (new-is ∙ ap (now_made loading) is)) (cases loading))
+      where
+        cases : (t : Bool) → IsFetched (now_made t (Ok h, m)) (given h t)
+            (managers (filed (with_reference (with_handle (Some h) f.reference.here) f) s.resources) m)
+        cases true = (refl, refl)
+        cases false = (refl, refl)
 
 -- the n-th reference is fetched
 pub ind_noted : (among : rows.Among) (kind n : ℕ) (r : Resources) (m m' : Memory) (found : Option Spot) (loading : Bool)

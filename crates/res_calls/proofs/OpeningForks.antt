@@ -2,7 +2,7 @@ use Rattle.res_calls.proofs.Cited.{◌≡◌, ℕ, Bool, true, false, Some, None
 use Rattle.res_calls.proofs.Cited.{◌==◌, arith, cond, get_or, length, map, subst, le-ltb, length-map, option_map, slice_get, IfSome}
 use Rattle.res_calls.proofs.Cited.{bytes_eq, END_OF_FILE, MAP_READ, Memory, Refusal, Code, HostMemory, is_fork, content_of, Split, split}
 use Rattle.res_calls.proofs.Cited.{place, Content, Map, map_of, found-place, found-none, split-get, File, OpenFile, Resources, is_at}
-use Rattle.res_calls.proofs.Cited.{opened, fresh_resources, Managers, Answer, done, IsAnswered, IsReply, managers, open_res_file, open_fork}
+use Rattle.res_calls.proofs.Cited.{opened, Managers, Answer, done, IsAnswered, IsReply, managers, open_res_file, open_fork}
 use Rattle.res_calls.proofs.Cited.{open_as, map_in, map_read, greatest_number, launched_resources, view_file, view_open}
 use Rattle.std.specs.Prelude.{nat_lt}
 use Rattle.res_calls.specs.declared.files.File.{File as StoredFile}

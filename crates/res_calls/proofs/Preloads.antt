@@ -1,6 +1,6 @@
 use Rattle.res_calls.proofs.Cited.{◌≡◌, ℕ, ◌+◌, Bool, true, false, Option, Some, refl, sym, ◌∙◌, ap, List, [], ◌∷◌, ◌++◌, map, length, drop}
 use Rattle.res_calls.proofs.Cited.{suc, zero, cond, arith, Result, Ok, Err, ◌≤◌, subst, slice_get, slice_set, option_or, length-set, OsErr}
-use Rattle.res_calls.proofs.Cited.{Flags, Memory, Resource, nothing, Gone, Tells, made_gone, all_gone, new_inside, new_all, number_if}
+use Rattle.res_calls.proofs.Cited.{Flags, Memory, Resource, Gone, Tells, handle_gone, all_gone, new_inside, new_all, number_if}
 use Rattle.res_calls.proofs.Cited.{wanted_as, Filling, Reference, Map, is_preload, with_handle, Loaded, flags_of, given, preload_one}
 use Rattle.res_calls.proofs.Cited.{preload, loaded_both, preload_gone, filling_of, wanted_of, next_number, numbered, given_to}
 use Rattle.std.proofs.Common.{IfSome}
@@ -233,7 +233,7 @@ gone_wanted : (x : Reference) (references : List Reference) (m : Memory) → is_
     → preload_gone (x ∷ references) m ≡ all_gone (wanted_of (x ∷ references)) m
 gone_wanted x references m is again =
     let p = new_inside Resource (flags_of x) x.stored.datum m in
-    let first : List Gone = made_gone nothing x.stored.datum m.heap in
+    let first : List Gone = handle_gone true x m in
     let one : preload_one x m ≡ given x p = rw is refl in
     ap (λ (t : Bool). cond t first [] ++ preload_gone references (preload_one x m).memory) is
     ∙ ap (λ (l : Loaded). first ++ preload_gone references l.memory) (one ∙ one_read x p)
@@ -244,7 +244,7 @@ gone_other : (x : Reference) (references : List Reference) (m : Memory) → is_p
     → preload_gone references m ≡ all_gone (wanted_of references) m
     → preload_gone (x ∷ references) m ≡ all_gone (wanted_of (x ∷ references)) m
 gone_other x references m is again =
-    let first : List Gone = made_gone nothing x.stored.datum m.heap in
+    let first : List Gone = handle_gone true x m in
     let alone : Loaded = record { references = x ∷ []; memory = m; reads = [] } in
     let one : preload_one x m ≡ alone = rw is refl in
     ap (λ (t : Bool). cond t first [] ++ preload_gone references (preload_one x m).memory) is

@@ -1,13 +1,12 @@
 -- What is stored once a fetch is done, of the blocks that it purged.
-use Rattle.res_calls.proofs.Cited.{◌≡◌, inl, inr, ℕ, ℤ, ◌≤◌, Bool, true, false, not, ◌&&◌, List, [], ◌∷◌, ◌++◌, map, length, Option, Some}
-use Rattle.res_calls.proofs.Cited.{None, Result, Ok, Err, refl, sym, ◌∙◌, ap, subst, arith, map-append, OsErr, Gone, Flags, State, Memory}
-use Rattle.res_calls.proofs.Cited.{Role, new_filled, new_inside, new_empty_inside, refill_inside, has_block, resource_role, read_new}
-use Rattle.res_calls.proofs.Cited.{told_of, emptied-goes, slotted-names, Split, replaced, Reference, with_handle, has_handle, is_resource}
-use Rattle.res_calls.proofs.Cited.{is_named, ResourceAsked, served, Managers, Answer, done, flags_of, is_system, now_filled, now_empty}
-use Rattle.res_calls.proofs.Cited.{now_refilled, fetch_as, fetches, without_handles, OpenFile, Resources, Found, holding, find_from_current}
-use Rattle.res_calls.proofs.Cited.{find_in_current, is_at, gone_for, own_gone, find_own, fetch_own, Owns, heard, stored_gone, fetched_as}
-use Rattle.res_calls.proofs.Cited.{noting, nth_among, resource_of, stored_by, stored_of, stored_first, file_stored, all_stored}
-use Rattle.res_calls.proofs.Cited.{after_purges, StoresJust}
+use Rattle.res_calls.proofs.Cited.{◌≡◌, ℕ, ℤ, ◌≤◌, Bool, true, false, not, ◌&&◌, List, [], ◌∷◌, ◌++◌, map, length, Option, Some, None}
+use Rattle.res_calls.proofs.Cited.{Result, Ok, Err, refl, sym, ◌∙◌, ap, subst, map-append, OsErr, Gone, Memory, filled-number}
+use Rattle.res_calls.proofs.Cited.{emptied-number, new_inside, new_empty_inside, refill_inside, has_block, resource_role, told_of, Split}
+use Rattle.res_calls.proofs.Cited.{replaced, Reference, with_handle, has_handle, is_resource, is_named, ResourceAsked, served, Managers}
+use Rattle.res_calls.proofs.Cited.{Answer, done, flags_of, is_system, now_filled, now_empty, now_refilled, fetch_as, fetches}
+use Rattle.res_calls.proofs.Cited.{without_handles, OpenFile, Resources, Found, holding, find_from_current, find_in_current, is_at}
+use Rattle.res_calls.proofs.Cited.{gone_for, own_gone, find_own, fetch_own, Owns, heard, stored_gone, fetched_as, noting, nth_among}
+use Rattle.res_calls.proofs.Cited.{resource_of, stored_by, stored_of, stored_first, file_stored, all_stored, after_purges, StoresJust}
 use Rattle.res_calls.specs.Asked as asks
 use Rattle.res_calls.specs.Rows as rows
 use Rattle.res_calls.proofs.Keeping.{either-keeps, found-keeps}
@@ -16,7 +15,6 @@ use Rattle.res_calls.proofs.Owning.Places.{Stands, same-there, find-finds, among
 use Rattle.res_calls.proofs.StoringAll.{stores-all, with_references}
 use Rattle.res_calls.proofs.ToldGone.Calls.{fetched-none, own-none}
 use Rattle.res_calls.proofs.Walks.Own.{own-owns}
-use Rattle.res_calls.proofs.ToldGone.Filled.{Way, way}
 
 -- an item in the place of one that looks the same
 looks : {A B C : Type 0} (f : B → C) (g : A → B) (x y : A) (at : Split A) → f (g x) ≡ f (g y)
@@ -44,32 +42,6 @@ given-stores gone r at k stands none untold = ap (λ (chain : List OpenFile). re
     (with_handle (Some k) at.reference.here) at.reference.here at.reference
     (given-looks gone at.reference.here k none untold)))
     ∙ ap (λ (chain : List OpenFile). map without_handles (map (file_stored gone) chain)) (same-there r.chain at stands))
-
--- a new handle has the next number
-abbrev first_number : ℕ → List (ℕ × List ℕ) → ℕ
-first_number none [] = none
-first_number none (read ∷ reads) = read.0
-
-by-way : (flags : Flags) (s : State) (x : List ℕ) (a : Result ℕ OsErr × State) (k : ℕ) → a.0 ≡ Ok k
-    → Way flags s x a → length s.names ≤ k
-by-way flags s x a k is (inl w) =
-    let none : read_new x (Ok k) ≡ [] = ap (read_new x) (sym is) ∙ w.read in
-    let own : k ≡ length s.names = ap (first_number (length s.names)) none in omega (arith, own)
-by-way flags s x a k is (inr w) =
-    let same : read_new x (Ok k) ≡ (length s.names, x) ∷ [] = ap (read_new x) (sym is) ∙ w.read in
-    let own : k ≡ length s.names = ap (first_number 0) same in omega (arith, own)
-
-filled-number : (role : Role) (at : Found) (m : Memory) (k : ℕ)
-    → (new_inside role (flags_of at.reference.here) at.reference.here.stored.datum m).0 ≡ Ok k
-    → length m.heap.names ≤ k
-filled-number role at m k is =
-    by-way (flags_of at.reference.here) m.heap at.reference.here.stored.datum
-    (new_filled role (flags_of at.reference.here) at.reference.here.stored.datum m.heap) k is
-    (way role (flags_of at.reference.here) at.reference.here.stored.datum m.heap)
-
-emptied-number : (role : Role) (m : Memory) (k : ℕ) → (new_empty_inside role m).0 ≡ Ok k → length m.heap.names ≤ k
-emptied-number role m k = emptied-goes (λ a. a.0 ≡ Ok k → length m.heap.names ≤ k) role m.heap (λ is e. cc)
-    (λ r is e. let same : length r.names ≡ k = cc in omega (arith, same, ap length (slotted-names m.heap r is)))
 
 -- where the resources are as they were, but for a handle that is given to a reference without one
 module _ (gone : List Gone) (s : Managers) (untold : (k : ℕ) → length s.memory.heap.names ≤ k → told_of k gone ≡ [])
@@ -100,10 +72,11 @@ module _ (gone : List Gone) (s : Managers) (untold : (k : ℕ) → length s.memo
         → at.reference.here.handle ≡ o → Stores (fetch_as loading at o s).after.resources
     fetch-stores true at stands None none =
         filled-stores at stands none (new_inside (resource_role (is_system at.file.here)) (flags_of at.reference.here)
-        at.reference.here.stored.datum s.memory) (filled-number (resource_role (is_system at.file.here)) at s.memory)
+        at.reference.here.stored.datum s.memory) (filled-number (resource_role (is_system at.file.here))
+        (flags_of at.reference.here) at.reference.here.stored.datum s.memory.heap)
     fetch-stores false at stands None none =
         emptied-stores at stands none (new_empty_inside (resource_role (is_system at.file.here)) s.memory)
-        (emptied-number (resource_role (is_system at.file.here)) s.memory)
+        (emptied-number (resource_role (is_system at.file.here)) s.memory.heap)
     fetch-stores loading at stands (Some k) is =
         either-keeps (λ m. Stores m.resources) (loading && not (has_block k s.memory.heap)) _
         (done (record { handle = k; read = 0 }) s)

@@ -1,15 +1,15 @@
 use Rattle.std.specs.Prelude.{ℕ, ℤ, Bool, true, ◌&&◌, not, nat_lt, Option, Some, None, Result, Ok, Err, List, [], ◌∷◌}
-use Rattle.std.specs.Prelude.{◌++◌, length, if◌then◌else◌}
+use Rattle.std.specs.Prelude.{◌++◌, if◌then◌else◌}
 use Rattle.mac_words.specs.declared.code.OsErr.{OsErr}
-use Rattle.heap_calls.specs.Answer.{nothing}
-use Rattle.heap_calls.specs.Gone.{Gone, made_gone, slot_gone, refill_gone}
-use Rattle.heap_calls.specs.Inside.{has_block}
-use Rattle.heap_calls.specs.State.{Memory}
+use Rattle.heap_calls.specs.Gone.{Gone}
+use Rattle.heap_calls.specs.Inside.{has_block, new_filled, new_empty, refill}
+use Rattle.heap_calls.specs.Rows.{purges_made}
+use Rattle.heap_calls.specs.State.{Resource, Memory}
 use Rattle.res_map.specs.Split.{Split, place}
 use Rattle.res_map.specs.Map.{Reference, Map, is_named, is_preload, is_resource}
 use Rattle.res_calls.specs.Asked.{ResourceAsked, OpenResFile, GetResource, Get1Resource, GetNamedResource}
 use Rattle.res_calls.specs.Asked.{Get1NamedResource, GetIndResource, LoadResource}
-use Rattle.res_calls.specs.Fetch.{Managers, preload_one}
+use Rattle.res_calls.specs.Fetch.{Managers, flags_of, preload_one}
 use Rattle.res_calls.specs.Files.{File, OpenFile, Found, file_named, find_from_current, find_in_current, open_at}
 use Rattle.res_calls.specs.Own.{find_own}
 use Rattle.res_calls.specs.Rows.{greatest_number, map_in, nth_among, resource_of}
@@ -17,13 +17,17 @@ use Rattle.res_calls.specs.Rows.{greatest_number, map_in, nth_among, resource_of
 -- What a call of the Resource Manager purges for room: the handle and the bytes of each block, the lowest block of each
 -- search first. More Macintosh Toolbox, chapter 1, "Reading Resources into Memory".
 
--- The blocks that a fetch purges: for a new handle, with a block where loading is on; or for a new block of an empty
--- handle, where loading is on.
+-- The blocks that the new handle of a reference purges, whatever its role: with a block where loading is on, and else
+-- without one.
+abbrev pub handle_gone : Bool → Reference → Memory → List Gone
+handle_gone loading x m = if loading then purges_made (new_filled Resource (flags_of x) x.stored.datum) m.heap
+    else purges_made (new_empty Resource) m.heap
+
+-- The blocks that a fetch purges: for a new handle; or for a new block of an empty handle, where loading is on.
 abbrev pub fetch_gone_as : Bool → Found → Option ℕ → Managers → List Gone
-fetch_gone_as loading at None s =
-    if loading then made_gone nothing at.reference.here.stored.datum s.memory.heap else slot_gone nothing s.memory.heap
+fetch_gone_as loading at None s = handle_gone loading at.reference.here s.memory
 fetch_gone_as loading at (Some h) s = if loading && not (has_block h s.memory.heap)
-    then refill_gone h (length at.reference.here.stored.datum) s.memory.heap else []
+    then purges_made (refill h (flags_of at.reference.here) at.reference.here.stored.datum) s.memory.heap else []
 
 -- The blocks that the fetch of a found reference purges.
 abbrev pub fetch_gone : Bool → Option Found → Managers → List Gone
@@ -36,7 +40,7 @@ fetched_gone found s = fetch_gone s.resources.loading found s
 
 -- The blocks that the preloading of some references purges, for one after another.
 abbrev pub preload_one_gone : Reference → Memory → List Gone
-preload_one_gone x m = if is_preload x then made_gone nothing x.stored.datum m.heap else []
+preload_one_gone x m = if is_preload x then handle_gone true x m else []
 
 abbrev pub preload_gone : List Reference → Memory → List Gone
 preload_gone [] m = []

@@ -4,8 +4,6 @@ use Rattle.std.specs.List.{list_any}
 use Rattle.byteorder.specs.Endian.{big_number}
 use Rattle.mac_words.specs.declared.code.OsErr.{OsErr}
 use Rattle.mac_words.specs.declared.code.TheConstants.OsErr.{NO_ERR}
-use Rattle.heap_calls.specs.Answer.{nothing}
-use Rattle.heap_calls.specs.Gone.{Gone, made_gone, slot_gone}
 use Rattle.heap_calls.specs.State.{Memory}
 use Rattle.heap_calls.specs.Inside.{new_inside, new_empty_inside, resource_role}
 use Rattle.heap_calls.specs.declared.refusal.Refusal.{Refusal}
@@ -99,10 +97,6 @@ chained files r = record r { chain = map view_open files }
 abbrev pub made_for : Bool → Bool → Reference → Memory → Result ℕ OsErr × Memory
 made_for loading guarded x m = if loading then new_inside (resource_role guarded) (flags_of x) x.stored.datum m
     else new_empty_inside (resource_role guarded) m
-
--- The blocks that the new handle purges.
-abbrev pub handle_gone : Bool → Reference → Memory → List Gone
-handle_gone loading x m = if loading then made_gone nothing x.stored.datum m.heap else slot_gone nothing m.heap
 
 -- The fetch of the reference that a search finds; -192 (resNotFound) where no reference was found.
 abbrev pub fetch_wanted : Within → Wanted → Bool → Managers → Answer fetch.Fetched

@@ -4,8 +4,8 @@
 
 ghost use Rattle.std.specs.Prelude.{◌≡◌, ◌⊎◌, ◌<◌, IsTrue, IsErr, IfOk, OnOk, OnErr, Ok, true};
 ghost use Rattle.std.specs.Prelude.{false, map, drop, length};
-ghost use Rattle.heap_calls.specs.Gone.{TellsNothing, IsIdle, all_gone, Hears};
-ghost use Rattle.heap_calls.specs.Inside.{new_all};
+ghost use Rattle.heap_calls.specs.Gone.{TellsNothing, IsIdle, Hears};
+ghost use Rattle.heap_calls.specs.Inside.{new_all, all_gone};
 ghost use Rattle.heap_calls.specs.Inner.Filling.{wanted_as};
 ghost use Rattle.heap_calls.specs.Preloaded.{MadeSome};
 ghost use Rattle.res_map.specs.Map.{is_preload};

@@ -1,10 +1,10 @@
 use Rattle.heap_calls.proofs.Cited.{◌≡◌, ℕ, zero, suc, Bool, true, false, List, [], ◌∷◌, ◌++◌, length, refl, sym, ◌∙◌, ap, cond, Option}
-use Rattle.heap_calls.proofs.Cited.{Some, None, Result, Ok, Err, is_some, slice_get, slice_set, none-some, phys, OsErr, MEM_FULL, Flags}
-use Rattle.heap_calls.proofs.Cited.{Block, Relocatable, room, put_in_place, counted, Role, Plain, Meaning, Handle, Pointer, Disposed, State}
-use Rattle.heap_calls.proofs.Cited.{Memory, Answer, nothing, given, refused, known_as, slotted, if_ready, made, new_handle_moves}
-use Rattle.heap_calls.proofs.Cited.{new_handle_searches, new_empty_handle_searches, new_filled, new_empty, new_inside, new_empty_inside}
-use Rattle.heap_calls.proofs.Cited.{inside, cast, cast_as, resource_role, owned_as, guarded_as, owned_by, IsAnswer, Refusal, Code}
-use Rattle.heap_calls.proofs.Cited.{HostMemory}
+use Rattle.heap_calls.proofs.Cited.{Some, None, Result, Ok, Err, slice_get, slice_set, none-some, OsErr, Flags, Relocatable, Put, Did, did}
+use Rattle.heap_calls.proofs.Cited.{Sought, seek, if_fits, seek_slot, then_seek, counted, Role, Plain, Meaning, Handle, Pointer, Disposed}
+use Rattle.heap_calls.proofs.Cited.{State, Memory, Answer, nothing, known_as, is_unused, doing_silently, reply_of, new_inside}
+use Rattle.heap_calls.proofs.Cited.{new_empty_inside, inside, cast, cast_as, resource_role, owned_as, guarded_as, owned_by, IsAnswer}
+use Rattle.heap_calls.proofs.Cited.{Refusal, Code, HostMemory}
+use Rattle.heap_calls.specs.Rows.{given}
 
 -- A new handle gets its role after it was made.
 
@@ -58,70 +58,39 @@ abbrev recast : Role → Result ℕ OsErr → State → State
 recast role (Ok n) s = cast (λ _. role) n s
 recast role (Err code) s = s
 
-abbrev recasted : Role → Answer ℕ → Answer ℕ
-recasted role a = (a.0, recast role a.0 a.1)
-
-given-role : (role : Role) (o : Option (List Block)) (s : State)
-    → given (Handle role) o s ≡ recasted role (given (Handle Plain) o s)
-given-role role None s = refl
-given-role role (Some zone) s =
-    let t : State = record { zone = zone; names = s.names ++ Handle Plain ∷ [] } in
-    sym (ap (λ o. (Ok (length s.names), cast_as (λ _. role) (known_as (length s.names) o) t))
-    (get-last s.names (Handle Plain))
-    ∙ ap (λ l. (Ok (length s.names), let u : State = record { zone = zone; names = l } in u))
-    (set-last s.names (Handle Plain) (Handle role)))
-
-filled-role : (role : Role) (flags : Flags) (x : List ℕ) (s : State)
-    → new_filled role flags x s ≡ recasted role (new_filled Plain flags x s)
-filled-role role flags x s = cases (slotted nothing s)
-  where
-    block : (ready : State) (t : Bool) → cond t (made role flags nothing x ready) (refused MEM_FULL ready)
-        ≡ recasted role (cond t (made Plain flags nothing x ready) (refused MEM_FULL ready))
-    block ready true = given-role role (room (put_in_place (Relocatable (length ready.names) flags x)) nothing
-        ready.zone) ready
-    block ready false = refl
-
-    cases : (o : Option State)
-        → if_ready o s (λ ready. cond (is_some (phys (length x))) (made role flags nothing x ready)
-        (refused MEM_FULL ready)) ≡ recasted role (if_ready o s (λ ready. cond (is_some (phys (length x)))
-        (made Plain flags nothing x ready) (refused MEM_FULL ready)))
-    cases None = refl
-    cases (Some ready) = block ready (is_some (phys (length x)))
-
-emptied-role : (role : Role) (s : State) → new_empty role s ≡ recasted role (new_empty Plain s)
-emptied-role role s = cases (slotted nothing s)
-  where
-    cases : (o : Option State) → if_ready o s (λ ready. given (Handle role) (Some ready.zone) ready)
-        ≡ recasted role (if_ready o s (λ ready. given (Handle Plain) (Some ready.zone) ready))
-    cases None = refl
-    cases (Some ready) = given-role role (Some ready.zone) ready
-
 -- the same in a memory
 abbrev recast_inside : Role → Result ℕ OsErr × Memory → Result ℕ OsErr × Memory
 recast_inside role a = (a.0, inside (recast role a.0) a.1)
 
-inside-role : (role : Role) (flags : Flags) (x : List ℕ) (m : Memory)
-    → new_inside role flags x m ≡ recast_inside role (new_inside Plain flags x m)
-inside-role role flags x m =
-    ap (λ (a : Answer ℕ). (
-      a.0,
-      record m {
-        heap = a.1;
-        log = record m.log { searches = counted m.log.searches (new_handle_searches (length x) m.heap) };
-        moves = counted m.moves (new_handle_moves (length x) m.heap);
-      },
-    )) (filled-role role flags x m.heap)
+given-role : (role : Role) (r : Sought) (m : Memory) → doing_silently (given (Handle role) nothing r) m
+    ≡ recast_inside role (doing_silently (given (Handle Plain) nothing r) m)
+given-role role r m = ap (λ (a : Answer ℕ). (
+  a.0,
+  record m {
+    heap = a.1;
+    log = record m.log { searches = counted m.log.searches d.searches };
+    moves = counted m.moves d.lowered;
+  },
+)) (cases r.found)
+  where
+    s : State
+    s = m.heap
 
-emptied_inside-role : (role : Role) (m : Memory)
-    → new_empty_inside role m ≡ recast_inside role (new_empty_inside Plain m)
-emptied_inside-role role m =
-    ap (λ (a : Answer ℕ). (
-      a.0,
-      record m {
-        heap = a.1;
-        log = record m.log { searches = counted m.log.searches (new_empty_handle_searches m.heap) };
-      },
-    )) (emptied-role role m.heap)
+    d : Did
+    d = did nothing r.path s.zone
+
+    after : Role → Bool → State
+    after role t = record { zone = d.zone; names = cond t (s.names ++ Handle role ∷ []) s.names }
+
+    answer : Bool → State → Answer ℕ
+    answer t now = (reply_of t (length s.names), now)
+
+    cases : (t : Bool) → answer t (after role t) ≡ answer t (recast role (reply_of t (length s.names)) (after Plain t))
+    cases true =
+        sym (ap (λ o. answer true (cast_as (λ _. role) (known_as (length s.names) o) (after Plain true)))
+        (get-last s.names (Handle Plain))
+        ∙ ap (λ l. answer true (record { zone = d.zone; names = l })) (set-last s.names (Handle Plain) (Handle role)))
+    cases false = refl
 
 -- what is given back of a handle that was made and became a resource's
 recast-answer : (guarded : Bool) (a b : Result ℕ OsErr × Memory) (r : Result ℕ Refusal) (mid new : Memory)
@@ -137,12 +106,16 @@ pub owned-answer : (guarded : Bool) (flags : Flags) (x : List ℕ) (old mid new 
     → IsAnswer (new_inside Plain flags x old) r mid → new ≡ inside (owned_by guarded r) mid
     → IsAnswer (new_inside (resource_role guarded) flags x old) r new
 owned-answer guarded flags x old mid new r is now =
-    recast-answer guarded (new_inside Plain flags x old) (new_inside (resource_role guarded) flags x old) r mid new
-    (inside-role (resource_role guarded) flags x old) is now
+    let s = old.heap in
+    let role = resource_role guarded in
+    recast-answer guarded (new_inside Plain flags x old) (new_inside role flags x old) r mid new
+    (given-role role (then_seek nothing s.zone (seek_slot (is_unused s) nothing s.zone)
+    (λ z. if_fits (length x) (seek (Put (Relocatable (length s.names) flags x)) nothing z))) old) is now
 
 pub owned-emptied : (guarded : Bool) (old mid new : Memory) (r : Result ℕ Refusal)
     → IsAnswer (new_empty_inside Plain old) r mid → new ≡ inside (owned_by guarded r) mid
     → IsAnswer (new_empty_inside (resource_role guarded) old) r new
 owned-emptied guarded old mid new r is now =
-    recast-answer guarded (new_empty_inside Plain old) (new_empty_inside (resource_role guarded) old) r mid new
-    (emptied_inside-role (resource_role guarded) old) is now
+    let role = resource_role guarded in
+    recast-answer guarded (new_empty_inside Plain old) (new_empty_inside role old) r mid new
+    (given-role role (seek_slot (is_unused old.heap) nothing old.heap.zone) old) is now

@@ -1,7 +1,7 @@
 use Rattle.heap_calls.proofs.Cited.{◌≡◌, ℕ, ◌+◌, ◌<◌, Bool, true, List, [], ◌∷◌, ◌++◌, length, take, Option, inl, inr, refl, sym, ◌∙◌, ap}
 use Rattle.heap_calls.proofs.Cited.{append_assoc, append-nil, subst, map, get_or, get_or-map, take_more, length-map, Flags, Memory}
-use Rattle.heap_calls.proofs.Cited.{Resource, nothing, Gone, Tells, slot_gone, made_gone, all_gone, new_inside, new_all, number_if}
-use Rattle.heap_calls.proofs.Cited.{LeavesMasters, LeavesUnmade, MadeSome, IsNext, wanted_as, Filling}
+use Rattle.heap_calls.proofs.Cited.{Resource, nothing, Gone, Tells, slot_gone, purges_made, new_filled, all_gone, new_inside, new_all}
+use Rattle.heap_calls.proofs.Cited.{number_if, LeavesMasters, LeavesUnmade, MadeSome, IsNext, wanted_as, Filling}
 
 -- New resources one after another, as far as they were made, and what a sink was told of them.
 
@@ -24,12 +24,12 @@ all-more (v ∷ ws) w m =
     (all-more ws w (new_inside Resource v.0 v.1 m).1)
 
 gone-more : (ws : List (Flags × List ℕ)) (w : Flags × List ℕ) (m : Memory)
-    → all_gone (ws ++ w ∷ []) m ≡ all_gone ws m ++ made_gone nothing w.1 (new_all ws m).1.heap
-gone-more [] w m = append-nil (made_gone nothing w.1 m.heap)
+    → all_gone (ws ++ w ∷ []) m ≡ all_gone ws m ++ purges_made (new_filled Resource w.0 w.1) (new_all ws m).1.heap
+gone-more [] w m = append-nil (purges_made (new_filled Resource w.0 w.1) m.heap)
 gone-more (v ∷ ws) w m =
-    ap (λ l. made_gone nothing v.1 m.heap ++ l) (gone-more ws w (new_inside Resource v.0 v.1 m).1)
-    ∙ sym (append_assoc (made_gone nothing v.1 m.heap) (all_gone ws (new_inside Resource v.0 v.1 m).1)
-    (made_gone nothing w.1 (new_all ws (new_inside Resource v.0 v.1 m).1).1.heap))
+    ap (λ l. purges_made (new_filled Resource v.0 v.1) m.heap ++ l) (gone-more ws w (new_inside Resource v.0 v.1 m).1)
+    ∙ sym (append_assoc (purges_made (new_filled Resource v.0 v.1) m.heap) (all_gone ws (new_inside Resource v.0 v.1 m).1)
+    (purges_made (new_filled Resource w.0 w.1) (new_all ws (new_inside Resource v.0 v.1 m).1).1.heap))
 
 -- what is told behind what was told
 tells-on : {A : Type 0} (told : A → List Gone → Type 0) (first more all : List Gone) (a b c : A)
@@ -44,7 +44,7 @@ module _ {A : Type 0} (told : A → List Gone → Type 0) (listens : Bool) (k : 
   where
     made-more : (w : Flags × List ℕ) (number : Option ℕ) (new : Memory) (after : A)
         → take (k + 1) ws ≡ take k ws ++ w ∷ [] → IsNext w.0 w.1 mid number new
-        → (listens ≡ true → Tells told (made_gone nothing w.1 mid.heap) s after)
+        → (listens ≡ true → Tells told (purges_made (new_filled Resource w.0 w.1) mid.heap) s after)
         → MadeSoFar told listens (k + 1) ws old (numbers ++ number ∷ []) new before after
     made-more w number new after on next tells =
         let all = ap (λ l. new_all l old) on ∙ all-more (take k ws) w old in
@@ -55,10 +55,10 @@ module _ {A : Type 0} (told : A → List Gone → Type 0) (listens : Bool) (k : 
               ∙ sym (ap (λ (p : List (Option ℕ) × Memory). p.0) all);
           memory = sym next.1 ∙ ap (λ m. (new_inside Resource w.0 w.1 m).1) made.memory
               ∙ sym (ap (λ (p : List (Option ℕ) × Memory). p.1) all);
-          tells = λ is. tells-on told (all_gone (take k ws) old) (made_gone nothing w.1 mid.heap)
+          tells = λ is. tells-on told (all_gone (take k ws) old) (purges_made (new_filled Resource w.0 w.1) mid.heap)
               (all_gone (take (k + 1) ws) old) before s after (made.tells is) (tells is)
               (ap (λ l. all_gone l old) on ∙ gone-more (take k ws) w old
-              ∙ ap (λ (m : Memory). all_gone (take k ws) old ++ made_gone nothing w.1 m.heap) (sym made.memory));
+              ∙ ap (λ (m : Memory). all_gone (take k ws) old ++ purges_made (new_filled Resource w.0 w.1) m.heap) (sym made.memory));
         }
 
     stops-there : k < length ws → listens ≡ true → (new : Memory) (after : A) → LeavesUnmade told mid new s after
@@ -91,7 +91,8 @@ module _ {A : Type 0} (told : A → List Gone → Type 0) (listens : Bool) (k : 
     -- the next was made
     pub made-next : (d : Filling) (number : Option ℕ) (new : Memory) (after : A)
         → IsNext (get_or wanted k d).flags (get_or wanted k d).bytes.now mid number new
-        → (listens ≡ true → Tells told (made_gone nothing (get_or wanted k d).bytes.now mid.heap) s after)
+        → (listens ≡ true → Tells told (purges_made (new_filled Resource
+        (get_or wanted k d).flags (get_or wanted k d).bytes.now) mid.heap) s after)
         → MadeSoFar told listens (k + 1) (map wanted_as wanted) old (numbers ++ number ∷ []) new before after
     made-next d number new after next tells =
         made-more told listens k (map wanted_as wanted) old numbers mid before s made (wanted_as (get_or wanted k d))

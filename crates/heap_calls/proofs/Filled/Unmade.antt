@@ -1,11 +1,11 @@
 use Rattle.heap_calls.proofs.Cited.{◌≡◌, ◌⊎◌, Some, ℕ, ◌*◌, List, length, inl, inr, refl, sym, ◌∙◌, ap, subst, Block, count, is_masters}
 use Rattle.heap_calls.proofs.Cited.{rename, Rest, IsRest, Nothing, Anchor, Log, Memory, CountedMemory, nothing, Gone, Tells, TellsNothing}
-use Rattle.heap_calls.proofs.Cited.{slot_gone, made_gone, LeavesUnmade, LeavesMasters, slotted_zone, memory_of, heap_of, handle_number}
-use Rattle.heap_calls.proofs.Cited.{pointer_number, Agrees, zone_slotted, HasMore, zone_slot_gone, told_along, seek_new, fresh_block}
-use Rattle.heap_calls.proofs.Cited.{LeavesSlot}
-use Rattle.heap_calls.proofs.GoneBlocks.{slot_gone-is}
+use Rattle.heap_calls.proofs.Cited.{slot_gone, Role, Flags, new_filled, purges_made, LeavesUnmade, LeavesMasters, slotted_zone, memory_of}
+use Rattle.heap_calls.proofs.Cited.{heap_of, handle_number, pointer_number, Agrees, zone_slotted, HasMore, zone_slot_gone, told_along}
+use Rattle.heap_calls.proofs.Cited.{seek_new, fresh_block, LeavesSlot}
+use Rattle.heap_calls.proofs.GoneBlocks.{slot_gone-is, slotted_zone-is}
 use Rattle.heap_calls.proofs.Made.{filled-gone}
-use Rattle.heap_calls.proofs.NewBlocks.NewHandles.{kept-still, slotted_zone-is}
+use Rattle.heap_calls.proofs.NewBlocks.NewHandles.{kept-still}
 use Rattle.heap_calls.proofs.Numbering.Changing.{memory-same}
 use Rattle.heap_calls.proofs.Numbering.Memories.{memory_as, placings_as, counted_as}
 
@@ -15,14 +15,14 @@ module _ {A : Type 0} (told : A → List Gone → Type 0) (value : Memory) (zone
     (es copy : List Anchor) (log : Log) (masters : rest.all ≡ 64 * count is_masters zone)
     (is : memory_of zone rest es log ≡ value) (agrees : Agrees zone rest es) (copied : copy ≡ es) (before after : A)
   where
-    pub made-told : (bytes : List ℕ) → Tells told (told_along copy nothing (seek_new Nothing rest.unused (length bytes)
-        (fresh_block 0 (length bytes)) zone) zone) before after
-        → Tells told (made_gone nothing bytes value.heap) before after
-    made-told bytes was =
+    pub made-told : (role : Role) (flags : Flags) (bytes : List ℕ) → Tells told (told_along copy nothing
+        (seek_new Nothing rest.unused (length bytes) (fresh_block 0 (length bytes)) zone) zone) before after
+        → Tells told (purges_made (new_filled role flags bytes) value.heap) before after
+    made-told role flags bytes was =
         subst (λ (l : List Gone). Tells told l before after)
         (ap (λ (e : List Anchor). told_along e nothing (seek_new Nothing rest.unused (length bytes)
-        (fresh_block 0 (length bytes)) zone) zone) copied ∙ filled-gone zone rest es masters agrees bytes
-        ∙ ap (λ (m : Memory). made_gone nothing bytes m.heap) is) was
+        (fresh_block 0 (length bytes)) zone) zone) copied ∙ filled-gone zone rest es masters agrees role flags bytes
+        ∙ ap (λ (m : Memory). purges_made (new_filled role flags bytes) m.heap) is) was
 
     -- where no slot was taken
     pub left-same : (zone' : List Block) (rest' : Rest) (es' : List Anchor) → es' ≡ es → zone' ≡ zone

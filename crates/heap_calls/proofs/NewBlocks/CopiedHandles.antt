@@ -1,21 +1,18 @@
-use Rattle.heap_calls.proofs.Cited.{Went}
-use Rattle.heap_calls.proofs.Cited.{◌≡◌, ℕ, ◌*◌, ◌≤◌, ◌<◌, zero, suc, Bool, true, false, List, [], ◌∷◌, ◌++◌, length, refl, sym, ◌∙◌, ap}
-use Rattle.heap_calls.proofs.Cited.{subst, cond, arith, Option, Some, None, is_some, slice_get, Ok, Err, option_map, ok_or}
-use Rattle.heap_calls.proofs.Cited.{unwrap_or, none-some, le-leb, phys, padded, OsErr, NIL_HANDLE, Block, Relocatable, count, is_masters}
-use Rattle.heap_calls.proofs.Cited.{sizes, is_relocatable, no_flags, content_of, rename, rename_block, Spot, spot, rename_spot}
-use Rattle.heap_calls.proofs.Cited.{has, is_used, Rest, counted, GREATEST_ZONE, spot-passes, Put, seek, State}
-use Rattle.heap_calls.proofs.Cited.{Memory, Held, look_up, copying_zone, copy_slot_gone, found_gone, slot_gone, doing_silently, purges_made}
-use Rattle.heap_calls.proofs.Cited.{next_block, hand_to_hand, Anchor, Found, Log, slot_of, entered, number_of}
-use Rattle.heap_calls.proofs.Cited.{zone_slotted, state_of, memory_of, handle_number, pointer_number, no_number, Agrees}
-use Rattle.heap_calls.proofs.Cited.{zone_slot_gone, HasSlot, bytes_of, seek_new, fresh_block, told_along, length-replicate}
+use Rattle.heap_calls.proofs.Cited.{Went, ◌≡◌, ℕ, ◌*◌, ◌≤◌, ◌<◌, zero, suc, Bool, true, false, List, [], ◌∷◌, ◌++◌, length, refl, sym, ◌∙◌}
+use Rattle.heap_calls.proofs.Cited.{ap, subst, cond, arith, Option, Some, None, is_some, slice_get, Ok, Err, option_map, ok_or, unwrap_or}
+use Rattle.heap_calls.proofs.Cited.{none-some, le-leb, phys, padded, OsErr, NIL_HANDLE, Block, Relocatable, count, is_masters, sizes}
+use Rattle.heap_calls.proofs.Cited.{is_relocatable, no_flags, content_of, rename, rename_block, Spot, spot, rename_spot, has, is_used, Rest}
+use Rattle.heap_calls.proofs.Cited.{counted, GREATEST_ZONE, spot-passes, Put, seek, State, Memory, Held, look_up, copying_zone}
+use Rattle.heap_calls.proofs.Cited.{doing_silently, purges_made, next_block, hand_to_hand, Anchor, Found, Log, slot_of, entered, number_of}
+use Rattle.heap_calls.proofs.Cited.{zone_slotted, state_of, memory_of, handle_number, pointer_number, no_number, Agrees, zone_slot_gone}
+use Rattle.heap_calls.proofs.Cited.{HasSlot, bytes_of, seek_new, fresh_block, told_along, length-replicate, some_left, copying_gone}
 use Rattle.block_store.specs.declared.sparing.Sparing.TheVariants as sparing
 use Rattle.heap_calls.specs.Rows.{refused, for_found, made}
 use Rattle.heap_calls.specs.declared.anchor.Anchor.TheVariants.{Handle}
-use Rattle.heap_calls.proofs.GoneBlocks.{slot_gone-is}
-use Rattle.heap_calls.proofs.Cited.{some_left}
+use Rattle.heap_calls.specs.State as names
+use Rattle.heap_calls.proofs.GoneBlocks.{slot_gone-is, slotted_zone-is}
 use Rattle.heap_calls.proofs.Made.{made-agrees, made-is, made-gone}
 use Rattle.heap_calls.proofs.NewBlocks.Seeking.{seek_made}
-use Rattle.heap_calls.proofs.NewBlocks.NewHandles.{slotted_zone-is}
 use Rattle.heap_calls.proofs.Numbering.Answering.{slot_of-ok, look_up-by, held, content_of-rename, place-small, header-fits}
 use Rattle.heap_calls.proofs.Numbering.Numbers.{is_relocatable-number}
 
@@ -47,7 +44,7 @@ copy-nil zone rest es handle h source is at agrees small none =
 -- what is answered for it, or for a name that is no handle's
 pub copy-none : (handle : Option ℕ) (s : State) (code : OsErr) → look_up handle s ≡ Err code
     → hand_to_hand handle s ≡ refused code s
-copy-none handle s code none = ap (λ r. for_found r s (λ (x : Held). made (is_relocatable x.number)
+copy-none handle s code none = ap (λ r. for_found r s (λ (x : Held). made (names.Handle names.Plain) (is_relocatable x.number)
     (seek (Put (next_block (content_of x.at.here) s)) (is_relocatable x.number)) s)) none
 
 -- the handle of a slot that was looked up in a copy of the entries
@@ -92,11 +89,11 @@ module _ (zone : List Block) (rest : Rest) (es : List Anchor) (masters : rest.al
     fits : (m : ℕ) → m ≡ n → is_some (phys m) ≡ true
     fits m same = ap (λ t. is_some (cond t (Some (padded m)) None)) (le-leb m 2147483616 (omega (arith, k.few)))
 
-    row : hand_to_hand handle s ≡ made own (seek (Put (next_block bytes s)) own) s
+    row : hand_to_hand handle s ≡ made (names.Handle names.Plain) own (seek (Put (next_block bytes s)) own) s
     row =
-        ap (λ r. for_found r s (λ (x : Held). made (is_relocatable x.number)
+        ap (λ r. for_found r s (λ (x : Held). made (names.Handle names.Plain) (is_relocatable x.number)
         (seek (Put (next_block (content_of x.at.here) s)) (is_relocatable x.number)) s)) found
-        ∙ ap (λ x. made own (seek (Put (next_block x s)) own) s)
+        ∙ ap (λ x. made (names.Handle names.Plain) own (seek (Put (next_block x s)) own) s)
         (content_of-rename (handle_number es) (pointer_number es) k.a.here)
 
     -- what is answered
@@ -135,10 +132,9 @@ module _ (zone : List Block) (rest : Rest) (es : List Anchor) (masters : rest.al
         (next_block bytes s) true (ap padded (length-replicate n 0 ∙ sym k.long)) row
 
     -- for the master pointer, and the zone that is left then
-    pub copy_slot_gone-is : zone_slot_gone es (sparing.One f.slot) rest.unused zone ≡ copy_slot_gone handle s
-    copy_slot_gone-is =
-        sym (ap (λ r. found_gone r (λ (h : Held). slot_gone (is_relocatable h.number) s)) found
-        ∙ sym (slot_gone-is zone rest es masters agrees own (sparing.One f.slot) spares))
+    pub copying_gone-is : zone_slot_gone es (sparing.One f.slot) rest.unused zone ≡ copying_gone (look_up handle s) s
+    copying_gone-is =
+        slot_gone-is zone rest es masters agrees own (sparing.One f.slot) spares ∙ sym (ap (λ r. copying_gone r s) found)
 
     pub copying_zone-is : (zone' : List Block) → zone_slotted (sparing.One f.slot) rest.unused zone ≡ Some zone'
         → copying_zone (look_up handle s) s ≡ rename (handle_number es) (pointer_number es) zone'

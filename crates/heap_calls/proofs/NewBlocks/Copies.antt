@@ -1,16 +1,16 @@
 use Rattle.heap_calls.proofs.Cited.{◌≡◌, ℕ, ◌+◌, ◌≤◌, Bool, true, false, ◌==◌, List, ◌∷◌, ◌++◌, length, take, drop, refl, sym, ◌∙◌, ap}
 use Rattle.heap_calls.proofs.Cited.{subst, cond, arith, Option, Some, None, is_some, unwrap_or, filter, option_map, IfSome, IsSomeAnd}
-use Rattle.heap_calls.proofs.Cited.{IsTrue, none-some, same_Some, false_from_ne_true, false≢true, Decides-eqb, length-replicate}
-use Rattle.heap_calls.proofs.Cited.{take-length, drop-length, phys, Block, Masters, Relocatable, count, is_relocatable, no_flags}
-use Rattle.heap_calls.proofs.Cited.{content_of, with_content, written, Spot, spot, spot_at, room, put_in_place, FindsLowest}
-use Rattle.heap_calls.proofs.Cited.{Unused, is_used, Rest, IsRest, some_and, fresh_block, filter-room_base, filter-room_place, here-same}
-use Rattle.heap_calls.proofs.Cited.{IsFresh, HasSlot, MakesBlock, Taken, seek_new, some_left, bytes_of, replaced_at, Went}
+use Rattle.heap_calls.proofs.Cited.{IsTrue, none-some, same_Some, false_from_ne_true, Decides-eqb, length-replicate, take-length}
+use Rattle.heap_calls.proofs.Cited.{drop-length, phys, Block, Masters, Relocatable, count, is_relocatable, no_flags, content_of}
+use Rattle.heap_calls.proofs.Cited.{with_content, written, Spot, spot, spot_at, room, put_in_place, FindsLowest, Unused, is_used, Rest}
+use Rattle.heap_calls.proofs.Cited.{IsRest, some_and, fresh_block, filter-room_base, filter-room_place, here-same, IsFresh, HasSlot}
+use Rattle.heap_calls.proofs.Cited.{MakesBlock, Taken, seek_new, some_left, bytes_of, replaced_at, Went, put_at_base, Put, Base, Did, did}
+use Rattle.heap_calls.proofs.Cited.{did-append, Sought, no_room, seek, if_fits, seek_slot}
 use Rattle.std.proofs.lemmas.List.{append-nil}
 use Rattle.block_store.specs.declared.sparing.Sparing.TheVariants as sparing
 use Rattle.heap_calls.proofs.Filled.Replaced.{fresh-replaced}
 use Rattle.heap_calls.proofs.NewBlocks.Placing.{makes-with, makes-own}
-use Rattle.heap_calls.proofs.Same.Agreeing.{on_some}
-use Rattle.heap_calls.proofs.Same.NewBlocks.{slot_after, new-agrees}
+use Rattle.heap_calls.proofs.Same.Agreeing.{seek-leaves}
 
 -- A copy of a block: a new block of as many bytes 0, into which the bytes are written.
 
@@ -61,31 +61,41 @@ module _ (source n slot : ℕ) (zone zone1 : List Block) (rest rest1 : Rest) (ma
         let w = subst (λ (o : Option ℕ). Went mine zone (seek_new (sparing.One source) rest.unused n
         (fresh_block (unwrap_or o 0) n) zone) (is_some o) made.searches zone1 rest rest1) is
         (makes-own mine n (seek_new (sparing.One source) rest.unused n) zone made zone1 rest rest1 makes fresh once) in
-        let a = new-agrees 0 mine (some_left rest.unused) new (omega arith) (is_some (phys n)) zone in
-        both (some_left rest.unused) (slot_after mine (some_left rest.unused) zone) refl (a.finds ∙ sym w.finds)
-        (a.leaves ∙ sym w.leaves)
+        ap (filter mine) w.leaves ∙ both first.found ∙ slotted (some_left rest.unused)
       where
-        after : List Block → Option (List Block)
-        after z = cond (is_some (phys n)) (room (put_in_place new) mine z) None
+        first : Sought
+        first = seek_slot (some_left rest.unused) mine zone
 
-        slotted : (u : Bool) (ready : List Block) → slot_after mine u zone ≡ Some ready
-            → filter mine ready ≡ filter mine zone
-        slotted true ready e = ap (filter mine) (sym (same_Some _ _ e))
-        slotted false ready e = filter-room_base mine mine (λ n. refl) (λ b is. is) Masters refl zone ready e
+        ready : List Block
+        ready = (did mine first.path zone).zone
 
-        placed : (ready : List Block) (t : Bool) (o : Option (List Block)) → room (put_in_place new) mine ready ≡ o
-            → is_some (cond t o None) ≡ true → unwrap_or (cond t o None) ready ≡ zone1 → filter mine zone1 ≡ filter mine ready
-        placed ready true (Some z) e f g =
-            filter-room_place mine mine (λ n. refl) (λ b is. is) new other ready zone1 (e ∙ ap Some g)
-        placed ready true None e f g = absurd (false≢true f)
-        placed ready false o e f g = absurd (false≢true f)
+        more : Sought
+        more = if_fits n (seek (Put new) mine ready)
 
-        both : (u : Bool) (o : Option (List Block)) → slot_after mine u zone ≡ o
-            → on_some false (λ z. is_some (after z)) o ≡ true → on_some zone (λ z. unwrap_or (after z) z) o ≡ zone1
-            → filter mine zone1 ≡ filter mine zone
-        both u None e f g = absurd (false≢true f)
-        both u (Some ready) e f g =
-            placed ready (is_some (phys n)) (room (put_in_place new) mine ready) refl f g ∙ slotted u ready e
+        by_room : (o : Option (List Block)) (z : List Block)
+            → ((after : List Block) → o ≡ Some after → filter mine after ≡ filter mine z)
+            → filter mine (unwrap_or o z) ≡ filter mine z
+        by_room None z each = refl
+        by_room (Some after) z each = each after refl
+
+        slotted : (u : Bool) → filter mine (did mine (seek_slot u mine zone).path zone).zone ≡ filter mine zone
+        slotted true = refl
+        slotted false = ap (filter mine) (seek-leaves mine (Base Masters) zone)
+            ∙ by_room (room (put_at_base Masters) mine zone) zone
+            (filter-room_base mine mine (λ n. refl) (λ b is. is) Masters refl zone)
+
+        placed : (t : Bool) → filter mine (did mine (cond t (seek (Put new) mine ready) no_room).path ready).zone
+            ≡ filter mine ready
+        placed true = ap (filter mine) (seek-leaves mine (Put new) ready)
+            ∙ by_room (room (put_in_place new) mine ready) ready
+            (filter-room_place mine mine (λ n. refl) (λ b is. is) new other ready)
+        placed false = refl
+
+        both : (t : Bool) → filter mine (did mine (cond t (record { found = more.found; path = first.path ++ more.path }) first).path
+            zone).zone ≡ filter mine ready
+        both true = ap (λ (d : Did). filter mine d.zone) (did-append mine first.path more.path zone)
+            ∙ placed (is_some (phys n))
+        both false = refl
 
     block : (s : Spot) × (spot mine zone ≡ Some s) × (length (content_of s.here) ≡ n)
     block = some_and (spot mine zone) (λ s. length (content_of s.here) ≡ n) sized

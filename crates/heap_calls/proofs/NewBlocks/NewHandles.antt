@@ -1,51 +1,10 @@
-use Rattle.heap_calls.proofs.Cited.{is_used, ◌≡◌, ℕ, ◌-◌, ◌*◌, zero, suc, Bool, List, ◌∷◌, ◌++◌, refl, sym, ◌∙◌, ap}
-use Rattle.heap_calls.proofs.Cited.{subst, map, arith, Option, Some, None, count_by, map-append}
-use Rattle.heap_calls.proofs.Cited.{option_map, Block, Masters, size, count, free_of, free_sum, free}
-use Rattle.heap_calls.proofs.Cited.{rename, rename_block, is_mover, is_masters, tidy, low, movers, has_free, change_run, room, put_at_base}
-use Rattle.heap_calls.proofs.Cited.{Rest, spared, Sparing, size-rename, free_of-rename, free-rename, total-rename, filter-rename}
-use Rattle.heap_calls.proofs.Cited.{is_mover-rename, tidy-rename, change_run-rename, has_free-rename, room-rename, Log, Anchor, State}
-use Rattle.heap_calls.proofs.Cited.{Memory, used_slots, all_slots, uses_slot, more_masters, slotted, some_left, nat_tests}
-use Rattle.heap_calls.proofs.Cited.{is_unused, cond, ◌+◌, slotted_zone, unwrap_or}
-use Rattle.heap_calls.proofs.Cited.{zone_slotted, HasMore, state_of, memory_of, name_of, handle_number, pointer_number}
+use Rattle.heap_calls.proofs.Cited.{is_used, ◌≡◌, ℕ, ◌*◌, zero, suc, List, ◌∙◌, ap, subst, map, arith, count_by, Block, count, rename}
+use Rattle.heap_calls.proofs.Cited.{is_masters, Rest, Log, Anchor, State, Memory, used_slots, all_slots, uses_slot, some_left, nat_tests}
+use Rattle.heap_calls.proofs.Cited.{is_unused, ◌+◌, HasMore, state_of, memory_of, name_of, handle_number, pointer_number}
 use Rattle.heap_calls.proofs.Cited.{KeepsNonrelocatable, Agrees}
-use Rattle.heap_calls.proofs.NewBlocks.NewSlots.{slotted-after}
 use Rattle.heap_calls.proofs.Numbering.Changing.{names-same, masters-rename, es'}
-use Rattle.heap_calls.proofs.Same.NewBlocks.{slot_after}
 
 -- A store's new slots and blocks, seen as the heap's.
-
-pub low-rename : (f g : ℕ → ℕ) (new : Block) (run : List Block)
-    → low (rename_block f g new) (rename f g run) ≡ rename f g (low new run)
-low-rename f g new run =
-    rw (
-      filter-rename f g is_mover is_mover (is_mover-rename f g) run,
-      total-rename f g free_of free_of
-          (free_of-rename f g) run,
-      size-rename f g new,
-    )
-    (ap (λ l. rename_block f g new ∷ l) (ap (λ l. rename f g (movers run) ++ l)
-    (sym (free-rename f g (free_sum run - size new))) ∙ sym (map-append (rename_block f g) (movers run)
-    (free (free_sum run - size new)))))
-
-tidied-rename : (f g : ℕ → ℕ) (o : Option (List Block)) → option_map tidy (option_map (rename f g) o)
-    ≡ option_map (rename f g) (option_map tidy o)
-tidied-rename f g None = refl
-tidied-rename f g (Some zone) = ap Some (tidy-rename f g zone)
-
--- room at the base of a run sees no names
-pub low_run-rename : (f g : ℕ → ℕ) (p : ℕ) (new : Block) (bs : List Block)
-    → option_map tidy (change_run (has_free p) (low (rename_block f g new)) (rename f g bs))
-    ≡ option_map (rename f g) (option_map tidy (change_run (has_free p) (low new) bs))
-low_run-rename f g p new bs =
-    ap (option_map tidy) (change_run-rename f g (has_free p) (has_free p) (low (rename_block f g new)) (low new)
-    (has_free-rename f g p) (low-rename f g new) bs)
-    ∙ tidied-rename f g (change_run (has_free p) (low new) bs)
-
-pub put_at_base-rename : (f g : ℕ → ℕ) (new : Block) (bs : List Block)
-    → put_at_base (rename_block f g new) (rename f g bs) ≡ option_map (rename f g) (put_at_base new bs)
-put_at_base-rename f g new bs =
-    ap (λ p. option_map tidy (change_run (has_free p) (low (rename_block f g new)) (rename f g bs)))
-    (size-rename f g new) ∙ low_run-rename f g (size new) new bs
 
 -- the names of a store that has more slots
 pub names-more : {zone : List Block} (rest more : Rest) (es : List Anchor) → Agrees zone rest es → HasMore rest more
@@ -91,30 +50,6 @@ module _ (zone : List Block) (rest : Rest) (es : List Anchor) (masters : rest.al
         cases : (left : ℕ) → left + used_slots s ≡ all_slots s → is_unused s ≡ some_left left
         cases zero e = grind (arith, nat_tests)
         cases (suc left) e = grind (arith, nat_tests)
-
-    pub slotted-is : (sp : Block → Bool) (sparing : Sparing) → ((b : Block) → sp (rename_block f g b) ≡ spared sparing b)
-        → slotted sp s ≡ option_map (λ z. state_of z rest.slots es) (zone_slotted sparing rest.unused zone)
-    slotted-is sp sparing same = ap (λ t. cond t (Some s) (more_masters sp s)) unused-is ∙ cases rest.unused
-        ∙ ap (option_map (λ z. state_of z rest.slots es)) (sym (slotted-after sparing rest.unused zone))
-      where
-        renamed : (o : Option (List Block)) → option_map (λ (z : List Block). record s { zone = z })
-            (option_map (rename f g) o) ≡ option_map (λ z. state_of z rest.slots es) o
-        renamed None = refl
-        renamed (Some z) = refl
-
-        cases : (n : ℕ) → cond (some_left n) (Some s) (more_masters sp s)
-            ≡ option_map (λ z. state_of z rest.slots es) (slot_after (spared sparing) (some_left n) zone)
-        cases zero = ap (option_map (λ (z : List Block). record s { zone = z }))
-            (room-rename f g sp (spared sparing) (put_at_base Masters) (put_at_base Masters) same
-            (put_at_base-rename f g Masters) zone) ∙ renamed (room (put_at_base Masters) (spared sparing) zone)
-        cases (suc n) = refl
-
-    pub slotted_zone-is : (sp : Block → Bool) (sparing : Sparing)
-        → ((b : Block) → sp (rename_block f g b) ≡ spared sparing b) → (zone' : List Block)
-        → zone_slotted sparing rest.unused zone ≡ Some zone' → slotted_zone sp s ≡ rename f g zone'
-    slotted_zone-is sp sparing same zone' is =
-        ap (λ (o : Option State). unwrap_or (option_map (λ (ready : State). ready.zone) o) (rename f g zone))
-        (slotted-is sp sparing same ∙ ap (option_map (λ z. state_of z rest.slots es)) is)
 
 -- all but the zone is what it was, where the host had no memory, and how many blocks were moved
 pub kept-memory : (value : Memory) (zone zone' : List Block) (rest rest' : Rest) (es es' : List Anchor) (log : Log)

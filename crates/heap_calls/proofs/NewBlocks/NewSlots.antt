@@ -1,19 +1,14 @@
-use Rattle.heap_calls.proofs.Cited.{◌≡◌, ℕ, ◌+◌, ◌<◌, Bool, true, false, List, [], refl, sym, ◌∙◌, ap, subst, cond, arith}
-use Rattle.heap_calls.proofs.Cited.{Option, Some, None, is_some, is_some-map, option_map, unwrap_or, IfSome, IsSomeAnd, IsTrue}
-use Rattle.heap_calls.proofs.Cited.{some_and}
-use Rattle.heap_calls.proofs.Cited.{Block, Free, Masters, size, is_room, tidy, RunSpot, run_spot, run_at, has_free, with_run, low, Spot}
-use Rattle.heap_calls.proofs.Cited.{spot_at, filled}
-use Rattle.heap_calls.proofs.Cited.{purge, put_at_base, FindsLowestRun, least_or_last, serves, is_used, Rest, IsRest, KeepsSlots, counted}
-use Rattle.heap_calls.proofs.Cited.{counted-none, KeepsAllButPlaced, spared, opened, purged, most_purges, Sparing, OpensNone, Base}
-use Rattle.heap_calls.proofs.Cited.{did, moved, Sought, purges_for, seek, Went, told_along, told_named, gone_from, Anchor}
-use Rattle.heap_calls.proofs.Cited.{filled_at, HasRoomAt, HasMore, GainsSlots, some_left, seek_unused, zone_slotted, TakesSlot, HasSlot}
-use Rattle.heap_calls.proofs.Cited.{IsTaken}
-use Rattle.heap_calls.proofs.Cited.{KeepsTaken}
+use Rattle.heap_calls.proofs.Cited.{◌≡◌, ℕ, ◌+◌, ◌<◌, Bool, true, false, List, [], refl, sym, ◌∙◌, ap, subst, arith, Option, Some, None}
+use Rattle.heap_calls.proofs.Cited.{is_some, is_some-map, option_map, unwrap_or, IfSome, IsSomeAnd, IsTrue, some_and, Block, Free, Masters}
+use Rattle.heap_calls.proofs.Cited.{size, is_room, tidy, RunSpot, run_spot, run_at, has_free, with_run, low, Spot, spot_at, filled, purge}
+use Rattle.heap_calls.proofs.Cited.{put_at_base, FindsLowestRun, least_or_last, serves, is_used, Rest, IsRest, KeepsSlots, counted}
+use Rattle.heap_calls.proofs.Cited.{counted-none, KeepsAllButPlaced, spared, opened, purged, most_purges, Sparing, OpensNone, Base, did}
+use Rattle.heap_calls.proofs.Cited.{moved, Sought, purges_for, seek, Went, told_along, told_named, gone_from, Anchor, filled_at, HasRoomAt}
+use Rattle.heap_calls.proofs.Cited.{HasMore, GainsSlots, seek_unused, TakesSlot, HasSlot, IsTaken, KeepsTaken}
 use Rattle.heap_calls.proofs.Going.{went-none, went-some, gone-none, gone-some, goes-named}
 use Rattle.heap_calls.proofs.Numbering.Changing.{slots_kept}
 use Rattle.heap_calls.proofs.Room.Packing.{base-found, free-filled}
 use Rattle.heap_calls.proofs.Room.Placements.{slot-back}
-use Rattle.heap_calls.proofs.Same.NewBlocks.{slot_after, slot-agrees}
 use Rattle.heap_calls.proofs.Sizes.Growth.{opened-whole}
 
 -- Room at the base of a run, and new slots there.
@@ -172,20 +167,6 @@ went-slot nd zone zone1 zone2 zone' rest rest1 rest2 rest' found had n none same
       lowers = still' ∙ w.lowers ∙ ap (λ m. counted m (did (spared nd) (seek (Base Masters) (spared nd) zone).path
           zone).lowered) still;
     })
-
-pub slotted-after : (nd : Sparing) (k : ℕ) (zone : List Block)
-    → zone_slotted nd k zone ≡ slot_after (spared nd) (some_left k) zone
-slotted-after nd k zone =
-    let a = slot-agrees 0 (spared nd) (some_left k) zone in
-    cases (slot_after (spared nd) (some_left k) zone) a.finds a.leaves
-  where
-    r : Sought
-    r = seek_unused nd k zone
-
-    cases : (o : Option (List Block)) → is_some o ≡ r.found → unwrap_or o zone ≡ (did (spared nd) r.path zone).zone
-        → zone_slotted nd k zone ≡ o
-    cases None e f = ap (λ t. cond t (Some (did (spared nd) r.path zone).zone) None) (sym e)
-    cases (Some z) e f = ap (λ t. cond t (Some (did (spared nd) r.path zone).zone) None) (sym e) ∙ ap Some (sym f)
 
 -- slots that are kept are no fewer
 pub more-kept : (rest more rest' : Rest) → HasMore rest more → KeepsSlots more rest' → HasMore rest rest'

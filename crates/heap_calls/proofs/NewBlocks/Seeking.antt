@@ -4,7 +4,7 @@ use Rattle.heap_calls.proofs.Cited.{counted, Put, Did, did, did-append, Sought, 
 use Rattle.heap_calls.proofs.Cited.{told_named, told_along, handle_number, pointer_number, is_some}
 use Rattle.heap_calls.proofs.Cited.{spared, told_blocks, moved}
 use Rattle.moves.specs.Moves as moves
-use Rattle.heap_calls.proofs.Same.Agreeing.{told-append}
+use Rattle.heap_calls.proofs.GoneBlocks.{told-append}
 use Rattle.heap_calls.proofs.Went.{gone-alike, seek-any}
 
 -- One search after another: for a slot, and then for the place of a block.

@@ -1,11 +1,10 @@
-use Rattle.heap_calls.proofs.Cited.{◌≡◌, ℕ, ◌+◌, ◌≤◌, Bool, true, false, List, ◌∷◌, ◌++◌, length, refl, sym, ◌∙◌, ap, subst, cond, Option}
-use Rattle.heap_calls.proofs.Cited.{Some, None, nat_lt, same_Some, option_map, unwrap_or, phys, Flags, Block, Free, Nonrelocatable, Masters}
-use Rattle.heap_calls.proofs.Cited.{Relocatable, size, sizes, is_relocatable, is_nonrelocatable, content_of, with_content, tidy, resized}
-use Rattle.heap_calls.proofs.Cited.{written, in_run, change_run, has, high, runs, Spot, spot, put_at_base, room, freed, runs_settled}
-use Rattle.heap_calls.proofs.Cited.{settled, spot-is, spot-passes, State, Memory, used_slots, all_slots, nothing, flagged, change_flags}
-use Rattle.heap_calls.proofs.Cited.{hoisted, slotted, more_masters, is_loose, blocks_purged, purgeable, purged_all, Asked, answered, row}
-use Rattle.heap_calls.proofs.Cited.{OneBlockEach, map-some, stands, Alike, alike-refl, alike-then, alike-append, alike-cons, alike-tidy}
-use Rattle.heap_calls.proofs.Cited.{alike-purged, alike-freed, alike-changed, alike-high, alike-compacted, alike-based, alike-room}
+use Rattle.heap_calls.proofs.Cited.{◌≡◌, ℕ, ◌+◌, ◌≤◌, Bool, true, false, List, ◌∷◌, ◌++◌, length, refl, sym, ◌∙◌, ap, Option, Some, None}
+use Rattle.heap_calls.proofs.Cited.{option_map, unwrap_or, phys, Flags, Block, Free, Nonrelocatable, Masters, Relocatable, size, sizes}
+use Rattle.heap_calls.proofs.Cited.{is_relocatable, is_nonrelocatable, content_of, with_content, tidy, resized, written, in_run, change_run}
+use Rattle.heap_calls.proofs.Cited.{has, high, runs, Spot, spot, freed, runs_settled, settled, spot-is, spot-passes, State, Memory, nothing}
+use Rattle.heap_calls.proofs.Cited.{flagged, change_flags, hoisted, is_loose, blocks_purged, purgeable, purged_all, Asked, answered, row}
+use Rattle.heap_calls.proofs.Cited.{OneBlockEach, stands, Alike, alike-refl, alike-then, alike-append, alike-cons, alike-tidy, alike-purged}
+use Rattle.heap_calls.proofs.Cited.{alike-freed, alike-changed, alike-high, alike-compacted}
 use Rattle.heap_calls.specs.Answer as calls
 use Rattle.moves.proofs.Steady.{Stays}
 use Rattle.heap_calls.proofs.Rows.Shapes.{by-kind}
@@ -78,21 +77,6 @@ module _ (seen : Block → Bool) (steady : Steady seen)
         let a = alike-append seen rigid s.below s.below (s.here ∷ s.above) (new ∷ s.above) (same s.below)
         (alike-cons seen rigid s.here new s.above s.above alike same_size (same s.above)) in
         (ap sizes is ∙ a.0, ap (stands seen) is ∙ a.1)
-
-    alike-base : (sp : Block → Bool) (new : Block) → seen new ≡ false → (zone z : List Block)
-        → room (put_at_base new) sp zone ≡ Some z → Alike seen zone z
-    alike-base sp new open_new = alike-room seen rigid (put_at_base new) (alike-based seen rigid new open_new) sp
-
-    pub alike-slotted : (sp : Block → Bool) (s r : State) → slotted sp s ≡ Some r → Alike seen s.zone r.zone
-    alike-slotted sp s r e = by_slots (nat_lt (used_slots s) (all_slots s)) e
-      where
-        by_slots : (t : Bool) → cond t (Some s) (more_masters sp s) ≡ Some r → Alike seen s.zone r.zone
-        by_slots true e = subst (λ (x : State). Alike seen s.zone x.zone) (same_Some _ _ e) (same s.zone)
-        by_slots false e =
-            map-some (λ zone. record s { zone = zone }) (room (put_at_base Masters) sp s.zone) r
-            (Alike seen s.zone r.zone) e
-            (λ zone made is. subst (λ (x : State). Alike seen s.zone x.zone) is
-            (alike-base sp Masters steady.masters s.zone zone made))
 
     -- other flags
     alike-flagged : (change : Flags → Flags) (k : ℕ) (zone : List Block) → LeavesFlags seen zone k change → (at : Spot)

@@ -1,13 +1,12 @@
 use Rattle.heap_calls.proofs.Cited.{◌≡◌, ℕ, ◌+◌, ◌≤◌, Bool, true, false, not, ◌&&◌, ◌||◌, ◌==◌, List, [], ◌∷◌, ◌++◌, length, refl, sym, ◌∙◌}
-use Rattle.heap_calls.proofs.Cited.{ap, subst, cond, arith, Some, Result, Ok, Err, replicate, nat_lt, append-nil, cond-false, Decides-eqb}
-use Rattle.heap_calls.proofs.Cited.{same_Some, if◌then◌else◌, phys, OsErr, PURGED, Flags, Block, Free, Nonrelocatable, Masters, Relocatable}
-use Rattle.heap_calls.proofs.Cited.{total, count, is_purgeable, is_masters, is_relocatable, is_nonrelocatable, content_of, with_content}
-use Rattle.heap_calls.proofs.Cited.{no_flags, tidy, resized, written, has, runs, Spot, spot, put_at_base, room, freed, runs_settled}
-use Rattle.heap_calls.proofs.Cited.{spot-is, total-append, total-le, count-none, has-count, State, Memory, used_slots, all_slots, nothing}
-use Rattle.heap_calls.proofs.Cited.{flagged, hoisted, handle_at, slotted, more_masters, is_loose, blocks_purged, purgeable, Asked, answered}
-use Rattle.heap_calls.proofs.Cited.{row, may_purge, Weighs, OneBlockEach, has_purgeable, PurgesOnlyPurgeable, map-some, unless, tidied}
-use Rattle.heap_calls.proofs.Cited.{freed-is, Move, Put, Drop, Did, did, Sought, no_room, seek, around, Refuses, seek-refused, put-there}
-use Rattle.heap_calls.proofs.Cited.{heap_after, settled-all, purged-all, base-all, takes_block}
+use Rattle.heap_calls.proofs.Cited.{ap, cond, arith, Some, Result, Ok, Err, replicate, append-nil, cond-false, Decides-eqb, if◌then◌else◌}
+use Rattle.heap_calls.proofs.Cited.{phys, OsErr, PURGED, Flags, Block, Free, Nonrelocatable, Masters, Relocatable, total, count}
+use Rattle.heap_calls.proofs.Cited.{is_purgeable, is_masters, is_relocatable, is_nonrelocatable, content_of, with_content, no_flags, tidy}
+use Rattle.heap_calls.proofs.Cited.{resized, written, has, runs, Spot, spot, freed, runs_settled, spot-is, total-append, total-le}
+use Rattle.heap_calls.proofs.Cited.{count-none, has-count, State, Memory, nothing, flagged, hoisted, handle_at, is_loose, blocks_purged}
+use Rattle.heap_calls.proofs.Cited.{purgeable, Asked, answered, row, may_purge, Weighs, OneBlockEach, has_purgeable, PurgesOnlyPurgeable}
+use Rattle.heap_calls.proofs.Cited.{unless, tidied, freed-is, Move, Put, Drop, Did, did, Sought, no_room, seek, around, Refuses}
+use Rattle.heap_calls.proofs.Cited.{seek-refused, put-there, heap_after, settled-all, purged-all, takes_block}
 use Rattle.std.specs.Prelude.{is_some}
 use Rattle.heap_calls.specs.Answer as calls
 use Rattle.heap_calls.specs.Purging as purging
@@ -109,17 +108,6 @@ module _ (of : Block → ℕ) (none : (n : ℕ) → of (Free n) ≡ 0) (goes : (
     (sized : (n : ℕ) (b : Block) → of b ≡ of (resized n b)) (filled : (x : List ℕ) (b : Block)
     → of b ≡ of (with_content x b))
   where
-    pub of-slotted : (sp : Block → Bool) (s r : State) → slotted sp s ≡ Some r → total of s.zone ≤ total of r.zone
-    of-slotted sp s r e = by_slots (nat_lt (used_slots s) (all_slots s)) e
-      where
-        by_slots : (t : Bool) → cond t (Some s) (more_masters sp s) ≡ Some r → total of s.zone ≤ total of r.zone
-        by_slots true e = subst (λ (x : State). total of s.zone ≤ total of x.zone) (same_Some _ _ e) (omega arith)
-        by_slots false e =
-            map-some (λ zone. record s { zone = zone }) (room (put_at_base Masters) sp s.zone) r
-            (total of s.zone ≤ total of r.zone) e
-            (λ zone made is. let l = base-all of none goes Masters sp s.zone zone made in
-            let z : total of zone ≡ total of r.zone = ap (λ (x : State). total of x.zone) is in omega arith)
-
     -- each call
     pub of-answered : (a : Asked) (m : Memory) → OneBlockEach m.heap.zone → Renews of a
         → (purges a ≡ false → Spares of (effect_of a)) → total of m.heap.zone ≤ total of (answered a m).1.heap.zone

@@ -1,49 +1,22 @@
 use Rattle.heap_calls.proofs.Cited.{◌≡◌, ℕ, ◌+◌, ◌≤◌, ◌<◌, ◌^◌, zero, suc, Bool, true, false, List, [], ◌∷◌, ◌++◌, length, refl, sym, ◌∙◌}
-use Rattle.heap_calls.proofs.Cited.{ap, cond, map, arith, Option, Some, None, Ok, replicate, nat_lt, option_map, option_or, phys, Block}
-use Rattle.heap_calls.proofs.Cited.{Free, Nonrelocatable, Masters, Relocatable, size, count, fresh, is_masters, is_relocatable}
-use Rattle.heap_calls.proofs.Cited.{is_nonrelocatable, no_flags, Stretch, Segments, in_run, has_free, segments, runs, Spot, spot}
-use Rattle.heap_calls.proofs.Cited.{put_at_base, put_in_place, purge, lowest_purged, may_be_purged, count_of, least, room, freed, beyond}
-use Rattle.heap_calls.proofs.Cited.{has_room, runs_settled, counted, spot-is, joined-segments, joined-is, least_or_last-le, State, Memory}
-use Rattle.heap_calls.proofs.Cited.{used_slots, all_slots, Held, nothing, look_up, handle_at, slotted, more_masters, purgeable, tries}
-use Rattle.heap_calls.proofs.Cited.{room_searches, slot_searches, ready_searches, block_searches, stretches, compact_mem_searches, Asked}
-use Rattle.heap_calls.proofs.Cited.{answered, Row, row, answer_of, searches_of, counted-none, row_searches, append-nil, subst, total}
-use Rattle.heap_calls.proofs.Cited.{resized, total-append, Move, Put, Base, Drop, Write, Did, did, Sought, no_room, seek, if_fits}
-use Rattle.heap_calls.proofs.Cited.{seek_slot, seek_size, seek_resized, around, did-append, Refuses, seek-refused, fits-refused, seek-few}
-use Rattle.heap_calls.proofs.Cited.{resized-few, work, is_unused, tidied, freed-is, unless-le, based-le}
+use Rattle.heap_calls.proofs.Cited.{ap, cond, map, arith, Option, Some, None, Ok, replicate, phys, Block, Free, Nonrelocatable, Masters}
+use Rattle.heap_calls.proofs.Cited.{Relocatable, size, count, fresh, is_masters, is_relocatable, is_nonrelocatable, no_flags, Stretch}
+use Rattle.heap_calls.proofs.Cited.{Segments, in_run, has_free, segments, runs, Spot, spot, put_at_base, purge, lowest_purged}
+use Rattle.heap_calls.proofs.Cited.{may_be_purged, count_of, freed, beyond, has_room, runs_settled, counted, spot-is, joined-segments}
+use Rattle.heap_calls.proofs.Cited.{joined-is, least_or_last-le, State, Memory, Held, nothing, look_up, handle_at, purgeable, stretches}
+use Rattle.heap_calls.proofs.Cited.{compact_mem_searches, Asked, answered, Row, row, answer_of, searches_of, counted-none, row_searches}
+use Rattle.heap_calls.proofs.Cited.{append-nil, subst, total, resized, total-append, Move, Put, Base, Drop, Write, Did, did, Sought}
+use Rattle.heap_calls.proofs.Cited.{no_room, seek, if_fits, seek_slot, seek_size, seek_resized, around, did-append, Refuses, seek-refused}
+use Rattle.heap_calls.proofs.Cited.{fits-refused, seek-few, resized-few, work, is_unused, next_block, then_seek, sought, purges_for, Purge}
+use Rattle.heap_calls.proofs.Cited.{unwrap_or, Meaning, Handle, Plain, tidied, freed-is, unless-le, based-le}
 use Rattle.std.specs.Prelude.{is_some}
 use Rattle.heap_calls.specs.Row as table
 use Rattle.heap_calls.specs.Table as asked
 use Rattle.heap_calls.specs.Rows as rows
-use Rattle.heap_calls.proofs.Same.NewBlocks.{made-same}
 use Rattle.heap_calls.proofs.Same.Resizing.{held-spot, pointer-spot}
 use Rattle.heap_calls.proofs.Rows.Shapes.{ForPath, Shapes, by-shape}
 
 -- A call searches for room no more often than once for each block and once more.
-
--- a trial ends at the last number at the latest
-tries-le : {A : Type 0} (answer : ℕ → Option A) (n : ℕ) → tries answer n ≤ n + 1
-tries-le answer zero = omega arith
-tries-le answer (suc n) = cases (is_some (answer 0)) (tries-le (λ k. answer (suc k)) n)
-  where
-    cases : (t : Bool) → tries (λ k. answer (suc k)) n ≤ n + 1
-        → cond t 1 (tries (λ k. answer (suc k)) n + 1) ≤ suc n + 1
-    cases true r = omega arith
-    cases false r = omega arith
-
--- and where there is an answer with the least number that has one
-tries-least : {A : Type 0} (answer : ℕ → Option A) (n : ℕ) (y : A) → least answer n ≡ Some y → (k : ℕ) × (k ≤ n)
-    × (answer k ≡ Some y) × (tries answer n ≡ k + 1)
-tries-least answer zero y e = (0, omega arith, e, refl)
-tries-least {A = A} answer (suc n) y e = cases (answer 0) refl e (λ e. tries-least (λ k. answer (suc k)) n y e)
-  where
-    rest : ℕ → Option A
-    rest k = answer (suc k)
-
-    cases : (o : Option A) → answer 0 ≡ o → option_or o (least rest n) ≡ Some y
-        → (least rest n ≡ Some y → (k : ℕ) × (k ≤ n) × (rest k ≡ Some y) × (tries rest n ≡ k + 1))
-        → (k : ℕ) × (k ≤ suc n) × (answer k ≡ Some y) × (cond (is_some o) 1 (tries rest n + 1) ≡ k + 1)
-    cases None is e more = let r = more e in (suc r.0, (let le = r.1 in omega arith), r.2, (let t = r.3 in omega arith))
-    cases (Some x) is e more = (0, omega arith, is ∙ e, refl)
 
 -- no more blocks pass than there are
 count-length : (test : Block → Bool) (bs : List Block) → count test bs ≤ length bs
@@ -68,17 +41,8 @@ goes-stays sp (Relocatable id flags content ∷ bs) = cases (may_be_purged sp (R
     cases true r = omega arith
     cases false r = omega arith
 
-goes-le : (sp : Block → Bool) (zone : List Block) → 0 < count is_masters zone → count_of sp zone + 1 ≤ length zone
+pub goes-le : (sp : Block → Bool) (zone : List Block) → 0 < count is_masters zone → count_of sp zone + 1 ≤ length zone
 goes-le sp zone masters = let g = goes-stays sp zone in omega arith
-
--- searches for what is tried
-pub room-few : (try : List Block → Option (List Block)) (sp : Block → Bool) (zone : List Block)
-    → room_searches try sp zone ≤ count_of sp zone + 1
-room-few try sp zone = tries-le (λ k. try (purge k sp zone)) (count_of sp zone)
-
-pub room-blocks : (try : List Block → Option (List Block)) (sp : Block → Bool) (zone : List Block)
-    → 0 < count is_masters zone → room_searches try sp zone ≤ length zone
-room-blocks try sp zone masters = let r = room-few try sp zone in let g = goes-le sp zone masters in omega arith
 
 -- blocks that were emptied can't be purged once more
 goes-lowest_purged : (k : ℕ) (sp : Block → Bool) (bs : List Block) → k ≤ count_of sp bs
@@ -103,32 +67,32 @@ goes-purged k sp zone le = let e = goes-lowest_purged k sp zone le in
     omega (arith, tidied (λ (b : Block). cond {A = ℕ} (may_be_purged sp b) 1 0) (λ n. refl) (lowest_purged k sp zone))
 
 -- a slot and then a block: what was emptied for the slot isn't there for the block
-slot-few : (sp : Block → Bool) (s : State) (count : State → ℕ) → ((r : State) → count r ≤ count_of sp r.zone + 1)
-    → slot_searches sp s + ready_searches (slotted sp s) count ≤ count_of sp s.zone + 2
-slot-few sp s count few = by_slots (nat_lt (used_slots s) (all_slots s))
+slot-few : (sp : Block → Bool) (block : List Block → Sought)
+    → ((z : List Block) → (did sp (block z).path z).searches ≤ count_of sp z + 1) → (unused : Bool) (zone : List Block)
+    → (did sp (then_seek sp zone (seek_slot unused sp zone) block).path zone).searches ≤ count_of sp zone + 2
+slot-few sp block few true zone = let f = few zone in omega arith
+slot-few sp block few false zone = cases (put_at_base Masters ready) refl
   where
-    by_room : (o : Option (List Block)) → room (put_at_base Masters) sp s.zone ≡ o
-        → room_searches (put_at_base Masters) sp s.zone + ready_searches
-        (option_map (λ zone. record s { zone = zone }) o) count ≤ count_of sp s.zone + 2
-    by_room None e = let r = room-few (put_at_base Masters) sp s.zone in omega arith
-    by_room (Some zone) e =
-        let r = tries-least (λ k. put_at_base Masters (purge k sp s.zone)) (count_of sp s.zone) zone e in
-        let tried = r.3 in
-        let left = goes-purged r.0 sp s.zone r.1 in
-        let based = based-le (λ (b : Block). cond {A = ℕ} (may_be_purged sp b) 1 0) (λ n. refl) Masters (has_free 272)
-        (purge r.0 sp s.zone) zone r.2 in
-        let c = few (record s { zone = zone }) in
-        omega arith
+    k : ℕ
+    k = purges_for (λ z. is_some (put_at_base Masters z)) sp zone
 
-    by_slots : (t : Bool) → cond t 0 (room_searches (put_at_base Masters) sp s.zone) + ready_searches
-        (cond t (Some s) (more_masters sp s)) count ≤ count_of sp s.zone + 2
-    by_slots true = let c = few s in omega arith
-    by_slots false = by_room (room (put_at_base Masters) sp s.zone) refl
+    ready : List Block
+    ready = purge k sp zone
 
-slot-blocks : (sp : Block → Bool) (s : State) (looks : State → ℕ) → 0 < count is_masters s.zone
-    → ((r : State) → looks r ≤ count_of sp r.zone + 1) → slot_searches sp s + ready_searches (slotted sp s) looks ≤
-    length s.zone + 1
-slot-blocks sp s looks masters few = let f = slot-few sp s looks few in let g = goes-le sp s.zone masters in omega arith
+    le : k ≤ count_of sp zone
+    le = least_or_last-le (λ j. is_some (put_at_base Masters (purge j sp zone))) (count_of sp zone)
+
+    cases : (o : Option (List Block)) → put_at_base Masters ready ≡ o
+        → (did sp (then_seek sp zone (sought k (is_some o) (Purge k ∷ Base Masters ∷ [])) block).path zone).searches
+        ≤ count_of sp zone + 2
+    cases None e = omega (arith, le)
+    cases (Some z) e = omega (
+      arith,
+      few (unwrap_or (put_at_base Masters ready) ready),
+      ap (λ o. count_of sp (unwrap_or o ready)) e,
+      goes-purged k sp zone le,
+      based-le (λ (b : Block). cond {A = ℕ} (may_be_purged sp b) 1 0) (λ n. refl) Masters (has_free 272) ready z e,
+    )
 
 -- a search where the block at a spot gets another size
 size-few : (sp : Block → Bool) (n : ℕ) (zone : List Block) (s : Spot) (test : Block → Bool) → spot test zone ≡ Some s
@@ -199,11 +163,6 @@ sized-few to s held e sp n i x =
     subst (λ (k : ℕ). k ≤ length s.zone + 1)
     (sym (written-few sp held.number i x (seek_size n sp s.zone held.at) s.zone)) (handle-few to s held e sp n)
 
--- searches that are made only in one case
-pub only-if : (t : Bool) (n most : ℕ) → n ≤ most → cond t n 0 ≤ most
-only-if true n most le = le
-only-if false n most le = omega arith
-
 -- no more runs have a block than there are blocks that runs are made of
 stretches-blocks : (k : ℕ) (zone : List Block) → stretches k (runs zone) ≤ count in_run zone
 stretches-blocks zero zone = omega arith
@@ -235,22 +194,26 @@ compact-few n s =
 pub unsearched : (zone : List Block) (n : ℕ) → n < 2 ^ 64 → (k : ℕ) × (k ≤ length zone + 1) × (n ≡ counted n k)
 unsearched zone n fits = (0, omega arith, sym (counted-none n))
 
--- a new handle with a block of these bytes
-made-few : (sp : Block → Bool) (bytes : List ℕ) (fits : Bool) (s : State) → 0 < count is_masters s.zone
-    → (work (rows.made sp (λ z. cond fits (seek (Put (rows.next_block bytes s)) sp z) no_room) s) s).searches
-    ≤ length s.zone + 1
-made-few sp bytes fits s masters =
-    subst (λ (k : ℕ). k ≤ length s.zone + 1) (made-same sp no_flags bytes fits s).looks
-    (slot-blocks sp s (λ r. cond fits (block_searches sp bytes r) 0) masters
-    (λ r. only-if fits (block_searches sp bytes r) (count_of sp r.zone + 1)
-    (room-few (put_in_place (Relocatable (length r.names) no_flags bytes)) sp r.zone)))
+-- a search for the place of a block, if it fits
+pub fits-few : (sp : Block → Bool) (new : Block) (fits : Bool) (zone : List Block)
+    → (did sp (cond fits (seek (Put new) sp zone) no_room).path zone).searches ≤ count_of sp zone + 1
+fits-few sp new true zone = seek-few sp (Put new) (λ z. refl) zone
+fits-few sp new false zone = omega arith
+
+-- a new handle with a block
+pub made-few : (name : Meaning) (sp : Block → Bool) (block : List Block → Sought)
+    → ((z : List Block) → (did sp (block z).path z).searches ≤ count_of sp z + 1) → (s : State)
+    → 0 < count is_masters s.zone → (work (rows.made name sp block s) s).searches ≤ length s.zone + 1
+made-few name sp block few s masters =
+    omega (arith, slot-few sp block few (is_unused s) s.zone, goes-le sp s.zone masters)
 
 -- each path
 shapes-few : (a : Asked) (s : State) → 0 < count is_masters s.zone
     → Shapes (λ (T : Type 0) d. (work d s).searches ≤ length s.zone + 1) s a
 shapes-few a s masters = record {
   refuses = λ left T code. omega arith;
-  makes = λ sp left fits bytes. made-few sp bytes fits s masters;
+  makes = λ sp left fits bytes. made-few (Handle Plain) sp (λ z. cond fits (seek (Put (next_block bytes s)) sp z) no_room)
+      (fits-few sp (next_block bytes s) fits) s masters;
   empties = λ left. empty (is_unused s);
   points = λ left fits bytes. point fits (Nonrelocatable (length s.names) bytes);
   masters = λ left. base-few Masters s.zone masters;

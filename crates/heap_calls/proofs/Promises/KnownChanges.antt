@@ -1,11 +1,11 @@
 use Rattle.heap_calls.proofs.Cited.{◌≡◌, ℕ, ◌+◌, ◌-◌, ◌≤◌, Bool, true, false, ◌==◌, List, [], ◌∷◌, ◌++◌, length, take, drop, replicate}
-use Rattle.heap_calls.proofs.Cited.{refl, sym, ◌∙◌, ap, subst, cond, arith, Option, Some, None, slice_get, slice_set, nat_lt, take_all}
-use Rattle.heap_calls.proofs.Cited.{drop_all, length-replicate, take-append_seam, none-some, same_Some, option_map, unwrap_or, Flags, Block}
-use Rattle.heap_calls.proofs.Cited.{Free, Nonrelocatable, Masters, Relocatable, total, count, is_relocatable, is_nonrelocatable, content_of}
+use Rattle.heap_calls.proofs.Cited.{refl, sym, ◌∙◌, ap, cond, arith, Option, Some, None, slice_get, slice_set, take_all, drop_all}
+use Rattle.heap_calls.proofs.Cited.{length-replicate, take-append_seam, none-some, option_map, unwrap_or, Flags, Block, Free}
+use Rattle.heap_calls.proofs.Cited.{Nonrelocatable, Masters, Relocatable, total, count, is_relocatable, is_nonrelocatable, content_of}
 use Rattle.heap_calls.proofs.Cited.{with_content, no_flags, tidy, resized, resized_content, written, change_run, has, high, Spot, spot}
-use Rattle.heap_calls.proofs.Cited.{raised, put_at_base, room, freed, State, Meaning, Role, used_slots, all_slots, flagged, change_flags}
-use Rattle.heap_calls.proofs.Cited.{hoisted, slotted, more_masters, rewritten, length-resized, map-some, SeesNoFree, unless, unless-le}
-use Rattle.heap_calls.proofs.Cited.{unless-none, tidied, freed-is, changed-le, high-le, base-le, swapped-le, changed-all, high-all}
+use Rattle.heap_calls.proofs.Cited.{raised, freed, State, Meaning, Role, flagged, change_flags, hoisted, rewritten, length-resized}
+use Rattle.heap_calls.proofs.Cited.{SeesNoFree, unless, unless-le, unless-none, tidied, freed-is, changed-le, high-le, swapped-le}
+use Rattle.heap_calls.proofs.Cited.{changed-all, high-all}
 use Rattle.std.proofs.Common.{length-append}
 use Rattle.std.proofs.lemmas.List.{append-nil}
 use Rattle.heap_calls.specs.State as names
@@ -31,18 +31,6 @@ pub known-based : (s : State) (bytes : ℕ → List ℕ) → Known s bytes → (
     → Known (record s { zone = zone }) bytes
 known-based s bytes known zone more = known-more s (record s { zone = zone }) bytes Masters refl (λ k. refl)
     (λ k. refl) (λ k n at. at) more known
-
--- an unused slot
-pub known-slotted : (sp : Block → Bool) (s : State) (bytes : ℕ → List ℕ) → Known s bytes → (r : State)
-    → slotted sp s ≡ Some r → Known r bytes
-known-slotted sp s bytes known r e = by_slots (nat_lt (used_slots s) (all_slots s)) e
-  where
-    by_slots : (t : Bool) → cond t (Some s) (more_masters sp s) ≡ Some r → Known r bytes
-    by_slots true e = subst (λ (x : State). Known x bytes) (same_Some _ _ e) known
-    by_slots false e =
-        map-some (λ zone. record s { zone = zone }) (room (put_at_base Masters) sp s.zone) r (Known r bytes) e
-        (λ zone made is. subst (λ (x : State). Known x bytes) is (known-based s bytes known zone
-        (λ of none. base-le of none Masters sp s.zone zone made)))
 
 -- a new block of the next number
 pub known-new : (s : State) (bytes : ℕ → List ℕ) → Known s bytes → (role : Role) (flags : Flags) (x : List ℕ)

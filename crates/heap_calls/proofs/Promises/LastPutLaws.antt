@@ -2,7 +2,7 @@ use Rattle.heap_calls.proofs.Cited.{◌≡◌, ℕ, ◌+◌, ◌≤◌, ◌==◌
 use Rattle.heap_calls.proofs.Cited.{ap, subst, cond, arith, Option, Some, None, Result, Ok, Err, slice_get, nat_le, ℤ, pos, negsuc, ◌-◌}
 use Rattle.heap_calls.proofs.Cited.{take, drop, if◌then◌else◌, phys, Told, Given, Refused, Offset, OsErr, MEM_FULL, PROFILE, PURGED}
 use Rattle.heap_calls.proofs.Cited.{written, Block, Free, Nonrelocatable, Masters, Relocatable, total, is_relocatable, is_nonrelocatable}
-use Rattle.heap_calls.proofs.Cited.{content_of, with_content, resized_content, no_flags, runs, Spot, spot, purge, freed, compacted}
+use Rattle.heap_calls.proofs.Cited.{Flags, content_of, with_content, resized_content, no_flags, runs, Spot, spot, purge, freed, compacted}
 use Rattle.heap_calls.proofs.Cited.{runs_settled, settled, SeesNoFree, purged-le, settled-le, spot-passes, Move, Put, Base, Drop, Write}
 use Rattle.heap_calls.proofs.Cited.{Did, did, Sought, seek, if_fits, seek_slot, seek_size, around, did-append, Refuses, seek-refused}
 use Rattle.heap_calls.proofs.Cited.{fits-refused, size-refused, around-refused, size-new, seek-more, if-more, again-more, State, Memory}
@@ -82,7 +82,7 @@ module _ (s : State) (bytes : ℕ → List ℕ) (known : Known s bytes) (tells :
     known-still sp r only e = subst (λ (z : List Block). Known (record s { zone = z }) bytes)
         (sym (ap (λ (d : Did). d.zone) ((only e).1 s.zone))) known
 
-    known-changed : (sp : Block → Bool) (r : Sought) → Refuses sp r
+    pub known-changed : (sp : Block → Bool) (r : Sought) → Refuses sp r
         → (r.found ≡ true → Known (record s { zone = left sp r }) (tells Done))
         → Known (heap_after (rows.changed sp r s) s) (tells (done (rows.changed sp r s).reply))
     known-changed sp r only found = cases r.found refl
@@ -91,7 +91,7 @@ module _ (s : State) (bytes : ℕ → List ℕ) (known : Known s bytes) (tells :
         cases true e = found e
         cases false e = subst (Known (record s { zone = left sp r })) (refused_told MEM_FULL) (known-still sp r only e)
 
-    known-given : (sp : Block → Bool) (name : Meaning) (r : Sought) → (r.found ≡ true
+    pub known-given : (sp : Block → Bool) (name : Meaning) (r : Sought) → (r.found ≡ true
         → Known (record { zone = left sp r; names = s.names ++ name ∷ [] }) (tells (Given (length s.names))))
         → (r.found ≡ false → Known (record s { zone = left sp r }) bytes)
         → Known (heap_after (rows.given name sp r s) s) (tells (told_as {T = ℕ} Given (rows.given name sp r s).reply))
@@ -107,7 +107,7 @@ module _ (s : State) (bytes : ℕ → List ℕ) (known : Known s bytes) (tells :
     abbrev slot : (Block → Bool) → Sought
     slot sp = seek_slot (is_unused s) sp s.zone
 
-    known-slot : (sp : Block → Bool) → Known (record s { zone = left sp (slot sp) }) bytes
+    pub known-slot : (sp : Block → Bool) → Known (record s { zone = left sp (slot sp) }) bytes
     known-slot sp = cases (is_unused s)
       where
         cases : (t : Bool) → Known (record s { zone = left sp (seek_slot t sp s.zone) }) bytes
@@ -116,13 +116,14 @@ module _ (s : State) (bytes : ℕ → List ℕ) (known : Known s bytes) (tells :
             (λ of none. seek-more of sp none (Base Masters) (λ z. tt) s.zone)
 
     -- a new handle with a block
-    known-made : (sp : Block → Bool) (block : List Block → Sought) (x : List ℕ) → ((z : List Block) → Refuses sp (block
-        z))
-        → ((z : List Block) → More (next_block x s) z (did sp (block z).path z).zone)
+    pub known-made : (role : names.Role) (flags : Flags) (sp : Block → Bool) (block : List Block → Sought) (x : List ℕ)
+        → ((z : List Block) → Refuses sp (block z))
+        → ((z : List Block) → More (Relocatable (length s.names) flags x) z (did sp (block z).path z).zone)
         → with_bytes (length s.names) x bytes ≡ tells (Given (length s.names))
-        → Known (heap_after (rows.made sp block s) s) (tells (told_as {T = ℕ} Given (rows.made sp block s).reply))
-    known-made sp block x only more_by given_told =
-        known-given sp (names.Handle Plain) (so (slot sp).found) (by_found (slot sp).found refl)
+        → Known (heap_after (rows.made (names.Handle role) sp block s) s)
+        (tells (told_as {T = ℕ} Given (rows.made (names.Handle role) sp block s).reply))
+    known-made role flags sp block x only more_by given_told =
+        known-given sp (names.Handle role) (so (slot sp).found) (by_found (slot sp).found refl)
         (by_none (slot sp).found)
       where
         before : List Block
@@ -138,14 +139,13 @@ module _ (s : State) (bytes : ℕ → List ℕ) (known : Known s bytes) (tells :
         after = ap (λ (d : Did). d.zone) (did-append sp (slot sp).path more.path s.zone)
 
         by_found : (t : Bool) → (slot sp).found ≡ t → (so t).found ≡ true
-            → Known (record { zone = left sp (so t); names = s.names ++ names.Handle Plain ∷ [] })
+            → Known (record { zone = left sp (so t); names = s.names ++ names.Handle role ∷ [] })
             (tells (Given (length s.names)))
         by_found true there e =
-            subst (Known (record { zone = left sp (so true); names = s.names ++ names.Handle Plain ∷ [] })) given_told
-            (subst (λ (z : List Block). Known (record { zone = z; names = s.names ++ names.Handle Plain ∷ [] })
+            subst (Known (record { zone = left sp (so true); names = s.names ++ names.Handle role ∷ [] })) given_told
+            (subst (λ (z : List Block). Known (record { zone = z; names = s.names ++ names.Handle role ∷ [] })
             (with_bytes (length s.names) x bytes)) (sym after)
-            (known-new (record s { zone = before }) bytes (known-slot sp) Plain no_flags x (did sp more.path
-            before).zone
+            (known-new (record s { zone = before }) bytes (known-slot sp) role flags x (did sp more.path before).zone
             (more_by before)))
         by_found false none e = let f : true ≡ false = sym e ∙ none in cc
 
@@ -256,7 +256,7 @@ pub step-known : (a : Asked) (m : Memory) (bytes : ℕ → List ℕ) → Known m
 step-known (asked.NewHandle x) m bytes known =
     let n = new_size x in
     let new = next_block (new_bytes x) m.heap in
-    known-made m.heap bytes known (λ t. put_by (asked.NewHandle x) t bytes) (λ code. refl) nothing
+    known-made m.heap bytes known (λ t. put_by (asked.NewHandle x) t bytes) (λ code. refl) Plain no_flags nothing
     (λ z. if_fits n (seek (Put new) nothing z)) (new_bytes x)
     (λ z. fits-refused nothing n (seek (Put new) nothing z) (seek-refused nothing (Put new) z))
     (λ z of none. if-more of nothing none (is_some (phys n)) (Put new) (λ y. tt) z) refl
@@ -316,7 +316,7 @@ step-known (asked.HandToHand (Some h)) m bytes known =
     done-found s bytes known tells (λ code. refl) Given (look_up (Some h) s) _ (λ a e.
     let sp = is_relocatable a.number in
     let x = content_of a.at.here in
-    known-made s bytes known tells (λ code. refl) sp (seek (Put (next_block x s)) sp) x
+    known-made s bytes known tells (λ code. refl) Plain no_flags sp (seek (Put (next_block x s)) sp) x
     (seek-refused sp (Put (next_block x s)))
     (λ z of none. seek-more of sp none (Put (next_block x s)) (λ y. tt) z)
     (ap (λ (y : List ℕ). with_bytes (length s.names) y bytes)

@@ -1,22 +1,20 @@
 use Rattle.heap_calls.proofs.Cited.{◌≡◌, ◌≢◌, ℕ, ◌+◌, ◌≤◌, Bool, true, false, List, [], ◌∷◌, ◌++◌, length, refl, sym, ◌∙◌, ap, subst, cond}
 use Rattle.heap_calls.proofs.Cited.{arith, Option, Some, None, Result, Ok, Err, replicate, nat_le, slice_get, slice_set, ◌/◌, ◌%◌, ◌==◌, ℤ}
-use Rattle.heap_calls.proofs.Cited.{take, drop, option_map, ok_or, unwrap_or, OsErr, NIL_HANDLE, LOCKED, PROFILE, PURGED, Flags, Block}
-use Rattle.heap_calls.proofs.Cited.{Nonrelocatable, Masters, Relocatable, is_mover, is_relocatable, is_nonrelocatable, content_of}
-use Rattle.heap_calls.proofs.Cited.{with_content, no_flags, sizes, tidy, count, written, Spot, spot, freed, State, Memory, Role, Plain}
-use Rattle.heap_calls.proofs.Cited.{Resource, SystemResource, Meaning, Handle, Pointer, Disposed, Answer, Held, nothing, refused}
-use Rattle.heap_calls.proofs.Cited.{disposed_of, flagged, change_flags, hoisted, look_up, held_at, handle_at, known_as, for_found}
-use Rattle.heap_calls.proofs.Cited.{written_at, on_block, code_of, without, munger_nil, place_in, pointed_at, block_named, dispose_pointer}
-use Rattle.heap_calls.proofs.Cited.{get_pointer_size, pointer_zone, put_pointer, show_pointer, place_of, recover_handle, block_move}
-use Rattle.heap_calls.proofs.Cited.{moved_into, is_resource, block_bits, bit, emptied_at, h_purge, h_no_purge, h_get_state, h_set_state}
-use Rattle.heap_calls.proofs.Cited.{empty_handle, purge_mem, Told, Given, Number, Bytes, Refused, Offset, Asked, told_as, answered, Move}
-use Rattle.heap_calls.proofs.Cited.{Put, Base, Drop, Write, Did, did, Sought, seek, if_fits, seek_slot, seek_size, around, did-append}
-use Rattle.heap_calls.proofs.Cited.{Refuses, seek-refused, fits-refused, slot-refused, size-refused, around-refused, heap_after}
-use Rattle.heap_calls.proofs.Cited.{answer_made, is_unused, next_block, reply_of, code_left, slotted_zone, zone_left, no_room, left_by, row}
-use Rattle.heap_calls.proofs.Cited.{Free}
+use Rattle.heap_calls.proofs.Cited.{take, drop, option_map, ok_or, OsErr, NIL_HANDLE, LOCKED, PROFILE, PURGED, Flags, Block, Nonrelocatable}
+use Rattle.heap_calls.proofs.Cited.{Masters, Relocatable, is_mover, is_relocatable, is_nonrelocatable, content_of, with_content, no_flags}
+use Rattle.heap_calls.proofs.Cited.{sizes, tidy, count, written, Spot, spot, freed, State, Memory, Role, Plain, Resource, SystemResource}
+use Rattle.heap_calls.proofs.Cited.{Meaning, Handle, Pointer, Disposed, Answer, Held, nothing, refused, disposed_of, flagged, change_flags}
+use Rattle.heap_calls.proofs.Cited.{hoisted, look_up, held_at, handle_at, known_as, for_found, written_at, on_block, code_of, without}
+use Rattle.heap_calls.proofs.Cited.{munger_nil, place_in, pointed_at, block_named, dispose_pointer, get_pointer_size, pointer_zone}
+use Rattle.heap_calls.proofs.Cited.{put_pointer, show_pointer, place_of, recover_handle, block_move, moved_into, is_resource, block_bits}
+use Rattle.heap_calls.proofs.Cited.{bit, emptied_at, h_purge, h_no_purge, h_get_state, h_set_state, empty_handle, purge_mem, Told, Given}
+use Rattle.heap_calls.proofs.Cited.{Number, Bytes, Refused, Offset, Asked, told_as, answered, Move, Put, Base, Drop, Write, Did, did}
+use Rattle.heap_calls.proofs.Cited.{Sought, seek, if_fits, seek_slot, seek_size, around, did-append, Refuses, seek-refused, fits-refused}
+use Rattle.heap_calls.proofs.Cited.{slot-refused, size-refused, around-refused, heap_after, answer_made, is_unused, next_block, reply_of}
+use Rattle.heap_calls.proofs.Cited.{code_left, slotted_zone, zone_left, no_room, left_by, row, Free}
 use Rattle.heap_calls.specs.Answer as calls
 use Rattle.mac_words.specs.Told.{Done}
 use Rattle.heap_calls.specs.Rows as rows
-use Rattle.heap_calls.proofs.Same.NewBlocks.{slotted-is, slot-agrees, with_slot, ready_with}
 use Rattle.heap_calls.specs.Table as asked
 use Rattle.heap_calls.proofs.Promises.KnownChanges.{none-spot, hoisted-all}
 use Rattle.heap_calls.proofs.Promises.Knowing.{look_up-spot}
@@ -194,7 +192,7 @@ locked_high-leaves (Some k) s = by_held (look_up (Some k) s) (λ held is. is)
 module _ (sp : Block → Bool) (r : Sought) (s : State)
   where
     -- a path that found room isn't refused, and one that found none leaves this zone
-    refused-path : {T : Type 0} (zone : List Block) (value : T) (names : Bool → List Meaning) → names false ≡ s.names
+    pub refused-path : {T : Type 0} (zone : List Block) (value : T) (names : Bool → List Meaning) → names false ≡ s.names
         → (r.found ≡ false → (did sp r.path s.zone).zone ≡ zone)
         → Leaves {T = T} zone s (
           reply_of r.found value,
@@ -215,7 +213,7 @@ module _ (sp : Block → Bool) (r : Sought) (s : State)
     still : Refuses sp r → r.found ≡ false → (did sp r.path s.zone).zone ≡ s.zone
     still only none = ap (λ (d : Did). d.zone) ((only none).1 s.zone)
 
-    changed-leaves : Refuses sp r → Leaves s.zone s ((rows.changed sp r s).reply, heap_after (rows.changed sp r s) s)
+    pub changed-leaves : Refuses sp r → Leaves s.zone s ((rows.changed sp r s).reply, heap_after (rows.changed sp r s) s)
     changed-leaves only = refused-path s.zone tt (λ t. s.names) refl (still only)
 
     given-leaves : (name : Meaning) → Refuses sp r
@@ -224,37 +222,25 @@ module _ (sp : Block → Bool) (r : Sought) (s : State)
         refused-path s.zone (length s.names) (λ t. cond t (s.names ++ name ∷ []) s.names) refl (still only)
 
 -- a new Masters block stays, and so does what the search for it emptied and moved
-made-leaves : (sp : Block → Bool) (block : List Block → Sought) (s : State) → ((z : List Block) → Refuses sp (block z))
-    → Leaves (slotted_zone sp s) s ((rows.made sp block s).reply, heap_after (rows.made sp block s) s)
-made-leaves sp block s only =
-    refused-path sp sought s (slotted_zone sp s) (length s.names) (λ t. cond t (s.names ++ Handle Plain ∷ []) s.names)
-    refl (λ none. by_slot slot.found none ∙ sym slot-left)
+pub made-leaves : (name : Meaning) (sp : Block → Bool) (block : List Block → Sought) (s : State)
+    → ((z : List Block) → Refuses sp (block z))
+    → Leaves (slotted_zone sp s) s ((rows.made name sp block s).reply, heap_after (rows.made name sp block s) s)
+made-leaves name sp block s only =
+    refused-path sp (then_so slot.found) s (slotted_zone sp s) (length s.names)
+    (λ t. cond t (s.names ++ name ∷ []) s.names) refl (by_slot slot.found)
   where
     slot : Sought
     slot = seek_slot (is_unused s) sp s.zone
 
-    slot_zone : List Block
-    slot_zone = (did sp slot.path s.zone).zone
+    more : Sought
+    more = block (slotted_zone sp s)
 
     then_so : Bool → Sought
-    then_so t = cond t (record { found = (block slot_zone).found; path = slot.path ++ (block slot_zone).path }) slot
+    then_so t = cond t (record { found = more.found; path = slot.path ++ more.path }) slot
 
-    sought : Sought
-    sought = then_so slot.found
-
-    slot-left : slotted_zone sp s ≡ slot_zone
-    slot-left = ap (λ (o : Option State). unwrap_or (option_map (λ (ready : State). ready.zone) o) s.zone) (slotted-is
-        sp s)
-        ∙ zone-left (with_slot sp s) ∙ (slot-agrees (length s.names) sp (is_unused s) s.zone).leaves
-      where
-        zone-left : (o : Option (List Block)) → unwrap_or (option_map (λ (ready : State). ready.zone)
-            (option_map (ready_with s) o)) s.zone ≡ unwrap_or o s.zone
-        zone-left None = refl
-        zone-left (Some z) = refl
-
-    by_slot : (t : Bool) → (then_so t).found ≡ false → (did sp (then_so t).path s.zone).zone ≡ slot_zone
-    by_slot true none = ap (λ (d : Did). d.zone) (did-append sp slot.path (block slot_zone).path s.zone)
-        ∙ ap (λ (d : Did). d.zone) ((only slot_zone none).1 slot_zone)
+    by_slot : (t : Bool) → (then_so t).found ≡ false → (did sp (then_so t).path s.zone).zone ≡ slotted_zone sp s
+    by_slot true none = ap (λ (d : Did). d.zone) (did-append sp slot.path more.path s.zone)
+        ∙ ap (λ (d : Did). d.zone) ((only (slotted_zone sp s) none).1 (slotted_zone sp s))
     by_slot false none = refl
 
 sized-leaves : (sp : Block → Bool) (held : Held) (n i : ℕ) (x : List ℕ) (s : State)
@@ -287,8 +273,8 @@ shapes-leave a s = record {
   refuses = λ left T code. so left {T = T} (rows.refused code s) (refused-leaves code s);
   makes = λ sp left fits bytes.
       let block : List Block → Sought = λ z. cond fits (seek (Put (next_block bytes s)) sp z) no_room in
-      subst (λ z. Leaves z s ((rows.made sp block s).reply, heap_after (rows.made sp block s) s)) (sym left)
-      (made-leaves sp block s (λ z. fit-refused fits sp (seek (Put (next_block bytes s)) sp z)
+      subst (λ z. Leaves z s ((rows.made (Handle Plain) sp block s).reply, heap_after (rows.made (Handle Plain) sp block s) s))
+      (sym left) (made-leaves (Handle Plain) sp block s (λ z. fit-refused fits sp (seek (Put (next_block bytes s)) sp z)
       (seek-refused sp (Put (next_block bytes s)) z)));
   empties = λ left.
       let sought = seek_slot (is_unused s) nothing s.zone in

@@ -1,9 +1,8 @@
-use Rattle.heap_calls.proofs.Cited.{◌≡◌, ℕ, ◌+◌, ◌<◌, inr, zero, suc, nat_lt, Bool, true, false, cond, Option, Some, None, is_some, List}
-use Rattle.heap_calls.proofs.Cited.{refl, sym, ◌∙◌, ap, arith, option_or, cond-true, nat_tests, Block, size, is_relocatable, count}
-use Rattle.heap_calls.proofs.Cited.{tidy, has_free, run_spot, spot, least, may_be_purged, place, grow_mover, FindsLowest, least_or_last}
-use Rattle.heap_calls.proofs.Cited.{serves, IsFewest, spared, opened, purged, most_purges, Sparing, fewest-last, least_or_last-at}
-use Rattle.heap_calls.proofs.Cited.{tries, FindsPlacement, FindsGrowth, OpensNone, grown}
-use Rattle.heap_calls.proofs.Cited.{Placement, Growth, purges_for}
+use Rattle.heap_calls.proofs.Cited.{◌≡◌, ℕ, ◌<◌, inr, zero, suc, nat_lt, Bool, true, false, cond, Option, Some, None, is_some, List, refl}
+use Rattle.heap_calls.proofs.Cited.{sym, ◌∙◌, ap, arith, option_or, cond-true, nat_tests, Block, size, is_relocatable, count, tidy}
+use Rattle.heap_calls.proofs.Cited.{has_free, run_spot, spot, least, may_be_purged, place, grow_mover, FindsLowest, least_or_last, serves}
+use Rattle.heap_calls.proofs.Cited.{IsFewest, spared, opened, purged, most_purges, Sparing, fewest-last, least_or_last-at, FindsPlacement}
+use Rattle.heap_calls.proofs.Cited.{FindsGrowth, OpensNone, grown, Placement, Growth, purges_for}
 use Rattle.block_store.proofs.Purged.Rising.{purged-all}
 use Rattle.heap_calls.proofs.Room.Searching.{count-tidy, count-none, count-some, placement-some}
 use Rattle.heap_calls.proofs.Sizes.Growth.{growth-some, opened-whole}
@@ -23,26 +22,10 @@ least-last {A = A} answer (suc n) = cases (answer 0) refl (least-last (λ k. ans
     cases None e more = more
     cases (Some x) e more = sym e
 
--- and so many are tried
-tries-last : {A : Type 0} (answer : ℕ → Option A) (n : ℕ)
-    → tries answer n ≡ least_or_last (λ k. is_some (answer k)) n + 1
-tries-last answer zero = refl
-tries-last answer (suc n) = cases (is_some (answer 0)) (tries-last (λ k. answer (suc k)) n)
-  where
-    cases : (t : Bool) → tries (λ k. answer (suc k)) n ≡ least_or_last (λ k. is_some (answer (suc k))) n + 1
-        → cond {A = ℕ} t 1 (tries (λ k. answer (suc k)) n + 1)
-        ≡ cond {A = ℕ} t 0 (suc (least_or_last (λ k. is_some (answer (suc k))) n)) + 1
-    cases true more = refl
-    cases false more = omega (arith, more)
-
--- what is found at the least number that serves is the least answer, and so many searches are tried
+-- what is found at the least number that serves is the least answer
 pub least-of : {A : Type 0} (answer : ℕ → Option A) (n k : ℕ) → k ≡ least_or_last (λ j. is_some (answer j)) n
     → least answer n ≡ answer k
 least-of answer n k e = least-last answer n ∙ ap answer (sym e)
-
-pub tries-of : {A : Type 0} (answer : ℕ → Option A) (n k : ℕ) → k ≡ least_or_last (λ j. is_some (answer j)) n
-    → k + 1 ≡ tries answer n
-tries-of answer n k e = ap (λ m. m + 1) e ∙ sym (tries-last answer n)
 
 -- where there is an answer at first, it is the least
 pub first-is : (test : ℕ → Bool) (n : ℕ) → test 0 ≡ true → 0 ≡ least_or_last test n

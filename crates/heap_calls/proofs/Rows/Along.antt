@@ -3,7 +3,7 @@ use Rattle.heap_calls.proofs.Cited.{is_some, phys, Block, Free, Nonrelocatable, 
 use Rattle.heap_calls.proofs.Cited.{is_nonrelocatable, no_flags, spot, may_be_purged, Move, Search, Purge, Put, Base, Drop, Write, did}
 use Rattle.heap_calls.proofs.Cited.{Sought, seek, seek_slot, seek_size, Along, along-if, along-then, along-later, along-seek, along-slot}
 use Rattle.heap_calls.proofs.Cited.{again-along, State, Held, look_up, nothing, is_loose, Asked, is_unused, next_block, Row, row, cond}
-use Rattle.heap_calls.proofs.Cited.{no_room}
+use Rattle.heap_calls.proofs.Cited.{no_room, Handle, Plain}
 use Rattle.heap_calls.specs.Table as asked
 use Rattle.heap_calls.specs.Rows as rows
 use Rattle.heap_calls.proofs.Same.Resizing.{pointer-spot}
@@ -67,7 +67,7 @@ module _ (M : (Block → Bool) → Move → List Block → Type 0) (s : State) (
         s.zone
 
     made-along : (sp : Block → Bool) (block : List Block → Sought)
-        → ((z : List Block) → Along (M sp) sp (block z).path z) → Along (M sp) sp (rows.made sp block s).path s.zone
+        → ((z : List Block) → Along (M sp) sp (block z).path z) → Along (M sp) sp (rows.made (Handle Plain) sp block s).path s.zone
     made-along sp block each =
         along-then (M sp) sp (seek_slot (is_unused s) sp s.zone) block s.zone (slot-along sp) each
 

@@ -2,7 +2,8 @@ use Rattle.heap_calls.proofs.Cited.{◌≡◌, ℕ, ◌+◌, ◌≤◌, Bool, tr
 use Rattle.heap_calls.proofs.Cited.{is_some, phys, Block, Free, Nonrelocatable, Masters, Relocatable, total, is_relocatable, no_flags}
 use Rattle.heap_calls.proofs.Cited.{unless-le, freed-is, total-append, Move, Put, Base, Write, Did, did, Sought, seek, seek_slot, seek_size}
 use Rattle.heap_calls.proofs.Cited.{did-append, along-slot, Weighs, PutsNone, puts-none, conserved, seek-most, if-most, size-most}
-use Rattle.heap_calls.proofs.Cited.{again-most, State, Held, nothing, Asked, work, is_unused, next_block, Row, row, no_room}
+use Rattle.heap_calls.proofs.Cited.{again-most, State, Held, nothing, Asked, work, is_unused, next_block, Row, row, no_room, Meaning}
+use Rattle.heap_calls.proofs.Cited.{Handle, Plain}
 use Rattle.heap_calls.specs.Rows as rows
 use Rattle.heap_calls.proofs.Rows.Shapes.{ForPath, Shapes, by-shape}
 
@@ -14,7 +15,7 @@ PurgesMost of r s = ForPath (λ (T : Type 0) d. total of (work d s).gone ≤ tot
 
 module _ (of : Block → ℕ) (none : (k : ℕ) → of (Free k) ≡ 0) (masters : of Masters ≡ 0) (s : State)
   where
-    slot-even : (sp : Block → Bool) → total of (did sp (seek_slot (is_unused s) sp s.zone).path s.zone).zone
+    pub slot-even : (sp : Block → Bool) → total of (did sp (seek_slot (is_unused s) sp s.zone).path s.zone).zone
         + total of (did sp (seek_slot (is_unused s) sp s.zone).path s.zone).gone ≡ total of s.zone
     slot-even sp =
         let path = (seek_slot (is_unused s) sp s.zone).path in
@@ -22,10 +23,10 @@ module _ (of : Block → ℕ) (none : (k : ℕ) → of (Free k) ≡ 0) (masters 
         (λ z. masters) (is_unused s) s.zone)) s.zone
         (along-slot (Weighs of) sp (λ n z. tt) (λ k z. tt) (λ z. tt) (is_unused s) s.zone)
 
-    made-most : (sp : Block → Bool) (block : List Block → Sought)
+    pub made-most : (name : Meaning) (sp : Block → Bool) (block : List Block → Sought)
         → ((z : List Block) → total of (did sp (block z).path z).gone ≤ total of z)
-        → total of (work (rows.made sp block s) s).gone ≤ total of s.zone
-    made-most sp block each = cases slot.found
+        → total of (work (rows.made name sp block s) s).gone ≤ total of s.zone
+    made-most name sp block each = cases slot.found
       where
         slot : Sought
         slot = seek_slot (is_unused s) sp s.zone
@@ -74,7 +75,7 @@ module _ (of : Block → ℕ) (none : (k : ℕ) → of (Free k) ≡ 0) (masters 
     shapes-most : (a : Asked) → Shapes (λ (T : Type 0) d. total of (work d s).gone ≤ total of s.zone) s a
     shapes-most a = record {
       refuses = λ left T code. omega arith;
-      makes = λ sp left fits bytes. made-most sp (λ z. cond fits (seek (Put (next_block bytes s)) sp z) no_room)
+      makes = λ sp left fits bytes. made-most (Handle Plain) sp (λ z. cond fits (seek (Put (next_block bytes s)) sp z) no_room)
           (λ z. if-most of sp none fits (Put (next_block bytes s)) (λ y. refl) z);
       empties = λ left. omega (arith, slot-even nothing);
       points = λ left fits bytes. if-most of nothing none fits (Base (Nonrelocatable (length s.names) bytes)) (λ y. refl) s.zone;

@@ -45,7 +45,7 @@ Stays a s = left_by (row a) s ≡ s.zone
 pub record Shapes (P : (T : Type 0) → rows.Done T → Type 0) (s : State) (a : Asked) : Type 1 where
   pub refuses : Stays a s → (T : Type 0) (code : OsErr) → P T (rows.refused code s)
   pub makes : (sp : Block → Bool) → left_by (row a) s ≡ slotted_zone sp s → (fits : Bool) (bytes : List ℕ)
-      → P ℕ (rows.made sp (λ z. cond fits (seek (Put (next_block bytes s)) sp z) no_room) s)
+      → P ℕ (rows.made (Handle Plain) sp (λ z. cond fits (seek (Put (next_block bytes s)) sp z) no_room) s)
   pub empties : Stays a s → P ℕ (rows.given (Handle Plain) nothing (seek_slot (is_unused s) nothing s.zone) s)
   pub points : Stays a s → (fits : Bool) (bytes : List ℕ) → P ℕ (rows.given Pointer nothing
       (cond fits (seek (Base (Nonrelocatable (length s.names) bytes)) nothing s.zone) no_room) s)

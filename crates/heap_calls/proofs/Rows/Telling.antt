@@ -4,7 +4,7 @@ use Rattle.heap_calls.proofs.Cited.{total-append, Move, Search, Purge, Put, Base
 use Rattle.heap_calls.proofs.Cited.{lowest_gone, gone_above, PathWeighs, Weighs, PutsNone, put_on, puts-none, conserved, Memory, Gone}
 use Rattle.heap_calls.proofs.Cited.{gone_of, told_blocks, Row, answer_of}
 use Rattle.heap_calls.specs.Row.{purged_by}
-use Rattle.heap_calls.proofs.Same.Agreeing.{told-append}
+use Rattle.heap_calls.proofs.GoneBlocks.{told-append}
 use Rattle.heap_calls.proofs.Rows.Kinds.{has_path, of-path}
 use Rattle.heap_calls.proofs.Rows.Along.{Keeps}
 

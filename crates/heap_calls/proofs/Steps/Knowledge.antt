@@ -1,40 +1,85 @@
 use Rattle.heap_calls.proofs.Cited.{◌≡◌, ℕ, ◌≤◌, zero, suc, Bool, true, false, ◌&&◌, List, [], ◌∷◌, refl, sym, ◌∙◌, ap, subst, cond, arith}
 use Rattle.heap_calls.proofs.Cited.{Option, Some, length, slice_get, slice_set, bytes_eq, Flags, Block, Free, Nonrelocatable, Masters}
-use Rattle.heap_calls.proofs.Cited.{Relocatable, is_relocatable, unless-none, room-le, count-none, total-le, State, Memory, Meaning, Role}
+use Rattle.heap_calls.proofs.Cited.{Relocatable, is_relocatable, unless-none, count-none, total-le, State, Memory, Meaning, Role}
 use Rattle.heap_calls.proofs.Cited.{Handle, nothing, new_filled, refill, refill_inside, has_block, Step, NewFilled, NewEmpty, Refill}
 use Rattle.heap_calls.proofs.Cited.{Release, Cast, stepped, read_new, read_again, read_by, walk, reads, put_reads}
+use Rattle.heap_calls.proofs.Cited.{Result, Ok, Err, OsErr, is_some, phys, Put, did, Sought, seek, if_fits, seek_slot, fits-refused}
+use Rattle.heap_calls.proofs.Cited.{seek-refused, if-more, Told, Given, told_as, heap_after, is_unused, slotted_zone, new_empty}
+use Rattle.mac_words.specs.Told.{Done}
+use Rattle.heap_calls.specs.Rows.{changed}
 use Rattle.heap_calls.proofs.Promises.Knowing.{Known, for_handle, for_pointer, strange, with_bytes, with-same}
 use Rattle.heap_calls.proofs.Promises.Knowing.{with-other}
-use Rattle.heap_calls.proofs.Promises.KnownChanges.{known-slotted, known-new, known-sparing, known-disposed}
-use Rattle.heap_calls.proofs.Promises.KnownChanges.{known-replaced}
+use Rattle.heap_calls.proofs.Promises.KnownChanges.{known-sparing, known-disposed, known-replaced}
+use Rattle.heap_calls.proofs.Promises.LastPutLaws.{known-changed, known-given, known-slot, known-made}
 use Rattle.heap_calls.proofs.Steps.Paths.{put_reads-then}
-use Rattle.heap_calls.proofs.Steps.Ways.{filled-goes, emptied-goes, refill-goes, released-goes, cast-goes}
+use Rattle.heap_calls.proofs.Steps.Ways.{refill-goes, released-goes, cast-goes}
 
 -- What steps on a heap leave known of its blocks' bytes.
 
+-- what is known once bytes were read into a new handle's block, or into that of an empty one
+abbrev read_into : List ℕ → (ℕ → List ℕ) → Told → ℕ → List ℕ
+read_into x bytes (Given h) = with_bytes h x bytes
+read_into x bytes t = bytes
+
+abbrev read_again_into : ℕ → List ℕ → (ℕ → List ℕ) → Told → ℕ → List ℕ
+read_again_into h x bytes Done = with_bytes h x bytes
+read_again_into h x bytes t = bytes
+
 -- a new handle with its bytes
 known-filled : (role : Role) (flags : Flags) (x : List ℕ) (s : State) (bytes : ℕ → List ℕ) → Known s bytes
-    → Known (new_filled role flags x s).1 (put_reads (read_new x (new_filled role flags x s).0) bytes)
-known-filled role flags x s bytes known =
-    filled-goes (λ a. Known a.1 (put_reads (read_new x a.0) bytes)) role flags x s (λ is. known)
-    (λ r is. known-slotted nothing s bytes known r is)
-    (λ r z is fits. known-new r bytes (known-slotted nothing s bytes known r is) role flags x z
-    (λ of none. room-le of none (Relocatable (length r.names) flags x) nothing r.zone z fits))
+    → Known (heap_after (new_filled role flags x s) s) (put_reads (read_new x (new_filled role flags x s).reply) bytes)
+known-filled role flags x s bytes known = by_reply (new_filled role flags x s).reply
+    (known-made s bytes known (read_into x bytes) (λ code. refl) role flags nothing
+    (λ z. if_fits (length x) (seek (Put new) nothing z)) x
+    (λ z. fits-refused nothing (length x) (seek (Put new) nothing z) (seek-refused nothing (Put new) z))
+    (λ z of none. if-more of nothing none (is_some (phys (length x))) (Put new) (λ y. tt) z) refl)
+  where
+    new : Block
+    new = Relocatable (length s.names) flags x
+
+    by_reply : (r : Result ℕ OsErr)
+        → Known (heap_after (new_filled role flags x s) s) (read_into x bytes (told_as {T = ℕ} Given r))
+        → Known (heap_after (new_filled role flags x s) s) (put_reads (read_new x r) bytes)
+    by_reply (Ok h) known = known
+    by_reply (Err code) known = known
+
+-- a new handle without a block
+known-emptied : (role : Role) (s : State) (bytes : ℕ → List ℕ) → Known s bytes
+    → Known (heap_after (new_empty role s) s) bytes
+known-emptied role s bytes known =
+    let ready = known-slot s bytes known (λ t. bytes) (λ code. refl) nothing in
+    known-given s bytes known (λ t. bytes) (λ code. refl) nothing (Handle role) (seek_slot (is_unused s) nothing s.zone)
+    (λ there. known-sparing (record s { zone = slotted_zone nothing s }) bytes ready (Handle role)) (λ none. ready)
 
 -- a handle without a block gets one
 known-refilled : (h : ℕ) (flags : Flags) (x : List ℕ) (s : State) (bytes : ℕ → List ℕ) → Known s bytes
     → has_block h s ≡ false
-    → Known (refill h flags x s).1 (put_reads (read_again h x (refill h flags x s).0) bytes)
+    → Known (heap_after (refill h flags x s) s) (put_reads (read_again h x (refill h flags x s).reply) bytes)
 known-refilled h flags x s bytes known none =
-    refill-goes (λ a. Known a.1 (put_reads (read_again h x a.0) bytes)) h flags x s (λ code. known)
-    (λ z is fits. known-replaced s z bytes known h is (with_bytes h x bytes) (with-other h x bytes) flags new
+    refill-goes (λ d. Known (heap_after d s) (put_reads (read_again h x d.reply) bytes)) h flags x s (λ code. known)
+    (λ is. by_reply (changed nothing sought s).reply (known-changed s bytes known (read_again_into h x bytes)
+    (λ code. refl) nothing sought
+    (fits-refused nothing (length x) (seek (Put new) nothing s.zone) (seek-refused nothing (Put new) s.zone))
+    (λ there. known-replaced s after bytes known h is (with_bytes h x bytes) (with-other h x bytes) flags new
     (ap (λ y. Relocatable h flags y) (sym (with-same h x bytes)))
-    (λ of never. let l = room-le of never new nothing s.zone z fits in
+    (λ of never. let l = if-more of nothing never (is_some (phys (length x))) (Put new) (λ y. tt) s.zone in
     let few = count-none (is_relocatable h) s.zone none in
-    omega (arith, unless-none (is_relocatable h) of s.zone (omega arith))))
+    omega (arith, unless-none (is_relocatable h) of s.zone (omega arith))))))
   where
     new : Block
     new = Relocatable h flags x
+
+    sought : Sought
+    sought = if_fits (length x) (seek (Put new) nothing s.zone)
+
+    after : List Block
+    after = (did nothing sought.path s.zone).zone
+
+    by_reply : (r : Result (Unit {0}) OsErr)
+        → Known (record s { zone = after }) (read_again_into h x bytes (told_as {T = Unit {0}} (λ u. Done) r))
+        → Known (record s { zone = after }) (put_reads (read_again h x r) bytes)
+    by_reply (Ok u) known = known
+    by_reply (Err code) known = known
 
 -- a handle in another role is one, and all others are what they were
 same-kind : (f : Option Meaning → Bool) → ((one other : Role) → f (Some (Handle one)) ≡ f (Some (Handle other)))
@@ -75,9 +120,7 @@ known-cast s bytes known h role other is = record {
 pub step-known : (step : Step) (m : Memory) (bytes : ℕ → List ℕ) → Known m.heap bytes
     → Known (stepped step m).heap (put_reads (read_by step m) bytes)
 step-known (NewFilled role flags x) m bytes known = known-filled role flags x m.heap bytes known
-step-known (NewEmpty role) m bytes known =
-    emptied-goes (λ a. Known a.1 bytes) role m.heap (λ is. known)
-    (λ r is. known-sparing r bytes (known-slotted nothing m.heap bytes known r is) (Handle role))
+step-known (NewEmpty role) m bytes known = known-emptied role m.heap bytes known
 step-known (Refill h flags x) m bytes known = by_block (has_block h m.heap) refl
   where
     by_block : (t : Bool) → has_block h m.heap ≡ t → Known (cond t m (refill_inside h flags x m).1).heap

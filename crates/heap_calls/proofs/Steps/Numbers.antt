@@ -1,12 +1,21 @@
-use Rattle.heap_calls.proofs.Cited.{◌≡◌, ℕ, Bool, false, List, [], ◌∷◌, ◌++◌, length, ap, cond, None, Ok, Flags, State, Memory, Role}
-use Rattle.heap_calls.proofs.Cited.{Handle, Answer, refill_inside, has_block, Refill, stepped, refusal, refusal_of, read_by, read_again}
+use Rattle.heap_calls.proofs.Cited.{◌≡◌, ◌≤◌, ℕ, Bool, true, false, List, [], length, ap, arith, cond, None, Ok, Flags, Relocatable, Put}
+use Rattle.heap_calls.proofs.Cited.{seek, if_fits, seek_slot, then_seek, State, Memory, Role, nothing, is_unused, reply_of, new_filled}
+use Rattle.heap_calls.proofs.Cited.{new_empty, refill_inside, has_block, Refill, stepped, refusal, refusal_of, read_by, read_again}
 
 -- The numbers of handles that steps on a heap make.
 
--- a new handle has the next number, and its role
-abbrev pub Numbers : Role → State → Answer ℕ → Type 0
-Numbers role s answer =
-    (h : ℕ) → answer.0 ≡ Ok h → (h ≡ length s.names) × (answer.1.names ≡ s.names ++ Handle role ∷ [])
+-- a new handle has the next number
+next-number : (found : Bool) (n k : ℕ) → reply_of found n ≡ Ok k → n ≤ k
+next-number true n k e = let same : n ≡ k = cc in omega (arith, same)
+next-number false n k e = cc
+
+pub filled-number : (role : Role) (flags : Flags) (x : List ℕ) (s : State) (k : ℕ)
+    → (new_filled role flags x s).reply ≡ Ok k → length s.names ≤ k
+filled-number role flags x s k = next-number (then_seek nothing s.zone (seek_slot (is_unused s) nothing s.zone)
+    (λ z. if_fits (length x) (seek (Put (Relocatable (length s.names) flags x)) nothing z))).found (length s.names) k
+
+pub emptied-number : (role : Role) (s : State) (k : ℕ) → (new_empty role s).reply ≡ Ok k → length s.names ≤ k
+emptied-number role s k = next-number (seek_slot (is_unused s) nothing s.zone).found (length s.names) k
 
 -- the step that fills an empty handle
 pub refilled-is : (h : ℕ) (flags : Flags) (bytes : List ℕ) (m : Memory) → has_block h m.heap ≡ false

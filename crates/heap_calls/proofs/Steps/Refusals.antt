@@ -1,10 +1,11 @@
-use Rattle.heap_calls.proofs.Cited.{◌≡◌, ◌≤◌, Bool, true, false, List, length, refl, sym, ◌∙◌, ap, cond, arith, Option, Some, None, Result}
-use Rattle.heap_calls.proofs.Cited.{Ok, Err, option_map, unwrap_or, none-some, OsErr, Block, State, Memory, Meaning, nothing, slotted}
-use Rattle.heap_calls.proofs.Cited.{slotted_zone, staying, has_block, refill_inside, new_inside, new_empty_inside, Step, NewFilled}
-use Rattle.heap_calls.proofs.Cited.{NewEmpty, Refill, Release, Cast, stepped, refusal, refusal_of, left_zone}
-use Rattle.heap_calls.proofs.Promises.RefusedCalls.{Leaves, done}
+use Rattle.heap_calls.proofs.Cited.{◌≡◌, ◌≤◌, Bool, true, false, length, refl, ap, cond, arith, Some, None, Result, Ok, Err, none-some}
+use Rattle.heap_calls.proofs.Cited.{OsErr, State, Memory, nothing, slotted_zone, staying, has_block, refill_inside, new_inside}
+use Rattle.heap_calls.proofs.Cited.{new_empty_inside, Step, NewFilled, NewEmpty, Refill, Release, Cast, stepped, refusal, refusal_of}
+use Rattle.heap_calls.proofs.Cited.{left_zone, Relocatable, Handle, Put, Sought, seek, if_fits, seek_slot, fits-refused, seek-refused}
+use Rattle.heap_calls.proofs.Cited.{heap_after, is_unused, ◌++◌, ◌∷◌, []}
+use Rattle.heap_calls.proofs.Promises.RefusedCalls.{Leaves, refused-path, changed-leaves, made-leaves}
 use Rattle.heap_calls.proofs.Tries.Keeping.{slotted-le}
-use Rattle.heap_calls.proofs.Steps.Ways.{with_new, filled-goes, emptied-goes, refill-goes, slotted-names}
+use Rattle.heap_calls.proofs.Steps.Ways.{refill-goes}
 
 -- What a refused step leaves of a heap.
 
@@ -13,38 +14,33 @@ refusal-err : {T : Type 0} (r : Result T OsErr) (code : OsErr) → refusal_of r 
 refusal-err (Ok value) code e = absurd (none-some code e)
 refusal-err (Err other) code e = cc
 
--- an unused slot that was asked for, or not
-abbrev slot_zone : State → Option State → List Block
-slot_zone s o = unwrap_or (option_map (λ (ready : State). ready.zone) o) s.zone
-
-unslotted-is : (s : State) → slotted nothing s ≡ None → s ≡ record s { zone = slotted_zone nothing s }
-unslotted-is s none = ap (λ (o : Option State). let t : State = record s { zone = slot_zone s o } in t) (sym none)
-
-slotted-is : (s r : State) → slotted nothing s ≡ Some r → r ≡ record s { zone = slotted_zone nothing s }
-slotted-is s r is =
-    ap (λ (ns : List Meaning). let t : State = record { zone = r.zone; names = ns } in t) (slotted-names s r is)
-    ∙ ap (λ (o : Option State). let t : State = record s { zone = slot_zone s o } in t) (sym is)
-
 -- a refused step leaves the zone as it was, but for a block of slots, and the names
 pub step-refused : (step : Step) (m : Memory) (code : OsErr) → refusal step m ≡ Some code
     → (stepped step m).heap ≡ record m.heap { zone = left_zone step m.heap }
 step-refused (NewFilled role flags bytes) m = λ code e.
-    filled-goes (Leaves (slotted_zone nothing m.heap) m.heap) role flags bytes m.heap
-    (λ none code e. unslotted-is m.heap none) (λ r is code e. slotted-is m.heap r is)
-    (λ r z is fits. done (length r.names) (slotted_zone nothing m.heap) m.heap (with_new role z r)) code
+    let new = Relocatable (length m.heap.names) flags bytes in
+    made-leaves (Handle role) nothing (λ z. if_fits (length bytes) (seek (Put new) nothing z)) m.heap
+    (λ z. fits-refused nothing (length bytes) (seek (Put new) nothing z) (seek-refused nothing (Put new) z)) code
     (refusal-err (new_inside role flags bytes m).0 code e)
 step-refused (NewEmpty role) m = λ code e.
-    emptied-goes (Leaves (slotted_zone nothing m.heap) m.heap) role m.heap
-    (λ none code e. unslotted-is m.heap none)
-    (λ r is. done (length r.names) (slotted_zone nothing m.heap) m.heap (with_new role r.zone r)) code
+    refused-path nothing (seek_slot (is_unused m.heap) nothing m.heap.zone) m.heap (slotted_zone nothing m.heap)
+    (length m.heap.names) (λ t. cond t (m.heap.names ++ Handle role ∷ []) m.heap.names) refl (λ none. refl) code
     (refusal-err (new_empty_inside role m).0 code e)
 step-refused (Refill h flags bytes) m = by_block (has_block h m.heap)
   where
+    s : State
+    s = m.heap
+
+    sought : Sought
+    sought = seek (Put (Relocatable h flags bytes)) nothing s.zone
+
     by_block : (t : Bool) → (code : OsErr) → cond t None (refusal_of (refill_inside h flags bytes m).0) ≡ Some code
-        → (cond t m (refill_inside h flags bytes m).1).heap ≡ m.heap
+        → (cond t m (refill_inside h flags bytes m).1).heap ≡ s
     by_block true = λ code e. refl
-    by_block false = λ code e. refill-goes (Leaves m.heap.zone m.heap) h flags bytes m.heap (λ why code e. refl)
-        (λ z is fits. done {T = Unit {0}} tt m.heap.zone m.heap (record m.heap { zone = z })) code
+    by_block false = λ code e. refill-goes (λ d. Leaves s.zone s (d.reply, heap_after d s)) h flags bytes s
+        (λ why code e. refl)
+        (λ is. changed-leaves nothing (if_fits (length bytes) sought) s (fits-refused nothing (length bytes) sought
+        (seek-refused nothing (Put (Relocatable h flags bytes)) s.zone))) code
         (refusal-err (refill_inside h flags bytes m).0 code e)
 step-refused (Release h) m = λ code e. absurd (none-some code e)
 step-refused (Cast change h) m = λ code e. absurd (none-some code e)

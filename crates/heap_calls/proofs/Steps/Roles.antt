@@ -1,9 +1,11 @@
 use Rattle.heap_calls.proofs.Cited.{◌≡◌, ℕ, Bool, true, false, ◌==◌, List, [], ◌∷◌, ◌++◌, length, refl, sym, ◌∙◌, ap, cond, Option, Some}
 use Rattle.heap_calls.proofs.Cited.{None, Ok, Err, slice_get, Decides-eqb, Flags, State, Meaning, Role, Plain, Handle, Pointer, Disposed}
-use Rattle.heap_calls.proofs.Cited.{Answer, nothing, known_as, slotted, new_filled, new_empty, refill, released, released_as, cast, cast_as}
-use Rattle.heap_calls.proofs.Cited.{owned_as, resource_role, resource_only, resource_meant, resource_role_at}
+use Rattle.heap_calls.proofs.Cited.{Answer, nothing, known_as, refill, reply_of, did, Sought, answer_made, heap_after, new_filled}
+use Rattle.heap_calls.proofs.Cited.{new_empty, released, released_as, cast, cast_as, owned_as, resource_role, resource_only, resource_meant}
+use Rattle.heap_calls.proofs.Cited.{resource_role_at, Relocatable, Put, seek, if_fits, seek_slot, then_seek, is_unused}
+use Rattle.heap_calls.specs.Rows.{given}
 use Rattle.heap_calls.proofs.Promises.Knowing.{next-none}
-use Rattle.heap_calls.proofs.Steps.Ways.{with_new, filled-goes, emptied-goes, refill-goes, slotted-names}
+use Rattle.heap_calls.proofs.Steps.Ways.{refill-goes}
 use Rattle.heap_calls.proofs.Tries.Roles.{role-gone, role-new}
 
 -- Which numbers are resources' handles after a step of the Resource Manager.
@@ -20,38 +22,33 @@ MakesHandle role s (Ok n, after) =
     (resource_role_at n s ≡ None)
     × ((h : ℕ) → resource_role_at h after ≡ cond (n == h) (resource_only role) (resource_role_at h s))
 
--- with an unused slot for it
-slotted-makes : (role : Role) (s r after : State) → slotted nothing s ≡ Some r
-    → after.names ≡ r.names ++ Handle role ∷ [] → MakesHandle role s (Ok (length r.names), after)
-slotted-makes role s r after is named =
-    let kept = slotted-names s r is in (
-      ap (λ (ns : List Meaning). resource_meant (slice_get s.names (length ns))) kept
-          ∙ ap resource_meant (next-none s.names),
-      λ h. ap (λ (ns : List Meaning). resource_meant (slice_get ns h)) named
-          ∙ role-new r.names h (Handle role)
-          ∙ ap (λ (ns : List Meaning). cond (length r.names == h) (resource_only role)
-          (resource_meant (slice_get ns h))) kept,
+-- whatever was sought for it
+given-makes : (role : Role) (r : Sought) (s : State) → MakesHandle role s (answer_made (given (Handle role) nothing r) s)
+given-makes role r s = cases r.found
+  where
+    cases : (t : Bool) → MakesHandle role s (
+      reply_of t (length s.names),
+      record {
+        zone = (did nothing r.path s.zone).zone;
+        names = cond t (s.names ++ Handle role ∷ []) s.names;
+      },
     )
-
-slotted-same : (s r : State) → slotted nothing s ≡ Some r → (h : ℕ) → resource_role_at h r ≡ resource_role_at h s
-slotted-same s r is h = ap (λ (ns : List Meaning). resource_meant (slice_get ns h)) (slotted-names s r is)
+    cases true = (ap resource_meant (next-none s.names), λ h. role-new s.names h (Handle role))
+    cases false = λ h. refl
 
 pub filled-makes : (role : Role) (flags : Flags) (bytes : List ℕ) (s : State)
-    → MakesHandle role s (new_filled role flags bytes s)
-filled-makes role flags bytes s =
-    filled-goes (MakesHandle role s) role flags bytes s (λ is h. refl) (λ r is. slotted-same s r is)
-    (λ r z is fits. slotted-makes role s r (with_new role z r) is refl)
+    → MakesHandle role s (answer_made (new_filled role flags bytes) s)
+filled-makes role flags bytes s = given-makes role (then_seek nothing s.zone (seek_slot (is_unused s) nothing s.zone)
+    (λ z. if_fits (length bytes) (seek (Put (Relocatable (length s.names) flags bytes)) nothing z))) s
 
-pub emptied-makes : (role : Role) (s : State) → MakesHandle role s (new_empty role s)
-emptied-makes role s =
-    emptied-goes (MakesHandle role s) role s (λ is h. refl)
-    (λ r is. slotted-makes role s r (with_new role r.zone r) is refl)
+pub emptied-makes : (role : Role) (s : State) → MakesHandle role s (answer_made (new_empty role) s)
+emptied-makes role s = given-makes role (seek_slot (is_unused s) nothing s.zone) s
 
 -- a handle that is filled stays whose it is
 pub refilled-roles : (k : ℕ) (flags : Flags) (bytes : List ℕ) (s : State) (h : ℕ)
-    → resource_role_at h (refill k flags bytes s).1 ≡ resource_role_at h s
-refilled-roles k flags bytes s h =
-    refill-goes (λ a. resource_role_at h a.1 ≡ resource_role_at h s) k flags bytes s (λ code. refl) (λ z is fits. refl)
+    → resource_role_at h (heap_after (refill k flags bytes s) s) ≡ resource_role_at h s
+refilled-roles k flags bytes s h = refill-goes (λ d. resource_role_at h (heap_after d s) ≡ resource_role_at h s) k flags
+    bytes s (λ code. refl) (λ is. refl)
 
 -- what isn't a resource's handle isn't one without it
 none-gone : (k h : ℕ) (s : State) → resource_role_at k s ≡ None

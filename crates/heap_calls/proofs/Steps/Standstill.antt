@@ -1,14 +1,15 @@
 use Rattle.heap_calls.proofs.Cited.{◌≡◌, ℕ, ◌≤◌, Bool, true, false, ◌&&◌, ◌==◌, List, [], ◌∷◌, length, refl, sym, ◌∙◌, ap, subst, arith}
 use Rattle.heap_calls.proofs.Cited.{Some, or_parts, Decides-eqb, Flags, Block, Relocatable, sizes, count, is_relocatable, is_nonrelocatable}
-use Rattle.heap_calls.proofs.Cited.{put_in_place, room, count-none, Alike, alike-refl, alike-then, alike-put, alike-room, stands-is}
-use Rattle.heap_calls.proofs.Cited.{not_nonrelocatable-relocatable, State, Memory, Meaning, nothing, has_block, is_locked, locked_place}
-use Rattle.heap_calls.proofs.Cited.{pointer_place, Step, NewFilled, NewEmpty, Refill, Release, Cast, stepped, walk, read_by, put_reads}
-use Rattle.heap_calls.proofs.Cited.{step_disposes, steps_dispose}
+use Rattle.heap_calls.proofs.Cited.{count-none, Alike, stands-is, not_nonrelocatable-relocatable, State, Memory, nothing, has_block}
+use Rattle.heap_calls.proofs.Cited.{is_locked, locked_place, pointer_place, Step, NewFilled, NewEmpty, Refill, Release, Cast, stepped, walk}
+use Rattle.heap_calls.proofs.Cited.{read_by, put_reads, step_disposes, steps_dispose}
 use Rattle.heap_calls.proofs.Promises.Knowing.{Known, for_handle, none-handle, next-none}
-use Rattle.heap_calls.proofs.Promises.AlikeCalls.{Steady, never, steady-never, alike-slotted, alike-gone}
+use Rattle.heap_calls.proofs.Promises.AlikeCalls.{Steady, never, steady-never, alike-gone}
 use Rattle.heap_calls.proofs.Promises.LockedLaws.{steady-locked, fewer, some-locked, other-unlocked}
 use Rattle.heap_calls.proofs.Promises.StandingLaws.{steady-nonrelocatable}
-use Rattle.heap_calls.proofs.Steps.Ways.{Goes, step-goes, slotted-names}
+use Rattle.heap_calls.proofs.Steps.Ways.{path_of, Puts, step-along, Lets, step-leaves}
+use Rattle.moves.proofs.Steady.{Stays}
+use Rattle.moves.proofs.Steady as moves
 use Rattle.heap_calls.proofs.Steps.Knowledge.{step-known}
 
 -- What stands still through steps on a heap: a locked block, a pointer's block, and how many bytes a zone has.
@@ -23,31 +24,21 @@ Unseen seen (Cast change h) s = Unit {0}
 
 module _ (seen : Block → Bool) (steady : Steady seen)
   where
-    alike-new : (new : Block) → seen new ≡ false → (zone z : List Block)
-        → room (put_in_place new) nothing zone ≡ Some z → Alike seen zone z
-    alike-new new open_new zone z fits = alike-room seen steady.rigid (put_in_place new)
-        (alike-put seen steady.rigid new open_new) nothing zone z fits
+    puts : (step : Step) (s : State) → Unseen seen step s → Puts (Stays seen steady.rigid nothing) step s
+    puts (NewFilled role flags bytes) s unseen = λ z. unseen
+    puts (Refill h flags bytes) s unseen = λ none z. unseen none
+    puts step s unseen = tt
 
-    alike-goes : (step : Step) (s : State) → Unseen seen step s → Goes (λ t. Alike seen s.zone t.zone) step s
-    alike-goes (NewFilled role flags bytes) s unseen = λ r is.
-        let a = alike-slotted seen steady nothing s r is in
-        let open_new : seen (Relocatable (length r.names) flags bytes) ≡ false =
-        ap (λ (ns : List Meaning). seen (Relocatable (length ns) flags bytes)) (slotted-names s r is) ∙ unseen in (
-          a,
-          λ z fits. alike-then seen steady.rigid s.zone r.zone z a
-              (alike-new (Relocatable (length r.names) flags bytes) open_new r.zone z fits),
-        )
-    alike-goes (NewEmpty role) s unseen = alike-slotted seen steady nothing s
-    alike-goes (Refill h flags bytes) s unseen = λ none is z fits.
-        alike-new (Relocatable h flags bytes) (unseen none) s.zone z fits
-    alike-goes (Release h) s unseen = λ is. alike-gone seen steady (is_relocatable h) unseen s.zone
-    alike-goes (Cast change h) s unseen = λ role is. alike-refl seen steady.rigid s.zone
+    lets : (step : Step) (s : State) → Unseen seen step s → Lets (Alike seen s.zone) step s
+    lets (Release h) s unseen = alike-gone seen steady (is_relocatable h) unseen s.zone
+    lets step s unseen = tt
 
     pub alike-stepped : (step : Step) (m : Memory) → Unseen seen step m.heap
         → Alike seen m.heap.zone (stepped step m).heap.zone
-    alike-stepped step m unseen =
-        step-goes (λ t. Alike seen m.heap.zone t.zone) step m (alike-refl seen steady.rigid m.heap.zone)
-        (alike-goes step m.heap unseen)
+    alike-stepped step m unseen = step-leaves (Alike seen m.heap.zone) step m
+        (moves.steady seen steady.rigid nothing (path_of step m.heap) m.heap.zone
+        (step-along (Stays seen steady.rigid nothing) (λ n z. tt) (λ k z. tt) (λ z. steady.masters) step m.heap
+        (puts step m.heap unseen))) (lets step m.heap unseen)
 
 -- a handle without a block isn't that of a locked one
 without-unlocked : (h place k : ℕ) (zone : List Block) → locked_place h zone ≡ Some place

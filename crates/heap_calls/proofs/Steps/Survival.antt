@@ -1,12 +1,12 @@
-use Rattle.heap_calls.proofs.Cited.{◌≡◌, ℕ, ◌≤◌, Bool, true, false, List, [], ◌∷◌, length, refl, arith, or_parts, Block, Free, Relocatable}
-use Rattle.heap_calls.proofs.Cited.{total, count, is_masters, is_purgeable, is_relocatable, with_content, resized, has, made-all, State}
-use Rattle.heap_calls.proofs.Cited.{Memory, nothing, has_purgeable, Step, NewFilled, NewEmpty, Refill, Release, Cast, stepped, walk}
-use Rattle.heap_calls.proofs.Cited.{step_disposes, steps_dispose}
-use Rattle.heap_calls.proofs.Promises.EmptyingLaws.{Unseen, of-slotted, of-gone, stays, stays-goes, stays-sized}
+use Rattle.heap_calls.proofs.Cited.{◌≡◌, ℕ, ◌≤◌, Bool, true, false, List, [], ◌∷◌, refl, arith, or_parts, Block, Free, total, count}
+use Rattle.heap_calls.proofs.Cited.{is_masters, is_purgeable, is_relocatable, with_content, has, State, Memory, nothing, has_purgeable}
+use Rattle.heap_calls.proofs.Cited.{Step, NewFilled, NewEmpty, Refill, Release, Cast, stepped, walk, step_disposes, steps_dispose, Weighs}
+use Rattle.heap_calls.proofs.Cited.{keeps, only-purgeable, and_parts}
+use Rattle.heap_calls.proofs.Promises.EmptyingLaws.{Unseen, of-gone, stays, stays-goes}
 use Rattle.heap_calls.proofs.Promises.EmptyingLaws.{stays-filled, stays-other, stays-all, stays-le, still-there}
-use Rattle.heap_calls.proofs.Promises.EmptyingLaws.{masters, masters-goes, masters-sized, masters-filled}
+use Rattle.heap_calls.proofs.Promises.EmptyingLaws.{masters, masters-goes, masters-filled}
 use Rattle.heap_calls.proofs.Promises.EmptyingLaws.{masters-handle}
-use Rattle.heap_calls.proofs.Steps.Ways.{Goes, step-goes}
+use Rattle.heap_calls.proofs.Steps.Ways.{path_of, Puts, step-along, Lets, step-leaves}
 
 -- Which blocks are there after steps on a heap: each that may not be purged, and all of master pointers.
 
@@ -18,27 +18,31 @@ Spares of (Refill h flags bytes) = Unit {0}
 Spares of (Release h) = Unseen of (is_relocatable h)
 Spares of (Cast change h) = Unit {0}
 
+-- any measure allows what a step puts
+pub weighs : (of : Block → ℕ) (step : Step) (s : State) → Puts (Weighs of) step s
+weighs of (NewFilled role flags bytes) s = λ z. tt
+weighs of (Refill h flags bytes) s = λ none z. tt
+weighs of step s = tt
+
 module _ (of : Block → ℕ) (none : (n : ℕ) → of (Free n) ≡ 0)
-    (goes : (b : Block) → is_purgeable b ≡ true → of b ≡ 0) (sized : (n : ℕ) (b : Block) → of b ≡ of (resized n b))
+    (goes : (b : Block) → is_purgeable b ≡ true → of b ≡ 0)
     (filled : (x : List ℕ) (b : Block) → of b ≡ of (with_content x b))
   where
-    rises-goes : (step : Step) (s : State) → Spares of step → Goes (λ t. total of s.zone ≤ total of t.zone) step s
-    rises-goes (NewFilled role flags bytes) s spares = λ r is.
-        let a = of-slotted of none goes sized filled nothing s r is in (
-          a,
-          λ z fits. let b = made-all of none goes (Relocatable (length r.names) flags bytes) nothing r.zone z fits in
-              omega arith,
-        )
-    rises-goes (NewEmpty role) s spares = of-slotted of none goes sized filled nothing s
-    rises-goes (Refill h flags bytes) s spares = λ gone is.
-        made-all of none goes (Relocatable h flags bytes) nothing s.zone
-    rises-goes (Release h) s spares = λ is. of-gone of none filled (is_relocatable h) spares s.zone
-    rises-goes (Cast change h) s spares = λ role is. omega arith
+    lets : (step : Step) (s : State) → Spares of step → Lets (λ z. total of s.zone ≤ total of z) step s
+    lets (Release h) s spares = of-gone of none filled (is_relocatable h) spares s.zone
+    lets step s spares = tt
 
     pub rises-stepped : (step : Step) (m : Memory) → Spares of step
         → total of m.heap.zone ≤ total of (stepped step m).heap.zone
     rises-stepped step m spares =
-        step-goes (λ t. total of m.heap.zone ≤ total of t.zone) step m (omega arith) (rises-goes step m.heap spares)
+        let zone = m.heap.zone in
+        let path = path_of step m.heap in
+        step-leaves (λ z. total of zone ≤ total of z) step m (omega (
+          arith,
+          keeps of none nothing path zone (step-along (Weighs of) (λ n z. tt) (λ k z. tt) (λ z. tt) step m.heap
+              (weighs of step m.heap)),
+          only-purgeable of none nothing (λ b may. goes b (and_parts (is_purgeable b) true may).0) path zone,
+        )) (lets step m.heap spares)
 
 masters-spared : (step : Step) → Spares masters step
 masters-spared (NewFilled role flags bytes) = tt
@@ -51,7 +55,7 @@ masters-spared (Cast change h) = tt
 pub step-masters : (step : Step) (m : Memory)
     → count is_masters m.heap.zone ≤ count is_masters (stepped step m).heap.zone
 step-masters step m =
-    rises-stepped masters (λ n. refl) masters-goes masters-sized masters-filled step m (masters-spared step)
+    rises-stepped masters (λ n. refl) masters-goes masters-filled step m (masters-spared step)
 
 pub steps-masters : (steps : List Step) (m : Memory)
     → count is_masters m.heap.zone ≤ count is_masters (walk steps m).heap.zone
@@ -72,7 +76,7 @@ steps-stay : (steps : List Step) (m : Memory) (h : ℕ) → steps_dispose steps 
 steps-stay [] m h keeps = omega arith
 steps-stay (step ∷ steps) m h keeps =
     let both = or_parts (step_disposes step h) (steps_dispose steps h) keeps in
-    let a = rises-stepped (stays h) (λ n. refl) (stays-goes h) (stays-sized h) (stays-filled h) step m
+    let a = rises-stepped (stays h) (λ n. refl) (stays-goes h) (stays-filled h) step m
     (stays-spared h step both.0) in
     let b = steps-stay steps (stepped step m) h both.1 in
     omega arith

@@ -1,105 +1,34 @@
-use Rattle.heap_calls.proofs.Cited.{◌≡◌, ℕ, Bool, true, false, List, [], ◌∷◌, ◌++◌, length, refl, sym, ap, subst, cond, Option, Some, None}
-use Rattle.heap_calls.proofs.Cited.{Result, Ok, Err, slice_get, slice_set, nat_lt, same_Some, if◌then◌else◌, phys, OsErr, MEM_FULL, Flags}
-use Rattle.heap_calls.proofs.Cited.{Block, Masters, Relocatable, put_at_base, put_in_place, room, map-some, State, Memory, Meaning, Role}
-use Rattle.heap_calls.proofs.Cited.{Handle, used_slots, all_slots, Answer, nothing, refused, given, rebuilt, handle_at, for_found, without}
-use Rattle.heap_calls.proofs.Cited.{slotted, if_ready, more_masters, made, new_filled, new_empty, refill, released, released_as, cast}
-use Rattle.heap_calls.proofs.Cited.{cast_as, has_block, refill_inside, Step, NewFilled, NewEmpty, Refill, Release, Cast, stepped}
-use Rattle.std.specs.Prelude.{is_some}
+use Rattle.heap_calls.proofs.Cited.{◌≡◌, ℕ, Bool, true, false, List, [], length, refl, sym, subst, cond, Option, Some, None, Result, Ok}
+use Rattle.heap_calls.proofs.Cited.{Err, slice_get, slice_set, is_some, if◌then◌else◌, phys, OsErr, Flags, Block, Masters, Relocatable}
+use Rattle.heap_calls.proofs.Cited.{is_relocatable, freed, tidy, Move, Search, Purge, Put, Base, did, seek, if_fits, Along, along-if}
+use Rattle.heap_calls.proofs.Cited.{along-then, along-seek, along-slot, State, Memory, Meaning, Role, nothing, handle_at, without}
+use Rattle.heap_calls.proofs.Cited.{is_unused, Done, purges_made, told_blocks, new_filled, new_empty, refill, released, released_as, cast}
+use Rattle.heap_calls.proofs.Cited.{cast_as, has_block, refill_inside, Step, NewFilled, NewEmpty, Refill, Release, Cast, stepped, gone_at}
+use Rattle.heap_calls.proofs.Cited.{◌≤◌, arith, Free, total, if-most}
 use Rattle.heap_calls.specs.State as names
 use Rattle.heap_calls.specs.Answer as calls
-use Rattle.heap_calls.proofs.Promises.Knowing.{for_handle}
-use Rattle.heap_calls.proofs.Promises.Knowing.{handle_at-name}
+use Rattle.heap_calls.specs.Rows.{changed, refused, for_found}
+use Rattle.heap_calls.proofs.Promises.Knowing.{for_handle, handle_at-name}
+use Rattle.heap_calls.proofs.Rows.Most.{slot-even, made-most}
 
 -- The ways that a step on a heap may go.
 
--- a heap with a block more, of a new handle's number
-abbrev pub with_new : Role → List Block → State → State
-with_new role zone r = record { zone = zone; names = r.names ++ Handle role ∷ [] }
-
--- a new block for a handle finds room
-abbrev pub Fits : ℕ → Flags → List ℕ → List Block → List Block → Type 0
-Fits h flags bytes zone z = room (put_in_place (Relocatable h flags bytes)) nothing zone ≡ Some z
-
--- an unused slot changes no name
-pub slotted_sparing-names : (sp : Block → Bool) (s r : State) → slotted sp s ≡ Some r → r.names ≡ s.names
-slotted_sparing-names sp s r e = by_slots (nat_lt (used_slots s) (all_slots s)) e
-  where
-    by_slots : (t : Bool) → cond t (Some s) (more_masters sp s) ≡ Some r → r.names ≡ s.names
-    by_slots true e = ap (λ (x : State). x.names) (sym (same_Some _ _ e))
-    by_slots false e =
-        map-some (λ zone. record s { zone = zone }) (room (put_at_base Masters) sp s.zone) r (r.names ≡ s.names) e
-        (λ zone made is. ap (λ (x : State). x.names) (sym is))
-
-pub slotted-names : (s r : State) → slotted nothing s ≡ Some r → r.names ≡ s.names
-slotted-names = slotted_sparing-names nothing
-
--- what is done with an unused slot
-ready-goes : {T : Type 0} (P : Answer T → Type 0) (o : Option State) (s : State) (answer : State → Answer T)
-    → (o ≡ None → P (refused MEM_FULL s)) → ((r : State) → o ≡ Some r → P (answer r)) → P (if_ready o s answer)
-ready-goes P None s answer none ready = none refl
-ready-goes P (Some r) s answer none ready = ready r refl
-
--- a new handle with a block: there is no slot; or no room for the block; or it is there
-pub filled-goes : (P : Answer ℕ → Type 0) (role : Role) (flags : Flags) (bytes : List ℕ) (s : State)
-    → (slotted nothing s ≡ None → P (refused MEM_FULL s))
-    → ((r : State) → slotted nothing s ≡ Some r → P (refused MEM_FULL r))
-    → ((r : State) (z : List Block) → slotted nothing s ≡ Some r → Fits (length r.names) flags bytes r.zone z
-    → P (Ok (length r.names), with_new role z r))
-    → P (new_filled role flags bytes s)
-filled-goes P role flags bytes s none full done =
-    ready-goes P (slotted nothing s) s (λ ready. if is_some (phys (length bytes))
-    then made role flags nothing bytes ready else refused MEM_FULL ready) none
-    (λ r is. by_size r is (is_some (phys (length bytes))))
-  where
-    by_room : (r : State) → slotted nothing s ≡ Some r → (o : Option (List Block))
-        → room (put_in_place (Relocatable (length r.names) flags bytes)) nothing r.zone ≡ o
-        → P (given (Handle role) o r)
-    by_room r is None e = full r is
-    by_room r is (Some z) e = done r z is e
-
-    by_size : (r : State) → slotted nothing s ≡ Some r → (t : Bool)
-        → P (cond t (made role flags nothing bytes r) (refused MEM_FULL r))
-    by_size r is true = by_room r is (room (put_in_place (Relocatable (length r.names) flags bytes)) nothing r.zone)
-        refl
-    by_size r is false = full r is
-
--- a new empty handle: there is no slot; or it is there
-pub emptied-goes : (P : Answer ℕ → Type 0) (role : Role) (s : State)
-    → (slotted nothing s ≡ None → P (refused MEM_FULL s))
-    → ((r : State) → slotted nothing s ≡ Some r → P (Ok (length r.names), with_new role r.zone r))
-    → P (new_empty role s)
-emptied-goes P role s none done =
-    ready-goes P (slotted nothing s) s (λ ready. given (Handle role) (Some ready.zone) ready) none done
-
--- a new block for a handle: it is refused; or it is there
-pub refill-goes : (P : Answer (Unit {0}) → Type 0) (h : ℕ) (flags : Flags) (bytes : List ℕ) (s : State)
+-- a new block for a handle: there is no such handle; or room is sought for the block
+pub refill-goes : (P : Done (Unit {0}) → Type 0) (h : ℕ) (flags : Flags) (bytes : List ℕ) (s : State)
     → ((code : OsErr) → P (refused code s))
-    → ((z : List Block) → for_handle (slice_get s.names h) ≡ true → Fits h flags bytes s.zone z
-    → P (Ok tt, record s { zone = z }))
+    → (for_handle (slice_get s.names h) ≡ true
+    → P (changed nothing (if_fits (length bytes) (seek (Put (Relocatable h flags bytes)) nothing s.zone)) s))
     → P (refill h flags bytes s)
-refill-goes P h flags bytes s none done = by_name (handle_at (Some h) s) (handle_at-name h s)
+refill-goes P h flags bytes s none found = by_name (handle_at (Some h) s) (handle_at-name h s)
   where
-    answer : ℕ → Answer (Unit {0})
-    answer k = if is_some (phys (length bytes))
-        then rebuilt (room (put_in_place (Relocatable k flags bytes)) nothing s.zone) s else refused MEM_FULL s
-
-    by_room : for_handle (slice_get s.names h) ≡ true → (o : Option (List Block))
-        → room (put_in_place (Relocatable h flags bytes)) nothing s.zone ≡ o → P (rebuilt o s)
-    by_room is None e = none MEM_FULL
-    by_room is (Some z) e = done z is e
-
-    by_size : for_handle (slice_get s.names h) ≡ true → (t : Bool)
-        → P (cond t (rebuilt (room (put_in_place (Relocatable h flags bytes)) nothing s.zone) s) (refused MEM_FULL s))
-    by_size is true = by_room is (room (put_in_place (Relocatable h flags bytes)) nothing s.zone) refl
-    by_size is false = none MEM_FULL
+    sought : ℕ → Done (Unit {0})
+    sought k = changed nothing (if_fits (length bytes) (seek (Put (Relocatable k flags bytes)) nothing s.zone)) s
 
     by_name : (r : Result calls.Known OsErr)
         → ((k : calls.Known) → r ≡ Ok k → (for_handle (slice_get s.names h) ≡ true) × (k.number ≡ h))
-        → P (for_found r s (λ k. answer k.number))
-    by_name (Err code) found = none code
-    by_name (Ok k) found =
-        let f = found k refl in
-        subst (λ (j : ℕ). P (answer j)) (sym f.1) (by_size f.0 (is_some (phys (length bytes))))
+        → P (for_found r s (λ (k : calls.Known). sought k.number))
+    by_name (Err code) named = none code
+    by_name (Ok k) named = let f = named k refl in subst (λ (j : ℕ). P (sought j)) (sym f.1) (found f.0)
 
 -- a handle that goes, if there is one
 pub released-goes : (P : State → Type 0) (h : ℕ) (s : State) → P s
@@ -114,8 +43,8 @@ released-goes P h s none done = by_name (handle_at (Some h) s) (handle_at-name h
 
 -- a handle in another role, if there is one
 pub cast-goes : (P : State → Type 0) (change : Role → Role) (h : ℕ) (s : State) → P s
-    → ((role : Role) → slice_get s.names h ≡ Some (Handle role)
-    → P (record s { names = slice_set s.names h (Handle (change role)) }))
+    → ((role : Role) → slice_get s.names h ≡ Some (names.Handle role)
+    → P (record s { names = slice_set s.names h (names.Handle (change role)) }))
     → P (cast change h s)
 cast-goes P change h s none done = by_name (slice_get s.names h) refl
   where
@@ -125,31 +54,96 @@ cast-goes P change h s none done = by_name (slice_get s.names h) refl
     by_name (Some names.Pointer) e = none
     by_name (Some names.Disposed) e = none
 
--- what holds of a heap, and of each that a step may leave of it
-abbrev pub Goes : (State → Type 0) → Step → State → Type 0
-Goes P (NewFilled role flags bytes) s =
-    (r : State) → slotted nothing s ≡ Some r
-    → P r × ((z : List Block) → Fits (length r.names) flags bytes r.zone z → P (with_new role z r))
-Goes P (NewEmpty role) s = (r : State) → slotted nothing s ≡ Some r → P (with_new role r.zone r)
-Goes P (Refill h flags bytes) s =
-    has_block h s ≡ false → for_handle (slice_get s.names h) ≡ true → (z : List Block)
-    → Fits h flags bytes s.zone z → P (record s { zone = z })
-Goes P (Release h) s = for_handle (slice_get s.names h) ≡ true → P (without h s)
-Goes P (Cast change h) s =
-    (role : Role) → slice_get s.names h ≡ Some (Handle role)
-    → P (record s { names = slice_set s.names h (Handle (change role)) })
+-- the path of a step
+abbrev pub path_of : Step → State → List Move
+path_of (NewFilled role flags bytes) s = (new_filled role flags bytes s).path
+path_of (NewEmpty role) s = (new_empty role s).path
+path_of (Refill h flags bytes) s = if has_block h s then [] else (refill h flags bytes s).path
+path_of (Release h) s = []
+path_of (Cast change h) s = []
 
--- holds of the heap after the step
-pub step-goes : (P : State → Type 0) (step : Step) (m : Memory) → P m.heap → Goes P step m.heap
-    → P (stepped step m).heap
-step-goes P (NewFilled role flags bytes) m before goes =
-    filled-goes (λ a. P a.1) role flags bytes m.heap (λ is. before) (λ r is. (goes r is).0)
-    (λ r z is fits. (goes r is).1 z fits)
-step-goes P (NewEmpty role) m before goes = emptied-goes (λ a. P a.1) role m.heap (λ is. before) goes
-step-goes P (Refill h flags bytes) m before goes = by_block (has_block h m.heap) refl
+-- what a law of moves must allow of the block that a step puts
+abbrev pub Puts : (Move → List Block → Type 0) → Step → State → Type 0
+Puts M (NewFilled role flags bytes) s = (z : List Block) → M (Put (Relocatable (length s.names) flags bytes)) z
+Puts M (Refill h flags bytes) s = has_block h s ≡ false → (z : List Block) → M (Put (Relocatable h flags bytes)) z
+Puts M step s = Unit {0}
+
+-- then the step's path keeps to it
+module _ (M : Move → List Block → Type 0) (searches : (n : ℕ) (z : List Block) → M (Search n) z)
+    (purges : (k : ℕ) (z : List Block) → M (Purge k) z) (masters : (z : List Block) → M (Base Masters) z)
   where
-    by_block : (t : Bool) → has_block h m.heap ≡ t → P (cond t m (refill_inside h flags bytes m).1).heap
-    by_block true e = before
-    by_block false e = refill-goes (λ a. P a.1) h flags bytes m.heap (λ code. before) (λ z is fits. goes e is z fits)
-step-goes P (Release h) m before goes = released-goes P h m.heap before goes
-step-goes P (Cast change h) m before goes = cast-goes P change h m.heap before goes
+    put-along : (bytes : List ℕ) (new : Block) → ((z : List Block) → M (Put new) z) → (z : List Block)
+        → Along M nothing (if_fits (length bytes) (seek (Put new) nothing z)).path z
+    put-along bytes new puts z = along-if M nothing (is_some (phys (length bytes))) (seek (Put new) nothing z) z
+        (along-seek M nothing searches purges (Put new) puts z)
+
+    pub step-along : (step : Step) (s : State) → Puts M step s → Along M nothing (path_of step s) s.zone
+    step-along (NewFilled role flags bytes) s puts =
+        let new = Relocatable (length s.names) flags bytes in
+        along-then M nothing _ (λ z. if_fits (length bytes) (seek (Put new) nothing z)) s.zone
+        (along-slot M nothing searches purges masters (is_unused s) s.zone) (put-along bytes new puts)
+    step-along (NewEmpty role) s puts = along-slot M nothing searches purges masters (is_unused s) s.zone
+    step-along (Refill h flags bytes) s puts = by_block (has_block h s) refl
+      where
+        by_block : (t : Bool) → has_block h s ≡ t
+            → Along M nothing (cond t [] (refill h flags bytes s).path) s.zone
+        by_block true e = tt
+        by_block false e = refill-goes (λ d. Along M nothing d.path s.zone) h flags bytes s (λ code. tt)
+            (λ is. put-along bytes (Relocatable h flags bytes) (puts e) s.zone)
+    step-along (Release h) s puts = tt
+    step-along (Cast change h) s puts = tt
+
+-- a step leaves a zone as its path does, but for the block of a handle that goes
+abbrev pub Lets : (List Block → Type 0) → Step → State → Type 0
+Lets P (Release h) s = P (tidy (freed (is_relocatable h) s.zone))
+Lets P step s = Unit {0}
+
+pub step-leaves : (P : List Block → Type 0) (step : Step) (m : Memory)
+    → P (did nothing (path_of step m.heap) m.heap.zone).zone → Lets P step m.heap → P (stepped step m).heap.zone
+step-leaves P (NewFilled role flags bytes) m left lets = left
+step-leaves P (NewEmpty role) m left lets = left
+step-leaves P (Refill h flags bytes) m left lets = by_block (has_block h m.heap) left
+  where
+    by_block : (t : Bool) → P (did nothing (cond t [] (refill h flags bytes m.heap).path) m.heap.zone).zone
+        → P (cond t m (refill_inside h flags bytes m).1).heap.zone
+    by_block true left = left
+    by_block false left = refill-goes (λ d. P (did nothing d.path m.heap.zone).zone
+        → P (did d.spared d.path m.heap.zone).zone) h flags bytes m.heap (λ code e. e) (λ is e. e) left
+step-leaves P (Release h) m left lets = released-goes (λ s. P s.zone) h m.heap left (λ is. lets)
+step-leaves P (Cast change h) m left lets = cast-goes (λ s. P s.zone) change h m.heap left (λ role is. left)
+
+-- and purges what goes on it
+pub gone-along : (step : Step) (m : Memory)
+    → gone_at step m ≡ told_blocks (length m.heap.names) (did nothing (path_of step m.heap) m.heap.zone).gone
+gone-along (NewFilled role flags bytes) m = refl
+gone-along (NewEmpty role) m = refl
+gone-along (Refill h flags bytes) m = by_block (has_block h m.heap)
+  where
+    n : ℕ
+    n = length m.heap.names
+
+    by_block : (t : Bool) → cond t [] (purges_made (refill h flags bytes) m.heap)
+        ≡ told_blocks n (did nothing (cond t [] (refill h flags bytes m.heap).path) m.heap.zone).gone
+    by_block true = refl
+    by_block false = refill-goes (λ d. told_blocks n (did d.spared d.path m.heap.zone).gone
+        ≡ told_blocks n (did nothing d.path m.heap.zone).gone) h flags bytes m.heap (λ code. refl) (λ is. refl)
+gone-along (Release h) m = refl
+gone-along (Cast change h) m = refl
+
+-- by any measure it comes to no more than there was
+pub steps-most : (of : Block → ℕ) (none : (k : ℕ) → of (Free k) ≡ 0) (masters : of Masters ≡ 0) (step : Step) (s : State)
+    → total of (did nothing (path_of step s) s.zone).gone ≤ total of s.zone
+steps-most of none masters (NewFilled role flags bytes) s =
+    let new = Relocatable (length s.names) flags bytes in
+    made-most of none masters s (names.Handle role) nothing (λ z. if_fits (length bytes) (seek (Put new) nothing z))
+    (λ z. if-most of nothing none (is_some (phys (length bytes))) (Put new) (λ y. refl) z)
+steps-most of none masters (NewEmpty role) s = omega (arith, slot-even of none masters s nothing)
+steps-most of none masters (Refill h flags bytes) s = by_block (has_block h s)
+  where
+    by_block : (t : Bool) → total of (did nothing (cond t [] (refill h flags bytes s).path) s.zone).gone ≤ total of s.zone
+    by_block true = omega arith
+    by_block false = refill-goes (λ d. total of (did nothing d.path s.zone).gone ≤ total of s.zone) h flags bytes s
+        (λ code. omega arith) (λ is. if-most of nothing none (is_some (phys (length bytes)))
+        (Put (Relocatable h flags bytes)) (λ y. refl) s.zone)
+steps-most of none masters (Release h) s = omega arith
+steps-most of none masters (Cast change h) s = omega arith

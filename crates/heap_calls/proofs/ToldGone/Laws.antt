@@ -4,10 +4,10 @@ use Rattle.heap_calls.proofs.Cited.{replicate, cond-true, cond-false, Decides-eq
 use Rattle.heap_calls.proofs.Cited.{OsErr, PURGED, Told, phys, Flags, Block, Free, Nonrelocatable, Masters, Relocatable, sizes, total}
 use Rattle.heap_calls.proofs.Cited.{count, is_purgeable, is_relocatable, resized, no_flags, has, spot, freed, GREATEST_ZONE, count-none}
 use Rattle.heap_calls.proofs.Cited.{has-count, unless, freed-is, State, Memory, Known, handle_at, nothing, is_loose, Asked, answered, row}
-use Rattle.heap_calls.proofs.Cited.{keep_code, gate, gated, notes, takes_block, Gone, gone_of, gone_unless, refill_gone, gone_in, told_of}
-use Rattle.heap_calls.proofs.Cited.{bytes_in, TellsWhatGoes, TellsOfPurgeable, StepTellsWhatGoes, has_block, refill_inside, released_as}
-use Rattle.heap_calls.proofs.Cited.{cast_as, Step, NewFilled, NewEmpty, Refill, Release, Cast, stepped, gone_at, step_disposes, Put, Drop}
-use Rattle.heap_calls.proofs.Cited.{seek, if_fits, around, again-most, work, told_blocks}
+use Rattle.heap_calls.proofs.Cited.{keep_code, gate, gated, notes, takes_block, Gone, gone_of, gone_unless, PutsNone, gone_in, told_of}
+use Rattle.heap_calls.proofs.Cited.{bytes_in, TellsWhatGoes, TellsOfPurgeable, StepTellsWhatGoes, has_block, Step, NewFilled, Refill}
+use Rattle.heap_calls.proofs.Cited.{Release, stepped, gone_at, step_disposes, Put, Drop, seek, if_fits, around, again-most, work}
+use Rattle.heap_calls.proofs.Cited.{told_blocks}
 use Rattle.heap_calls.specs.Table as asked
 use Rattle.heap_calls.proofs.Gates.Served.{served-gated}
 use Rattle.heap_calls.specs.Rows as rows
@@ -15,11 +15,12 @@ use Rattle.heap_calls.proofs.Rows.Kinds.{none-by, gated-by}
 use Rattle.heap_calls.proofs.Rows.Telling.{path-told}
 use Rattle.heap_calls.proofs.Rows.Weighing.{Renews}
 use Rattle.heap_calls.proofs.Promises.Knowing.{handle_at-name}
-use Rattle.heap_calls.proofs.Promises.EmptyingLaws.{Unseen, purges, of-quiet, of-gone, is_of, is_of-filled}
+use Rattle.heap_calls.proofs.Promises.EmptyingLaws.{purges, of-quiet, of-gone, is_of, is_of-filled}
 use Rattle.heap_calls.proofs.Promises.EmptyingLaws.{other-unseen, spares-others, renewed-there}
 use Rattle.heap_calls.proofs.ToldGone.Sums.{Adds}
 use Rattle.heap_calls.proofs.ToldGone.Bounds.{told-most, step-most}
-use Rattle.heap_calls.proofs.ToldGone.Rows.{row_gone, rows-even, filled_step-even, empty_step-even, refill_step-even}
+use Rattle.heap_calls.proofs.Steps.Ways.{Puts, Lets, step-leaves}
+use Rattle.heap_calls.proofs.ToldGone.Rows.{row_gone, rows-even, step-even}
 pub use Rattle.moves.proofs.Told.{weight, by_bytes, weighed}
 
 -- What a call tells of a handle is what the handle loses.
@@ -271,69 +272,34 @@ module _ (h : ℕ) (m : Memory) (within : h < length m.heap.names)
         omega (arith, most, weighed f h m.heap.zone)
 
     -- as many blocks of a handle go as a step tells of
-    abbrev StepBalance : Step → Type 0
-    StepBalance step =
-        (count (is_relocatable h) m.heap.zone ≤ count (is_relocatable h) (stepped step m).heap.zone
-        + many (told_of h (gone_at step m)))
-        × ((told_of h (gone_at step m) ≡ []) ⊎ (count (is_relocatable h) (stepped step m).heap.zone
-        + many (told_of h (gone_at step m)) ≤ count (is_relocatable h) m.heap.zone))
+    abbrev StepBalance : Step → List Block → Type 0
+    StepBalance step after =
+        (count (is_relocatable h) m.heap.zone ≤ count (is_relocatable h) after + many (told_of h (gone_at step m)))
+        × ((told_of h (gone_at step m) ≡ [])
+        ⊎ (count (is_relocatable h) after + many (told_of h (gone_at step m)) ≤ count (is_relocatable h) m.heap.zone))
 
-    even-balance : (step : Step) → total (is_of h) (stepped step m).heap.zone + many (told_of h (gone_at step m))
-        ≡ total (is_of h) m.heap.zone → StepBalance step
-    even-balance step even = (omega (arith, even), inr (omega (arith, even)))
+    unseen-put : (step : Step) → has (is_relocatable h) m.heap.zone ≡ true → Puts (PutsNone (is_of h)) step m.heap
+    unseen-put (NewFilled role flags bytes) here = λ z. fresh flags bytes
+    unseen-put (Refill k flags bytes) here = λ none z. cond-false (k == h) 1 0 (cases (k == h) refl none)
+      where
+        cases : (t : Bool) → (k == h) ≡ t → has_block k m.heap ≡ false → t ≡ false
+        cases true e none = sym here ∙ ap (λ (j : ℕ). has_block j m.heap) (sym ((Decides-eqb k h).0 e)) ∙ none
+        cases false e none = refl
+    unseen-put step here = tt
+
+    let-go : (step : Step) → step_disposes step h ≡ false → Lets (StepBalance step) step m.heap
+    let-go (Release k) keeps =
+        let le = of-gone (is_of h) (λ j. refl) (is_of-filled h) (is_relocatable k) (other-unseen h k keeps) m.heap.zone in
+        (omega arith, inl refl)
+    let-go step keeps = tt
 
     step-balance : (step : Step) → step_disposes step h ≡ false → has (is_relocatable h) m.heap.zone ≡ true
-        → StepBalance step
-    step-balance (NewFilled role flags bytes) keeps here =
-        even-balance (NewFilled role flags bytes) (filled_step-even m (is_of h) (λ k. refl) refl (λ id content. refl)
-        fresh (λ l. many (told_of h l)) refl (told-adds (λ x. 1) h)
-        (λ b goes. told-one (λ x. 1) h (length m.heap.names) within b) (is_of-sized h) (is_of-filled h) once small role
-        flags bytes)
-    step-balance (NewEmpty role) keeps here =
-        even-balance (NewEmpty role) (empty_step-even m (is_of h) (λ k. refl) refl (λ id content. refl)
-        fresh (λ l. many (told_of h l)) refl (told-adds (λ x. 1) h)
-        (λ b goes. told-one (λ x. 1) h (length m.heap.names) within b) (is_of-sized h) (is_of-filled h) once small role)
-    step-balance (Refill k flags bytes) keeps here = by_number (k == h) refl
-      where
-        stays : (t : Bool) → t ≡ true
-            → (count (is_relocatable h) m.heap.zone
-            ≤ count (is_relocatable h) (cond t m (refill_inside k flags bytes m).1).heap.zone
-            + many (told_of h (cond t [] (refill_gone k (length bytes) m.heap))))
-            × ((told_of h (cond t [] (refill_gone k (length bytes) m.heap)) ≡ [])
-            ⊎ (count (is_relocatable h) (cond t m (refill_inside k flags bytes m).1).heap.zone
-            + many (told_of h (cond t [] (refill_gone k (length bytes) m.heap)))
-            ≤ count (is_relocatable h) m.heap.zone))
-        stays true e = (omega arith, inl refl)
-        stays false e = let f : false ≡ true = e in cc
-
-        by_number : (t : Bool) → (k == h) ≡ t → StepBalance (Refill k flags bytes)
-        by_number true e =
-            stays (has_block k m.heap)
-            (subst (λ (j : ℕ). has (is_relocatable j) m.heap.zone ≡ true) (sym ((Decides-eqb k h).0 e)) here)
-        by_number false e =
-            even-balance (Refill k flags bytes) (refill_step-even m (is_of h) (λ k. refl) refl (λ id content. refl)
-            fresh (λ l. many (told_of h l)) refl (told-adds (λ x. 1) h)
-            (λ b goes. told-one (λ x. 1) h (length m.heap.names) within b) (is_of-sized h) (is_of-filled h) once small k
-            flags bytes (other-unseen h k e))
-    step-balance (Release k) keeps here = (
-      by_found (handle_at (Some k) m.heap)
-          (λ found e. (handle_at-name k m.heap found e).1),
-      inl refl,
-    )
-      where
-        by_found : (r : Result Known OsErr) → ((found : Known) → r ≡ Ok found → found.number ≡ k)
-            → count (is_relocatable h) m.heap.zone ≤ count (is_relocatable h) (released_as r m.heap).zone + 0
-        by_found (Err code) named = omega arith
-        by_found (Ok found) named =
-            let le = of-gone (is_of h) (λ j. refl) (is_of-filled h) (is_relocatable found.number)
-            (subst (λ (j : ℕ). Unseen (is_of h) (is_relocatable j)) (sym (named found refl)) (other-unseen h k keeps))
-            m.heap.zone in omega arith
-    step-balance (Cast change k) keeps here = (by_found (handle_at (Some k) m.heap), inl refl)
-      where
-        by_found : (r : Result Known OsErr)
-            → count (is_relocatable h) m.heap.zone ≤ count (is_relocatable h) (cast_as change r m.heap).zone + 0
-        by_found (Err code) = omega arith
-        by_found (Ok found) = omega arith
+        → StepBalance step (stepped step m).heap.zone
+    step-balance step keeps here =
+        let even = step-even m (is_of h) (λ k. refl) refl (λ id content. refl) fresh (λ l. many (told_of h l)) refl
+        (told-adds (λ x. 1) h) (λ b goes. told-one (λ x. 1) h (length m.heap.names) within b) (is_of-sized h)
+        (is_of-filled h) once small step (unseen-put step here) in
+        step-leaves (StepBalance step) step m (omega (arith, even), inr (omega (arith, even))) (let-go step keeps)
 
     -- what a step tells of a handle
     step-tells : (step : Step) → told_of h (gone_at step m)

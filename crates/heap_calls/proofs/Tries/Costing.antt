@@ -1,14 +1,15 @@
-use Rattle.heap_calls.proofs.Cited.{◌≡◌, inl, inr, ℕ, ◌+◌, ◌-◌, Bool, true, false, List, refl, sym, ap, subst, cond, arith, Option, Some}
-use Rattle.heap_calls.proofs.Cited.{None, Result, Ok, Err, nat_lt, option_map, unwrap_or, phys, OsErr, Block, Free, Masters, size, total}
-use Rattle.heap_calls.proofs.Cited.{free_sum, is_purgeable, is_relocatable, tidy, free, change_run, has_free, low, movers, purge}
-use Rattle.heap_calls.proofs.Cited.{put_at_base, room, total-append, map-some, room-some, change_run-some, tidied, freely, three}
-use Rattle.heap_calls.proofs.Cited.{movers-all, purged-all, one-run, alike-purged, alike-room, alike-based, State, Memory, used_slots}
-use Rattle.heap_calls.proofs.Cited.{all_slots, Held, nothing, look_up, more_masters, blocks_purged, Asked, gate, zone_behind, slotted_zone}
-use Rattle.heap_calls.proofs.Cited.{copying_zone, zone_left, staying_of, CostsAtMostMasters, RefusedCostsAtMostMasters}
-use Rattle.heap_calls.proofs.Cited.{StepCostsAtMostMasters, Step, NewFilled, NewEmpty, Refill, Release, Cast, left_zone}
+use Rattle.heap_calls.proofs.Cited.{◌≡◌, inl, inr, ℕ, ◌+◌, ◌-◌, Bool, true, false, List, refl, sym, ap, subst, arith, Option, Some, None}
+use Rattle.heap_calls.proofs.Cited.{Result, Ok, Err, option_map, unwrap_or, phys, OsErr, Block, Free, Masters, size, total, free_sum}
+use Rattle.heap_calls.proofs.Cited.{is_purgeable, is_relocatable, tidy, free, change_run, has_free, low, movers, purge, put_at_base, room}
+use Rattle.heap_calls.proofs.Cited.{total-append, map-some, room-some, change_run-some, tidied, freely, three, movers-all, purged-all}
+use Rattle.heap_calls.proofs.Cited.{one-run, alike-purged, alike-room, alike-based, State, Memory, Held, nothing, look_up, blocks_purged}
+use Rattle.heap_calls.proofs.Cited.{Asked, gate, zone_behind, slotted_zone, copying_zone, zone_left, staying_of, CostsAtMostMasters}
+use Rattle.heap_calls.proofs.Cited.{RefusedCostsAtMostMasters, StepCostsAtMostMasters, Step, NewFilled, NewEmpty, Refill, Release, Cast}
+use Rattle.heap_calls.proofs.Cited.{left_zone, Base, did, seek_slot, is_unused}
 use Rattle.heap_calls.specs.Table as asked
 use Rattle.heap_calls.proofs.Promises.AlikeCalls.{never, steady-never}
 use Rattle.heap_calls.proofs.Promises.EmptyingLaws.{masters, masters-goes}
+use Rattle.heap_calls.proofs.Same.Agreeing.{seek-leaves}
 use Rattle.heap_calls.proofs.Steps.Refusals.{step-refused}
 use Rattle.heap_calls.proofs.Tries.Gating.{served-refused}
 use Rattle.heap_calls.proofs.Tries.Parting.{no-free, staying-goes, parted}
@@ -77,19 +78,17 @@ masters-costs sp zone later made =
 
 -- an unused master pointer, for which there may be a new block
 pub slotted-costs : (sp : Block → Bool) (s : State) → CostsAtMostMasters s.zone (slotted_zone sp s)
-slotted-costs sp s = by_slots (nat_lt (used_slots s) (all_slots s))
+slotted-costs sp s = cases (is_unused s)
   where
-    zone_of : Option State → List Block
-    zone_of o = unwrap_or (option_map (λ (ready : State). ready.zone) o) s.zone
+    by_room : (o : Option (List Block)) → room (put_at_base Masters) sp s.zone ≡ o
+        → CostsAtMostMasters s.zone (unwrap_or o s.zone)
+    by_room None e = same-costs s.zone
+    by_room (Some zone) e = masters-costs sp s.zone zone e
 
-    by_room : (o : Option (List Block)) → ((zone : List Block) → o ≡ Some zone → CostsAtMostMasters s.zone zone)
-        → CostsAtMostMasters s.zone (zone_of (option_map (λ zone. record s { zone = zone }) o))
-    by_room None costs = same-costs s.zone
-    by_room (Some zone) costs = costs zone refl
-
-    by_slots : (t : Bool) → CostsAtMostMasters s.zone (zone_of (cond t (Some s) (more_masters sp s)))
-    by_slots true = same-costs s.zone
-    by_slots false = by_room (room (put_at_base Masters) sp s.zone) (masters-costs sp s.zone)
+    cases : (t : Bool) → CostsAtMostMasters s.zone (did sp (seek_slot t sp s.zone).path s.zone).zone
+    cases true = same-costs s.zone
+    cases false = subst (CostsAtMostMasters s.zone) (sym (seek-leaves sp (Base Masters) s.zone))
+        (by_room (room (put_at_base Masters) sp s.zone) refl)
 
 copying-costs : (r : Result Held OsErr) (s : State) → CostsAtMostMasters s.zone (copying_zone r s)
 copying-costs (Err code) s = same-costs s.zone

@@ -1,9 +1,8 @@
-use Rattle.heap_calls.proofs.Cited.{◌≡◌, ◌≤◌, Bool, true, false, List, refl, sym, ap, arith, Option, Some, None, cond, Result, Ok, Err}
-use Rattle.heap_calls.proofs.Cited.{nat_lt, option_map, unwrap_or, phys, OsErr, Block, Masters, sizes, count, is_relocatable, is_masters}
-use Rattle.heap_calls.proofs.Cited.{room, put_at_base, purged-le, base-le, State, Memory, used_slots, all_slots, Held, nothing, look_up}
-use Rattle.heap_calls.proofs.Cited.{more_masters, blocks_purged, Asked, answered, gate, served, OneBlockEach, zone_behind, slotted_zone}
+use Rattle.heap_calls.proofs.Cited.{◌≡◌, ◌≤◌, Bool, true, false, List, refl, sym, ap, arith, Option, Some, None, Result, Ok, Err, phys}
+use Rattle.heap_calls.proofs.Cited.{OsErr, Block, Masters, sizes, count, is_relocatable, is_masters, purged-le, State, Memory, Held}
+use Rattle.heap_calls.proofs.Cited.{nothing, look_up, blocks_purged, Asked, answered, gate, served, OneBlockEach, zone_behind, slotted_zone}
 use Rattle.heap_calls.proofs.Cited.{copying_zone, zone_left, staying_of, staying, LessStaysLater, RefusedKeepsNoMore, KeepsBytes}
-use Rattle.heap_calls.proofs.Cited.{KeepsMasters}
+use Rattle.heap_calls.proofs.Cited.{KeepsMasters, Base, did, seek_slot, seek-more, is_unused}
 use Rattle.heap_calls.specs.Table as asked
 use Rattle.heap_calls.proofs.Promises.AlikeCalls.{LeavesBy, never, steady-never, alike-answered}
 use Rattle.heap_calls.proofs.Promises.EmptyingLaws.{masters, of-answered, masters-goes, masters-sized, masters-filled}
@@ -17,21 +16,11 @@ use Rattle.heap_calls.proofs.Tries.Parting.{no-free, less_stays}
 
 -- a slot that is made leaves what stays
 pub slotted-le : (spared : Block → Bool) (s : State) → staying (slotted_zone spared s) ≤ staying s.zone
-slotted-le spared s = by_slots (nat_lt (used_slots s) (all_slots s))
+slotted-le spared s = cases (is_unused s)
   where
-    zone_of : Option State → List Block
-    zone_of o = unwrap_or (option_map (λ (ready : State). ready.zone) o) s.zone
-
-    by_room : (o : Option (List Block)) → ((zone : List Block) → o ≡ Some zone → staying zone ≤ staying s.zone)
-        → staying (zone_of (option_map (λ zone. record s { zone = zone }) o)) ≤ staying s.zone
-    by_room None less = omega arith
-    by_room (Some zone) less = less zone refl
-
-    by_slots : (t : Bool) → staying (zone_of (cond t (Some s) (more_masters spared s))) ≤ staying s.zone
-    by_slots true = omega arith
-    by_slots false =
-        by_room (room (put_at_base Masters) spared s.zone)
-        (λ zone made. let l = base-le staying_of no-free Masters spared s.zone zone made in omega arith)
+    cases : (t : Bool) → staying (did spared (seek_slot t spared s.zone).path s.zone).zone ≤ staying s.zone
+    cases true = omega arith
+    cases false = let l = seek-more staying_of spared no-free (Base Masters) (λ z. tt) s.zone in omega arith
 
 copying-le : (r : Result Held OsErr) (s : State) → staying (copying_zone r s) ≤ staying s.zone
 copying-le (Err code) s = omega arith

@@ -1,5 +1,5 @@
 use Rattle.heap_calls.proofs.Cited.{◌≡◌, false, List, [], ◌∷◌, refl, Some, replicate, Site, Memory, fresh_memory, Asked, served, Gone}
-use Rattle.heap_calls.proofs.Cited.{refill_gone, gone_in, told_of, bytes_in, has_block, purges_made}
+use Rattle.heap_calls.proofs.Cited.{refill, no_flags, gone_in, told_of, bytes_in, has_block, purges_made}
 use Rattle.heap_calls.specs.Serving.{Zeros}
 use Rattle.heap_calls.specs.Table as asks
 use Rattle.heap_calls.specs.Rows as rows
@@ -50,11 +50,11 @@ no_handle : (window : Site) → purges_made (rows.reallocate_handle (Some 7) 300
 no_handle window = refl
 
 -- a block for an empty handle
-emptied : (window : Site) → refill_gone 2 300 (after (asks.EmptyHandle (Some 2) ∷ []) (three window)).heap
+emptied : (window : Site) → purges_made (refill 2 no_flags (replicate 300 0)) (after (asks.EmptyHandle (Some 2) ∷ []) (three window)).heap
     ≡ lowest ∷ []
 emptied window = refl
 
-nothing_to_refill : (window : Site) → refill_gone 7 300 (three window).heap ≡ []
+nothing_to_refill : (window : Site) → purges_made (refill 7 no_flags (replicate 300 0)) (three window).heap ≡ []
 nothing_to_refill window = refl
 
 -- what is told of a handle: its bytes, where its block goes, and nothing where it stays

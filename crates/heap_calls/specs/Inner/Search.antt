@@ -1,15 +1,10 @@
-use Rattle.std.specs.Prelude.{◌≡◌, ℕ, ◌+◌, zero, suc, Option, Some, None, List, is_some, if◌then◌else◌}
+use Rattle.std.specs.Prelude.{◌≡◌, ℕ, Option, Some, None, List}
 use Rattle.block_store.specs.Block.{is_room, Block}
 use Rattle.block_store.specs.Run.{has_free}
 use Rattle.block_store.specs.Room.{Spot, spot, spot_at, place}
 use Rattle.block_store.specs.Find.{FindsLowest, FindsLowestRun}
 use Rattle.heap_calls.specs.declared.search.Placement.{Placement}
 use Rattle.heap_calls.specs.declared.search.Placement.TheVariants as see
-
--- How many of the numbers from 0 to n are tried, up to the least with an answer.
-abbrev pub tries : {A : Type 0} → (ℕ → Option A) → ℕ → ℕ
-tries answer zero = 1
-tries answer (suc n) = if is_some (answer 0) then 1 else tries (λ k. answer (suc k)) n + 1
 
 -- Where a relocatable block of p bytes is put in a zone: in the lowest free block that is large enough, else in the
 -- lowest run that has p free bytes.

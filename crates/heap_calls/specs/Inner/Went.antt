@@ -4,8 +4,7 @@ use Rattle.block_store.specs.Room.{Spot, spot, spot_at}
 use Rattle.block_store.specs.Rest.{Rest, counted}
 use Rattle.moves.specs.Moves.{Grow, did}
 use Rattle.moves.specs.Seeking.{Sought, no_room, seek, seek_in_place, seek_size}
-use Rattle.heap_calls.specs.Gone.{Gone}
-use Rattle.heap_calls.specs.Rows.{told_blocks}
+use Rattle.heap_calls.specs.Gone.{Gone, told_blocks}
 use Rattle.heap_calls.specs.Inner.Growing.{grown}
 use Rattle.heap_calls.specs.Inner.Numbered.{handle_number, pointer_number}
 use Rattle.heap_calls.specs.declared.anchor.Anchor.{Anchor}

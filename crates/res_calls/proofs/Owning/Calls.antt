@@ -8,7 +8,7 @@ use Rattle.res_calls.proofs.Cited.{resized_datum, with_datum, is_handle, is_chan
 use Rattle.res_calls.proofs.Cited.{OpenFile, Found, find, opened, file_of, file_named, open_at, fresh_resources, with_map_attrs}
 use Rattle.res_calls.proofs.Cited.{flat_map-append, is_system, Managers, Answer, done, refused, flags_of, now_filled, now_empty}
 use Rattle.res_calls.proofs.Cited.{now_refilled, fetch_as, with_resources, closed_file, map_in, open_map, resource_of, open_as, open_fork}
-use Rattle.res_calls.proofs.Cited.{open_unless, greatest_number, closed, bars, released_at, detached_at, open_named, told_or, fetched}
+use Rattle.res_calls.proofs.Cited.{open_unless, greatest_number, bars, released_at, detached_at, open_named, told_or, fetched}
 use Rattle.res_calls.proofs.Cited.{nth_among, noting, preloaded, update, updated_reference, bytes_held, create_named, most_files, marked}
 use Rattle.res_calls.proofs.Cited.{stored_if, is_in_memory, read_part_found, restored, restored_unless, size_refusal, write_refusal, piece}
 use Rattle.res_calls.proofs.Cited.{content_of, Memory, Role, resource_role_at, MakesHandle, filled-makes, emptied-makes, refilled-roles}

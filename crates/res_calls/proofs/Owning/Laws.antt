@@ -1,13 +1,12 @@
-use Rattle.res_calls.proofs.Cited.{◌≡◌, ℕ, List, [], ◌∷◌, refl, ◌∙◌, ap, subst, Option, Some, None, Result, Ok, Err, Decides-eqb, OsErr}
-use Rattle.res_calls.proofs.Cited.{Content, Memory, Role, Asked, resource_role_at, Map, map_of, has_handle, is_handle, File, Resources}
-use Rattle.res_calls.proofs.Cited.{Found, find_open, fresh_resources, Managers, map_in, own_opened, launched_resources, preloaded}
-use Rattle.res_calls.proofs.Cited.{ResourceAsked, served, role_in, role_for, Owns}
+use Rattle.res_calls.proofs.Cited.{◌≡◌, ℕ, List, [], ◌∷◌, refl, subst, None, Result, Ok, Err, OsErr}
+use Rattle.res_calls.proofs.Cited.{Content, Memory, Asked, resource_role_at, Map, map_of, File, Resources}
+use Rattle.res_calls.proofs.Cited.{fresh_resources, Managers, map_in, own_opened, launched_resources, preloaded}
+use Rattle.res_calls.proofs.Cited.{ResourceAsked, served, Owns}
 use Rattle.heap_calls.specs.Table as heap
-use Rattle.res_calls.proofs.Owning.Places.{Stands}
-use Rattle.res_calls.proofs.Owning.Changes.{one-owner-same, one-owner-heap}
+use Rattle.res_calls.proofs.Owning.Changes.{one-owner-heap}
 use Rattle.res_calls.proofs.Owning.Openings.{Bare, bare-groups}
 use Rattle.res_calls.proofs.Owning.Calls.{map-bare, one-owner-served, one-owner-fresh, one-owner-preloaded}
-use Rattle.res_calls.proofs.Owning.Facts.{role-there, owns-one, one-owns}
+use Rattle.res_calls.proofs.Owning.Facts.{owns-one, one-owns}
 
 -- Each resource has its own handle, from an application's launch on and after each call.
 

@@ -2,7 +2,7 @@ use Rattle.res_calls.proofs.Cited.{◌≡◌, ℕ, ◌==◌, ◌||◌, Bool, tru
 use Rattle.res_calls.proofs.Cited.{None, Result, Ok, Err, and_parts, and_from, or_parts, eqb-true, list_all, OsErr, Block, Free}
 use Rattle.res_calls.proofs.Cited.{Nonrelocatable, Masters, Relocatable, is_relocatable, size, freed, has, tidy, has-tidy, Known, handle_at}
 use Rattle.res_calls.proofs.Cited.{owned_as, has_block, Step, NewFilled, NewEmpty, Refill, Release, Cast, stepped, walk, step_disposes}
-use Rattle.res_calls.proofs.Cited.{steps_dispose, Memory, step-goes, Split, is_changed, is_protected, releases, ResourceAsked, served}
+use Rattle.res_calls.proofs.Cited.{steps_dispose, Memory, step-leaves, Split, is_changed, is_protected, releases, ResourceAsked, served}
 use Rattle.res_calls.proofs.Cited.{disposes_of, opens_file, Managers, is_system, fetches, OpenFile, Resources, Found, file_of, handles_of}
 use Rattle.res_calls.proofs.Cited.{resource_of, bars, update}
 use Rattle.heap_calls.specs.Purging.{is_resource as is_owned}
@@ -50,10 +50,10 @@ step-quiet (NewFilled role flags bytes) m h quiet keeps there = cc
 step-quiet (NewEmpty role) m h quiet keeps there = cc
 step-quiet (Refill k flags bytes) m h quiet keeps there = cc
 step-quiet (Release k) m h quiet keeps there =
-    step-goes (λ s. has (is_relocatable h) s.zone ≡ true) (Release k) m there
-    (λ is. gone-other h k keeps m.heap.zone there)
+    step-leaves (λ zone. has (is_relocatable h) zone ≡ true) (Release k) m there
+    (gone-other h k keeps m.heap.zone there)
 step-quiet (Cast change k) m h quiet keeps there =
-    step-goes (λ s. has (is_relocatable h) s.zone ≡ true) (Cast change k) m there (λ role is. there)
+    step-leaves (λ zone. has (is_relocatable h) zone ≡ true) (Cast change k) m there tt
 
 walk-quiet : (steps : List Step) (m : Memory) (h : ℕ) → list_all is_quiet steps ≡ true → steps_dispose steps h ≡ false
     → has (is_relocatable h) m.heap.zone ≡ true → has (is_relocatable h) (walk steps m).heap.zone ≡ true

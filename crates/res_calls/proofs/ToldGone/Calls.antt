@@ -1,7 +1,7 @@
 -- What whole calls of the Resource Manager report is what they purge.
 use Rattle.res_calls.proofs.Cited.{◌≡◌, ℕ, ℤ, ◌≤◌, ◌<◌, Bool, true, false, not, List, [], ◌∷◌, ◌++◌, length, refl, sym, ◌∙◌, ap, subst}
 use Rattle.res_calls.proofs.Cited.{cond, arith, nat_lt, Option, Some, None, Result, Ok, Err, nat_tests, OsErr, sizes, count, is_relocatable}
-use Rattle.res_calls.proofs.Cited.{has, GREATEST_ZONE, State, Memory, Resource, nothing, has_purgeable, Gone, made_gone, refill_gone}
+use Rattle.res_calls.proofs.Cited.{has, GREATEST_ZONE, State, Memory, Resource, has_purgeable, Gone, handle_gone, refill, purges_made}
 use Rattle.res_calls.proofs.Cited.{has_block, new_inside, Step, NewFilled, walk, reads, told_of, bytes_in, steps-purgeable, Split, place}
 use Rattle.res_calls.proofs.Cited.{Reference, Map, is_named, is_preload, is_resource, ResourceAsked, served, disposes_of, Managers, Reads}
 use Rattle.res_calls.proofs.Cited.{flags_of, given, fetches, File, OpenFile, Found, file_named, find_from_current, find_in_current, open_at}
@@ -29,7 +29,7 @@ fetch-along false at None s = (sym (append-nil _), λ h. refl)
 fetch-along true at (Some k) s = (by_block (has_block k s.memory.heap), λ h. refl)
   where
     again : List Gone
-    again = refill_gone k (length at.reference.here.stored.datum) s.memory.heap
+    again = purges_made (refill k (flags_of at.reference.here) at.reference.here.stored.datum) s.memory.heap
 
     by_block : (t : Bool) → cond (not t) again [] ≡ cond t [] again ++ []
     by_block true = refl
@@ -197,7 +197,7 @@ preload-along (x ∷ references) m = by_bit (λ k. preload-along references k) (
     new = new_inside Resource (flags_of x) x.stored.datum m
 
     first : List Gone
-    first = made_gone nothing x.stored.datum m.heap
+    first = handle_gone true x m
 
     by_bit : ((k : Memory) → preload_gone references k ≡ gone_along (preload_steps references) k) → (t : Bool)
         → cond t first [] ++ preload_gone references (cond t (given x new)

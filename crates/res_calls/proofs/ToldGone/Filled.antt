@@ -1,15 +1,10 @@
 -- What a new handle with a block makes of a heap in which each block is of a handle that was given.
-use Rattle.res_calls.proofs.Cited.{◌≡◌, ◌⊎◌, inl, inr, ℕ, ◌+◌, ◌≤◌, ◌<◌, ◌==◌, Bool, true, false, List, [], ◌∷◌, ◌++◌, length, refl, sym}
-use Rattle.res_calls.proofs.Cited.{◌∙◌, ap, subst, cond, arith, Some, Ok, nat_lt, cond-true, cond-false, Decides-eqb, nat_tests, same_Some}
-use Rattle.res_calls.proofs.Cited.{bytes_eq-Decides, bytes_eq, Flags, Block, Free, Nonrelocatable, Masters, Relocatable, size, sizes, total}
-use Rattle.res_calls.proofs.Cited.{count, is_relocatable, has, put_at_base, put_in_place, purge, filled, room, base-le, room-le, filled-is}
-use Rattle.res_calls.proofs.Cited.{count-none, has-count, map-some, room-some, State, Memory, Meaning, Role, Handle, used_slots, all_slots}
-use Rattle.res_calls.proofs.Cited.{nothing, Gone, gone_of, has_block, new_filled, Step, NewFilled, stepped, gone_at, read_new, slotted}
-use Rattle.res_calls.proofs.Cited.{more_masters, told_of, bytes_in, step-bytes, Fits, filled-goes, slotted-names, step-most, Adds, weight}
-use Rattle.res_calls.proofs.Cited.{many, by_bytes, weighed, many-none, IsWhole}
-use Rattle.std.proofs.Common.{length-append}
-use Rattle.block_store.specs.Room.{place}
-use Rattle.heap_calls.specs.Answer.{Answer}
+use Rattle.res_calls.proofs.Cited.{◌≡◌, inl, inr, ℕ, ◌+◌, ◌≤◌, ◌<◌, ◌==◌, Bool, true, false, List, [], ◌∷◌, ◌++◌, length, refl, sym}
+use Rattle.res_calls.proofs.Cited.{◌∙◌, ap, cond, arith, nat_lt, cond-true, cond-false, Decides-eqb, nat_tests, bytes_eq-Decides, bytes_eq}
+use Rattle.res_calls.proofs.Cited.{Flags, Block, Free, Nonrelocatable, Masters, Relocatable, sizes, total, count, is_relocatable, has}
+use Rattle.res_calls.proofs.Cited.{count-none, has-count, State, Memory, Role, Gone, gone_of, has_block, new_filled, Step, NewFilled}
+use Rattle.res_calls.proofs.Cited.{stepped, gone_at, told_of, bytes_in, step-bytes, Sees, Made, Way, step-most, Adds, weight, many}
+use Rattle.res_calls.proofs.Cited.{by_bytes, weighed, many-none, IsWhole}
 
 pub many-length : (xs : List (List ℕ)) → many xs ≡ length xs
 many-length [] = refl
@@ -101,77 +96,6 @@ step-beyond step m h high =
             let z : many (told_of h ((id, content) ∷ [])) ≡ 0 = ap {B = ℕ} (λ (u : Bool). many (cond u (content ∷ []) []))
             same in omega (arith, z)
         cases false u is same = omega arith
-
--- what a new block leaves, by a measure
-abbrev pub Sees : (Block → ℕ) → Type 0
-Sees of = ((n : ℕ) → of (Free n) ≡ 0) × (of Masters ≡ 0)
-
-slot-most : (of : Block → ℕ) → Sees of → (s r : State) → slotted nothing s ≡ Some r → total of r.zone ≤ total of s.zone
-slot-most of sees s r e = by_slots (nat_lt (used_slots s) (all_slots s)) e
-  where
-    by_slots : (t : Bool) → cond t (Some s) (more_masters nothing s) ≡ Some r → total of r.zone ≤ total of s.zone
-    by_slots true e = let same : s ≡ r = same_Some _ _ e in omega (arith, ap (λ (x : State). total of x.zone) same)
-    by_slots false e =
-        map-some (λ zone. record s { zone = zone }) (room (put_at_base Masters) nothing s.zone) r
-        (total of r.zone ≤ total of s.zone) e
-        (λ zone made is. let b = base-le of sees.0 Masters nothing s.zone zone made in
-        omega (arith, sees.1, ap (λ (x : State). total of x.zone) is))
-
--- it is there
-fits-there : (of : Block → ℕ) → Sees of → (new : Block) (zone z : List Block)
-    → room (put_in_place new) nothing zone ≡ Some z → of new ≤ total of z
-fits-there of sees new zone z fits =
-    let r = room-some (put_in_place new) nothing zone z fits in
-    map-some (filled new) (place (size new) (purge r.0 nothing zone)) z (of new ≤ total of z) r.1
-    (λ s found is. omega (arith, ap (total of) is, filled-is of sees.0 new s))
-
--- no handle was made; or the next number is a handle's, with the bytes in its block
-pub record Unmade (s : State) (x : List ℕ) (a : Answer ℕ) : Type 0 where
-  pub names : length a.1.names ≡ length s.names
-  pub read : read_new x a.0 ≡ []
-  pub most : (of : Block → ℕ) → Sees of → total of a.1.zone ≤ total of s.zone
-
-pub record Made (flags : Flags) (s : State) (x : List ℕ) (a : Answer ℕ) : Type 0 where
-  pub names : length a.1.names ≡ length s.names + 1
-  pub read : read_new x a.0 ≡ (length s.names, x) ∷ []
-  pub most : (of : Block → ℕ) → Sees of
-      → total of a.1.zone ≤ of (Relocatable (length s.names) flags x) + total of s.zone
-  pub there : has_block (length s.names) a.1 ≡ true
-
-abbrev pub Way : Flags → State → List ℕ → Answer ℕ → Type 0
-Way flags s x a = Unmade s x a ⊎ Made flags s x a
-
-pub way : (role : Role) (flags : Flags) (x : List ℕ) (s : State) → Way flags s x (new_filled role flags x s)
-way role flags x s = filled-goes (Way flags s x) role flags x s
-    (λ is. inl (record { names = refl; read = refl; most = λ of sees. omega arith }))
-    (λ r is. inl (record {
-      names = ap {B = ℕ} (λ (ns : List Meaning). length ns) (slotted-names s r is);
-      read = refl;
-      most = λ of sees. slot-most of sees s r is;
-    }))
-    (λ r z is fits. inr (made r z is fits))
-  where
-    made : (r : State) (z : List Block) → slotted nothing s ≡ Some r → Fits (length r.names) flags x r.zone z
-        → Made flags s x (Ok (length r.names), record { zone = z; names = r.names ++ Handle role ∷ [] })
-    made r z is fits =
-        let same : length r.names ≡ length s.names =
-        ap {B = ℕ} (λ (ns : List Meaning). length ns) (slotted-names s r is) in
-        let new : Block = Relocatable (length s.names) flags x in
-        let room_is : room (put_in_place new) nothing r.zone ≡ Some z =
-        subst (λ (k : ℕ). Fits k flags x r.zone z) same fits in
-        record {
-          names = length-append r.names (Handle role ∷ []) ∙ (omega (arith, same));
-          read = ap (λ (k : ℕ). (k, x) ∷ []) same;
-          most = λ of sees. let a = slot-most of sees s r is in
-              let b = room-le of sees.0 new nothing r.zone z room_is in omega arith;
-          there = has-one (is_relocatable (length s.names)) z
-              (let c = fits-there (λ b. cond (is_relocatable (length s.names) b) 1 0) ((λ n. refl), refl) new r.zone z room_is
-              in omega (arith, c, own (length s.names) flags x));
-        }
-      where
-        own : (k : ℕ) (flags : Flags) (x : List ℕ)
-            → cond {A = ℕ} (is_relocatable k (Relocatable k flags x)) 1 0 ≡ 1
-        own k flags x = cond-true (k == k) 1 0 ((Decides-eqb k k).1 refl)
 
 -- a number that was not given has no block
 pub ungiven : (h : ℕ) (s : State) → IsWhole s → length s.names ≤ h → has_block h s ≡ false

@@ -2,14 +2,15 @@
 use Rattle.res_calls.proofs.Cited.{◌≡◌, inl, inr, ℕ, ◌+◌, ◌≤◌, ◌<◌, ◌==◌, Bool, true, false, ◌&&◌, ◌||◌, List, [], ◌∷◌, ◌++◌, length, refl}
 use Rattle.res_calls.proofs.Cited.{sym, ◌∙◌, ap, subst, cond, arith, nat_lt, Option, Some, None, Result, Ok, Err, Decides-eqb, nat_tests}
 use Rattle.res_calls.proofs.Cited.{list_any-append, list_any, OsErr, Block, Relocatable, count, is_relocatable, is_purgeable, count-none}
-use Rattle.res_calls.proofs.Cited.{has-count, Memory, Resource, has_purgeable, has_block, new_filled, new_inside, nothing, made_gone, Step}
-use Rattle.res_calls.proofs.Cited.{NewFilled, stepped, gone_at, read_new, walk, reads, told_of, bytes_in, steps-purgeable, PROFILE, Gone}
-use Rattle.res_calls.proofs.Cited.{Split, place, Reference, Map, has_handle, is_preload, with_handle, OpenResFile, served, Managers, Answer}
-use Rattle.res_calls.proofs.Cited.{refused, flags_of, given, preload, File, OpenFile, opened, file_named, open_at, preload_gone, load_gone}
-use Rattle.res_calls.proofs.Cited.{map_gone, fork_gone, unless_open_gone, open_gone, gone_for, references, loaded_if, open_as, open_map}
-use Rattle.res_calls.proofs.Cited.{open_fork, open_unless, open_named, greatest_number, map_in, IsWhole, may_go, TellsOfLoosePreloads}
+use Rattle.res_calls.proofs.Cited.{has-count, Memory, Resource, has_purgeable, has_block, new_filled, new_inside, handle_gone, Way, Made}
+use Rattle.res_calls.proofs.Cited.{way, Step, NewFilled, stepped, gone_at, read_new, walk, reads, told_of, bytes_in, steps-purgeable}
+use Rattle.res_calls.proofs.Cited.{PROFILE, Gone, Split, place, Reference, Map, has_handle, is_preload, with_handle, OpenResFile, served}
+use Rattle.res_calls.proofs.Cited.{Managers, Answer, refused, flags_of, given, preload, File, OpenFile, opened, file_named, open_at}
+use Rattle.res_calls.proofs.Cited.{preload_gone, load_gone, map_gone, fork_gone, unless_open_gone, open_gone, gone_for, references}
+use Rattle.res_calls.proofs.Cited.{loaded_if, open_as, open_map, open_fork, open_unless, open_named, greatest_number, map_in, IsWhole}
+use Rattle.res_calls.proofs.Cited.{may_go, TellsOfLoosePreloads}
 use Rattle.res_calls.proofs.ToldGone.Calls.{went, preload-along, preload-fills}
-use Rattle.res_calls.proofs.ToldGone.Filled.{told-append, step-beyond, Way, Made, way, whole-filled, ungiven}
+use Rattle.res_calls.proofs.ToldGone.Filled.{told-append, step-beyond, whole-filled, ungiven}
 use Rattle.res_calls.proofs.ToldGone.Paths.{path-tells}
 use Rattle.res_calls.proofs.Walks.Letting.{preload-lets}
 use Rattle.res_calls.proofs.Walks.Steps.{preload_steps}
@@ -154,10 +155,10 @@ preload-loose (x ∷ references) m whole h = by_bit (is_preload x)
 
     by_bit : (t : Bool)
         → (length m.heap.names ≤ h
-        → 0 < length (told_of h (made_gone nothing x.stored.datum m.heap ++ preload_gone references new.1))
+        → 0 < length (told_of h (handle_gone true x m ++ preload_gone references new.1))
         → list_any (is_loose h) ((given x new).references ++ (preload references new.1).references) ≡ true)
         → Loose h references m
-        → 0 < length (told_of h (cond t (made_gone nothing x.stored.datum m.heap) []
+        → 0 < length (told_of h (cond t (handle_gone true x m) []
         ++ preload_gone references (cond t (given x new)
         (record { references = x ∷ []; memory = m; reads = [] })).memory))
         → length m.heap.names ≤ h
@@ -168,7 +169,7 @@ preload-loose (x ∷ references) m whole h = by_bit (is_preload x)
     by_bit true made plain some high =
         subst (λ (k : Memory). list_any (is_loose h) ((given x new).references ++ (preload references k).references)
         ≡ true) (sym (given-memory x new))
-        (made high (subst (λ (k : Memory). 0 < length (told_of h (made_gone nothing x.stored.datum m.heap
+        (made high (subst (λ (k : Memory). 0 < length (told_of h (handle_gone true x m
         ++ preload_gone references k))) (given-memory x new) some))
     by_bit false made plain some high = later-any (is_loose h) (x ∷ []) (preload references m).references (plain some high)
 

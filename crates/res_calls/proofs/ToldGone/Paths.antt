@@ -2,11 +2,11 @@
 use Rattle.res_calls.proofs.Cited.{◌≡◌, inl, inr, ℕ, ◌+◌, ◌≤◌, ◌<◌, ◌==◌, ◌||◌, Bool, true, false, List, [], ◌∷◌, ◌++◌, length, refl, sym}
 use Rattle.res_calls.proofs.Cited.{◌∙◌, ap, subst, cond, arith, nat_lt, cond-true, cond-false, Decides-eqb, nat_tests, Flags, sizes, count}
 use Rattle.res_calls.proofs.Cited.{is_relocatable, GREATEST_ZONE, count-none, none-count, State, Memory, Role, Gone, has_block, new_filled}
-use Rattle.res_calls.proofs.Cited.{Step, NewFilled, NewEmpty, Refill, Release, Cast, stepped, gone_at, read_by, walk, reads, step_disposes}
-use Rattle.res_calls.proofs.Cited.{told_of, bytes_in, step-tells-what-goes, IsWhole}
+use Rattle.res_calls.proofs.Cited.{Way, Made, way, Step, NewFilled, NewEmpty, Refill, Release, Cast, stepped, gone_at, read_by, walk, reads}
+use Rattle.res_calls.proofs.Cited.{step_disposes, told_of, bytes_in, step-tells-what-goes, IsWhole}
 use Rattle.std.proofs.Common.{append-nil}
-use Rattle.res_calls.proofs.ToldGone.Filled.{told-append, none-bytes, step-beyond, Way, way, whole-filled}
-use Rattle.res_calls.proofs.ToldGone.Filled.{kept-most, kept-bytes, new-bytes, Made}
+use Rattle.res_calls.proofs.ToldGone.Filled.{told-append, none-bytes, step-beyond, whole-filled}
+use Rattle.res_calls.proofs.ToldGone.Filled.{kept-most, kept-bytes, new-bytes}
 
 -- each of the steps makes a handle with a block
 abbrev pub Fills : List Step → Type 0
@@ -24,7 +24,7 @@ gone_along (step ∷ steps) m = gone_at step m ++ gone_along steps (stepped step
 
 -- no fewer numbers are given after one
 grows : (flags : Flags) (x : List ℕ) (s : State) (role : Role) → Way flags s x (new_filled role flags x s)
-    → length s.names ≤ length (new_filled role flags x s).1.names
+    → length s.names ≤ length (new_filled role flags x s).names
 grows flags x s role (inl w) = omega (arith, w.names)
 grows flags x s role (inr w) = omega (arith, w.names)
 

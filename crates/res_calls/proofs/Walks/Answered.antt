@@ -1,4 +1,4 @@
-use Rattle.res_calls.proofs.Cited.{◌≡◌, ◌≤◌, ◌<◌, ◌+◌, ◌^◌, ℕ, Bool, true, false, Some, Err, List, [], length, sym, ◌∙◌, subst, OsErr}
+use Rattle.res_calls.proofs.Cited.{◌≡◌, ◌≤◌, ◌<◌, ◌+◌, ◌^◌, ℕ, Bool, true, false, Some, Err, List, length, sym, ◌∙◌, subst, OsErr}
 use Rattle.res_calls.proofs.Cited.{sizes, count, is_masters, is_relocatable, has, counted, Memory, staying, locked_place, pointer_place}
 use Rattle.res_calls.proofs.Cited.{has_purgeable, Step, walk, put_reads, steps_dispose, steps-known, steps-locked, steps-nonrelocatable}
 use Rattle.res_calls.proofs.Cited.{steps-bytes, steps-masters, steps-purgeable, steps-fits, steps-busy, steps-code, steps-window, Managers}
@@ -6,7 +6,7 @@ use Rattle.res_calls.proofs.Cited.{Answer, Reads}
 use Rattle.heap_calls.proofs.Promises.Knowing.{Known}
 use Rattle.res_calls.proofs.Walks.Going.{Goes}
 use Rattle.res_calls.proofs.Walks.Letting.{SearchFew}
-use Rattle.res_calls.proofs.Walks.Laws.{LeftOrSlotted, left-walk, no_more-walk}
+use Rattle.res_calls.proofs.Walks.Laws.{no_more-walk}
 
 -- The laws of an answer that goes by steps.
 

@@ -10,9 +10,8 @@ use Rattle.res_calls.proofs.Owning.Owners.{OneOwner}
 use Rattle.res_calls.proofs.Owning.Places.{find-finds}
 use Rattle.res_calls.proofs.Soundness.Calls.{searched_sound}
 use Rattle.res_calls.proofs.Walks.Steps.{for_found, fetch_steps}
-use Rattle.res_calls.proofs.Walks.Going.{Goes, Refuses, found-goes, fetch-goes}
+use Rattle.res_calls.proofs.Walks.Going.{Goes, found-goes, fetch-goes}
 use Rattle.res_calls.proofs.Walks.Letting.{SearchFew, fetch-lets, found-lets, found-few, fetch-few}
-use Rattle.res_calls.proofs.Walks.Laws.{LeftOrSlotted}
 use Rattle.res_calls.proofs.Walks.Place.{moved, answer_moved, found-place, fetch-place}
 use Rattle.res_calls.proofs.Walks.Answered as goes
 

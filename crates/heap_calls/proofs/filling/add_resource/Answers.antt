@@ -1,5 +1,5 @@
-use Rattle.heap_calls.proofs.Cited.{rules, ◌≡◌, ℕ, true, Option, Some, None, inl, inr, refl, length, on_err, Plain, nothing, Tells}
-use Rattle.heap_calls.proofs.Cited.{made_gone, new_inside, entered, number_of, memory_of, Agrees}
+use Rattle.heap_calls.proofs.Cited.{rules, ◌≡◌, ℕ, true, Option, Some, None, inl, inr, refl, length, on_err, Plain, Tells, purges_made}
+use Rattle.heap_calls.proofs.Cited.{new_filled, Resource, new_inside, entered, number_of, memory_of, Agrees}
 use Rattle.heap_calls.proofs.Filled.Unmade.{made-told, left-unmade}
 use Rattle.heap_calls.proofs.Filled.Adding.{added-agrees, added-next, not-added}
 use Rattle.heap_calls.proofs.Made.{made-agrees, filled-answer}
@@ -86,13 +86,13 @@ returns-in_err-made-clause-left g c = on_err c.from_residual.result _ (elim c.in
 
 -- the sink was told of what is purged for the block
 tells : (g : Over) (c : After-count g) → g.K.PurgeSink.listens c.args.sink.now ≡ true
-    → Tells g.K.PurgeSink.told (made_gone nothing c.args.bytes.now (memory_of (g.S.BlockStore.zone c.args.store.now)
+    → Tells g.K.PurgeSink.told (purges_made (new_filled Resource c.args.flags c.args.bytes.now) (memory_of (g.S.BlockStore.zone c.args.store.now)
     (g.S.BlockStore.rest c.args.store.now) c.args.names.now.items c.args.log.now).heap) c.args.sink.now
     c.fill_block.new.sink
 tells g c listens =
     made-told g.K.PurgeSink.told _ (g.S.BlockStore.zone c.args.store.now) (g.S.BlockStore.rest c.args.store.now)
     c.args.names.now.items c.deref.result.now c.args.log.now (g.met.S.BlockStore.masters c.args.store.now) refl
-    c.requires.agrees c.deref.ensures.value c.args.sink.now c.fill_block.new.sink c.args.bytes.now
+    c.requires.agrees c.deref.ensures.value c.args.sink.now c.fill_block.new.sink Resource c.args.flags c.args.bytes.now
     (c.in_ok-made.ensures.hears.tells refl listens)
 
 pub returns-in_default-clause-told : goal.returns-in_default-clause-told

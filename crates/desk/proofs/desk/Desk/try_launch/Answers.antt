@@ -196,7 +196,7 @@ returns-in-Err-Code-clause-answer g c =
     c.in-Some.ensures.lookup.1 in
     let refused : ready p.phase ≡ Err c.in-Err-Code.code = refused-ready (ready p.phase)
     c.in-Err-Code.field-0 c.in-Err-Code.code c.in-Err-Code.field-0-is c.in-Err-Code.ensures.answer in
-    IfOk-weaker c.once_written.result _ _
+    IfOk-weaker c.once_written.result _ (λ told. told ≡ reply_at c.args.i c.args.self.now.state)
     (λ told h. h ∙ replied-refused c.args.i s p here c.in-Err-Code.code refused
     ∙ ap (λ (d : DeskSeen _). reply_at c.args.i d.state) c.self.view_is)
     c.once_written.ensures.reply
@@ -213,7 +213,7 @@ returns-in_default-begun-clause-answer g c =
     let here : slice_get (seen c.self.inside.seats.items) c.args.i ≡ Some p = seen-some place_seen c.self.inside.seats.items
     c.deref.result.now c.args.i c.in-Some.seat.now c.deref.ensures.value c.in-Some.ensures.lookup.3.0
     c.in-Some.ensures.lookup.1 in
-    IfOk-weaker c.once_written-in_default-begun.result _ _
+    IfOk-weaker c.once_written-in_default-begun.result _ (λ told. told ≡ reply_at c.args.i c.args.self.now.state)
     (λ told h. h ∙ replied-begun c.args.i s p here c.in-Ok.ready.resources (sizes_seen c.in-Ok.ready.sizes) None
     c.in-Ok.ensures.answer c.in-Ok.ensures.sizes
     (sym (ap (option_map (λ l. l.partition.window)) c.in_default-begun.is) ∙ c.in_ok-begun.ensures.answer)
@@ -233,7 +233,7 @@ returns-clause-answer g c =
     let here : slice_get (seen c.self.inside.seats.items) c.args.i ≡ Some p = seen-some place_seen c.self.inside.seats.items
     c.deref.result.now c.args.i c.in-Some.seat.now c.deref.ensures.value c.in-Some.ensures.lookup.3.0
     c.in-Some.ensures.lookup.1 in
-    IfOk-weaker c.once_written-2.result _ _
+    IfOk-weaker c.once_written-2.result _ (λ told. told ≡ reply_at c.args.i c.args.self.now.state)
     (λ told h. h ∙ replied-begun c.args.i s p here c.in-Ok.ready.resources (sizes_seen c.in-Ok.ready.sizes)
     (Some live.partition.window) c.in-Ok.ensures.answer c.in-Ok.ensures.sizes
     (sym (ap (option_map (λ l. l.partition.window)) c.in-Some-begun.is) ∙ c.in_ok-begun.ensures.answer)

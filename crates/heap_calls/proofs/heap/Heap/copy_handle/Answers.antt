@@ -1,6 +1,6 @@
 use Rattle.heap_calls.proofs.Cited.{◌≡◌, List, length, refl, sym, ◌∙◌, ap, arith, inl, inr, Some, Err, slice_get, subst, length-map}
 use Rattle.heap_calls.proofs.Cited.{err_from_is_err_and, NIL_HANDLE, rename, content_of, One, Anchor, Memory, look_up, copying_zone, Gone}
-use Rattle.heap_calls.proofs.Cited.{Tells, copy_slot_gone, Hears, hand_to_hand, doing_silently, purges_made, KeepsNames, slot_of, entered}
+use Rattle.heap_calls.proofs.Cited.{Tells, copying_gone, Hears, hand_to_hand, doing_silently, purges_made, KeepsNames, slot_of, entered}
 use Rattle.heap_calls.proofs.Cited.{name_of, state_of, memory_of, handle_number, pointer_number, Agrees, zone_slot_gone, told_along}
 use Rattle.heap_calls.proofs.Cited.{seek_new, fresh_block, is_relocatable}
 use Rattle.heap_calls.specs.declared.anchor.Anchor.TheVariants.{Handle}
@@ -8,7 +8,7 @@ use Rattle.heap_calls.specs.Rows.{refused}
 use Rattle.heap_calls.proofs.Hearing.{hears-as, hears-none, stops-at-once, stops-on-the-way}
 use Rattle.heap_calls.proofs.Made.{made-agrees}
 use Rattle.heap_calls.proofs.NewBlocks.CopiedHandles.{Copied, copy-nil, copy-none, slot-in, source-few, copied-answer}
-use Rattle.heap_calls.proofs.NewBlocks.CopiedHandles.{copied-gone, copy_slot_gone-is, copying_zone-is}
+use Rattle.heap_calls.proofs.NewBlocks.CopiedHandles.{copied-gone, copying_gone-is, copying_zone-is}
 use Rattle.heap_calls.proofs.NewBlocks.NewHandles.{agrees-more, kept-memory, kept-still}
 use Rattle.heap_calls.proofs.Numbering.Answering.{at_place, look_up-refused}
 use Rattle.heap_calls.proofs.Numbering.Changing.{memory-same}
@@ -162,8 +162,8 @@ returns-in_err-made-clause-stops g c host =
     let from = source g (goal.at.returns-in_err-made-clause-stops g c).After-bytes in
     let slots = ap (λ (e : List Anchor). zone_slot_gone e (One f.slot) rest.unused zone)
     (c.deref-2.ensures.value ∙ c.in_ok-reserve.ensures.items)
-    ∙ copy_slot_gone-is zone rest es masters c.self.invariant c.args.handle f _ from
-    ∙ ap (λ (m : Memory). copy_slot_gone c.args.handle m.heap) (memory_as c.self.view_is) in
+    ∙ copying_gone-is zone rest es masters c.self.invariant c.args.handle f _ from
+    ∙ ap (λ (m : Memory). copying_gone (look_up c.args.handle m.heap) m.heap) (memory_as c.self.view_is) in
     stops-on-the-way g.S.BlockStore.TAKES_HOST g.K.PurgeSink.told g.K.PurgeSink.listens KeepsNames _ _ c.args.self.now _ c.args.sink.now _
     (kept-memory c.args.self.now.memory _ _ (g.S.BlockStore.rest a.store) (g.S.BlockStore.rest c.copy_block.new.store)
     a.names.items _ a.log (memory_as c.self.view_is) c.in_ok-reserve.ensures.items c.self.invariant

@@ -1,4 +1,4 @@
-use Rattle.heap_calls.proofs.Cited.{◌≡◌, inl, inr, refl, ◌∙◌, arith, length-map, err_from_is_err_and, Plain, nothing, Hears, made_gone}
+use Rattle.heap_calls.proofs.Cited.{◌≡◌, inl, inr, refl, ◌∙◌, arith, length-map, err_from_is_err_and, Plain, Hears, purges_made, new_filled}
 use Rattle.heap_calls.proofs.Cited.{new_inside, KeepsNames, entered, name_of, memory_of, Agrees}
 use Rattle.heap_calls.proofs.Hearing.{stops-at-once, stops-on-the-way}
 use Rattle.heap_calls.proofs.Filled.Unmade.{made-told, heap-unmade}
@@ -83,14 +83,14 @@ returns-in_err-made-clause-stops g c host =
 -- what the sink hears
 heard : (g : Over) (c : After-name_handle g) → (done : Type 0)
     → Hears g.K.PurgeSink.told g.K.PurgeSink.waits g.K.PurgeSink.listens done
-    (made_gone nothing c.args.bytes.now c.args.self.now.memory.heap) c.args.sink.now c.fill_block.new.sink
+    (purges_made (new_filled Plain c.args.flags c.args.bytes.now) c.args.self.now.memory.heap) c.args.sink.now c.fill_block.new.sink
 heard g c done =
     let a = c.self.inside in
     record {
       tells = λ some listens. made-told g.K.PurgeSink.told c.args.self.now.memory (g.S.BlockStore.zone a.store)
           (g.S.BlockStore.rest a.store) a.names.items c.deref.result.now a.log (g.met.S.BlockStore.masters a.store)
           (memory_as c.self.view_is) c.self.invariant (c.deref.ensures.value ∙ c.in_ok-reserve.ensures.items) c.args.sink.now
-          c.fill_block.new.sink c.args.bytes.now (c.in_ok-made.ensures.hears.tells refl listens);
+          c.fill_block.new.sink Plain c.args.flags c.args.bytes.now (c.in_ok-made.ensures.hears.tells refl listens);
       rests = c.in_ok-made.ensures.hears.rests;
     }
 

@@ -1,10 +1,9 @@
 use Rattle.heap_calls.proofs.Cited.{◌≡◌, ◌<◌, Some, List, length, refl, sym, ◌∙◌, ap, slice_get, is_some, arith, rules, err_from_is_err_and}
-use Rattle.heap_calls.proofs.Cited.{Nothing, Relocatable, Anchor, nothing, slot_of, state_of, refill_gone, refill_inside}
+use Rattle.heap_calls.proofs.Cited.{Nothing, Relocatable, Anchor, nothing, slot_of, state_of, refill, purges_made, refill_inside}
 use Rattle.heap_calls.proofs.Cited.{no_number, KeepsNames, fresh_block, seek_block, told_along}
 use Rattle.heap_calls.specs.Rows.{refused}
 use Rattle.heap_calls.specs.declared.anchor.Anchor.TheVariants.{Handle}
-use Rattle.heap_calls.proofs.Filled.Refilled.{slot-emptied, refilling, refilling-same, refilling-silent, refilled-told, refill-none}
-use Rattle.heap_calls.proofs.Filled.Refilled.{refill-call}
+use Rattle.heap_calls.proofs.Filled.Refilled.{slot-emptied, refilled-told, refill-none, refill-call}
 use Rattle.heap_calls.proofs.Hearing.{hears-as, hears-none, stops-halted}
 use Rattle.heap_calls.proofs.Numbering.Answering.{handle_at-refused}
 use Rattle.heap_calls.proofs.Numbering.Changing.{agrees-kept, heap-same}
@@ -51,7 +50,7 @@ invariant_of-self-2 g c =
 -- the path of the step
 call : (g : Over) (c : After-account g) → IsCall (g.S.BlockStore.zone c.self.inside.store)
     (g.S.BlockStore.rest c.self.inside.store) c.self.inside.names.items
-    (refilling c.args.number c.args.flags c.args.bytes.now) nothing Nothing (seek_block Nothing (length c.args.bytes.now)
+    (refill c.args.number c.args.flags c.args.bytes.now) nothing Nothing (seek_block Nothing (length c.args.bytes.now)
     (Relocatable c.in_ok-found.found.slot c.args.flags c.args.bytes.now) (g.S.BlockStore.zone c.self.inside.store))
 call g c =
     let a = c.self.inside in
@@ -68,9 +67,8 @@ told g c =
     let x = c.args.bytes.now in
     let made = c.in_ok-made.made in
     rw (c.account.ensures.reply, c.account.ensures.counted, c.is_some.ensures)
-    (sym (refilling-silent c.args.number c.args.flags x c.args.self.now.memory)
-    ∙ grown-answer zone (g.S.BlockStore.rest a.store) a.names.items a.log c.args.self.now.memory (memory_as c.self.view_is)
-    (refilling c.args.number c.args.flags x) nothing Nothing (seek_block Nothing (length x)
+    (grown-answer zone (g.S.BlockStore.rest a.store) a.names.items a.log c.args.self.now.memory (memory_as c.self.view_is)
+    (refill c.args.number c.args.flags x) nothing Nothing (seek_block Nothing (length x)
     (Relocatable c.in_ok-found.found.slot c.args.flags x) zone) (call g c) (g.S.BlockStore.zone c.refill_block.new.store)
     (g.S.BlockStore.rest c.refill_block.new.store) (is_some made.slot) made.searches c.in_ok-made.ensures.rest
     c.in_ok-made.ensures.went)
@@ -89,7 +87,7 @@ pub same-self : goal.same-self
 same-self g c = fits-same _ _
 
 -- a name that is no handle's
-absent : (g : Over) (c : In_err-found g) → refilling c.args.number c.args.flags c.args.bytes.now (state_of
+absent : (g : Over) (c : In_err-found g) → refill c.args.number c.args.flags c.args.bytes.now (state_of
     (g.S.BlockStore.zone c.self.inside.store) (g.S.BlockStore.rest c.self.inside.store).slots c.self.inside.names.items)
     ≡ refused c.in_err-found.field-0.0 (state_of (g.S.BlockStore.zone c.self.inside.store)
     (g.S.BlockStore.rest c.self.inside.store).slots c.self.inside.names.items)
@@ -104,25 +102,23 @@ pub returns-in_err-found-clause-answer : goal.returns-in_err-found-clause-answer
 returns-in_err-found-clause-answer g c =
     let p = err_from_is_err_and c.from_residual.result c.from_residual.ensures.1 in
     let a = c.self.inside in
-    rw (p.1, p.2) (sym (refilling-silent c.args.number c.args.flags c.args.bytes.now c.args.self.now.memory)
-    ∙ unfound-is (g.S.BlockStore.zone a.store) (g.S.BlockStore.rest a.store) a.names.items a.log c.args.self.now.memory
-    (memory_as c.self.view_is) (refilling c.args.number c.args.flags c.args.bytes.now) c.in_err-found.field-0.0
+    rw (p.1, p.2) (unfound-is (g.S.BlockStore.zone a.store) (g.S.BlockStore.rest a.store) a.names.items a.log c.args.self.now.memory
+    (memory_as c.self.view_is) (refill c.args.number c.args.flags c.args.bytes.now) c.in_err-found.field-0.0
     (absent g (goal.at.returns-in_err-found-clause-answer g c).In_err-found))
 
 pub returns-in_err-found-clause-hears : goal.returns-in_err-found-clause-hears
 returns-in_err-found-clause-hears g c =
     let a = c.self.inside in
     hears-none g.K.PurgeSink.told g.K.PurgeSink.waits g.K.PurgeSink.listens _ _ c.args.sink.now c.requires.idle
-    ((refilling-same c.args.number c.args.flags c.args.bytes.now c.args.self.now.memory.heap).tells
-    ∙ unfound-gone (g.S.BlockStore.zone a.store) (g.S.BlockStore.rest a.store) a.names.items a.log c.args.self.now.memory
-    (memory_as c.self.view_is) (refilling c.args.number c.args.flags c.args.bytes.now) c.in_err-found.field-0.0
+    (unfound-gone (g.S.BlockStore.zone a.store) (g.S.BlockStore.rest a.store) a.names.items a.log c.args.self.now.memory
+    (memory_as c.self.view_is) (refill c.args.number c.args.flags c.args.bytes.now) c.in_err-found.field-0.0
     (absent g (goal.at.returns-in_err-found-clause-hears g c).In_err-found))
 
 -- the blocks that are purged
 gone : (g : Over) (c : After-account g) → told_along c.deref-2.result.now nothing (seek_block Nothing
     (length c.args.bytes.now) (fresh_block 0 (length c.args.bytes.now)) (g.S.BlockStore.zone c.self.inside.store))
     (g.S.BlockStore.zone c.self.inside.store)
-    ≡ refill_gone c.args.number (length c.args.bytes.now) c.args.self.now.memory.heap
+    ≡ purges_made (refill c.args.number c.args.flags c.args.bytes.now) c.args.self.now.memory.heap
 gone g c =
     let a = c.self.inside in
     let zone = g.S.BlockStore.zone a.store in
@@ -131,8 +127,7 @@ gone g c =
     refilled-told c.args.number c.args.flags x c.in_ok-found.found.slot zone c.deref-2.result.now
     ∙ ap (λ (e : List Anchor). told_along e nothing path zone) c.deref-2.ensures.value
     ∙ grown-gone zone (g.S.BlockStore.rest a.store) a.names.items a.log c.args.self.now.memory (memory_as c.self.view_is)
-    (refilling c.args.number c.args.flags x) nothing Nothing path (call g c)
-    ∙ sym (refilling-same c.args.number c.args.flags x c.args.self.now.memory.heap).tells
+    (refill c.args.number c.args.flags x) nothing Nothing path (call g c)
 
 pub returns-in_err-account-clause-hears : goal.returns-in_err-account-clause-hears
 returns-in_err-account-clause-hears g c =
